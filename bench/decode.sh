@@ -1,0 +1,99 @@
+#!/usr/bin/env bash
+# How fast `bgp decode` reads a stream, as a ratio to `md5sum` over the same octets, and how much
+# memory it needs for a short stream and for a long one. Wants bash, coreutils and the program that
+# `rt run` built in crates/bgp/out/bgp. Prints figures; it is no test.
+set -euo pipefail
+
+here=$(cd "$(dirname "$0")" && pwd)
+bgp=${1:-$here/../crates/bgp/out/bgp}
+[[ -x $bgp ]] || { echo "build the program first: (cd crates/bgp && rt run -- --version)" >&2; exit 1; }
+
+work=$(mktemp -d)
+trap 'rm -rf "$work"' EXIT
+
+# One octet, written as printf wants it.
+octet() { printf '\\x%02x' "$1"; }
+
+# So many times the octet.
+octets() { local i; for ((i = 0; i < $1; i++)); do octet "$2"; done; }
+
+# A header: marker, Length, Type.
+header() { octets 16 255; octet $(($1 >> 8)); octet $(($1 & 255)); octet "$2"; }
+
+# An UPDATE of so many octets, whose path attributes are one unknown optional attribute.
+update() {
+    local attributes=$(($1 - 23))
+    header "$1" 2
+    octet 0; octet 0; octet $((attributes >> 8)); octet $((attributes & 255))
+    octet 192; octet 99; octet $((attributes - 3)); octets $((attributes - 3)) 7
+}
+
+keepalive() { header 19 4; }
+
+# The OPEN of AS 65002 with both families and four-octet AS numbers.
+open() {
+    header 49 1
+    printf '%s' '\x04\xfd\xea\x00\x5a\xc0\x00\x02\x02\x14\x02\x12'
+    printf '%s' '\x01\x04\x00\x01\x00\x01\x01\x04\x00\x02\x00\x01\x41\x04\x00\x00\xfd\xea'
+}
+
+# A Cease.
+notification() { header 21 3; octet 6; octet 2; }
+
+# Some 100 messages: UPDATEs of 90 to 110 octets, KEEPALIVEs, an OPEN and a NOTIFICATION.
+unit() {
+    local i
+    open
+    for ((i = 0; i < 84; i++)); do
+        update $((90 + i % 21))
+        ((i % 6)) || keepalive
+    done
+    notification
+}
+
+# Doubles a file until it has so many octets.
+grow() {
+    while (($(stat -c %s "$1") < $2)); do
+        cat "$1" "$1" > "$1.twice"
+        mv "$1.twice" "$1"
+    done
+}
+
+printf "$(unit)" > "$work/short"
+cp "$work/short" "$work/long"
+grow "$work/short" 2000000
+grow "$work/long" 200000000
+
+# The least of three runs, in milliseconds.
+best() {
+    local least=0 run began ended
+    for run in 1 2 3; do
+        began=$(date +%s%N)
+        "$@" > /dev/null
+        ended=$(date +%s%N)
+        ((least == 0 || ended - began < least)) && least=$((ended - began))
+    done
+    echo $((least / 1000000))
+}
+
+# The greatest resident memory of a decoding in KiB, looked at once all octets are handed over and
+# before the stream ends.
+peak() {
+    local pid
+    mkfifo "$work/pipe"
+    "$bgp" decode - < "$work/pipe" > /dev/null &
+    pid=$!
+    exec 3> "$work/pipe"
+    cat "$1" >&3
+    sed -n 's/^VmHWM:[^0-9]*\([0-9]*\).*/\1/p' "/proc/$pid/status"
+    exec 3>&-
+    wait "$pid" || true
+    rm "$work/pipe"
+}
+
+decode=$(best "$bgp" decode "$work/long")
+md5=$(best md5sum "$work/long")
+echo "stream: $(stat -c %s "$work/long") octets, cores: $(nproc)"
+echo "decode: $decode ms, md5sum: $md5 ms, ratio: $((decode * 100 / md5))/100"
+echo "peak memory: $(peak "$work/short") KiB at $(stat -c %s "$work/short") octets," \
+    "$(peak "$work/long") KiB at $(stat -c %s "$work/long") octets"

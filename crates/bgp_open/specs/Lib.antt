@@ -1,0 +1,5 @@
+pub mod Triplet
+pub mod Capability
+pub mod Open
+pub mod OpenFault
+pub mod Notification

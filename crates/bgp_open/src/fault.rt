@@ -1,0 +1,30 @@
+//! What can be wrong with the form of an OPEN (RFC 4271, 6.2).
+
+ghost use Rattle.std.specs.Prelude.{◌≡◌};
+ghost use Rattle.bgp_open.specs.OpenFault.{number_of};
+
+use thiserror::Error;
+
+/// What is wrong with an OPEN's form.
+#[derive(Clone, Copy, Debug, PartialEq, Eq, Error)]
+pub enum OpenFault {
+    /// The octets are no whole OPEN, the parameters aren't as long as their length says, or a
+    /// parameter or a capability runs over or leaves an octet.
+    #[error("malformed OPEN message")]
+    Malformed = 0,
+    /// The version isn't 4.
+    #[error("unsupported version number")]
+    Version = 1,
+    /// There is a parameter of another type than 2, Capabilities (RFC 5492).
+    #[error("unsupported optional parameter")]
+    Parameter = 4,
+}
+
+impl OpenFault {
+    /// The subcode of OPEN Message Error for this fault (RFC 4271, 4.5): 0 is Unspecific.
+    pub fn number(self) -> u8
+        ensures { result ≡ number_of self }
+    {
+        self as u8
+    }
+}

@@ -1,0 +1,196 @@
+//! OPEN messages (RFC 4271, 4.2).
+//!
+//! ```text
+//!  0         1       3           5                9              10
+//! +---------+-------+-----------+----------------+--------------+------------+
+//! | Version | My AS | Hold Time | BGP Identifier | Parm. Length | Parameters |
+//! +---------+-------+-----------+----------------+--------------+------------+
+//! ```
+
+ghost use Rattle.std.specs.Prelude.{◌≡◌, ◌↔◌, IsTrue, IfOk, IfErr, IfSome, IfNone, take, drop};
+ghost use Rattle.bgp_open.specs.Triplet.{IsWhole, triplets_of};
+ghost use Rattle.bgp_open.specs.Capability.{triplet_of};
+ghost use Rattle.bgp_open.specs.Open.{IsOpen, fixed_fields_of, parameters_of, open_of};
+ghost use Rattle.bgp_open.specs.Open.{version_of, my_as_of, hold_of, id_of, parameters_length_of};
+ghost use Rattle.bgp_open.specs.OpenFault.{HasWholeCapabilities, AreParameters};
+ghost use Rattle.bgp_open.specs.OpenFault.{AreAllCapabilities, IsWellFormed, IsAnswered};
+
+use crate::capability::{CAPABILITIES, Capabilities};
+use crate::fault::OpenFault;
+use crate::triplet::{RawTriplet, Triplets, first_triplet};
+use bgp_wire::{MessageType, message_body};
+use byteorder::{BigEndian, ByteOrder};
+use std::marker::Model;
+
+/// The octets of the fields that every OPEN has.
+const FIXED_LENGTH: usize = 10;
+
+/// The only version of BGP that is spoken here.
+const VERSION: u8 = 4;
+
+/// Version.
+#[tactic(auto, unfolding(crate::specs::Open::version_of))]
+fn read_version(fields: &[u8; FIXED_LENGTH]) -> u8
+    ensures { result ≡ version_of fields.now }
+{
+    fields[0]
+}
+
+/// My Autonomous System.
+#[tactic(auto, unfolding(crate::specs::Open::my_as_of))]
+fn read_my_as(fields: &[u8; FIXED_LENGTH]) -> u16
+    ensures { result ≡ my_as_of fields.now }
+{
+    BigEndian::read_u16(&fields[1..])
+}
+
+/// Hold Time, in seconds.
+#[tactic(auto, unfolding(crate::specs::Open::hold_of))]
+fn read_hold(fields: &[u8; FIXED_LENGTH]) -> u16
+    ensures { result ≡ hold_of fields.now }
+{
+    BigEndian::read_u16(&fields[3..])
+}
+
+/// BGP Identifier.
+#[tactic(auto, unfolding(crate::specs::Open::id_of))]
+fn read_id(fields: &[u8; FIXED_LENGTH]) -> u32
+    ensures { result ≡ id_of fields.now }
+{
+    BigEndian::read_u32(&fields[5..])
+}
+
+/// Optional Parameters Length.
+#[tactic(auto, unfolding(crate::specs::Open::parameters_length_of))]
+fn read_parameters_length(fields: &[u8; FIXED_LENGTH]) -> u8
+    ensures { result ≡ parameters_length_of fields.now }
+{
+    fields[9]
+}
+
+/// The fixed fields and the parameters of a whole OPEN.
+fn open_parts(octets: &[u8]) -> Option<(&[u8; FIXED_LENGTH], &[u8])>
+    ensures whole { IfSome result (λ parts. IsOpen octets.entry.now) }
+    ensures fields { IfSome result (λ parts. parts.0.now ≡ fixed_fields_of octets.entry.now) }
+    ensures parameters { IfSome result (λ parts. parts.1.now ≡ parameters_of octets.entry.now) }
+    ensures none { IfNone result (¬ IsOpen octets.entry.now) }
+{
+    message_body(MessageType::Open, octets)?.split_first_chunk::<FIXED_LENGTH>()
+}
+
+/// Whether the octets are triplets and nothing else.
+fn is_whole(octets: &[u8]) -> bool
+    ensures { IsTrue result ↔ IsWhole octets.now }
+{
+    let mut rest = octets;
+    while let Some((_, behind)) = first_triplet(rest) {
+        rest = behind;
+    }
+    rest.is_empty()
+}
+
+/// Whether a parameter's capabilities, if it has any, are whole.
+fn has_whole_capabilities(parameter: RawTriplet<'_>) -> bool
+    ensures { IsTrue result ↔ HasWholeCapabilities (triplet_of parameter.entry) }
+{
+    parameter.code != CAPABILITIES || is_whole(parameter.value)
+}
+
+/// Whether the octets are parameters and nothing else, and each one's capabilities are whole.
+fn are_parameters(octets: &[u8]) -> bool
+    ensures { IsTrue result ↔ AreParameters octets.now }
+{
+    is_whole(octets) && Triplets::new(octets).all(has_whole_capabilities)
+}
+
+/// Whether every parameter is of type 2.
+fn are_all_capabilities(octets: &[u8]) -> bool
+    ensures { IsTrue result ↔ AreAllCapabilities octets.now }
+{
+    Triplets::new(octets).all(|parameter| parameter.code == CAPABILITIES)
+}
+
+/// An OPEN of version 4, its form being right. Contracts see it as the fields that it has.
+#[derive(Debug, Drop)]
+pub struct Open<'a> {
+    my_as: u16,
+    hold: u16,
+    id: u32,
+    parameters: &'a [u8],
+}
+
+impl<'a> Model for Open<'a> {
+    ghost use Rattle.bgp_open.specs.Open.{OpenFields, capabilities_of};
+
+    ghost Value = { OpenFields };
+
+    ghost view = { λ s. record {
+      my_as = s.my_as;
+      hold = s.hold;
+      id = s.id;
+      capabilities = capabilities_of s.parameters.now;
+    } };
+}
+
+impl<'a> Open<'a> {
+    /// My Autonomous System: the speaker's AS number, or 23456 where it has more than two octets.
+    pub fn my_as(&self) -> u16
+        ensures { result ≡ self.now.my_as }
+    {
+        self.my_as
+    }
+
+    /// The Hold Time that the speaker proposes, in seconds.
+    pub fn hold(&self) -> u16
+        ensures { result ≡ self.now.hold }
+    {
+        self.hold
+    }
+
+    /// The speaker's BGP Identifier.
+    pub fn id(&self) -> u32
+        ensures { result ≡ self.now.id }
+    {
+        self.id
+    }
+
+    /// The capabilities in all parameters, in their order.
+    pub fn caps(&self) -> Capabilities<'a>
+        ensures { result ≡ self.now.capabilities }
+    {
+        Capabilities::new(self.parameters)
+    }
+}
+
+/// Reads a whole OPEN message. Of several faults it answers the least, but a version other than 4
+/// before any other, since nothing else is then known of the message.
+pub fn read_open(octets: &[u8]) -> Result<Open<'_>, OpenFault>
+    ensures open { IfOk result (λ message. message ≡ open_of octets.entry.now) }
+    ensures ok { IfOk result (λ message. IsWellFormed octets.entry.now) }
+    ensures err { IfErr result (λ fault. IsAnswered octets.entry.now fault) }
+{
+    let Some((fields, parameters)) = open_parts(octets) else {
+        return Err(OpenFault::Malformed);
+    };
+    // Unsupported Version Number (RFC 4271, 6.2).
+    if read_version(fields) != VERSION {
+        return Err(OpenFault::Version);
+    }
+    if usize::from(read_parameters_length(fields)) != parameters.len() {
+        return Err(OpenFault::Malformed);
+    }
+    // A recognized parameter that is malformed (RFC 4271, 6.2), and any that runs over.
+    if !are_parameters(parameters) {
+        return Err(OpenFault::Malformed);
+    }
+    // Unsupported Optional Parameter (RFC 4271, 6.2): only capabilities are known here.
+    if !are_all_capabilities(parameters) {
+        return Err(OpenFault::Parameter);
+    }
+    Ok(Open {
+        my_as: read_my_as(fields),
+        hold: read_hold(fields),
+        id: read_id(fields),
+        parameters,
+    })
+}

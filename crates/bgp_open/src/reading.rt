@@ -1,0 +1,27 @@
+//! Laws: what stands in octets is read, in the one way that there is.
+
+ghost use Rattle.std.specs.Prelude.{◌≡◌, ◌↔◌, ◌++◌, ℕ, List};
+ghost use Rattle.bgp_open.specs.Triplet.{Triplet, IsCut, IsWhole, joined, triplets_of};
+ghost use Rattle.bgp_open.specs.OpenFault.{IsWellFormed, IsAnswered};
+ghost use Rattle.bgp_open.specs.declared.fault.OpenFault.{OpenFault};
+
+/// Octets are triplets, as parameters and capabilities are, and then a rest in which no whole one
+/// stands, in one way; and those are the triplets that are read (RFC 4271, 4.2; RFC 5492, 4).
+pub fn one_reading()
+    ensures reads { (octets : List ℕ) → (cut : List ℕ)
+        × (octets ≡ joined (triplets_of octets) ++ cut) × IsCut cut }
+    ensures once { (triplets others : List Triplet) (cut rest : List ℕ)
+        → joined triplets ++ cut ≡ joined others ++ rest → IsCut cut → IsCut rest
+        → triplets ≡ others }
+    ensures reads_back { (triplets : List Triplet) → triplets_of (joined triplets) ≡ triplets }
+    ensures whole { (octets : List ℕ)
+        → IsWhole octets ↔ ((triplets : List Triplet) × (octets ≡ joined triplets)) }
+{}
+
+/// An OPEN that isn't well-formed has one fault that is answered, and a well-formed one none.
+pub fn one_fault()
+    ensures one { (octets : List ℕ) (fault other : OpenFault)
+        → IsAnswered octets fault → IsAnswered octets other → fault ≡ other }
+    ensures none { (octets : List ℕ) (fault : OpenFault)
+        → IsWellFormed octets → ¬ IsAnswered octets fault }
+{}

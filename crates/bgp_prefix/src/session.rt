@@ -1,0 +1,17 @@
+//! Which session of a capture is meant.
+
+use crate::address::Address;
+
+/// The two ends of one BGP session, as the records of a capture name them.
+///
+/// What the local system is configured to do stands in `bgp_open`'s `Config`, and what both OPENs
+/// settle in its `Link`.
+#[derive(Clone, Copy, Debug, PartialEq, Eq, Hash)]
+pub struct Session {
+    /// The peer's address.
+    pub peer: Address,
+    /// The local system's address.
+    pub local: Address,
+    /// Whether the local system may have offered route refresh (RFC 2918).
+    pub refresh: bool,
+}

@@ -1,0 +1,5 @@
+pub mod EachMessage
+pub mod Lines
+pub mod Cut
+pub mod Decoded
+pub mod Reached

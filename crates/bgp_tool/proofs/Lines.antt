@@ -1,0 +1,121 @@
+-- The lines of frames that come one after another.
+use Rattle.std.proofs.Common.{◌≡◌, ◌∙◌, ◌++◌, ◌∷◌, ◌-◌, [], ℕ, List, length, refl, sym, ap, inl, inr, append_assoc, append-nil}
+use Rattle.std.proofs.lemmas.List.{flat_map_more}
+use Rattle.std.proofs.lemmas.List.Elements.{All-nil, All-push, All-append}
+use Rattle.std.proofs.lemmas.Grind.{flat_map-append}
+use Rattle.bgp_wire.specs.declared.header.Limit.TheVariants.{Plain}
+use Rattle.bgp_wire.specs.Framing.{IsFrame, joined}
+use Rattle.bgp_tool.specs.Message.{Message, Says, Say}
+use Rattle.bgp_tool.specs.Text.{line_of}
+use Rattle.bgp_tool.specs.Decoding.{lines_of, IsLastLine}
+use Rattle.bgp_tool.specs.Ending.{AreLines, IsBegun}
+
+-- what frames say, and more frames
+pub say_more : (frames others : List (List ℕ)) (messages more : List Message) → Say frames messages → Say others more
+    → Say (frames ++ others) (messages ++ more)
+say_more [] others [] more said then' = then'
+say_more (f ∷ fs) others (m ∷ ms) more said then' = (said.0, say_more fs others ms more said.1 then')
+say_more [] others (m ∷ ms) more said then' = absurd said
+say_more (f ∷ fs) others [] more said then' = absurd said
+
+-- before the first frame
+pub no_lines : (octets : List ℕ) → AreLines octets octets []
+no_lines octets = record { frames = []; split = refl; each = All-nil (IsFrame Plain); messages = []; said = tt; text = refl }
+
+-- one frame more
+pub one_line_more : (octets rest behind lines frame : List ℕ) (message : Message) → AreLines octets rest lines → IsFrame Plain frame
+    → rest ≡ frame ++ behind → Says frame message → AreLines octets behind (lines ++ line_of message)
+one_line_more octets rest behind lines frame message so_far whole is says = record {
+  frames = so_far.frames ++ frame ∷ [];
+  split =
+      so_far.split ∙ ap (λ (xs : List ℕ). joined so_far.frames ++ xs) is
+      ∙ sym (append_assoc (joined so_far.frames) frame behind)
+      ∙ ap (λ (xs : List ℕ). xs ++ behind) (flat_map_more (λ (f : List ℕ). f) [] so_far.frames frame);
+  each = All-push (IsFrame Plain) so_far.frames frame so_far.each whole;
+  messages = so_far.messages ++ message ∷ [];
+  said = say_more so_far.frames (frame ∷ []) so_far.messages (message ∷ []) so_far.said (says, tt);
+  text = ap (λ (xs : List ℕ). xs ++ line_of message) so_far.text ∙ flat_map_more line_of [] so_far.messages message;
+}
+
+-- more frames
+pub more_lines : (octets rest behind lines more : List ℕ) → AreLines octets rest lines → AreLines rest behind more
+    → AreLines octets behind (lines ++ more)
+more_lines octets rest behind lines more front back = record {
+  frames = front.frames ++ back.frames;
+  split =
+      front.split ∙ ap (λ (xs : List ℕ). joined front.frames ++ xs) back.split
+      ∙ sym (append_assoc (joined front.frames) (joined back.frames) behind)
+      ∙ ap (λ (xs : List ℕ). xs ++ behind) (sym (flat_map-append (λ (f : List ℕ). f) front.frames back.frames));
+  each = All-append (IsFrame Plain) front.frames back.frames front.each back.each;
+  messages = front.messages ++ back.messages;
+  said = say_more front.frames back.frames front.messages back.messages front.said back.said;
+  text =
+      ap (λ (xs : List ℕ). xs ++ more) front.text ∙ ap (λ (xs : List ℕ). lines_of front.messages ++ xs) back.text
+      ∙ sym (flat_map-append line_of front.messages back.messages);
+}
+
+-- more octets come behind the rest
+pub lines_fed : (octets rest lines piece : List ℕ) → AreLines octets rest lines
+    → AreLines (octets ++ piece) (rest ++ piece) lines
+lines_fed octets rest lines piece so_far = record {
+  frames = so_far.frames;
+  split = ap (λ (xs : List ℕ). xs ++ piece) so_far.split ∙ append_assoc (joined so_far.frames) rest piece;
+  each = so_far.each;
+  messages = so_far.messages;
+  said = so_far.said;
+  text = so_far.text;
+}
+
+-- whole lines are a beginning
+pub begun_between : (given : ℕ) (octets rest lines : List ℕ) → AreLines octets rest lines → IsBegun given octets lines
+begun_between given octets rest lines are_lines = record {
+  rest = rest;
+  lines = lines;
+  are_lines = are_lines;
+  last = [];
+  is_last = inl refl;
+  more = [];
+  begins = refl;
+}
+
+-- and so are whole lines with a part of the next frame's
+pub begun_inside : (given : ℕ) (octets rest behind lines frame part left : List ℕ) (message : Message) → AreLines octets rest lines
+    → IsFrame Plain frame → rest ≡ frame ++ behind → Says frame message → line_of message ≡ part ++ left
+    → IsBegun given octets (lines ++ part)
+begun_inside given octets rest behind lines frame part left message so_far whole is says line = record {
+  rest = behind;
+  lines = lines ++ line_of message;
+  are_lines = one_line_more octets rest behind lines frame message so_far whole is says;
+  last = [];
+  is_last = inl refl;
+  more = left;
+  begins = append-nil (lines ++ line_of message) ∙ ap (λ (xs : List ℕ). lines ++ xs) line ∙ sym (append_assoc lines part left);
+}
+
+-- or with a part of the last line
+pub begun_at_last : (given : ℕ) (octets rest lines last part left : List ℕ) (status : ℕ) → AreLines octets rest lines
+    → IsLastLine (given - length rest) rest last status → last ≡ part ++ left → IsBegun given octets (lines ++ part)
+begun_at_last given octets rest lines last part left status so_far is_last line = record {
+  rest = rest;
+  lines = lines;
+  are_lines = so_far;
+  last = last;
+  is_last = inr (status, is_last);
+  more = left;
+  begins = ap (λ (xs : List ℕ). lines ++ xs) line ∙ sym (append_assoc lines part left);
+}
+
+-- what is a beginning of the lines of what is left, behind the lines of what is gone, is one of all of them
+pub begun_behind : (given : ℕ) (octets rest lines text : List ℕ) → AreLines octets rest lines
+    → IsBegun given rest text → IsBegun given octets (lines ++ text)
+begun_behind given octets rest lines text so_far begun = record {
+  rest = begun.rest;
+  lines = lines ++ begun.lines;
+  are_lines = more_lines octets rest begun.rest lines begun.lines so_far begun.are_lines;
+  last = begun.last;
+  is_last = begun.is_last;
+  more = begun.more;
+  begins =
+      append_assoc lines begun.lines begun.last ∙ ap (λ (xs : List ℕ). lines ++ xs) begun.begins
+      ∙ sym (append_assoc lines text begun.more);
+}

@@ -1,0 +1,138 @@
+use Rattle.std.proofs.Common.{◌≡◌, ◌∙◌, ◌++◌, ◌-◌, [], List, ℕ, length, drop, refl, sym, ap, subst, inr}
+use Rattle.bgp_wire.specs.declared.header.Limit.{Limit}
+use Rattle.bgp_wire.specs.declared.header.Limit.TheVariants.{Plain}
+use Rattle.bgp_wire.specs.Header.{header_of}
+use Rattle.bgp_wire.specs.Verdict.{AreFaults}
+use Rattle.bgp_wire.specs.Framing.{IsFrame, IsShort, IsFaulty}
+use Rattle.bgp_wire.specs.Held.{Held}
+use Rattle.bgp_tool.specs.Text.{line_of, fault_line}
+use Rattle.bgp_tool.specs.Decoding.{IsLastLine}
+use Rattle.bgp_tool.specs.Ending.{AreLines}
+use Rattle.bgp_tool.proofs.Lines.{no_lines, one_line_more}
+use Rattle.bgp_tool.proofs.EachMessage.{each_message}
+use Rattle.bgp_tool.proofs.Cut.{cut_line, cut_last}
+use Rattle.bgp_tool.proofs.decoding.put_frames.Goals as goal
+
+-- octets that are taken away leave the rest of the state
+kept : (x y z : Held) (o : List ℕ) → y ≡ record x { octets = y.octets } → z ≡ record y { octets = o }
+    → z ≡ record x { octets = z.octets }
+kept x y z o h k =
+    k ∙ ap (λ (v : Held). record v { octets = o }) h
+    ∙ ap (λ (p : List ℕ). record x { octets = p }) (sym (ap (λ (v : Held). v.octets) k))
+
+limit_is : (x y : Held) → y ≡ record x { octets = y.octets } → x.limit ≡ Plain → y.limit ≡ Plain
+limit_is x y h k = ap (λ (v : Held). v.limit) h ∙ k
+
+-- a header with faults is the last line, by the offset at which it stands
+fault_is_last : (offset : ℕ) (limit : Limit) (rest header : List ℕ) (faults : _) → limit ≡ Plain → IsFaulty limit rest
+    → header ≡ header_of rest → AreFaults limit header faults → IsLastLine offset rest (fault_line offset faults) 3
+fault_is_last offset limit rest header faults plain faulty front are = inr (inr (
+  subst (λ (l : Limit). IsFaulty l rest) plain faulty,
+  refl,
+  (
+    faults,
+    subst (λ (l : Limit). AreFaults l (header_of rest) faults) plain (subst (λ (h : List ℕ). AreFaults limit h faults) front are),
+    refl,
+  ),
+))
+
+pub loop-kind-preserved : goal.loop-kind-preserved
+loop-kind-preserved g c =
+    let now = rw c.in-Frame.is at c.next.follows.holds-at-none in
+    let state = c.loop-kind.invariant.state in
+    let so_far = c.loop-kind.invariant.written in
+    let frame = c.in-Frame.frame.now in
+    let behind = drop (length frame) c.loop-kind.frames.octets in
+    let limit = limit_is c.args.frames.now c.loop-kind.frames state c.requires.limit in
+    let whole = subst (λ (l : Limit). IsFrame l frame) limit c.in-Frame.ensures.first.0 in
+    let said = each_message frame whole in
+    let puts = c.in-Ok.ensures (line_of said.0) (c.message.ensures said.0 said.1) in
+    let lines = one_line_more c.args.frames.now.octets c.loop-kind.frames.octets behind so_far.0 frame said.0 so_far.1 whole c.in-Frame.ensures.first.2 said.1 in
+    record {
+      state = kept c.args.frames.now c.loop-kind.frames c.next.follows.lender-at-none behind state now;
+      written = (
+        so_far.0 ++ line_of said.0,
+        subst (λ (o : List ℕ). AreLines c.args.frames.now.octets o (so_far.0 ++ line_of said.0)) (sym (ap (λ (v : Held). v.octets) now)) lines,
+        (g.met.W.Sink.joined c.args.sink.now c.loop-kind.sink c.put.new.sink so_far.0 (line_of said.0) so_far.2.0 puts.0, puts.1 ∙ so_far.2.1),
+      );
+    }
+
+pub returns-in-Err : goal.returns-in-Err
+returns-in-Err g c =
+    let state = c.loop-kind.invariant.state in
+    let so_far = c.loop-kind.invariant.written in
+    let frame = c.in-Frame.frame.now in
+    let limit = limit_is c.args.frames.now c.loop-kind.frames state c.requires.limit in
+    let whole = subst (λ (l : Limit). IsFrame l frame) limit c.in-Frame.ensures.first.0 in
+    let said = each_message frame whole in
+    let puts = c.in-Err.ensures (line_of said.0) (c.message.ensures said.0 said.1) in
+    cut_line g.W.Sink.takes g.W.Sink.failures g.met.W.Sink.joined c.args.sink.now c.loop-kind.sink c.put.new.sink c.args.given
+    c.args.frames.now c.next.follows.lender-at-none c.loop-kind.frames.octets so_far.0 frame (drop (length frame) c.loop-kind.frames.octets)
+    said.0 so_far.2 so_far.1 whole c.in-Frame.ensures.first.2 said.1 c.in-Err.end puts
+
+pub returns-in-More : goal.returns-in-More
+returns-in-More g c =
+    let now = rw c.in-More.is at c.next.follows.holds-at-none in
+    let state = c.loop-kind.invariant.state in
+    let so_far = c.loop-kind.invariant.written in
+    let limit = limit_is c.args.frames.now c.loop-kind.frames state c.requires.limit in
+    let same : c.next.follows.lender-at-none.octets ≡ c.loop-kind.frames.octets = ap (λ (v : Held). v.octets) now in
+    let short = subst (λ (l : Limit). IsShort l c.loop-kind.frames.octets) limit c.in-More.ensures.first in (
+      so_far.0,
+      subst (λ (o : List ℕ). AreLines c.args.frames.now.octets o so_far.0) (sym same) so_far.1,
+      subst (λ (o : List ℕ). IsShort Plain o) (sym same) short,
+      kept c.args.frames.now c.loop-kind.frames c.next.follows.lender-at-none c.loop-kind.frames.octets state now,
+      so_far.2,
+    )
+
+pub returns-in-Ok-put : goal.returns-in-Ok-put
+returns-in-Ok-put g c =
+    let now = rw c.in-Fault.is at c.next.follows.holds-at-none in
+    let so_far = c.loop-kind.invariant.written in
+    let rest = c.loop-kind.frames.octets in
+    let offset : c.args.given - c.len.result ≡ c.args.given - length rest =
+    ap (λ (n : ℕ). c.args.given - n) (c.len.ensures ∙ ap (λ (v : Held). length v.octets) now)
+    in
+    let last = fault_line (c.args.given - c.len.result) c.in-Fault.faults in
+    let limit = limit_is c.args.frames.now c.loop-kind.frames c.loop-kind.invariant.state c.requires.limit in
+    let front = c.in-Fault.ensures.first in
+    let is_last = fault_is_last (c.args.given - c.len.result) _ rest c.in-Fault.field-1.now c.in-Fault.faults limit front.0 front.1 front.2 in
+    let puts = c.in-Ok-put.ensures last c.fault.ensures in (
+      rest,
+      so_far.0,
+      last,
+      so_far.1,
+      subst (λ (n : ℕ). IsLastLine n rest last 3) offset is_last,
+      (g.met.W.Sink.joined c.args.sink.now c.loop-kind.sink c.put-in-Fault.new.sink so_far.0 last so_far.2.0 puts.0, puts.1 ∙ so_far.2.1),
+    )
+
+pub returns-in-Err-put : goal.returns-in-Err-put
+returns-in-Err-put g c =
+    let now = rw c.in-Fault.is at c.next.follows.holds-at-none in
+    let so_far = c.loop-kind.invariant.written in
+    let rest = c.loop-kind.frames.octets in
+    let offset : c.args.given - c.len.result ≡ c.args.given - length rest =
+    ap (λ (n : ℕ). c.args.given - n) (c.len.ensures ∙ ap (λ (v : Held). length v.octets) now)
+    in
+    let last = fault_line (c.args.given - c.len.result) c.in-Fault.faults in
+    let limit = limit_is c.args.frames.now c.loop-kind.frames c.loop-kind.invariant.state c.requires.limit in
+    let front = c.in-Fault.ensures.first in
+    let is_last = fault_is_last (c.args.given - c.len.result) _ rest c.in-Fault.field-1.now c.in-Fault.faults limit front.0 front.1 front.2 in
+    cut_last g.W.Sink.takes g.W.Sink.failures g.met.W.Sink.joined c.args.sink.now c.loop-kind.sink c.put-in-Fault.new.sink c.args.given
+    c.args.frames.now c.next.follows.lender-at-none rest so_far.0 last 3 so_far.2 so_far.1
+    (subst (λ (n : ℕ). IsLastLine n rest last 3) offset is_last) c.in-Err-put.end (c.in-Err-put.ensures last c.fault.ensures)
+
+-- each frame says something
+pub message-requires : goal.message-requires
+message-requires g c =
+    let limit = limit_is c.args.frames.now c.loop-kind.frames c.loop-kind.invariant.state c.requires.limit in
+    let whole = subst (λ (l : Limit). IsFrame l c.in-Frame.frame.now) limit c.in-Frame.ensures.first.0 in
+    record { kind = c.in-Frame.ensures.first.1; says = each_message c.in-Frame.frame.now whole }
+
+-- before the first frame nothing is written
+pub loop-kind-init : goal.loop-kind-init
+loop-kind-init g c =
+    record {
+      state = refl;
+      written = ([], no_lines c.args.frames.now.octets, (g.met.W.Sink.nothing c.args.sink.now, refl));
+    }

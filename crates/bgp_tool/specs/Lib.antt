@@ -1,0 +1,5 @@
+pub mod Message
+pub mod Text
+pub mod Status
+pub mod Decoding
+pub mod Ending

@@ -1,0 +1,75 @@
+-- The lines that a stream prints, as octets: one a message, and one for what is no message.
+use Rattle.std.specs.Prelude.{◌++◌, ℕ, Bool, List, [], ◌∷◌, if◌then◌else◌, is_some, codes}
+use Rattle.std.specs.List.{flat_map}
+use Rattle.std.specs.Fmt.{decimal}
+use Rattle.hex.specs.Hex.{encode_lower}
+use Rattle.bgp_prefix.specs.declared.address.Address.TheVariants.{V4}
+use Rattle.bgp_prefix.specs.Text.{address_text}
+use Rattle.bgp_wire.specs.declared.header.HeaderFaults.{HeaderFaults}
+use Rattle.bgp_open.specs.Triplet.{Triplet}
+use Rattle.bgp_open.specs.Open.{OpenFields}
+use Rattle.bgp_open.specs.OpenFault.{number_of}
+use Rattle.bgp_open.specs.declared.fault.OpenFault.{OpenFault}
+use Rattle.bgp_tool.specs.Message.{Message, opening, malformed_opening, update}
+use Rattle.bgp_tool.specs.Message.{notification, keepalive}
+
+-- octets in hexadecimal, two lower-case digits each; a dash for none
+unfoldable pub hex_text : List ℕ → List ℕ
+hex_text [] = codes "-"
+hex_text (octet ∷ octets) = encode_lower (octet ∷ octets)
+
+-- a capability after a blank: its code and its value (RFC 5492, 4)
+unfoldable pub capability_text : Triplet → List ℕ
+capability_text capability =
+    codes " " ++ (decimal capability.code ++ (codes ":" ++ hex_text capability.value))
+
+-- capabilities in their order; a dash for none
+unfoldable pub capabilities_text : List Triplet → List ℕ
+capabilities_text [] = codes " -"
+capabilities_text (capability ∷ capabilities) = flat_map capability_text (capability ∷ capabilities)
+
+-- an OPEN: the AS number, the hold time, the identifier and the capabilities (RFC 4271, 4.2)
+unfoldable pub open_line : OpenFields → List ℕ
+open_line fields =
+    codes "open as " ++ (decimal fields.my_as ++ (codes " hold " ++ (decimal fields.hold
+    ++ (codes " id " ++ (address_text (V4 fields.id) ++ (codes " caps"
+    ++ (capabilities_text fields.capabilities ++ codes "\n")))))))
+
+-- an OPEN whose form is wrong: the number of its fault (RFC 4271, 6.2)
+unfoldable pub malformed_open_line : OpenFault → List ℕ
+malformed_open_line fault = codes "open malformed " ++ (decimal (number_of fault) ++ codes "\n")
+
+-- an UPDATE, which isn't read yet: the count of the whole message's octets
+unfoldable pub update_line : ℕ → List ℕ
+update_line count = codes "update octets " ++ (decimal count ++ codes "\n")
+
+-- a NOTIFICATION: its error code and subcode, and its data (RFC 4271, 4.5)
+unfoldable pub notification_line : ℕ → ℕ → List ℕ → List ℕ
+notification_line code subcode detail =
+    codes "notification " ++ (decimal code ++ (codes "/" ++ (decimal subcode
+    ++ (codes " " ++ (hex_text detail ++ codes "\n")))))
+
+-- the line of a message
+abbrev pub line_of : Message → List ℕ
+line_of (opening fields) = open_line fields
+line_of (malformed_opening fault) = malformed_open_line fault
+line_of (update count) = update_line count
+line_of (notification code subcode detail) = notification_line code subcode detail
+line_of keepalive = codes "keepalive\n"
+
+-- a subcode of Message Header Error after a blank, where it is at fault (RFC 4271, 6.1)
+abbrev pub subcode_text : Bool → List ℕ → List ℕ
+subcode_text at_fault subcode = if at_fault then subcode else []
+
+-- a stream that stops being BGP: the offset of the faulty header, and the subcodes of its faults,
+-- ascending
+unfoldable pub fault_line : ℕ → HeaderFaults → List ℕ
+fault_line offset faults =
+    codes "fault at " ++ (decimal offset
+    ++ (subcode_text faults.marker (codes " 1/1")
+    ++ (subcode_text (is_some faults.length) (codes " 1/2")
+    ++ (subcode_text (is_some faults.kind) (codes " 1/3") ++ codes "\n"))))
+
+-- a stream that ends inside a message: how many octets of it came
+unfoldable pub rest_line : ℕ → List ℕ
+rest_line count = codes "rest " ++ (decimal count ++ codes "\n")

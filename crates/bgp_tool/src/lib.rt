@@ -1,0 +1,15 @@
+//! The commands of the program `bgp`, each as one function over sources and sinks.
+//!
+//! What a command prints is stated in `specs/Text.antt`, and what it answers is an exit status:
+//!
+//! ```text
+//! let status = decode_raw(alloc, &mut source, &mut sink);
+//! ```
+#![tactic(auto)]
+
+mod decoding;
+mod status;
+mod text;
+
+pub use decoding::decode_raw;
+pub use status::Status;

@@ -1,0 +1,52 @@
+-- What holds of a frame: it is a whole message of its type, as long as that type needs.
+use Rattle.std.proofs.Common.{◌≡◌, ◌⊎◌, ◌<◌, ◌≤◌, [], ℕ, List, length, refl, sym, subst, inl, inr, arith}
+use Rattle.std.proofs.lemmas.Bool.{cases_lt, cases_eq}
+use Rattle.byteorder.specs.Endian.{big_bytes}
+use Rattle.bgp_wire.specs.declared.header.Limit.{Limit}
+use Rattle.bgp_wire.specs.Header.{header_of, length_of, type_of, least_length, IsSound}
+use Rattle.bgp_wire.specs.Message.{IsMessage}
+use Rattle.bgp_wire.specs.Framing.{IsFrame}
+use Rattle.bgp_wire.proofs.EachFraming.{marker_or_not}
+
+-- the Length of a sound header is at least that of its type's fixed fields
+pub least_holds : (limit : Limit) (header : List ℕ) (kind : ℕ) → IsSound limit header → type_of header ≡ kind
+    → least_length kind ≤ length_of header
+least_holds limit header kind sound is =
+    elim (cases_lt (length_of header) (least_length kind)) [
+      | inl less ↦
+          let bad : length_of header < least_length (type_of header) = subst (λ (k : ℕ). length_of header < least_length k) (sym is) less in
+          absurd (sound 2 (big_bytes 2 (length_of header)) (inr (inl (refl, inl bad, refl))))
+      | inr enough ↦ enough
+    ]
+
+pub frame_is_message : (limit : Limit) (frame : List ℕ) (kind : ℕ) → IsFrame limit frame → type_of (header_of frame) ≡ kind
+    → IsMessage kind frame
+frame_is_message limit frame kind whole is = record {
+  header = whole.header;
+  marker = elim (marker_or_not (header_of frame)) [
+    | inl marker ↦ marker
+    | inr broken ↦ absurd (whole.sound 1 [] (inl (refl, broken)))
+  ];
+  count = sym whole.whole;
+  type_field = is;
+}
+
+-- a frame is of one of the four types
+pub type_of_frame : (limit : Limit) (frame : List ℕ) → IsFrame limit frame
+    → (type_of (header_of frame) ≡ 1) ⊎ (type_of (header_of frame) ≡ 2) ⊎ (type_of (header_of frame) ≡ 3)
+    ⊎ (type_of (header_of frame) ≡ 4)
+type_of_frame limit frame whole =
+    let kind = type_of (header_of frame) in
+    elim (cases_eq kind 1) [
+      | inl is ↦ inl is
+      | inr not1 ↦ elim (cases_eq kind 2) [
+        | inl is ↦ inr (inl is)
+        | inr not2 ↦ elim (cases_eq kind 3) [
+          | inl is ↦ inr (inr (inl is))
+          | inr not3 ↦ elim (cases_eq kind 4) [
+            | inl is ↦ inr (inr (inr is))
+            | inr not4 ↦ absurd (whole.sound 3 (big_bytes 1 kind) (inr (inr (refl, (not1, not2, not3, not4), refl))))
+          ]
+        ]
+      ]
+    ]

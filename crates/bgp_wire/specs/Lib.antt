@@ -1,0 +1,6 @@
+pub mod Header
+pub mod Verdict
+pub mod Message
+pub mod Framing
+pub mod Held
+pub mod Next
