@@ -21,7 +21,7 @@ fn main(rt: HostRuntime) -> ExitCode {
 fn run<R: Files + Env + Input + Print + Eprint + AllocGlobal>(rt: &R) -> u8 {
     let words = match words(rt) {
         Ok(words) => words,
-        Err(_) => return Status::Memory.code(),
+        Err(error) => return unread(rt, &error).code(),
     };
     match command_line::parse(rt.alloc(), words.as_slice()) {
         Ok(Command::Decode { file }) => devices::decode(rt, file),
@@ -36,6 +36,15 @@ fn words<R: Env + AllocGlobal>(rt: &R) -> io::Result<Vec<String>> {
         words.push(word)?;
     }
     Ok(words)
+}
+
+/// Tells why the words can't be read: memory was refused, or one of them isn't text.
+fn unread<R: Eprint>(rt: &R, error: &io::Error) -> Status {
+    if error.kind() == io::ErrorKind::OutOfMemory {
+        return Status::Memory;
+    }
+    let _ = eprintln!(rt; "error: a word of the command line isn't UTF-8 text");
+    Status::Usage
 }
 
 /// Prints help, the version or a usage fault, each where it belongs.

@@ -1,3 +1,4 @@
 pub mod OneReading
 pub mod JoinedCapabilities
 pub mod LeastFault
+pub mod EachOpen

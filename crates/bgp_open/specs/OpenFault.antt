@@ -39,6 +39,12 @@ AreAllCapabilities octets = All (λ parameter. parameter.code ≡ 2) (triplets_o
 abbrev pub HasOtherParameter : List ℕ → Type 0
 HasOtherParameter octets = ¬ AreAllCapabilities (parameters_of octets)
 
+-- a whole OPEN has the fault, whatever others it has
+abbrev pub HasOpenFault : List ℕ → OpenFault → Type 0
+HasOpenFault octets Malformed = IsMalformed octets
+HasOpenFault octets Version = IsOtherVersion octets
+HasOpenFault octets Parameter = HasOtherParameter octets
+
 -- an OPEN of version 4 whose parameters are as long as they say, whole, and all of type 2
 pub record IsWellFormed (octets : List ℕ) : Type 0 where
   pub whole : IsOpen octets

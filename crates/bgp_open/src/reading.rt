@@ -1,8 +1,10 @@
 //! Laws: what stands in octets is read, in the one way that there is.
 
-ghost use Rattle.std.specs.Prelude.{◌≡◌, ◌↔◌, ◌++◌, ℕ, List};
+ghost use Rattle.std.specs.Prelude.{◌≡◌, ◌≤◌, ◌↔◌, ◌⊎◌, ◌++◌, ℕ, List};
 ghost use Rattle.bgp_open.specs.Triplet.{Triplet, IsCut, IsWhole, joined, triplets_of};
-ghost use Rattle.bgp_open.specs.OpenFault.{IsWellFormed, IsAnswered};
+ghost use Rattle.bgp_open.specs.Open.{IsOpen};
+ghost use Rattle.bgp_open.specs.OpenFault.{IsWellFormed, IsAnswered, HasOpenFault};
+ghost use Rattle.bgp_open.specs.OpenFault.{IsOtherVersion, number_of};
 ghost use Rattle.bgp_open.specs.declared.fault.OpenFault.{OpenFault};
 
 /// Octets are triplets, as parameters and capabilities are, and then a rest in which no whole one
@@ -18,10 +20,17 @@ pub fn one_reading()
         → IsWhole octets ↔ ((triplets : List Triplet) × (octets ≡ joined triplets)) }
 {}
 
-/// An OPEN that isn't well-formed has one fault that is answered, and a well-formed one none.
+/// Octets are a well-formed OPEN or have just one fault that is answered. Of an OPEN of version 4 it
+/// is the least of those that it has, by their numbers.
 pub fn one_fault()
+    ensures each { (octets : List ℕ)
+        → IsWellFormed octets ⊎ ((fault : OpenFault) × IsAnswered octets fault) }
     ensures one { (octets : List ℕ) (fault other : OpenFault)
         → IsAnswered octets fault → IsAnswered octets other → fault ≡ other }
     ensures none { (octets : List ℕ) (fault : OpenFault)
         → IsWellFormed octets → ¬ IsAnswered octets fault }
+    ensures least { (octets : List ℕ) (fault other : OpenFault)
+        → IsOpen octets → (¬ IsOtherVersion octets)
+        → IsAnswered octets fault → HasOpenFault octets other
+        → HasOpenFault octets fault × (number_of fault ≤ number_of other) }
 {}

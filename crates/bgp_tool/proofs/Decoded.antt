@@ -7,7 +7,7 @@ use Rattle.bgp_wire.proofs.EachFraming.{each_faults, each_framing}
 use Rattle.bgp_tool.specs.Text.{rest_line, fault_line}
 use Rattle.bgp_tool.specs.Decoding.{lines_of, IsLastLine, IsDecoded, IsSoFar, IsBeginning}
 use Rattle.bgp_tool.specs.Ending.{AreLines, IsBegun}
-use Rattle.bgp_tool.proofs.Lines.{more_lines}
+use Rattle.bgp_tool.proofs.Lines.{no_lines, more_lines, begun_between}
 use Rattle.bgp_tool.proofs.EachMessage.{each_say}
 
 -- where the last frame ends
@@ -96,3 +96,9 @@ so_far stream rest lines are_lines short = record {
   short = short;
   text = are_lines.text;
 }
+
+-- each stream has a text
+pub each_text : (stream : List ℕ) → (text : List ℕ) × (status : ℕ) × IsDecoded stream text status
+each_text stream =
+    let whole = beginning stream [] (begun_between (length stream) stream stream [] (no_lines stream)) in
+    (whole.0, whole.1, whole.2)

@@ -3,3 +3,4 @@ pub mod Lines
 pub mod Cut
 pub mod Decoded
 pub mod Reached
+pub mod OneText

@@ -10,8 +10,8 @@ use Rattle.bgp_open.specs.Triplet.{Triplet}
 use Rattle.bgp_open.specs.Open.{OpenFields}
 use Rattle.bgp_open.specs.OpenFault.{number_of}
 use Rattle.bgp_open.specs.declared.fault.OpenFault.{OpenFault}
-use Rattle.bgp_tool.specs.Message.{Message, opening, malformed_opening, update}
-use Rattle.bgp_tool.specs.Message.{notification, keepalive}
+use Rattle.bgp_tool.specs.Message.{Message, open_message, malformed_open_message, update_message}
+use Rattle.bgp_tool.specs.Message.{notification_message, keepalive_message}
 
 -- octets in hexadecimal, two lower-case digits each; a dash for none
 unfoldable pub hex_text : List ℕ → List ℕ
@@ -51,11 +51,11 @@ notification_line code subcode detail =
 
 -- the line of a message
 abbrev pub line_of : Message → List ℕ
-line_of (opening fields) = open_line fields
-line_of (malformed_opening fault) = malformed_open_line fault
-line_of (update count) = update_line count
-line_of (notification code subcode detail) = notification_line code subcode detail
-line_of keepalive = codes "keepalive\n"
+line_of (open_message fields) = open_line fields
+line_of (malformed_open_message fault) = malformed_open_line fault
+line_of (update_message count) = update_line count
+line_of (notification_message code subcode detail) = notification_line code subcode detail
+line_of keepalive_message = codes "keepalive\n"
 
 -- a subcode of Message Header Error after a blank, where it is at fault (RFC 4271, 6.1)
 abbrev pub subcode_text : Bool → List ℕ → List ℕ

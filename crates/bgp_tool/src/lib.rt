@@ -8,8 +8,10 @@
 #![tactic(auto)]
 
 mod decoding;
+mod laws;
 mod status;
 mod text;
 
 pub use decoding::decode_raw;
+pub use laws::each_stream_has_one_text;
 pub use status::Status;

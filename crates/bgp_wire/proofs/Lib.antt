@@ -4,3 +4,4 @@ pub mod Front
 pub mod OneFraming
 pub mod EachFraming
 pub mod WholeFrame
+pub mod OneFaultSet

@@ -1,10 +1,11 @@
 -- What holds of a frame: it is a whole message of its type, as long as that type needs.
-use Rattle.std.proofs.Common.{◌≡◌, ◌⊎◌, ◌<◌, ◌≤◌, [], ℕ, List, length, refl, sym, subst, inl, inr, arith}
+use Rattle.std.proofs.Common.{◌≡◌, ◌⊎◌, ◌<◌, ◌≤◌, ◌∷◌, [], ℕ, List, length, refl, sym, subst, inl, inr, arith}
+use Rattle.std.proofs.lemmas.List.{length-drop}
 use Rattle.std.proofs.lemmas.Bool.{cases_lt, cases_eq}
 use Rattle.byteorder.specs.Endian.{big_bytes}
 use Rattle.bgp_wire.specs.declared.header.Limit.{Limit}
 use Rattle.bgp_wire.specs.Header.{header_of, length_of, type_of, least_length, IsSound}
-use Rattle.bgp_wire.specs.Message.{IsMessage}
+use Rattle.bgp_wire.specs.Message.{IsMessage, IsKeepalive, body_of}
 use Rattle.bgp_wire.specs.Framing.{IsFrame}
 use Rattle.bgp_wire.proofs.EachFraming.{marker_or_not}
 
@@ -49,4 +50,21 @@ type_of_frame limit frame whole =
           ]
         ]
       ]
+    ]
+
+-- nothing has no octets
+empty_of : (octets : List ℕ) → length octets ≡ 0 → octets ≡ []
+empty_of [] h = refl
+empty_of (o ∷ os) h = absurd (cc)
+
+-- a frame of a KEEPALIVE is a header alone
+pub frame_is_keepalive : (limit : Limit) (frame : List ℕ) → IsFrame limit frame → type_of (header_of frame) ≡ 4
+    → IsKeepalive frame
+frame_is_keepalive limit frame whole is =
+    elim (cases_eq (length_of (header_of frame)) 19) [
+      | inl exact ↦
+          let none : length (body_of frame) ≡ 0 = omega (arith, length-drop 19 frame, whole.whole, exact) in
+          (frame_is_message limit frame 4 whole is, empty_of (body_of frame) none)
+      | inr other ↦
+          absurd (whole.sound 2 (big_bytes 2 (length_of (header_of frame))) (inr (inl (refl, inr (inr (is, other)), refl))))
     ]

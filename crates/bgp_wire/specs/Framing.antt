@@ -10,8 +10,8 @@ pub record IsFrame (limit : Limit) (frame : List ℕ) : Type 0 where
   pub sound : IsSound limit (header_of frame)
   pub whole : length frame ≡ length_of (header_of frame)
 
--- less than a frame, which more octets may complete: no whole header, or a header without a fault
--- and fewer octets than its Length says
+-- less than a frame, so that more octets decide: no whole header, or a header without a fault and
+-- fewer octets than its Length says
 abbrev pub IsShort : Limit → List ℕ → Type 0
 IsShort limit octets =
     (length octets < 19)

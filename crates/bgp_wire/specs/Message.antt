@@ -1,5 +1,5 @@
 -- A whole message (RFC 4271, 4.1): a header and a body, whatever the body is.
-use Rattle.std.specs.Prelude.{◌≡◌, ◌≤◌, ℕ, List, length, drop}
+use Rattle.std.specs.Prelude.{◌≡◌, ◌≤◌, ℕ, List, [], length, drop}
 use Rattle.bgp_wire.specs.Header.{IsSynchronized, header_of, length_of, type_of}
 
 -- the octets are one message of this Type code: an all-255 marker, a Length that is their count,
@@ -13,3 +13,7 @@ pub record IsMessage (kind : ℕ) (octets : List ℕ) : Type 0 where
 -- what stands behind the header
 abbrev pub body_of : List ℕ → List ℕ
 body_of octets = drop 19 octets
+
+-- the octets are a KEEPALIVE: a header alone (4.4)
+abbrev pub IsKeepalive : List ℕ → Type 0
+IsKeepalive octets = IsMessage 4 octets × (body_of octets ≡ [])

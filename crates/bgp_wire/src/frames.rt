@@ -21,7 +21,7 @@ pub enum Next<'a> {
     /// The first frame of what was held: the type that its header says, and all its octets, the
     /// header's too.
     Frame(MessageType, &'a [u8]),
-    /// No whole frame is held, and more octets may complete one.
+    /// Neither a whole frame nor a header with faults is held: more octets decide.
     More,
     /// A header with faults stands where a frame should: the set of all of them, and its octets.
     Fault(HeaderFaults, &'a [u8; HEADER_LENGTH]),
@@ -108,6 +108,7 @@ impl<A: Allocator + Copy> Frames<A> {
     /// Takes away the first frame of what is held and answers it; answers `More` or `Fault` where
     /// no frame stands at the front, and then takes nothing. It needs no memory.
     pub fn next(&mut self) -> Next<'_>
+        // What is held once the answer is let go.
         ensures* after_borrow { sem 𝓛 (Rests (the_row A.row A.Allocator) self.entry
             (λ new. new ≡ after_next self.old result)) }
         ensures first { IsNext self.old.limit self.old.octets result }

@@ -26,8 +26,8 @@ fn is_message(kind: MessageType, octets: &[u8]) -> bool
 }
 
 /// The body of a whole message of this type: what stands behind its header. `None` where the octets
-/// are no such message: a marker octet isn't 255, the Length isn't their count, or the type is
-/// another. How long a message may be plays no part.
+/// are no such message: they are fewer than 19, a marker octet isn't 255, the Length isn't their
+/// count, or the type is another. How long a message may be plays no part.
 pub fn message_body(kind: MessageType, octets: &[u8]) -> Option<&[u8]>
     ensures some { IfSome result (λ body. IsMessage (type_code kind) octets.entry.now) }
     ensures body { IfSome result (λ body. body.now ≡ body_of octets.entry.now) }

@@ -251,3 +251,34 @@ fn a_refused_growth_leaves_what_was_held(rt: HostRuntime) -> Result<(), Fail> {
     }
     Err(Fail::from("no heap was large enough"))
 }
+
+#[test]
+fn a_splitter_takes_no_memory_but_for_a_piece(rt: HostRuntime) -> Result<(), Fail> {
+    let heap = LocalHeap::new(rt.alloc(), 1 << 16)?;
+    let before = heap.used();
+    let mut frames = Frames::new(&heap, Limit::Plain);
+    assert_eq!(rt; heap.used(), before);
+    frames.feed(&KEEPALIVE)?;
+    let fed = heap.used();
+    assert_eq!(rt;
+        frames.next(),
+        Next::Frame(MessageType::Keepalive, &KEEPALIVE)
+    );
+    assert_eq!(rt; frames.next(), Next::More);
+    assert_eq!(rt; heap.used(), fed);
+    Ok(())
+}
+
+#[test]
+fn what_is_held_does_not_grow_with_the_stream(rt: HostRuntime) -> Result<(), Fail> {
+    let heap = LocalHeap::new(rt.alloc(), 1 << 17)?;
+    let mut frames = Frames::new(&heap, Limit::Plain);
+    for _ in 0..20_000 {
+        frames.feed(&ANNOUNCES_10)?;
+        assert_eq!(rt;
+            frames.next(),
+            Next::Frame(MessageType::Update, &ANNOUNCES_10)
+        );
+    }
+    Ok(())
+}

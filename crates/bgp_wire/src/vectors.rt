@@ -48,7 +48,7 @@ pub const OPEN_B: [u8; 49] = [
     0x41, 0x04, 0x00, 0x00, 0xfd, 0xea, // four-octet AS number: 65002
 ];
 
-/// [`OPEN_B`] with Hold Time 0: no KEEPALIVE is sent, and the hold timer never expires.
+/// [`OPEN_B`] with Hold Time 0: no periodic KEEPALIVE is sent, and the hold timer never expires.
 pub const OPEN_B_HOLD_0: [u8; 49] = [
     255, 255, 255, 255, 255, 255, 255, 255, 255, 255, 255, 255, 255, 255, 255, 255, // marker
     0x00, 0x31, // Length: 49

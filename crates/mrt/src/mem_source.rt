@@ -36,6 +36,7 @@ pub struct MemSource<A: Allocator = Global> {
     has_ended: bool,
     ghost within: { given ≤ length octets.items },
     ghost below: { given < 2 ^ 63 },
+    // Unless it is told to end early, it tells its end only where it has given all.
     ghost told: { IsTrue has_ended → upset ≢ Some End → given ≡ length octets.items },
 }
 
@@ -68,7 +69,7 @@ impl<A: Allocator> MemSource<A> {
     }
 
     /// The same source, which does something else in the call of this number, counted from the
-    /// next one, which is 0.
+    /// next one, which is 0. It must not have told its end.
     pub fn upset_at(mut self, call: u64, upset: SourceUpset) -> MemSource<A>
         requires { IsFalse (source_state self).has_ended }
         ensures { source_state result

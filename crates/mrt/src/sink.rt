@@ -20,7 +20,7 @@ pub trait Sink {
     ghost failures: { Self → ℕ };
 
     /// Takes octets at the front of `octets`, and answers how many: at least one, where there is
-    /// one.
+    /// one. At `Failed` it took nothing, and has counted one failure more.
     fn write(&mut self, octets: &[u8]) -> Result<usize, Failed>
         requires { failures self.old < u64.MAX }
         ensures bound { IfOk result (λ count. count ≤ length octets.now) }
@@ -68,7 +68,6 @@ pub fn write_all<S: Sink>(sink: &mut S, octets: &[u8]) -> Result<(), Failed>
 #[derive(Drop)]
 pub struct FromWrite<W> {
     writer: W,
-    taken: u64,
     failures: u64,
 }
 
@@ -81,16 +80,8 @@ impl<W: Write> FromWrite<W> {
     {
         FromWrite {
             writer,
-            taken: 0,
             failures: 0,
         }
-    }
-
-    /// How many octets it has taken, or `u64::MAX` if they are more.
-    pub fn taken(&self) -> u64
-        ensures { result ≡ (writer_state self.now).taken }
-    {
-        self.taken
     }
 
     /// The writer, as the last write left it: not flushed.
@@ -111,24 +102,22 @@ impl<W: Write> FromWrite<W> {
 }
 
 impl<W: Write> Sink for FromWrite<W> {
-    ghost use Rattle.mrt.specs.FromWrite.{writer_state, Takes, takes_nothing, takes_joined};
+    ghost use Rattle.mrt.specs.OverCalls.{appends_nothing, appends_joined};
+    ghost use Rattle.mrt.specs.FromWrite.{writer_state, Takes};
 
     ghost takes = { λ a b. Takes W.contents (writer_state a) (writer_state b) };
 
     ghost failures = { λ a. (writer_state a).failures };
 
-    ghost nothing = { λ a. takes_nothing W.contents (writer_state a) };
+    ghost nothing = { λ a. appends_nothing (W.contents a.writer) };
 
     ghost joined = { λ a b c.
-        takes_joined W.contents (writer_state a) (writer_state b) (writer_state c) };
+        appends_joined (W.contents a.writer) (W.contents b.writer) (W.contents c.writer) };
 
     fn write(&mut self, octets: &[u8]) -> Result<usize, Failed> {
         match self.writer.write(octets) {
             Ok(0) if !octets.is_empty() => Err(self.fail()),
-            Ok(count) => {
-                self.taken = self.taken.saturating_add(count as u64);
-                Ok(count)
-            }
+            Ok(count) => Ok(count),
             Err(_) => Err(self.fail()),
         }
     }

@@ -26,7 +26,7 @@ pub trait Source {
     ghost has_ended: { Self → Bool };
 
     /// Puts octets at the front of `buffer`, and answers how many. `Ok(0)`, where the buffer has
-    /// room, is the end.
+    /// room, is the end. At `Failed` it gave nothing, and has counted one failure more.
     ///
     /// What the buffer has behind those octets is left open, as is all of it after a failure.
     fn read(&mut self, buffer: &mut [u8]) -> Result<usize, Failed>
@@ -64,8 +64,8 @@ const MOST_OCTETS: u64 = (1 << 63) - 1;
 
 /// A source made of any reader.
 ///
-/// Each error of the reader is a failure, also one that asks to try again. A read with room is a
-/// failure too, and doesn't ask the reader, where 2 to the 63rd octets, less one, have been given.
+/// Each error of the reader is a failure, also one that asks to try again. Where 2 to the 63rd
+/// octets, less one, have been given, each read with room is a failure, and the reader isn't asked.
 #[derive(Drop)]
 pub struct FromRead<R> {
     reader: R,

@@ -1,0 +1,109 @@
+-- Each frame says one thing, and each stream has one text and one status.
+use Rattle.std.proofs.Common.{Bool, true, false, ◌≡◌, ◌≢◌, ◌⊎◌, ◌↔◌, ◌∙◌, ◌++◌, ◌∷◌, [], ℕ, List, Option, Some, None, is_some, IsTrue, length, refl, sym, ap, subst, inl, inr, arith}
+use Rattle.bgp_wire.specs.declared.header.HeaderFaults.{HeaderFaults}
+use Rattle.bgp_wire.specs.declared.header.Limit.TheVariants.{Plain}
+use Rattle.bgp_wire.specs.Header.{header_of}
+use Rattle.bgp_wire.specs.Verdict.{AreFaults}
+use Rattle.bgp_wire.proofs.OneFaultSet.{same_fields}
+use Rattle.bgp_wire.specs.Framing.{IsShort, IsFaulty, joined}
+use Rattle.bgp_wire.proofs.Front.{faulty_not_short}
+use Rattle.bgp_wire.proofs.OneFraming.{one_framing}
+use Rattle.bgp_open.proofs.LeastFault as open_faults
+use Rattle.bgp_tool.specs.Message.{Message, Says, Say}
+use Rattle.bgp_tool.specs.Message.{open_message, malformed_open_message, update_message, notification_message, keepalive_message}
+use Rattle.bgp_tool.specs.Text.{fault_line, rest_line, subcode_text}
+use Rattle.bgp_tool.specs.Decoding.{lines_of, IsLastLine, IsDecoded}
+
+pub one_message : (frame : List ℕ) (message other : Message) → Says frame message → Says frame other → message ≡ other
+one_message frame (open_message f) (open_message f') h k = ap open_message (h.2 ∙ sym k.2)
+one_message frame (open_message f) (malformed_open_message f') h k = absurd (open_faults.none_if_well_formed frame f' h.1 k.1)
+one_message frame (open_message f) (update_message n') h k = absurd (omega (arith, h.0, k.0))
+one_message frame (open_message f) (notification_message c' s' d') h k = absurd (omega (arith, h.0, k.0))
+one_message frame (open_message f) keepalive_message h k = absurd (omega (arith, h.0, k.0))
+one_message frame (malformed_open_message f) (open_message f') h k = absurd (open_faults.none_if_well_formed frame f k.1 h.1)
+one_message frame (malformed_open_message f) (malformed_open_message f') h k = ap malformed_open_message (open_faults.one_fault frame f f' h.1 k.1)
+one_message frame (malformed_open_message f) (update_message n') h k = absurd (omega (arith, h.0, k.0))
+one_message frame (malformed_open_message f) (notification_message c' s' d') h k = absurd (omega (arith, h.0, k.0))
+one_message frame (malformed_open_message f) keepalive_message h k = absurd (omega (arith, h.0, k.0))
+one_message frame (update_message n) (open_message f') h k = absurd (omega (arith, h.0, k.0))
+one_message frame (update_message n) (malformed_open_message f') h k = absurd (omega (arith, h.0, k.0))
+one_message frame (update_message n) (update_message n') h k = ap update_message (h.1 ∙ sym k.1)
+one_message frame (update_message n) (notification_message c' s' d') h k = absurd (omega (arith, h.0, k.0))
+one_message frame (update_message n) keepalive_message h k = absurd (omega (arith, h.0, k.0))
+one_message frame (notification_message c s d) (open_message f') h k = absurd (omega (arith, h.0, k.0))
+one_message frame (notification_message c s d) (malformed_open_message f') h k = absurd (omega (arith, h.0, k.0))
+one_message frame (notification_message c s d) (update_message n') h k = absurd (omega (arith, h.0, k.0))
+one_message frame (notification_message c s d) (notification_message c' s' d') h k = let same : c ∷ s ∷ d ≡ c' ∷ s' ∷ d' = sym h.1.body ∙ k.1.body in cc
+one_message frame (notification_message c s d) keepalive_message h k = absurd (omega (arith, h.0, k.0))
+one_message frame keepalive_message (open_message f') h k = absurd (omega (arith, h.0, k.0))
+one_message frame keepalive_message (malformed_open_message f') h k = absurd (omega (arith, h.0, k.0))
+one_message frame keepalive_message (update_message n') h k = absurd (omega (arith, h.0, k.0))
+one_message frame keepalive_message (notification_message c' s' d') h k = absurd (omega (arith, h.0, k.0))
+one_message frame keepalive_message keepalive_message h k = refl
+
+-- the same of frames in a row
+pub one_reading : (frames : List (List ℕ)) (messages others : List Message) → Say frames messages → Say frames others
+    → messages ≡ others
+one_reading [] [] [] h k = refl
+one_reading [] [] (o ∷ os) h k = absurd k
+one_reading [] (m ∷ ms) others h k = absurd h
+one_reading (f ∷ fs) [] others h k = absurd h
+one_reading (f ∷ fs) (m ∷ ms) [] h k = absurd k
+one_reading (f ∷ fs) (m ∷ ms) (o ∷ os) h k =
+    ap (λ (x : Message). x ∷ ms) (one_message f m o h.0 k.0) ∙ ap (λ (xs : List Message). o ∷ xs) (one_reading fs ms os h.1 k.1)
+
+-- the faults of one header print one line
+one_fault_line : (offset : ℕ) (header : List ℕ) (faults others : HeaderFaults) → AreFaults Plain header faults
+    → AreFaults Plain header others → fault_line offset faults ≡ fault_line offset others
+unfolding fault_line
+one_fault_line offset header faults others h k =
+    let same = same_fields Plain header faults others h k in
+    rw (same.0, same.1, same.2) refl
+
+-- a rest has one last line and one status
+one_last_line : (offset : ℕ) (rest line other : List ℕ) (status code : ℕ) → IsLastLine offset rest line status
+    → IsLastLine offset rest other code → (line ≡ other) × (status ≡ code)
+one_last_line offset rest line other status code h k = elim h [
+  | inl a ↦ elim k [
+    | inl b ↦ (a.1 ∙ sym b.1, a.2 ∙ sym b.2)
+    | inr b ↦ elim b [
+      | inl c ↦ absurd (c.0 a.0)
+      | inr d ↦ let few : length rest ≡ 0 = ap length a.0 in absurd (omega (arith, d.0.0))
+    ]
+  ]
+  | inr a ↦ elim a [
+    | inl b ↦ elim k [
+      | inl c ↦ absurd (b.0 c.0)
+      | inr c ↦ elim c [
+        | inl d ↦ (b.2 ∙ sym d.2, b.3 ∙ sym d.3)
+        | inr d ↦ absurd (faulty_not_short Plain rest d.0 b.1)
+      ]
+    ]
+    | inr b ↦ elim k [
+      | inl c ↦ let few : length rest ≡ 0 = ap length c.0 in absurd (omega (arith, b.0.0))
+      | inr c ↦ elim c [
+        | inl d ↦ absurd (faulty_not_short Plain rest b.0 d.1)
+        | inr d ↦ (
+          b.2.2 ∙ one_fault_line offset (header_of rest) b.2.0 d.2.0 b.2.1 d.2.1 ∙ sym d.2.2,
+          b.1 ∙ sym d.1,
+        )
+      ]
+    ]
+  ]
+]
+
+pub one_text : (stream text other : List ℕ) (status code : ℕ) → IsDecoded stream text status → IsDecoded stream other code
+    → (text ≡ other) × (status ≡ code)
+one_text stream text other status code h k =
+    let framing = one_framing Plain stream h.frames k.frames h.rest k.rest h.framing k.framing in
+    let said : Say h.frames k.messages = subst (λ (fs : List (List ℕ)). Say fs k.messages) (sym framing.0) k.said in
+    let messages = one_reading h.frames h.messages k.messages h.said said in
+    let ending : IsLastLine (length (joined h.frames)) h.rest k.last code =
+    subst (λ (fs : List (List ℕ)). IsLastLine (length (joined fs)) h.rest k.last code) (sym framing.0)
+    (subst (λ (r : List ℕ). IsLastLine (length (joined k.frames)) r k.last code) (sym framing.1) k.ending)
+    in
+    let last = one_last_line (length (joined h.frames)) h.rest h.last k.last status code h.ending ending in (
+      h.text ∙ ap (λ (ms : List Message). lines_of ms ++ h.last) messages ∙ ap (λ (l : List ℕ). lines_of k.messages ++ l) last.0
+          ∙ sym k.text,
+      last.1,
+    )

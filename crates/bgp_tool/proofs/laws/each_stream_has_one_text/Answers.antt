@@ -1,0 +1,7 @@
+use Rattle.bgp_tool.proofs.EachMessage.{each_message}
+use Rattle.bgp_tool.proofs.Decoded.{each_text}
+use Rattle.bgp_tool.proofs.OneText.{one_message, one_text}
+use Rattle.bgp_tool.proofs.laws.each_stream_has_one_text.Goals as goal
+
+pub returns : goal.returns
+returns c = record { says = each_message; says_once = one_message; each = each_text; one = one_text }
