@@ -10,6 +10,8 @@
 mod decoding;
 mod laws;
 mod status;
+#[cfg(test)]
+mod tests;
 mod text;
 
 pub use decoding::decode_raw;

@@ -50,13 +50,12 @@ pub same_fields : (limit : Limit) (header : List ℕ) (faults others : HeaderFau
     → (faults.marker ≡ others.marker) × (is_some faults.length ≡ is_some others.length) × (is_some faults.kind ≡ is_some others.kind)
 same_fields limit header faults others h k =
     let to = named_by limit header faults others h k in
-    let from = named_by limit header others faults k h in
-    (
+    let from = named_by limit header others faults k h in (
       same_bool faults.marker others.marker (marker_of faults others to) (marker_of others faults from),
       same_bool (is_some faults.length) (is_some others.length)
-        (length_of_faults faults others to faults.length others.length refl refl)
-        (length_of_faults others faults from others.length faults.length refl refl),
+          (length_of_faults faults others to faults.length others.length refl refl)
+          (length_of_faults others faults from others.length faults.length refl refl),
       same_bool (is_some faults.kind) (is_some others.kind)
-        (kind_of_faults faults others to faults.kind others.kind refl refl)
-        (kind_of_faults others faults from others.kind faults.kind refl refl),
+          (kind_of_faults faults others to faults.kind others.kind refl refl)
+          (kind_of_faults others faults from others.kind faults.kind refl refl),
     )
