@@ -290,12 +290,13 @@ fn memory_does_not_grow_with_the_stream(rt: HostRuntime) -> Result<(), Fail> {
 /// The call that may want memory, with enough of it.
 #[test]
 fn ample_memory(rt: HostRuntime) -> Result<(), Fail> {
-    let mut source = MemSource::new(joined(rt.alloc(), &[&OPEN_B, &KEEPALIVE])?);
+    let octets = joined(rt.alloc(), &[&ADMINISTRATIVE_SHUTDOWN, &KEEPALIVE])?;
+    let mut source = MemSource::new(octets);
     let mut sink = MemSink::new(rt.alloc());
     assert_eq!(rt; decode_raw(rt.alloc(), &mut source, &mut sink), 0);
     assert_eq!(rt;
         sink.octets(),
-        b"open as 65002 hold 90 id 192.0.2.2 caps 1:00010001 1:00020001 65:0000fdea\nkeepalive\n".as_slice()
+        b"notification 6/2 -\nkeepalive\n".as_slice()
     );
     Ok(())
 }
