@@ -1,5 +1,5 @@
 -- Octets are a well-formed OPEN or have a fault that is answered, which is the least.
-use Rattle.std.proofs.Common.{◌≡◌, ◌≢◌, ◌⊎◌, ◌≤◌, ◌<◌, ℕ, List, length, inl, inr, arith}
+use Rattle.std.proofs.Common.{◌≡◌, ◌⊎◌, ◌≤◌, ℕ, List, length, inl, inr, arith}
 use Rattle.std.proofs.lemmas.Bool.{cases_eq, cases_lt}
 use Rattle.bgp_wire.specs.Header.{header_of, type_of, length_of}
 use Rattle.bgp_wire.specs.Message.{IsMessage, body_of}
@@ -9,7 +9,7 @@ use Rattle.bgp_open.specs.declared.fault.OpenFault.{OpenFault}
 use Rattle.bgp_open.specs.declared.fault.OpenFault.TheVariants.{Malformed, Version, Parameter}
 use Rattle.bgp_open.specs.Triplet.{Triplet, IsWhole, joined, triplets_of}
 use Rattle.bgp_open.specs.Open.{IsOpen, fixed_fields_of, parameters_of, version_of, parameters_length_of}
-use Rattle.bgp_open.specs.OpenFault.{HasWholeCapabilities, AreParameters, AreAllCapabilities, IsWellFormed, IsAnswered}
+use Rattle.bgp_open.specs.OpenFault.{HasWholeCapabilities, AreParameters, IsWellFormed, IsAnswered}
 use Rattle.bgp_open.specs.OpenFault.{IsOtherVersion, HasOpenFault, number_of}
 
 whole_or_not : (octets : List ℕ) → Either (IsWhole octets)
@@ -43,7 +43,8 @@ each_open octets whole = elim (cases_eq (version_of (fixed_fields_of octets)) 4)
       | inr broken ↦ inr (Malformed, inr (λ other. other four, inr broken))
       | inl are ↦
           elim (decided_all (λ (p : Triplet). p.code ≡ 2) (λ p. cases_eq p.code 2) (triplets_of (parameters_of octets))) [
-            | inl types ↦ inl (record { whole = whole; version = four; count = same; parameters = are; types = types })
+            | inl types ↦
+                inl (record { readable = record { whole = whole; version = four; count = same; parameters = are }; types = types })
             | inr another ↦ inr (
               Parameter,
               (

@@ -1,20 +1,27 @@
 -- Which fault of an OPEN is answered.
-use Rattle.std.proofs.Common.{◌≡◌, ℕ, List, length, inl, inr, refl}
-use Rattle.bgp_open.specs.Open.{IsOpen, fixed_fields_of, version_of, parameters_length_of, parameters_of}
-use Rattle.bgp_open.specs.OpenFault.{AreParameters, HasOtherParameter, IsAnswered, IsWellFormed}
+use Rattle.std.proofs.Common.{◌≡◌, ℕ, List, inl, inr, refl}
+use Rattle.bgp_open.specs.OpenFault.{HasOtherParameter, IsAnswered, IsReadable, IsWellFormed}
 use Rattle.bgp_open.specs.declared.fault.OpenFault.{OpenFault}
 use Rattle.bgp_open.specs.declared.fault.OpenFault.TheVariants.{Malformed, Version, Parameter}
 
 -- a parameter of another type is answered where no other fault holds
-pub answers_parameter : (octets : List ℕ) → IsOpen octets → version_of (fixed_fields_of octets) ≡ 4
-    → parameters_length_of (fixed_fields_of octets) ≡ length (parameters_of octets) → AreParameters (parameters_of octets)
-    → HasOtherParameter octets → IsAnswered octets Parameter
-answers_parameter octets open_ version count parameters other = (
-  open_,
-  λ not_so. not_so version,
-  λ malformed. elim malformed [ inl not_so ↦ not_so count | inr not_so ↦ not_so parameters ],
+pub answers_parameter : (octets : List ℕ) → IsReadable octets → HasOtherParameter octets → IsAnswered octets Parameter
+answers_parameter octets readable other = (
+  readable.whole,
+  λ not_so. not_so readable.version,
+  λ malformed. elim malformed [ inl not_so ↦ not_so readable.count | inr not_so ↦ not_so readable.parameters ],
   other,
 )
+
+-- a readable OPEN isn't malformed, nor of another version
+pub readable_is_whole : (octets : List ℕ) → IsReadable octets → IsAnswered octets Malformed → ⊥
+readable_is_whole octets readable h = elim h [
+  | inl none ↦ none readable.whole
+  | inr has ↦ elim has.1 [ inl count ↦ count readable.count | inr parameters ↦ parameters readable.parameters ]
+]
+
+pub readable_is_of_version : (octets : List ℕ) → IsReadable octets → IsAnswered octets Version → ⊥
+readable_is_of_version octets readable h = h.1 readable.version
 
 -- one fault is answered
 pub one_fault : (octets : List ℕ) (fault other : OpenFault) → IsAnswered octets fault → IsAnswered octets other → fault ≡ other
@@ -30,9 +37,6 @@ one_fault octets Parameter Parameter h k = refl
 
 -- no fault is answered of a well-formed OPEN
 pub none_if_well_formed : (octets : List ℕ) (fault : OpenFault) → IsWellFormed octets → IsAnswered octets fault → ⊥
-none_if_well_formed octets Malformed well h = elim h [
-  | inl none ↦ none well.whole
-  | inr has ↦ elim has.1 [ inl count ↦ count well.count | inr parameters ↦ parameters well.parameters ]
-]
-none_if_well_formed octets Version well h = h.1 well.version
+none_if_well_formed octets Malformed well h = readable_is_whole octets well.readable h
+none_if_well_formed octets Version well h = readable_is_of_version octets well.readable h
 none_if_well_formed octets Parameter well h = h.3 well.types

@@ -1,4 +1,9 @@
 pub mod OneReading
 pub mod JoinedCapabilities
 pub mod LeastFault
+pub mod NamedErrors
+pub mod WrittenMessage
+pub mod WrittenOpen
+pub mod CapabilityOctets
+pub mod OwnOpens
 pub mod EachOpen

@@ -3,3 +3,10 @@ pub mod Capability
 pub mod Open
 pub mod OpenFault
 pub mod Notification
+pub mod Families
+pub mod Config
+pub mod Offer
+pub mod Link
+pub mod OpenErrors
+pub mod OwnOpen
+pub mod Written

@@ -45,12 +45,16 @@ HasOpenFault octets Malformed = IsMalformed octets
 HasOpenFault octets Version = IsOtherVersion octets
 HasOpenFault octets Parameter = HasOtherParameter octets
 
--- an OPEN of version 4 whose parameters are as long as they say, whole, and all of type 2
-pub record IsWellFormed (octets : List ℕ) : Type 0 where
+-- an OPEN of version 4 whose parameters are as long as they say, and whole: its fields can be told
+pub record IsReadable (octets : List ℕ) : Type 0 where
   pub whole : IsOpen octets
   pub version : version_of (fixed_fields_of octets) ≡ 4
   pub count : parameters_length_of (fixed_fields_of octets) ≡ length (parameters_of octets)
   pub parameters : AreParameters (parameters_of octets)
+
+-- and all its parameters are of type 2
+pub record IsWellFormed (octets : List ℕ) : Type 0 where
+  pub readable : IsReadable octets
   pub types : AreAllCapabilities (parameters_of octets)
 
 -- The fault that is answered: that the octets are no whole OPEN; else another version, and then

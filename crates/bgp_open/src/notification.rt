@@ -7,10 +7,22 @@
 //! +------+---------+------------------+
 //! ```
 
-ghost use Rattle.std.specs.Prelude.{ℕ, List, IfSome, IfNone};
+ghost use Rattle.std.specs.Prelude.{◌≡◌, ◌<◌, ◌+◌, ◌++◌, ◌↔◌, ℕ, List};
+ghost use Rattle.std.specs.Prelude.{IfSome, IfNone, OnOk, OnErr, Err};
+ghost use Rattle.std.specs.Prelude.{length, drop, vec_len, vec_capacity};
 ghost use Rattle.bgp_open.specs.Notification.{IsNotification};
+ghost use Rattle.bgp_open.specs.Written.{notification_octets};
 
+use crate::writing::{put, put_header, put_u8};
 use bgp_wire::{MessageType, message_body};
+use std::alloc::Allocator;
+use thiserror::Error;
+
+/// The octets before the data: the header, the code and the subcode.
+const DETAIL_AT: usize = 21;
+
+/// The most octets of data, so that the message has at most 4096 (RFC 4271, 4.1).
+const MOST_DETAIL: usize = 4075;
 
 /// Why a speaker closes the connection.
 #[derive(Clone, Copy, Debug, PartialEq, Eq)]
@@ -41,4 +53,47 @@ pub fn read_notification(octets: &[u8]) -> Option<Notification<'_>>
         subcode: fields[1],
         detail,
     })
+}
+
+/// Why a NOTIFICATION isn't written.
+#[derive(Clone, Copy, Debug, PartialEq, Eq, Error)]
+pub enum NotificationWriteFault {
+    /// It has more than 4075 octets of data, and the message would have more than 4096.
+    #[error("the data of the NOTIFICATION are too large")]
+    TooLarge = 1,
+    /// There was no memory for it.
+    #[error("out of memory")]
+    Memory = 2,
+}
+
+/// Appends a NOTIFICATION. After a fault the vector is as before.
+pub fn write_notification<A: Allocator>(
+    notification: &Notification<'_>,
+    out: &mut Vec<u8, A>,
+) -> Result<(), NotificationWriteFault>
+    ensures ok { OnOk result (out.new.items ≡ out.old.items ++ notification_octets
+        notification.now.code notification.now.subcode notification.now.detail.now) }
+
+    // What was appended reads as what was given.
+    ensures reads_back { OnOk result (IsNotification (drop (length out.old.items) out.new.items)
+        notification.now.code notification.now.subcode notification.now.detail.now) }
+
+    ensures err { OnErr result (out.new.items ≡ out.old.items) }
+    ensures too_large { (result ≡ Err NotificationWriteFault.TooLarge)
+        ↔ (4075 < length notification.now.detail.now) }
+    ensures memory { result ≡ Err NotificationWriteFault.Memory
+        → vec_capacity out.old < vec_len out.old + 21 + length notification.now.detail.now }
+{
+    if notification.detail.len() > MOST_DETAIL {
+        return Err(NotificationWriteFault::TooLarge);
+    }
+    let length = DETAIL_AT + notification.detail.len();
+    if let Err(_) = out.reserve(length) {
+        return Err(NotificationWriteFault::Memory);
+    }
+    put_header(out, MessageType::Notification, length as u16);
+    put_u8(out, notification.code);
+    put_u8(out, notification.subcode);
+    put(out, notification.detail);
+    Ok(())
 }

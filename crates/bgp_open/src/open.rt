@@ -7,17 +7,15 @@
 //! +---------+-------+-----------+----------------+--------------+------------+
 //! ```
 
-ghost use Rattle.std.specs.Prelude.{◌≡◌, ◌↔◌, IsTrue, IfOk, IfErr, IfSome, IfNone, take, drop};
-ghost use Rattle.bgp_open.specs.Triplet.{IsWhole, triplets_of};
-ghost use Rattle.bgp_open.specs.Capability.{triplet_of};
+ghost use Rattle.std.specs.Prelude.{◌≡◌, ◌≢◌, ◌↔◌, IsTrue, IfOk, IfErr, IfSome, IfNone, take, drop};
 ghost use Rattle.bgp_open.specs.Open.{IsOpen, fixed_fields_of, parameters_of, open_of};
 ghost use Rattle.bgp_open.specs.Open.{version_of, my_as_of, hold_of, id_of, parameters_length_of};
-ghost use Rattle.bgp_open.specs.OpenFault.{HasWholeCapabilities, AreParameters};
-ghost use Rattle.bgp_open.specs.OpenFault.{AreAllCapabilities, IsWellFormed, IsAnswered};
+ghost use Rattle.bgp_open.specs.OpenFault.{AreAllCapabilities, IsReadable};
+ghost use Rattle.bgp_open.specs.OpenFault.{IsWellFormed, IsAnswered};
 
-use crate::capability::{CAPABILITIES, Capabilities};
+use crate::capability::Capabilities;
 use crate::fault::OpenFault;
-use crate::triplet::{RawTriplet, Triplets, first_triplet};
+use crate::parameters::{are_all_capabilities, are_parameters};
 use bgp_wire::{MessageType, message_body};
 use byteorder::{BigEndian, ByteOrder};
 use std::marker::Model;
@@ -26,7 +24,7 @@ use std::marker::Model;
 const FIXED_LENGTH: usize = 10;
 
 /// The only version of BGP that is spoken here.
-const VERSION: u8 = 4;
+pub(crate) const VERSION: u8 = 4;
 
 /// Version.
 #[tactic(auto, unfolding(crate::specs::Open::version_of))]
@@ -76,38 +74,6 @@ fn open_parts(octets: &[u8]) -> Option<(&[u8; FIXED_LENGTH], &[u8])>
     ensures none { IfNone result (¬ IsOpen octets.entry.now) }
 {
     message_body(MessageType::Open, octets)?.split_first_chunk::<FIXED_LENGTH>()
-}
-
-/// Whether the octets are triplets and nothing else.
-fn is_whole(octets: &[u8]) -> bool
-    ensures { IsTrue result ↔ IsWhole octets.now }
-{
-    let mut rest = octets;
-    while let Some((_, behind)) = first_triplet(rest) {
-        rest = behind;
-    }
-    rest.is_empty()
-}
-
-/// Whether a parameter's capabilities, if it has any, are whole.
-fn has_whole_capabilities(parameter: RawTriplet<'_>) -> bool
-    ensures { IsTrue result ↔ HasWholeCapabilities (triplet_of parameter.entry) }
-{
-    parameter.code != CAPABILITIES || is_whole(parameter.value)
-}
-
-/// Whether the octets are parameters and nothing else, and each one's capabilities are whole.
-fn are_parameters(octets: &[u8]) -> bool
-    ensures { IsTrue result ↔ AreParameters octets.now }
-{
-    is_whole(octets) && Triplets::new(octets).all(has_whole_capabilities)
-}
-
-/// Whether every parameter is of type 2.
-fn are_all_capabilities(octets: &[u8]) -> bool
-    ensures { IsTrue result ↔ AreAllCapabilities octets.now }
-{
-    Triplets::new(octets).all(|parameter| parameter.code == CAPABILITIES)
 }
 
 /// An OPEN of version 4, its form being right. Contracts see it as the fields that it has.
@@ -162,12 +128,21 @@ impl<'a> Open<'a> {
     }
 }
 
-/// Reads a whole OPEN message. Of several faults it answers the least, but a version other than 4
-/// before any other, since nothing else is then known of the message.
-pub fn read_open(octets: &[u8]) -> Result<Open<'_>, OpenFault>
-    ensures open { IfOk result (λ message. message ≡ open_of octets.entry.now) }
-    ensures ok { IfOk result (λ message. IsWellFormed octets.entry.now) }
+/// An OPEN whose fields can be told, and whether all its parameters are of type 2.
+#[derive(Drop)]
+pub(crate) struct ReadableOpen<'a> {
+    pub(crate) message: Open<'a>,
+    pub(crate) has_capabilities_alone: bool,
+}
+
+/// Reads an OPEN of version 4 whose parameters are whole, of whatever types they are.
+pub(crate) fn read_readable(octets: &[u8]) -> Result<ReadableOpen<'_>, OpenFault>
+    ensures ok { IfOk result (λ readable. IsReadable octets.entry.now) }
+    ensures open { IfOk result (λ readable. readable.message ≡ open_of octets.entry.now) }
+    ensures types { IfOk result (λ readable. IsTrue readable.has_capabilities_alone
+        ↔ AreAllCapabilities (parameters_of octets.entry.now)) }
     ensures err { IfErr result (λ fault. IsAnswered octets.entry.now fault) }
+    ensures never { IfErr result (λ fault. fault ≢ OpenFault.Parameter) }
 {
     let Some((fields, parameters)) = open_parts(octets) else {
         return Err(OpenFault::Malformed);
@@ -183,14 +158,28 @@ pub fn read_open(octets: &[u8]) -> Result<Open<'_>, OpenFault>
     if !are_parameters(parameters) {
         return Err(OpenFault::Malformed);
     }
+    Ok(ReadableOpen {
+        message: Open {
+            my_as: read_my_as(fields),
+            hold: read_hold(fields),
+            id: read_id(fields),
+            parameters,
+        },
+        has_capabilities_alone: are_all_capabilities(parameters),
+    })
+}
+
+/// Reads a whole OPEN message. Of several faults it answers the least, but a version other than 4
+/// before any other, since nothing else is then known of the message.
+pub fn read_open(octets: &[u8]) -> Result<Open<'_>, OpenFault>
+    ensures open { IfOk result (λ message. message ≡ open_of octets.entry.now) }
+    ensures ok { IfOk result (λ message. IsWellFormed octets.entry.now) }
+    ensures err { IfErr result (λ fault. IsAnswered octets.entry.now fault) }
+{
+    let readable = read_readable(octets)?;
     // Unsupported Optional Parameter (RFC 4271, 6.2): only capabilities are known here.
-    if !are_all_capabilities(parameters) {
+    if !readable.has_capabilities_alone {
         return Err(OpenFault::Parameter);
     }
-    Ok(Open {
-        my_as: read_my_as(fields),
-        hold: read_hold(fields),
-        id: read_id(fields),
-        parameters,
-    })
+    Ok(readable.message)
 }

@@ -5,6 +5,8 @@ ghost use Rattle.bgp_open.specs.Triplet.{Triplet, IsCut, IsWhole, joined, triple
 ghost use Rattle.bgp_open.specs.Open.{IsOpen};
 ghost use Rattle.bgp_open.specs.OpenFault.{IsWellFormed, IsAnswered, HasOpenFault};
 ghost use Rattle.bgp_open.specs.OpenFault.{IsOtherVersion, number_of};
+ghost use Rattle.bgp_open.specs.Open.{OpenFields, open_of, parameters_of};
+ghost use Rattle.bgp_open.specs.Written.{FitsOpen, open_octets, parameters_with};
 ghost use Rattle.bgp_open.specs.declared.fault.OpenFault.{OpenFault};
 
 /// Octets are triplets, as parameters and capabilities are, and then a rest in which no whole one
@@ -20,8 +22,8 @@ pub fn one_reading()
         → IsWhole octets ↔ ((triplets : List Triplet) × (octets ≡ joined triplets)) }
 {}
 
-/// Octets are a well-formed OPEN or have just one fault that is answered. Of an OPEN of version 4 it
-/// is the least of those that it has, by their numbers.
+/// Octets are a well-formed OPEN or have just one fault that is answered. Of an OPEN of version 4
+/// it is the least of those that it has, by their numbers.
 pub fn one_fault()
     ensures each { (octets : List ℕ)
         → IsWellFormed octets ⊎ ((fault : OpenFault) × IsAnswered octets fault) }
@@ -33,4 +35,12 @@ pub fn one_fault()
         → IsOpen octets → (¬ IsOtherVersion octets)
         → IsAnswered octets fault → HasOpenFault octets other
         → HasOpenFault octets fault × (number_of fault ≤ number_of other) }
+{}
+
+/// What is written reads as it was meant: a well-formed OPEN with all capabilities in one
+/// parameter, or none.
+pub fn written_open_reads_back()
+    ensures { (fields : OpenFields) → FitsOpen fields → IsWellFormed (open_octets fields)
+        × (open_of (open_octets fields) ≡ fields)
+        × (triplets_of (parameters_of (open_octets fields)) ≡ parameters_with fields.capabilities) }
 {}

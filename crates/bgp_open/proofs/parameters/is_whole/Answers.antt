@@ -1,5 +1,5 @@
 use Rattle.bgp_open.proofs.OneReading.{whole_behind}
-use Rattle.bgp_open.proofs.open.is_whole.Goals as goal
+use Rattle.bgp_open.proofs.parameters.is_whole.Goals as goal
 
 pub loop-behind-preserved : goal.loop-behind-preserved
 loop-behind-preserved c =

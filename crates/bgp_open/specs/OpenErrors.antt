@@ -1,0 +1,99 @@
+-- The faults of a peer's OPEN, as sets of subcodes of OPEN Message Error with their data (RFC 4271,
+-- 6.2; RFC 6286, 2.2; RFC 5492, 3).
+use Rattle.std.specs.Prelude.{◌≡◌, ◌≢◌, ◌↔◌, ◌⊎◌, if◌then◌else◌, Bool, ℕ, List, IsTrue, unwrap_or}
+use Rattle.byteorder.specs.Endian.{big_bytes}
+use Rattle.bgp_open.specs.declared.config.Config.{Config}
+use Rattle.bgp_open.specs.declared.errors.OpenErrors.{OpenErrors}
+use Rattle.bgp_open.specs.Config.{IsBadHold, is_internal}
+use Rattle.bgp_open.specs.Offer.{as_number_of}
+use Rattle.bgp_open.specs.Open.{OpenFields, IsOpen, open_of}
+use Rattle.bgp_open.specs.OpenFault.{IsOtherVersion, IsMalformed, IsReadable, HasOtherParameter}
+
+-- The AS number that a peer says it has: where four-octet AS numbers are offered, the one in its
+-- first capability of them, if it has one (RFC 6793, 4.1); else My Autonomous System
+abbrev pub peer_as_of : Config → OpenFields → ℕ
+peer_as_of config message =
+    if config.parts.as4
+    then unwrap_or (as_number_of message.capabilities) message.my_as
+    else message.my_as
+
+-- Bad Peer AS: it isn't the AS number that is configured
+abbrev pub IsBadPeerAs : Config → OpenFields → Type 0
+IsBadPeerAs config message = peer_as_of config message ≢ config.parts.peer_as
+
+-- Bad BGP Identifier (RFC 6286, 2.2): it is 0, or that of the local system at an internal peer
+abbrev pub IsBadIdentifier : Config → OpenFields → Type 0
+IsBadIdentifier config message =
+    (message.id ≡ 0) ⊎ (IsTrue (is_internal config.parts) × (message.id ≡ config.parts.local_id))
+
+-- an OPEN of another version than 4, of which nothing else is read
+abbrev pub IsOfOtherVersion : List ℕ → Type 0
+IsOfOtherVersion octets = IsOpen octets × IsOtherVersion octets
+
+-- an OPEN whose fields can't be told, not being of another version: a malformed one; octets that
+-- are no whole OPEN count as one
+abbrev pub IsUnreadable : List ℕ → Type 0
+IsUnreadable octets = (¬ IsOpen octets) ⊎ ((¬ IsOtherVersion octets) × IsMalformed octets)
+
+-- the subcodes that a malformed OPEN has, so that it may be answered by any of them (profile): what
+-- else is wrong with it, nobody can tell
+abbrev pub IsOfMalformed : ℕ → Type 0
+IsOfMalformed subcode =
+    (subcode ≡ 0) ⊎ (subcode ≡ 2) ⊎ (subcode ≡ 3) ⊎ (subcode ≡ 4) ⊎ (subcode ≡ 6) ⊎ (subcode ≡ 7)
+
+-- the faults of an OPEN whose fields can be told, each by itself: 4 Unsupported Optional Parameter,
+-- 2 Bad Peer AS, 3 Bad BGP Identifier, 6 Unacceptable Hold Time
+abbrev pub HasFieldFault : Config → List ℕ → ℕ → Type 0
+HasFieldFault config octets subcode =
+    ((subcode ≡ 4) × HasOtherParameter octets)
+    ⊎ ((subcode ≡ 2) × IsBadPeerAs config (open_of octets))
+    ⊎ ((subcode ≡ 3) × IsBadIdentifier config (open_of octets))
+    ⊎ ((subcode ≡ 6) × IsBadHold (open_of octets).hold)
+
+-- The faults for which an OPEN has to be refused, as subcodes with data. Another version than 4 is
+-- the only fault then, and its data are the version that is spoken; a malformed one has all of its
+-- six subcodes; else each field has its own. Data of other subcodes than 1 are free.
+abbrev pub mandatory_faults : Config → List ℕ → ℕ → List ℕ → Type 0
+mandatory_faults config octets subcode detail =
+    ((subcode ≡ 1) × (detail ≡ big_bytes 2 4) × IsOfOtherVersion octets)
+    ⊎ (IsOfMalformed subcode × IsUnreadable octets)
+    ⊎ (IsReadable octets × HasFieldFault config octets subcode)
+
+-- The faults for which one may be refused, since a speaker may reject any Hold Time (RFC 4271, 4.2)
+-- and require a capability (RFC 5492, 3): 6 and 7 of every OPEN but one of another version. Octets
+-- that are no whole OPEN have them too, as subcodes of a malformed one.
+abbrev pub permitted_faults : List ℕ → ℕ → List ℕ → Type 0
+permitted_faults octets subcode detail =
+    ((subcode ≡ 6) ⊎ (subcode ≡ 7)) × (¬ IsOfOtherVersion octets)
+
+-- a NOTIFICATION with this subcode and these data names a fault of the set
+abbrev pub Names : OpenErrors → ℕ → List ℕ → Type 0
+Names errors subcode detail =
+    ((subcode ≡ 0) × IsTrue errors.unspecific)
+    ⊎ ((subcode ≡ 1) × (detail ≡ big_bytes 2 4) × IsTrue errors.version)
+    ⊎ ((subcode ≡ 2) × IsTrue errors.peer_as)
+    ⊎ ((subcode ≡ 3) × IsTrue errors.identifier)
+    ⊎ ((subcode ≡ 4) × IsTrue errors.parameter)
+    ⊎ ((subcode ≡ 6) × IsTrue errors.hold)
+    ⊎ ((subcode ≡ 7) × IsTrue errors.capability)
+
+-- no fault is in the set
+abbrev pub IsFree : OpenErrors → Type 0
+IsFree errors = (subcode : ℕ) (detail : List ℕ) → ¬ Names errors subcode detail
+
+-- the set is that of these faults
+abbrev pub AreErrors : (ℕ → List ℕ → Type 0) → OpenErrors → Type 0
+AreErrors faults errors =
+    (subcode : ℕ) (detail : List ℕ) → (Names errors subcode detail ↔ faults subcode detail)
+
+-- fault by fault: the set of an OPEN whose fields can be told, and which has capabilities alone or
+-- not
+pub record AreOfFields (config : Config) (message : OpenFields) (alone : Bool) (errors : OpenErrors)
+    : Type 0 where
+  pub unspecific : ¬ IsTrue errors.unspecific
+  pub version : ¬ IsTrue errors.version
+  pub peer_as : IsTrue errors.peer_as ↔ IsBadPeerAs config message
+  pub identifier : IsTrue errors.identifier ↔ IsBadIdentifier config message
+  pub parameter : IsTrue errors.parameter ↔ (¬ IsTrue alone)
+  pub hold : IsTrue errors.hold ↔ IsBadHold message.hold
+  pub capability : ¬ IsTrue errors.capability

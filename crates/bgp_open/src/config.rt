@@ -1,0 +1,101 @@
+//! What the local system is configured to do.
+
+ghost use Rattle.std.specs.Prelude.{◌≡◌, ◌↔◌, ◌⊎◌, ◌≤◌, IsTrue, IfSome, IfNone};
+ghost use Rattle.bgp_open.specs.Config.{IsConfig, AreNumbers, IsBadHold, is_internal};
+
+use crate::families::Families;
+use bgp_prefix::Session;
+
+/// Whole seconds.
+pub type Seconds = u32;
+
+/// The greatest AS number that has two octets (RFC 6793, 1).
+pub(crate) const TWO_OCTET_AS: u32 = 65535;
+
+/// The parts of a configuration, not yet checked.
+///
+/// Which session of a capture is meant stands in [`Session`], and what both OPENs settle in
+/// `Link`.
+#[derive(Clone, Copy, Debug, PartialEq, Eq)]
+pub struct ConfigParts {
+    /// The local system's AS number.
+    pub local_as: u32,
+    /// The peer's AS number.
+    pub peer_as: u32,
+    /// The local system's BGP Identifier.
+    pub local_id: u32,
+    /// The Hold Time that is proposed, in seconds.
+    pub hold: u16,
+    /// The families that are offered.
+    pub families: Families,
+    /// Whether the capability of four-octet AS numbers is sent (RFC 6793).
+    pub as4: bool,
+    /// Whether the OPEN may be delayed (RFC 4271, 8.1.1, DelayOpen).
+    pub delay_open: bool,
+    /// How long the peer's OPEN is waited for, 240 by default (RFC 4271, 8.2.2: a large value of
+    /// the HoldTimer).
+    pub large_hold: Seconds,
+    /// The two ends of the session.
+    pub session: Session,
+}
+
+/// A configuration of the local system.
+#[derive(Clone, Copy, Debug, PartialEq, Eq)]
+pub struct Config {
+    /// What it is made of.
+    pub parts: ConfigParts,
+    /// It is one that [`Config::new`] answers.
+    pub ghost valid: { IsConfig parts },
+    /// Its numbers fit their fields.
+    pub ghost fits: { AreNumbers parts },
+}
+
+/// Whether a Hold Time is one that none may have: it is to be 0 or at least 3 seconds.
+pub(crate) fn is_bad_hold(hold: u16) -> bool
+    ensures { IsTrue result ↔ IsBadHold hold }
+{
+    hold == 1 || hold == 2
+}
+
+/// Whether both AS numbers have two octets.
+fn have_two_octets(parts: &ConfigParts) -> bool
+    ensures { IsTrue result ↔ ((parts.now.local_as ≤ 65535) × (parts.now.peer_as ≤ 65535)) }
+{
+    parts.local_as <= TWO_OCTET_AS && parts.peer_as <= TWO_OCTET_AS
+}
+
+/// Whether the parts make a configuration.
+fn is_config(parts: &ConfigParts) -> bool
+    ensures { IsTrue result ↔ IsConfig parts.now }
+{
+    parts.local_as != 0
+        && parts.peer_as != 0
+        && parts.local_id != 0
+        && !is_bad_hold(parts.hold)
+        && !parts.families.is_empty()
+        && parts.large_hold != 0
+        && (parts.as4 || have_two_octets(parts))
+}
+
+impl Config {
+    /// The configuration of the parts. `None` where an AS number or the BGP Identifier is 0, the
+    /// Hold Time is 1 or 2 (RFC 4271, 4.2), no family is offered, the large Hold Time is 0, or an
+    /// AS number has more than two octets and four-octet ones aren't offered (RFC 6793, 1).
+    pub fn new(parts: ConfigParts) -> Option<Config>
+        ensures some { IfSome result (λ config. config.parts ≡ parts) }
+        ensures none { IfNone result (¬ IsConfig parts) }
+    {
+        if is_config(&parts) {
+            Some(Config { parts })
+        } else {
+            None
+        }
+    }
+
+    /// Whether the peer is internal: both AS numbers are equal (RFC 4271, 1.1).
+    pub fn is_internal(&self) -> bool
+        ensures { result ≡ is_internal self.now.parts }
+    {
+        self.parts.local_as == self.parts.peer_as
+    }
+}

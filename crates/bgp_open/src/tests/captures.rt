@@ -1,0 +1,446 @@
+//! OPENs that real routers sent each other, cut from packets: each is one that its sender may send,
+//! and what both settle is written down from the octets by hand.
+
+use super::*;
+use crate::{Link, is_own_open, negotiate, open_faults, read_open};
+use std::test::Fail;
+
+/// BIRD 2.0.12, with its defaults, as AS 65001 (session bird-frr, and session refresh).
+pub(crate) const BIRD: [u8; 59] = [
+    255, 255, 255, 255, 255, 255, 255, 255, 255, 255, 255, 255, 255, 255, 255, 255, // marker
+    0x00, 0x3b, // Length: 59
+    0x01, // Type: OPEN
+    0x04, // version 4
+    0xfd, 0xe9, // My Autonomous System: 65001
+    0x00, 0x5a, // Hold Time: 90
+    0xc0, 0x00, 0x02, 0x01, // BGP Identifier: 192.0.2.1
+    0x1e, // Optional Parameters Length: 30
+    0x02, 0x1c, // Capabilities, 28 octets
+    0x01, 0x04, 0x00, 0x01, 0x00, 0x01, // multiprotocol: IPv4 unicast
+    0x01, 0x04, 0x00, 0x02, 0x00, 0x01, // multiprotocol: IPv6 unicast
+    0x02, 0x00, // route refresh
+    0x40, 0x02, 0x00, 0x78, // graceful restart
+    0x41, 0x04, 0x00, 0x00, 0xfd, 0xe9, // four-octet AS number: 65001
+    0x46, 0x00, // enhanced route refresh
+    0x47, 0x00, // long-lived graceful restart
+];
+
+/// FRR 8.4.4, with its defaults, as AS 65002 (session bird-frr, and session refresh).
+pub(crate) const FRR: [u8; 114] = [
+    255, 255, 255, 255, 255, 255, 255, 255, 255, 255, 255, 255, 255, 255, 255, 255, // marker
+    0x00, 0x72, // Length: 114
+    0x01, // Type: OPEN
+    0x04, // version 4
+    0xfd, 0xea, // My Autonomous System: 65002
+    0x00, 0x5a, // Hold Time: 90
+    0xc0, 0x00, 0x02, 0x02, // BGP Identifier: 192.0.2.2
+    0x55, // Optional Parameters Length: 85
+    0x02, 0x06, // Capabilities, 6 octets
+    0x01, 0x04, 0x00, 0x01, 0x00, 0x01, // multiprotocol: IPv4 unicast
+    0x02, 0x06, // Capabilities, 6 octets
+    0x01, 0x04, 0x00, 0x02, 0x00, 0x01, // multiprotocol: IPv6 unicast
+    0x02, 0x02, // Capabilities, 2 octets
+    0x80, 0x00, // route refresh before its standard
+    0x02, 0x02, // Capabilities, 2 octets
+    0x02, 0x00, // route refresh
+    0x02, 0x02, // Capabilities, 2 octets
+    0x46, 0x00, // enhanced route refresh
+    0x02, 0x06, // Capabilities, 6 octets
+    0x41, 0x04, 0x00, 0x00, 0xfd, 0xea, // four-octet AS number: 65002
+    0x02, 0x02, // Capabilities, 2 octets
+    0x06, 0x00, // extended messages
+    0x02, 0x0a, // Capabilities, 10 octets
+    0x45, 0x08, 0x00, 0x01, 0x01, 0x01, 0x00, 0x02, 0x01, 0x01, // ADD-PATH: receives both families
+    0x02, 0x07, // Capabilities, 7 octets
+    0x49, 0x05, 0x03, 0x66, 0x72, 0x72, 0x00, // host name
+    0x02, 0x04, // Capabilities, 4 octets
+    0x40, 0x02, 0xc0, 0x78, // graceful restart
+    0x02, 0x10, // Capabilities, 16 octets
+    0x47, 0x0e, // long-lived graceful restart
+    0x00, 0x01, 0x01, 0x80, 0x00, 0x00, 0x00, 0x00, 0x02, 0x01, 0x80, 0x00, 0x00, 0x00,
+];
+
+/// OpenBGPD 7.7 as AS 65001 (session openbgpd-gobgp).
+pub(crate) const OPENBGPD: [u8; 55] = [
+    255, 255, 255, 255, 255, 255, 255, 255, 255, 255, 255, 255, 255, 255, 255, 255, // marker
+    0x00, 0x37, // Length: 55
+    0x01, // Type: OPEN
+    0x04, // version 4
+    0xfd, 0xe9, // My Autonomous System: 65001
+    0x00, 0x5a, // Hold Time: 90
+    0xc0, 0x00, 0x02, 0x01, // BGP Identifier: 192.0.2.1
+    0x1a, // Optional Parameters Length: 26
+    0x02, 0x18, // Capabilities, 24 octets
+    0x01, 0x04, 0x00, 0x01, 0x00, 0x01, // multiprotocol: IPv4 unicast
+    0x01, 0x04, 0x00, 0x02, 0x00, 0x01, // multiprotocol: IPv6 unicast
+    0x02, 0x00, // route refresh
+    0x40, 0x02, 0x80, 0x00, // graceful restart
+    0x41, 0x04, 0x00, 0x00, 0xfd, 0xe9, // four-octet AS number: 65001
+];
+
+/// GoBGP 3.10.0 as AS 65002 (session openbgpd-gobgp).
+pub(crate) const GOBGP: [u8; 65] = [
+    255, 255, 255, 255, 255, 255, 255, 255, 255, 255, 255, 255, 255, 255, 255, 255, // marker
+    0x00, 0x41, // Length: 65
+    0x01, // Type: OPEN
+    0x04, // version 4
+    0xfd, 0xea, // My Autonomous System: 65002
+    0x00, 0x5a, // Hold Time: 90
+    0xc0, 0x00, 0x02, 0x02, // BGP Identifier: 192.0.2.2
+    0x24, // Optional Parameters Length: 36
+    0x02, 0x22, // Capabilities, 34 octets
+    0x02, 0x00, // route refresh
+    0x49, 0x04, 0x02, 0x76, 0x6d, 0x00, // host name
+    0x01, 0x04, 0x00, 0x01, 0x00, 0x01, // multiprotocol: IPv4 unicast
+    0x01, 0x04, 0x00, 0x02, 0x00, 0x01, // multiprotocol: IPv6 unicast
+    0x41, 0x04, 0x00, 0x00, 0xfd, 0xea, // four-octet AS number: 65002
+    0x05, 0x06, 0x00, 0x01, 0x00, 0x01, 0x00, 0x02, // extended next hop: IPv4 over IPv6
+];
+
+/// BIRD 2.0.12 with Hold Time 0 as AS 65001 (session hold0).
+pub(crate) const BIRD_HOLD_0: [u8; 49] = [
+    255, 255, 255, 255, 255, 255, 255, 255, 255, 255, 255, 255, 255, 255, 255, 255, // marker
+    0x00, 0x31, // Length: 49
+    0x01, // Type: OPEN
+    0x04, // version 4
+    0xfd, 0xe9, // My Autonomous System: 65001
+    0x00, 0x00, // Hold Time: 0
+    0xc0, 0x00, 0x02, 0x01, // BGP Identifier: 192.0.2.1
+    0x14, // Optional Parameters Length: 20
+    0x02, 0x12, // Capabilities, 18 octets
+    0x01, 0x04, 0x00, 0x01, 0x00, 0x01, // multiprotocol: IPv4 unicast
+    0x01, 0x04, 0x00, 0x02, 0x00, 0x01, // multiprotocol: IPv6 unicast
+    0x41, 0x04, 0x00, 0x00, 0xfd, 0xe9, // four-octet AS number: 65001
+];
+
+/// FRR 8.4.4 with Hold Time 0 as AS 65002 (session hold0).
+pub(crate) const FRR_HOLD_0: [u8; 90] = [
+    255, 255, 255, 255, 255, 255, 255, 255, 255, 255, 255, 255, 255, 255, 255, 255, // marker
+    0x00, 0x5a, // Length: 90
+    0x01, // Type: OPEN
+    0x04, // version 4
+    0xfd, 0xea, // My Autonomous System: 65002
+    0x00, 0x00, // Hold Time: 0
+    0xc0, 0x00, 0x02, 0x02, // BGP Identifier: 192.0.2.2
+    0x3d, // Optional Parameters Length: 61
+    0x02, 0x06, // Capabilities, 6 octets
+    0x01, 0x04, 0x00, 0x01, 0x00, 0x01, // multiprotocol: IPv4 unicast
+    0x02, 0x06, // Capabilities, 6 octets
+    0x01, 0x04, 0x00, 0x02, 0x00, 0x01, // multiprotocol: IPv6 unicast
+    0x02, 0x02, // Capabilities, 2 octets
+    0x80, 0x00, // route refresh before its standard
+    0x02, 0x02, // Capabilities, 2 octets
+    0x02, 0x00, // route refresh
+    0x02, 0x02, // Capabilities, 2 octets
+    0x46, 0x00, // enhanced route refresh
+    0x02, 0x06, // Capabilities, 6 octets
+    0x41, 0x04, 0x00, 0x00, 0xfd, 0xea, // four-octet AS number: 65002
+    0x02, 0x02, // Capabilities, 2 octets
+    0x06, 0x00, // extended messages
+    0x02, 0x0a, // Capabilities, 10 octets
+    0x45, 0x08, 0x00, 0x01, 0x01, 0x01, 0x00, 0x02, 0x01, 0x01, // ADD-PATH: receives both families
+    0x02, 0x07, // Capabilities, 7 octets
+    0x49, 0x05, 0x03, 0x66, 0x72, 0x72, 0x00, // host name
+];
+
+/// OpenBGPD 7.7 without four-octet AS numbers, as AS 65001 (session as-trans).
+pub(crate) const OPENBGPD_TWO_OCTETS: [u8; 43] = [
+    255, 255, 255, 255, 255, 255, 255, 255, 255, 255, 255, 255, 255, 255, 255, 255, // marker
+    0x00, 0x2b, // Length: 43
+    0x01, // Type: OPEN
+    0x04, // version 4
+    0xfd, 0xe9, // My Autonomous System: 65001
+    0x00, 0x5a, // Hold Time: 90
+    0xc0, 0x00, 0x02, 0x01, // BGP Identifier: 192.0.2.1
+    0x0e, // Optional Parameters Length: 14
+    0x02, 0x0c, // Capabilities, 12 octets
+    0x01, 0x04, 0x00, 0x01, 0x00, 0x01, // multiprotocol: IPv4 unicast
+    0x01, 0x04, 0x00, 0x02, 0x00, 0x01, // multiprotocol: IPv6 unicast
+];
+
+/// FRR 8.4.4 as AS 65002 (session as-trans).
+pub(crate) const FRR_AS_TRANS: [u8; 90] = [
+    255, 255, 255, 255, 255, 255, 255, 255, 255, 255, 255, 255, 255, 255, 255, 255, // marker
+    0x00, 0x5a, // Length: 90
+    0x01, // Type: OPEN
+    0x04, // version 4
+    0xfd, 0xea, // My Autonomous System: 65002
+    0x00, 0x5a, // Hold Time: 90
+    0xc0, 0x00, 0x02, 0x02, // BGP Identifier: 192.0.2.2
+    0x3d, // Optional Parameters Length: 61
+    0x02, 0x06, // Capabilities, 6 octets
+    0x01, 0x04, 0x00, 0x01, 0x00, 0x01, // multiprotocol: IPv4 unicast
+    0x02, 0x06, // Capabilities, 6 octets
+    0x01, 0x04, 0x00, 0x02, 0x00, 0x01, // multiprotocol: IPv6 unicast
+    0x02, 0x02, // Capabilities, 2 octets
+    0x80, 0x00, // route refresh before its standard
+    0x02, 0x02, // Capabilities, 2 octets
+    0x02, 0x00, // route refresh
+    0x02, 0x02, // Capabilities, 2 octets
+    0x46, 0x00, // enhanced route refresh
+    0x02, 0x06, // Capabilities, 6 octets
+    0x41, 0x04, 0x00, 0x00, 0xfd, 0xea, // four-octet AS number: 65002
+    0x02, 0x02, // Capabilities, 2 octets
+    0x06, 0x00, // extended messages
+    0x02, 0x0a, // Capabilities, 10 octets
+    0x45, 0x08, 0x00, 0x01, 0x01, 0x01, 0x00, 0x02, 0x01, 0x01, // ADD-PATH: receives both families
+    0x02, 0x07, // Capabilities, 7 octets
+    0x49, 0x05, 0x03, 0x66, 0x72, 0x72, 0x00, // host name
+];
+
+/// FRR 8.4.4 as AS 65001, which expects AS 65009 (session bad-as-frr).
+pub(crate) const FRR_BAD_AS: [u8; 114] = [
+    255, 255, 255, 255, 255, 255, 255, 255, 255, 255, 255, 255, 255, 255, 255, 255, // marker
+    0x00, 0x72, // Length: 114
+    0x01, // Type: OPEN
+    0x04, // version 4
+    0xfd, 0xe9, // My Autonomous System: 65001
+    0x00, 0x5a, // Hold Time: 90
+    0xc0, 0x00, 0x02, 0x01, // BGP Identifier: 192.0.2.1
+    0x55, // Optional Parameters Length: 85
+    0x02, 0x06, // Capabilities, 6 octets
+    0x01, 0x04, 0x00, 0x01, 0x00, 0x01, // multiprotocol: IPv4 unicast
+    0x02, 0x06, // Capabilities, 6 octets
+    0x01, 0x04, 0x00, 0x02, 0x00, 0x01, // multiprotocol: IPv6 unicast
+    0x02, 0x02, // Capabilities, 2 octets
+    0x80, 0x00, // route refresh before its standard
+    0x02, 0x02, // Capabilities, 2 octets
+    0x02, 0x00, // route refresh
+    0x02, 0x02, // Capabilities, 2 octets
+    0x46, 0x00, // enhanced route refresh
+    0x02, 0x06, // Capabilities, 6 octets
+    0x41, 0x04, 0x00, 0x00, 0xfd, 0xe9, // four-octet AS number: 65001
+    0x02, 0x02, // Capabilities, 2 octets
+    0x06, 0x00, // extended messages
+    0x02, 0x0a, // Capabilities, 10 octets
+    0x45, 0x08, 0x00, 0x01, 0x01, 0x01, 0x00, 0x02, 0x01, 0x01, // ADD-PATH: receives both families
+    0x02, 0x07, // Capabilities, 7 octets
+    0x49, 0x05, 0x03, 0x66, 0x72, 0x72, 0x00, // host name
+    0x02, 0x04, // Capabilities, 4 octets
+    0x40, 0x02, 0xc0, 0x78, // graceful restart
+    0x02, 0x10, // Capabilities, 16 octets
+    0x47, 0x0e, // long-lived graceful restart
+    0x00, 0x01, 0x01, 0x80, 0x00, 0x00, 0x00, 0x00, 0x02, 0x01, 0x80, 0x00, 0x00, 0x00,
+];
+
+/// OpenBGPD 7.7 as AS 65002 (session bad-as-frr).
+pub(crate) const OPENBGPD_B: [u8; 55] = [
+    255, 255, 255, 255, 255, 255, 255, 255, 255, 255, 255, 255, 255, 255, 255, 255, // marker
+    0x00, 0x37, // Length: 55
+    0x01, // Type: OPEN
+    0x04, // version 4
+    0xfd, 0xea, // My Autonomous System: 65002
+    0x00, 0x5a, // Hold Time: 90
+    0xc0, 0x00, 0x02, 0x02, // BGP Identifier: 192.0.2.2
+    0x1a, // Optional Parameters Length: 26
+    0x02, 0x18, // Capabilities, 24 octets
+    0x01, 0x04, 0x00, 0x01, 0x00, 0x01, // multiprotocol: IPv4 unicast
+    0x01, 0x04, 0x00, 0x02, 0x00, 0x01, // multiprotocol: IPv6 unicast
+    0x02, 0x00, // route refresh
+    0x40, 0x02, 0x80, 0x00, // graceful restart
+    0x41, 0x04, 0x00, 0x00, 0xfd, 0xea, // four-octet AS number: 65002
+];
+
+/// OpenBGPD 7.7 as AS 65001, over IPv6 (session transport6).
+pub(crate) const OPENBGPD_OVER_IPV6: [u8; 49] = [
+    255, 255, 255, 255, 255, 255, 255, 255, 255, 255, 255, 255, 255, 255, 255, 255, // marker
+    0x00, 0x31, // Length: 49
+    0x01, // Type: OPEN
+    0x04, // version 4
+    0xfd, 0xe9, // My Autonomous System: 65001
+    0x00, 0x5a, // Hold Time: 90
+    0xc0, 0x00, 0x02, 0x01, // BGP Identifier: 192.0.2.1
+    0x14, // Optional Parameters Length: 20
+    0x02, 0x12, // Capabilities, 18 octets
+    0x01, 0x04, 0x00, 0x01, 0x00, 0x01, // multiprotocol: IPv4 unicast
+    0x01, 0x04, 0x00, 0x02, 0x00, 0x01, // multiprotocol: IPv6 unicast
+    0x41, 0x04, 0x00, 0x00, 0xfd, 0xe9, // four-octet AS number: 65001
+];
+
+/// BIRD 2.0.12 as AS 65002, over IPv6 (session transport6).
+pub(crate) const BIRD_OVER_IPV6: [u8; 49] = [
+    255, 255, 255, 255, 255, 255, 255, 255, 255, 255, 255, 255, 255, 255, 255, 255, // marker
+    0x00, 0x31, // Length: 49
+    0x01, // Type: OPEN
+    0x04, // version 4
+    0xfd, 0xea, // My Autonomous System: 65002
+    0x00, 0x5a, // Hold Time: 90
+    0xc0, 0x00, 0x02, 0x02, // BGP Identifier: 192.0.2.2
+    0x14, // Optional Parameters Length: 20
+    0x02, 0x12, // Capabilities, 18 octets
+    0x01, 0x04, 0x00, 0x01, 0x00, 0x01, // multiprotocol: IPv4 unicast
+    0x01, 0x04, 0x00, 0x02, 0x00, 0x01, // multiprotocol: IPv6 unicast
+    0x41, 0x04, 0x00, 0x00, 0xfd, 0xea, // four-octet AS number: 65002
+];
+
+/// One end of a session.
+#[derive(Clone, Copy)]
+struct End {
+    /// What it is configured to do.
+    parts: ConfigParts,
+    /// The OPEN that it sent.
+    open: &'static [u8],
+    /// The mandatory faults that it finds in the other's.
+    must: &'static [u8],
+}
+
+/// The beginning of a session, and what both OPENs settle besides both families and an external
+/// peer.
+#[derive(Clone, Copy)]
+struct Opening {
+    name: &'static str,
+    a: End,
+    b: End,
+    hold: u16,
+    as4: bool,
+}
+
+/// The session of router A where route refresh isn't agreed on.
+const WITHOUT_REFRESH: Session = Session {
+    refresh: false,
+    ..SESSION_A
+};
+
+/// Router A's address over IPv6: 2001:db8::1.
+const IPV6_A: Address = Address::V6(0x2001_0db8_0000_0000_0000_0000_0000_0001);
+
+/// And router B's: 2001:db8::2.
+const IPV6_B: Address = Address::V6(0x2001_0db8_0000_0000_0000_0000_0000_0002);
+
+/// The session of router A over IPv6.
+const A_OVER_IPV6: Session = Session {
+    peer: IPV6_B,
+    local: IPV6_A,
+    refresh: false,
+};
+
+/// And of router B.
+const B_OVER_IPV6: Session = Session {
+    peer: IPV6_A,
+    local: IPV6_B,
+    refresh: false,
+};
+
+/// An end that finds no mandatory fault.
+fn faultless(parts: ConfigParts, open: &'static [u8]) -> End {
+    End {
+        parts,
+        open,
+        must: &[],
+    }
+}
+
+/// What one end makes of its own OPEN and of the other's: the link, if that has no mandatory fault.
+fn link_at(
+    rt: &impl Abort,
+    name: &'static str,
+    own: End,
+    other: &'static [u8],
+) -> Result<Link, Fail> {
+    let config = Config::new(own.parts).ok_or("a configuration")?;
+    let is_own = is_own_open(&config, own.open);
+    assert!(rt; is_own, "{name}");
+    let is_own = is_own_open(&config, other);
+    assert!(rt; !is_own, "{name}");
+    let faults = open_faults(&config, other);
+    assert_subcodes(rt, &faults.must, own.must, name);
+    assert_subcodes(rt, &faults.may, &[6, 7], name);
+    let message = read_open(other)?;
+    Ok(negotiate(&config, &message))
+}
+
+/// Each OPEN is its sender's own, and both ends settle the same.
+fn assert_session(rt: &impl Abort, row: Opening) -> Result<(), Fail> {
+    let name = row.name;
+    let link_a = link_at(rt, name, row.a, row.b.open)?;
+    let link_b = link_at(rt, name, row.b, row.a.open)?;
+    for link in [link_a, link_b] {
+        assert_eq!(rt; link.hold, row.hold, "{name}");
+        assert_eq!(rt; link.as4, row.as4, "{name}");
+        assert!(rt; link.families == BOTH && !link.internal, "{name}");
+    }
+    Ok(())
+}
+
+#[test]
+fn real_routers_open_sessions(rt: HostRuntime) -> Result<(), Fail> {
+    let hold_0 = [
+        ConfigParts {
+            hold: 0,
+            session: WITHOUT_REFRESH,
+            ..PARTS_A
+        },
+        ConfigParts { hold: 0, ..PARTS_B },
+    ];
+    let two_octets = ConfigParts {
+        as4: false,
+        session: WITHOUT_REFRESH,
+        ..PARTS_A
+    };
+    let expects_65009 = ConfigParts {
+        peer_as: 65009,
+        ..PARTS_A
+    };
+    let over_ipv6 = [
+        ConfigParts {
+            session: A_OVER_IPV6,
+            ..PARTS_A
+        },
+        ConfigParts {
+            session: B_OVER_IPV6,
+            ..PARTS_B
+        },
+    ];
+    let rows = [
+        Opening {
+            name: "bird-frr and refresh",
+            a: faultless(PARTS_A, &BIRD),
+            b: faultless(PARTS_B, &FRR),
+            hold: 90,
+            as4: true,
+        },
+        Opening {
+            name: "openbgpd-gobgp",
+            a: faultless(PARTS_A, &OPENBGPD),
+            b: faultless(PARTS_B, &GOBGP),
+            hold: 90,
+            as4: true,
+        },
+        Opening {
+            name: "hold0",
+            a: faultless(hold_0[0], &BIRD_HOLD_0),
+            b: faultless(hold_0[1], &FRR_HOLD_0),
+            hold: 0,
+            as4: true,
+        },
+        Opening {
+            name: "as-trans",
+            a: faultless(two_octets, &OPENBGPD_TWO_OCTETS),
+            b: faultless(PARTS_B, &FRR_AS_TRANS),
+            hold: 90,
+            as4: false,
+        },
+        Opening {
+            name: "bad-as-frr",
+            a: End {
+                parts: expects_65009,
+                open: &FRR_BAD_AS,
+                must: &[2],
+            },
+            b: faultless(PARTS_B, &OPENBGPD_B),
+            hold: 90,
+            as4: true,
+        },
+        Opening {
+            name: "transport6",
+            a: faultless(over_ipv6[0], &OPENBGPD_OVER_IPV6),
+            b: faultless(over_ipv6[1], &BIRD_OVER_IPV6),
+            hold: 90,
+            as4: true,
+        },
+    ];
+    for row in rows {
+        assert_session(&rt, row)?;
+    }
+    Ok(())
+}
