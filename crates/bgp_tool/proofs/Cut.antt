@@ -1,4 +1,4 @@
--- A line that isn't written whole leaves a beginning of the text.
+-- What a sink has taken after a line more, and after one that isn't written whole.
 use Rattle.std.proofs.Common.{◌≡◌, ◌∙◌, ◌++◌, ◌+◌, ◌-◌, [], ℕ, List, Err, length, ap, append-nil}
 use Rattle.bgp_wire.specs.declared.header.Limit.TheVariants.{Plain}
 use Rattle.bgp_wire.specs.Framing.{IsFrame}
@@ -10,6 +10,13 @@ use Rattle.bgp_tool.specs.Text.{line_of}
 use Rattle.bgp_tool.specs.Decoding.{IsLastLine}
 use Rattle.bgp_tool.specs.Ending.{AreLines, Takes, Puts, PutsFrames}
 use Rattle.bgp_tool.proofs.Lines.{begun_between, begun_inside, begun_at_last}
+
+module _ {W : Type 0} (takes : W → W → List ℕ → Type 0) (failures : W → ℕ)
+    (takes_joined : (a b c : W) (xs ys : List ℕ) → takes a b xs → takes b c ys → takes a c (xs ++ ys)) where
+  -- octets were taken, and more behind them
+  pub took_more : (start mid now : W) (xs ys : List ℕ) → Takes takes failures start mid xs → Takes takes failures mid now ys
+      → Takes takes failures start now (xs ++ ys)
+  took_more start mid now xs ys first second = (takes_joined start mid now xs ys first.0 second.0, second.1 ∙ first.1)
 
 module _ {W : Type 0} (takes : W → W → List ℕ → Type 0) (failures : W → ℕ)
     (takes_joined : (a b c : W) (xs ys : List ℕ) → takes a b xs → takes b c ys → takes a c (xs ++ ys))

@@ -1,19 +1,14 @@
 -- Each frame says one thing.
-use Rattle.std.proofs.Common.{◌≡◌, ◌⊎◌, ◌≤◌, ◌∷◌, ◌-◌, [], All, ℕ, List, length, refl, inl, inr, arith}
+use Rattle.std.proofs.Common.{◌≡◌, ◌≤◌, ◌∷◌, ◌-◌, [], All, ℕ, List, length, refl, inl, inr, arith}
 use Rattle.std.proofs.lemmas.List.{length-drop}
 use Rattle.std.proofs.lemmas.List.Elements.{All-head, All-tail}
-use Rattle.std.proofs.lemmas.Bool.{cases_eq}
 use Rattle.bgp_wire.specs.declared.header.Limit.TheVariants.{Plain}
 use Rattle.bgp_wire.specs.Header.{header_of, length_of}
 use Rattle.bgp_wire.specs.Message.{body_of}
 use Rattle.bgp_wire.specs.Framing.{IsFrame}
 use Rattle.bgp_open.proofs.EachOpen.{each_open}
 use Rattle.bgp_wire.proofs.WholeFrame.{least_holds, frame_is_message, frame_is_keepalive, type_of_frame}
-use Rattle.bgp_open.specs.declared.fault.OpenFault.{OpenFault}
-use Rattle.bgp_open.specs.declared.fault.OpenFault.TheVariants.{Malformed, Version, Parameter}
-use Rattle.bgp_open.specs.Triplet.{Triplet, IsWhole, joined, triplets_of}
-use Rattle.bgp_open.specs.Open.{IsOpen, fixed_fields_of, parameters_of, version_of, parameters_length_of, open_of}
-use Rattle.bgp_open.specs.OpenFault.{HasWholeCapabilities, AreParameters, IsWellFormed, IsAnswered}
+use Rattle.bgp_open.specs.Open.{IsOpen, open_of}
 use Rattle.bgp_tool.specs.Message.{Message, open_message, malformed_open_message, update_message, notification_message, keepalive_message, Says, Say}
 
 -- a body of two octets or more has a code and a subcode

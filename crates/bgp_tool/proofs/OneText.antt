@@ -1,17 +1,17 @@
 -- Each frame says one thing, and each stream has one text and one status.
-use Rattle.std.proofs.Common.{Bool, true, false, ◌≡◌, ◌≢◌, ◌⊎◌, ◌↔◌, ◌∙◌, ◌++◌, ◌∷◌, [], ℕ, List, Option, Some, None, is_some, IsTrue, length, refl, sym, ap, subst, inl, inr, arith}
+use Rattle.std.proofs.Common.{◌≡◌, ◌∙◌, ◌++◌, ◌∷◌, [], ℕ, List, length, refl, sym, ap, subst, inl, inr, arith}
 use Rattle.bgp_wire.specs.declared.header.HeaderFaults.{HeaderFaults}
 use Rattle.bgp_wire.specs.declared.header.Limit.TheVariants.{Plain}
 use Rattle.bgp_wire.specs.Header.{header_of}
 use Rattle.bgp_wire.specs.Verdict.{AreFaults}
 use Rattle.bgp_wire.proofs.OneFaultSet.{same_fields}
-use Rattle.bgp_wire.specs.Framing.{IsShort, IsFaulty, joined}
+use Rattle.bgp_wire.specs.Framing.{joined}
 use Rattle.bgp_wire.proofs.Front.{faulty_not_short}
 use Rattle.bgp_wire.proofs.OneFraming.{one_framing}
 use Rattle.bgp_open.proofs.LeastFault as open_faults
 use Rattle.bgp_tool.specs.Message.{Message, Says, Say}
 use Rattle.bgp_tool.specs.Message.{open_message, malformed_open_message, update_message, notification_message, keepalive_message}
-use Rattle.bgp_tool.specs.Text.{fault_line, rest_line, subcode_text}
+use Rattle.bgp_tool.specs.Text.{fault_line}
 use Rattle.bgp_tool.specs.Decoding.{lines_of, IsLastLine, IsDecoded}
 
 pub one_message : (frame : List ℕ) (message other : Message) → Says frame message → Says frame other → message ≡ other

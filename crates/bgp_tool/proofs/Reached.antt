@@ -1,5 +1,5 @@
 -- Each end of a decoding, from what was read and written so far and what its last call did.
-use Rattle.std.proofs.Common.{◌≡◌, ◌≢◌, ◌∙◌, ◌++◌, ◌∷◌, ◌-◌, [], ℕ, List, Err, length, refl, sym, ap, subst, inl, inr, append_assoc, append-nil}
+use Rattle.std.proofs.Common.{◌≡◌, ◌≢◌, ◌∙◌, ◌++◌, ◌∷◌, ◌-◌, [], ℕ, List, Bool, Err, length, refl, sym, ap, subst, inl, inr, append_assoc, append-nil}
 use Rattle.bgp_wire.specs.declared.header.Limit.TheVariants.{Plain}
 use Rattle.bgp_wire.specs.Framing.{IsShort}
 use Rattle.bgp_wire.specs.Held.{Held}
@@ -7,7 +7,7 @@ use Rattle.bgp_tool.specs.declared.decoding.End.{End}
 use Rattle.bgp_tool.specs.declared.decoding.End.TheVariants as ends
 use Rattle.bgp_tool.specs.Text.{rest_line}
 use Rattle.bgp_tool.specs.Decoding.{IsLastLine}
-use Rattle.bgp_tool.specs.Ending.{AreLines, IsBegun, Takes, PutsFrames, PutsRest, Reaches}
+use Rattle.bgp_tool.specs.Ending.{AreLines, IsBegun, Takes, PutsFrames, PutsRest, Reads, Feeds, Reaches}
 use Rattle.bgp_tool.proofs.Lines.{more_lines, lines_fed, begun_between, begun_at_last, begun_behind}
 use Rattle.bgp_tool.proofs.Decoded.{decoded, beginning, so_far}
 
@@ -27,14 +27,20 @@ module _ {R W : Type 0} (gives : R → R → List ℕ → Type 0) (takes : W →
     (gave : gives source mid stream) (lines : AreLines stream held text)
     (took : Takes takes failures sink written text) where
   -- the source failed
-  pub source_failed : IsShort Plain held → gives mid after [] → Reaches gives takes source after sink written ends.SourceFailed
-  source_failed short nothing = record {
+  pub read_failed : IsShort Plain held → (source_failures : R → ℕ) (has_ended : R → Bool) (block : List ℕ) (end : End)
+      → Reads gives source_failures has_ended mid after block (Err end) → Reaches gives takes source after sink written end
+  read_failed short source_failures has_ended block ends.SourceFailed read = record {
     given = stream;
     written = text;
-    gave = rw append-nil at (gives_joined source mid after stream [] gave nothing);
+    gave = rw append-nil at (gives_joined source mid after stream [] gave read.0);
     took = took.0;
     text = so_far stream held text lines short;
   }
+  read_failed short source_failures has_ended block ends.BetweenMessages read = absurd read
+  read_failed short source_failures has_ended block ends.InsideMessage read = absurd read
+  read_failed short source_failures has_ended block ends.AtFault read = absurd read
+  read_failed short source_failures has_ended block ends.OutOfMemory read = absurd read
+  read_failed short source_failures has_ended block ends.SinkFailed read = absurd read
 
   -- the stream ended
   pub stream_ended : IsShort Plain held → gives mid after [] → (count : ℕ) → count ≡ length held → (end : End)
@@ -74,8 +80,9 @@ module _ {R W : Type 0} (gives : R → R → List ℕ → Type 0) (takes : W →
   stream_ended short nothing count is ends.SourceFailed puts = absurd puts
 
   -- no memory for a piece that came
-  pub piece_refused : (piece : List ℕ) → gives mid after piece → Reaches gives takes source after sink written ends.OutOfMemory
-  piece_refused piece more = record {
+  pub piece_refused : (piece : List ℕ) → gives mid after piece → (given : ℕ) (before left : Held) (end : End)
+      → Feeds given piece before left (Err end) → Reaches gives takes source after sink written end
+  piece_refused piece more given before left ends.OutOfMemory fed = record {
     given = stream ++ piece;
     written = text;
     gave = gives_joined source mid after stream piece gave more;
@@ -83,6 +90,11 @@ module _ {R W : Type 0} (gives : R → R → List ℕ → Type 0) (takes : W →
     text = beginning (stream ++ piece) text
         (begun_between (length (stream ++ piece)) (stream ++ piece) (held ++ piece) text (lines_fed stream held text piece lines));
   }
+  piece_refused piece more given before left ends.BetweenMessages fed = absurd fed
+  piece_refused piece more given before left ends.InsideMessage fed = absurd fed
+  piece_refused piece more given before left ends.AtFault fed = absurd fed
+  piece_refused piece more given before left ends.SourceFailed fed = absurd fed
+  piece_refused piece more given before left ends.SinkFailed fed = absurd fed
 
   -- the frames that a piece completed weren't all written
   pub frames_cut : (piece : List ℕ) (given : ℕ) (before left : Held) → gives mid after piece → given ≡ length (stream ++ piece)

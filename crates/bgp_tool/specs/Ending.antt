@@ -1,10 +1,10 @@
 -- How a decoding ends, and what it has read and written then.
-use Rattle.std.specs.Prelude.{◌≡◌, ◌≢◌, ◌++◌, ◌+◌, ◌-◌, ◌⊎◌, ℕ, List, [], All, length}
-use Rattle.std.specs.Prelude.{Result, Ok, Err}
+use Rattle.std.specs.Prelude.{◌≡◌, ◌≢◌, ◌<◌, ◌≤◌, ◌++◌, ◌+◌, ◌-◌, ◌⊎◌, ℕ, List, [], All, length}
+use Rattle.std.specs.Prelude.{take, Bool, IsTrue, Result, Ok, Err}
 use Rattle.mrt.specs.Sink.{TakesBeginning}
 use Rattle.bgp_wire.specs.declared.header.Limit.TheVariants.{Plain}
 use Rattle.bgp_wire.specs.Framing.{IsFrame, IsShort, joined}
-use Rattle.bgp_wire.specs.Held.{Held}
+use Rattle.bgp_wire.specs.Held.{Held, after_feed}
 use Rattle.bgp_tool.specs.declared.decoding.End.{End}
 use Rattle.bgp_tool.specs.declared.decoding.End.TheVariants as ends
 use Rattle.bgp_tool.specs.Message.{Message, Say}
@@ -86,6 +86,33 @@ pub record Reaches {R W : Type 0}
   pub gave : gives source source' given
   pub took : takes sink sink' written
   pub text : HasText given written end
+
+-- what a source did, by what it gives from one state to another, by its count of failures, and by
+-- whether it has told its end
+module _ {R : Type 0} (gives : R → R → List ℕ → Type 0) (failures : R → ℕ) (has_ended : R → Bool)
+    (old new : R) where
+  -- it gave so many octets at the front of a block, or it failed
+  abbrev pub Reads : List ℕ → Result ℕ End → Type 0
+  Reads block (Ok count) =
+      (count ≤ length block) × gives old new (take count block) × (failures new ≡ failures old)
+      × (0 < length block → count ≡ 0 → IsTrue (has_ended new))
+  Reads block (Err ends.SourceFailed) = gives old new [] × (failures new ≡ failures old + 1)
+  Reads block (Err ends.BetweenMessages) = ⊥
+  Reads block (Err ends.InsideMessage) = ⊥
+  Reads block (Err ends.AtFault) = ⊥
+  Reads block (Err ends.OutOfMemory) = ⊥
+  Reads block (Err ends.SinkFailed) = ⊥
+
+-- a splitter took a piece, with which so many octets are given in all; or memory was refused
+abbrev pub Feeds : ℕ → List ℕ → Held → Held → Result ℕ End → Type 0
+Feeds given piece held held' (Ok total) =
+    (held' ≡ after_feed held piece) × (total ≡ given + length piece)
+Feeds given piece held held' (Err ends.OutOfMemory) = held' ≡ held
+Feeds given piece held held' (Err ends.BetweenMessages) = ⊥
+Feeds given piece held held' (Err ends.InsideMessage) = ⊥
+Feeds given piece held held' (Err ends.AtFault) = ⊥
+Feeds given piece held held' (Err ends.SourceFailed) = ⊥
+Feeds given piece held held' (Err ends.SinkFailed) = ⊥
 
 -- what a sink did, by what it takes from one state to another, and by its count of failures
 module _ {W : Type 0} (takes : W → W → List ℕ → Type 0) (failures : W → ℕ) (old new : W) where

@@ -1,9 +1,9 @@
 //! `bgp decode` of a raw stream: the octets of one direction of a connection (RFC 4271, 4).
 
-ghost use Rattle.std.specs.Prelude.{◌≡◌, ◌<◌, ◌≤◌, ◌^◌, ◌+◌, ℕ, List, IfOk, IsTrue, false, ◌⊎◌};
-ghost use Rattle.std.specs.Prelude.{length, string_bytes};
+ghost use Rattle.std.specs.Prelude.{◌≡◌, ◌<◌, ◌≤◌, ◌^◌, ◌+◌, ◌-◌, ◌⊎◌, ℕ, List, IfOk, IsTrue};
+ghost use Rattle.std.specs.Prelude.{length, string_bytes, false};
 ghost use Rattle.bgp_wire.specs.declared.header.Limit.TheVariants.{Plain};
-ghost use Rattle.bgp_tool.specs.Ending.{Puts, PutsFrames, PutsRest};
+ghost use Rattle.bgp_tool.specs.Ending.{Puts, PutsFrames, PutsRest, Reads, Feeds};
 ghost use Rattle.bgp_tool.specs.Decoding.{CountsFailures, Decodes};
 ghost use Rattle.bgp_tool.specs.Ending.{Reaches, IsAtEnd, source_failures, sink_failures};
 
@@ -24,7 +24,9 @@ enum End {
     AtFault,
     /// A growth was refused.
     OutOfMemory,
+    /// A read failed.
     SourceFailed,
+    /// A write failed.
     SinkFailed,
 }
 
@@ -60,6 +62,14 @@ fn put<W: Sink, A: Allocator>(sink: &mut W, line: Result<String<A>, AllocError>)
     }
 }
 
+/// The offset in the stream at which the held octets begin, the last ones of those given.
+fn offset_of_held(given: u64, held: usize) -> u64
+    requires { held ≤ given }
+    ensures { result ≡ given - held }
+{
+    given - held as u64
+}
+
 /// Writes the line of each whole frame that is held, and of a header with faults behind them.
 /// So many octets were given in all.
 fn put_frames<W: Sink, A: Allocator + Copy>(
@@ -76,17 +86,12 @@ fn put_frames<W: Sink, A: Allocator + Copy>(
 {
     loop {
         match frames.next() {
-            Next::Frame(kind, frame) => match put(sink, messages::message(alloc, kind, frame)) {
-                Ok(()) => {}
-                Err(end) => return Err(end),
-            },
+            Next::Frame(kind, frame) => put(sink, messages::message(alloc, kind, frame))?,
             Next::More => return Ok(()),
             Next::Fault(faults, _) => {
-                let offset = given - frames.len() as u64;
-                match put(sink, messages::fault(alloc, offset, faults)) {
-                    Ok(()) => return Err(End::AtFault),
-                    Err(end) => return Err(end),
-                }
+                let offset = offset_of_held(given, frames.len());
+                put(sink, messages::fault(alloc, offset, faults))?;
+                return Err(End::AtFault);
             }
         }
     }
@@ -106,6 +111,28 @@ fn put_rest<W: Sink, A: Allocator>(alloc: A, sink: &mut W, count: usize) -> End
     }
 }
 
+/// Reads octets to the front of a block, and answers how many: none where the stream ends.
+fn read<R: Source>(source: &mut R, block: &mut [u8]) -> Result<usize, End>
+    requires { R.failures source.old < u64.MAX }
+    ensures { Reads R.gives R.failures R.has_ended source.old source.new block.new result }
+{
+    match source.read(block) {
+        Ok(count) => Ok(count),
+        Err(_) => Err(End::SourceFailed),
+    }
+}
+
+/// Takes a piece of the stream, and answers how many octets are given with it in all.
+fn feed<A: Allocator + Copy>(frames: &mut Frames<A>, piece: &[u8], given: u64) -> Result<u64, End>
+    requires { given + length piece.now ≤ u64.MAX }
+    ensures { Feeds given piece.now frames.old frames.new result }
+{
+    match frames.feed(piece) {
+        Ok(()) => Ok(given + piece.len() as u64),
+        Err(_) => Err(End::OutOfMemory),
+    }
+}
+
 /// How many octets are read at once, at the most.
 const BLOCK: usize = 8192;
 
@@ -122,18 +149,17 @@ fn decode<R: Source, W: Sink, A: Allocator + Copy>(alloc: A, source: &mut R, sin
     let mut block = [0; BLOCK];
     let mut given = 0u64;
     loop {
-        let count = match source.read(&mut block) {
+        let count = match read(source, &mut block) {
             Ok(count) => count,
-            Err(_) => return End::SourceFailed,
+            Err(end) => return end,
         };
         if count == 0 {
             return put_rest(alloc, sink, frames.len());
         }
-        given += count as u64;
-        match frames.feed(&block[..count]) {
-            Ok(()) => {}
-            Err(_) => return End::OutOfMemory,
-        }
+        given = match feed(&mut frames, &block[..count], given) {
+            Ok(total) => total,
+            Err(end) => return end,
+        };
         match put_frames(alloc, &mut frames, sink, given) {
             Ok(()) => {}
             Err(end) => return end,

@@ -9,7 +9,8 @@ ghost use Rattle.bgp_tool.specs.Decoding.{IsDecoded};
 /// Laws: each frame says one thing, by which its line is known; and each stream has one text and
 /// one exit status, which [`decode_raw`](crate::decode_raw) writes and answers.
 pub fn each_stream_has_one_text()
-    ensures says { (frame : List ℕ) → IsFrame Plain frame → (message : Message) × Says frame message }
+    ensures says { (frame : List ℕ) → IsFrame Plain frame
+        → (message : Message) × Says frame message }
     ensures says_once { (frame : List ℕ) (message other : Message)
         → Says frame message → Says frame other → message ≡ other }
     ensures each { (stream : List ℕ)

@@ -1,16 +1,19 @@
-use Rattle.std.proofs.Common.{◌≡◌, ◌∙◌, ◌++◌, ◌-◌, [], List, ℕ, length, drop, refl, sym, ap, subst, inr}
+use Rattle.std.proofs.Common.{◌≡◌, ◌∙◌, ◌++◌, ◌-◌, [], List, ℕ, Result, Ok, Err, length, drop, refl, sym, ap, subst, inr, arith}
+use Rattle.std.specs.Result.{IsErr, IsErrAnd}
+use Rattle.std.proofs.lemmas.Bool.{false≢true}
 use Rattle.bgp_wire.specs.declared.header.Limit.{Limit}
 use Rattle.bgp_wire.specs.declared.header.Limit.TheVariants.{Plain}
 use Rattle.bgp_wire.specs.Header.{header_of}
 use Rattle.bgp_wire.specs.Verdict.{AreFaults}
 use Rattle.bgp_wire.specs.Framing.{IsFrame, IsShort, IsFaulty}
 use Rattle.bgp_wire.specs.Held.{Held}
+use Rattle.bgp_tool.specs.declared.decoding.End.{End}
 use Rattle.bgp_tool.specs.Text.{line_of, fault_line}
 use Rattle.bgp_tool.specs.Decoding.{IsLastLine}
 use Rattle.bgp_tool.specs.Ending.{AreLines}
 use Rattle.bgp_tool.proofs.Lines.{no_lines, one_line_more}
 use Rattle.bgp_tool.proofs.EachMessage.{each_message}
-use Rattle.bgp_tool.proofs.Cut.{cut_line, cut_last}
+use Rattle.bgp_tool.proofs.Cut.{took_more, cut_line, cut_last}
 use Rattle.bgp_tool.proofs.decoding.put_frames.Goals as goal
 
 -- octets that are taken away leave the rest of the state
@@ -36,6 +39,11 @@ fault_is_last offset limit rest header faults plain faulty front are = inr (inr 
   ),
 ))
 
+-- `?` hands on an end as it is
+handed_on : (result : Result (Unit {0}) End) (end : End) → IsErr result × IsErrAnd result (λ (e : End). e ≡ end) → result ≡ Err end
+handed_on (Ok done) end h = absurd (false≢true h.0)
+handed_on (Err e) end h = ap Err h.1
+
 pub loop-kind-preserved : goal.loop-kind-preserved
 loop-kind-preserved g c =
     let now = rw c.in-Frame.is at c.next.follows.holds-at-none in
@@ -46,29 +54,32 @@ loop-kind-preserved g c =
     let limit = limit_is c.args.frames.now c.loop-kind.frames state c.requires.limit in
     let whole = subst (λ (l : Limit). IsFrame l frame) limit c.in-Frame.ensures.first.0 in
     let said = each_message frame whole in
-    let puts = c.in-Ok.ensures (line_of said.0) (c.message.ensures said.0 said.1) in
+    let puts = c.in_ok-put-in-Frame.ensures (line_of said.0) (c.message.ensures said.0 said.1) in
     let lines = one_line_more c.args.frames.now.octets c.loop-kind.frames.octets behind so_far.0 frame said.0 so_far.1 whole c.in-Frame.ensures.first.2 said.1 in
     record {
       state = kept c.args.frames.now c.loop-kind.frames c.next.follows.lender-at-none behind state now;
       written = (
         so_far.0 ++ line_of said.0,
         subst (λ (o : List ℕ). AreLines c.args.frames.now.octets o (so_far.0 ++ line_of said.0)) (sym (ap (λ (v : Held). v.octets) now)) lines,
-        (g.met.W.Sink.joined c.args.sink.now c.loop-kind.sink c.put.new.sink so_far.0 (line_of said.0) so_far.2.0 puts.0, puts.1 ∙ so_far.2.1),
+        took_more g.W.Sink.takes g.W.Sink.failures g.met.W.Sink.joined c.args.sink.now c.loop-kind.sink c.put.new.sink
+            so_far.0 (line_of said.0) so_far.2 puts,
       );
     }
 
-pub returns-in-Err : goal.returns-in-Err
-returns-in-Err g c =
+pub returns-in_err-put-in-Frame : goal.returns-in_err-put-in-Frame
+returns-in_err-put-in-Frame g c =
     let state = c.loop-kind.invariant.state in
     let so_far = c.loop-kind.invariant.written in
     let frame = c.in-Frame.frame.now in
     let limit = limit_is c.args.frames.now c.loop-kind.frames state c.requires.limit in
     let whole = subst (λ (l : Limit). IsFrame l frame) limit c.in-Frame.ensures.first.0 in
     let said = each_message frame whole in
-    let puts = c.in-Err.ensures (line_of said.0) (c.message.ensures said.0 said.1) in
-    cut_line g.W.Sink.takes g.W.Sink.failures g.met.W.Sink.joined c.args.sink.now c.loop-kind.sink c.put.new.sink c.args.given
+    let end = c.in_err-put-in-Frame.field-0.0 in
+    let puts = c.in_err-put-in-Frame.ensures (line_of said.0) (c.message.ensures said.0 said.1) in
+    rw (handed_on c.from_residual.result end c.from_residual.ensures)
+    (cut_line g.W.Sink.takes g.W.Sink.failures g.met.W.Sink.joined c.args.sink.now c.loop-kind.sink c.put.new.sink c.args.given
     c.args.frames.now c.next.follows.lender-at-none c.loop-kind.frames.octets so_far.0 frame (drop (length frame) c.loop-kind.frames.octets)
-    said.0 so_far.2 so_far.1 whole c.in-Frame.ensures.first.2 said.1 c.in-Err.end puts
+    said.0 so_far.2 so_far.1 whole c.in-Frame.ensures.first.2 said.1 end puts)
 
 pub returns-in-More : goal.returns-in-More
 returns-in-More g c =
@@ -85,42 +96,49 @@ returns-in-More g c =
       so_far.2,
     )
 
-pub returns-in-Ok-put : goal.returns-in-Ok-put
-returns-in-Ok-put g c =
+pub returns-in-Fault : goal.returns-in-Fault
+returns-in-Fault g c =
     let now = rw c.in-Fault.is at c.next.follows.holds-at-none in
     let so_far = c.loop-kind.invariant.written in
     let rest = c.loop-kind.frames.octets in
-    let offset : c.args.given - c.len.result ≡ c.args.given - length rest =
-    ap (λ (n : ℕ). c.args.given - n) (c.len.ensures ∙ ap (λ (v : Held). length v.octets) now)
-    in
-    let last = fault_line (c.args.given - c.len.result) c.in-Fault.faults in
+    let given = c.args.given in
+    let held = rw now at c.len.ensures in
+    let offset : c.offset_of_held-offset.result ≡ given - length rest = omega arith in
+    let last = fault_line c.offset_of_held-offset.result c.in-Fault.faults in
     let limit = limit_is c.args.frames.now c.loop-kind.frames c.loop-kind.invariant.state c.requires.limit in
     let front = c.in-Fault.ensures.first in
-    let is_last = fault_is_last (c.args.given - c.len.result) _ rest c.in-Fault.field-1.now c.in-Fault.faults limit front.0 front.1 front.2 in
-    let puts = c.in-Ok-put.ensures last c.fault.ensures in (
+    let is_last = subst (λ (n : ℕ). IsLastLine n rest last 3) offset
+    (fault_is_last c.offset_of_held-offset.result _ rest c.in-Fault.field-1.now c.in-Fault.faults limit front.0 front.1 front.2)
+    in
+    let puts = c.in_ok-put-in-Fault.ensures last c.fault.ensures in (
       rest,
       so_far.0,
       last,
       so_far.1,
-      subst (λ (n : ℕ). IsLastLine n rest last 3) offset is_last,
-      (g.met.W.Sink.joined c.args.sink.now c.loop-kind.sink c.put-in-Fault.new.sink so_far.0 last so_far.2.0 puts.0, puts.1 ∙ so_far.2.1),
+      is_last,
+      took_more g.W.Sink.takes g.W.Sink.failures g.met.W.Sink.joined c.args.sink.now c.loop-kind.sink c.put-in-Fault.new.sink
+          so_far.0 last so_far.2 puts,
     )
 
-pub returns-in-Err-put : goal.returns-in-Err-put
-returns-in-Err-put g c =
+pub returns-in_err-put-in-Fault : goal.returns-in_err-put-in-Fault
+returns-in_err-put-in-Fault g c =
     let now = rw c.in-Fault.is at c.next.follows.holds-at-none in
     let so_far = c.loop-kind.invariant.written in
     let rest = c.loop-kind.frames.octets in
-    let offset : c.args.given - c.len.result ≡ c.args.given - length rest =
-    ap (λ (n : ℕ). c.args.given - n) (c.len.ensures ∙ ap (λ (v : Held). length v.octets) now)
-    in
-    let last = fault_line (c.args.given - c.len.result) c.in-Fault.faults in
+    let given = c.args.given in
+    let held = rw now at c.len.ensures in
+    let offset : c.offset_of_held-offset.result ≡ given - length rest = omega arith in
+    let last = fault_line c.offset_of_held-offset.result c.in-Fault.faults in
     let limit = limit_is c.args.frames.now c.loop-kind.frames c.loop-kind.invariant.state c.requires.limit in
     let front = c.in-Fault.ensures.first in
-    let is_last = fault_is_last (c.args.given - c.len.result) _ rest c.in-Fault.field-1.now c.in-Fault.faults limit front.0 front.1 front.2 in
-    cut_last g.W.Sink.takes g.W.Sink.failures g.met.W.Sink.joined c.args.sink.now c.loop-kind.sink c.put-in-Fault.new.sink c.args.given
-    c.args.frames.now c.next.follows.lender-at-none rest so_far.0 last 3 so_far.2 so_far.1
-    (subst (λ (n : ℕ). IsLastLine n rest last 3) offset is_last) c.in-Err-put.end (c.in-Err-put.ensures last c.fault.ensures)
+    let is_last = subst (λ (n : ℕ). IsLastLine n rest last 3) offset
+    (fault_is_last c.offset_of_held-offset.result _ rest c.in-Fault.field-1.now c.in-Fault.faults limit front.0 front.1 front.2)
+    in
+    let end = c.in_err-put-in-Fault.field-0.0 in
+    let puts = c.in_err-put-in-Fault.ensures last c.fault.ensures in
+    rw (handed_on c.from_residual-in_err-put-in-Fault.result end c.from_residual-in_err-put-in-Fault.ensures)
+    (cut_last g.W.Sink.takes g.W.Sink.failures g.met.W.Sink.joined c.args.sink.now c.loop-kind.sink c.put-in-Fault.new.sink given
+    c.args.frames.now c.next.follows.lender-at-none rest so_far.0 last 3 so_far.2 so_far.1 is_last end puts)
 
 -- each frame says something
 pub message-requires : goal.message-requires
