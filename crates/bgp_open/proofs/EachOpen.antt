@@ -1,5 +1,5 @@
 -- Octets are a well-formed OPEN or have a fault that is answered, which is the least.
-use Rattle.std.proofs.Common.{◌≡◌, ◌⊎◌, ◌≤◌, ℕ, List, length, inl, inr, arith}
+use Rattle.std.proofs.Common.{◌≡◌, ◌⊎◌, ◌≤◌, ℕ, List, length, inl, inr, refl, arith}
 use Rattle.std.proofs.lemmas.Bool.{cases_eq, cases_lt}
 use Rattle.bgp_wire.specs.Header.{header_of, type_of, length_of}
 use Rattle.bgp_wire.specs.Message.{IsMessage, body_of}
@@ -10,7 +10,10 @@ use Rattle.bgp_open.specs.declared.fault.OpenFault.TheVariants.{Malformed, Versi
 use Rattle.bgp_open.specs.Triplet.{Triplet, IsWhole, joined, triplets_of}
 use Rattle.bgp_open.specs.Open.{IsOpen, fixed_fields_of, parameters_of, version_of, parameters_length_of}
 use Rattle.bgp_open.specs.OpenFault.{HasWholeCapabilities, AreParameters, IsWellFormed, IsAnswered}
-use Rattle.bgp_open.specs.OpenFault.{IsOtherVersion, HasOpenFault, number_of}
+use Rattle.bgp_open.specs.OpenFault.{IsOtherVersion, HasOpenFault, IsReadable, number_of}
+use Rattle.bgp_open.specs.OpenErrors.{mandatory_faults}
+use Rattle.bgp_open.specs.declared.config.Config.{Config}
+use Rattle.byteorder.specs.Endian.{big_bytes}
 
 whole_or_not : (octets : List ℕ) → Either (IsWhole octets)
 whole_or_not octets = decided_equal (joined (triplets_of octets)) octets
@@ -102,3 +105,23 @@ least_fault octets Version other whole four h k = absurd (four h.1)
 least_fault octets Parameter Malformed whole four h k = absurd (h.2 k)
 least_fault octets Parameter Version whole four h k = absurd (four k)
 least_fault octets Parameter Parameter whole four h k = (h.3, omega arith)
+
+-- an OPEN with a parameter of another type and no lesser fault is readable
+readable_with_other : (octets : List ℕ) → IsAnswered octets Parameter → IsReadable octets
+readable_with_other octets h = elim (cases_eq (version_of (fixed_fields_of octets)) 4) [
+  | inr other ↦ absurd (h.1 other)
+  | inl four ↦ elim (cases_eq (parameters_length_of (fixed_fields_of octets)) (length (parameters_of octets))) [
+    | inr differ ↦ absurd (h.2 (inl differ))
+    | inl same ↦ elim (parameters_or_not (parameters_of octets)) [
+      | inr broken ↦ absurd (h.2 (inr broken))
+      | inl are ↦ record { whole = h.0; version = four; count = same; parameters = are }
+    ]
+  ]
+]
+
+-- for the fault that is answered the OPEN has to be refused
+pub mandatory_fault : (config : Config) (octets : List ℕ) (fault : OpenFault) → IsAnswered octets fault
+    → mandatory_faults config octets (number_of fault) (big_bytes 2 4)
+mandatory_fault config octets Malformed h = inr (inl (inl refl, h))
+mandatory_fault config octets Version h = inl (refl, refl, h)
+mandatory_fault config octets Parameter h = inr (inr (readable_with_other octets h, inl (refl, h.3)))

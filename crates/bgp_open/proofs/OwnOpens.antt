@@ -18,7 +18,8 @@ use Rattle.bgp_open.specs.Offer.{families_of, as_number_of}
 use Rattle.bgp_open.specs.Open.{OpenFields, IsOpen, fixed_fields_of, parameters_length_of}
 use Rattle.bgp_open.specs.OpenFault.{IsWellFormed}
 use Rattle.bgp_open.specs.OwnOpen.{IsOwnOpen, my_as_for, multiprotocol_for, as4_for, own_fields}
-use Rattle.bgp_open.specs.Written.{FitsOpen, IsTooMany, AreOctets, parameters_with, header_octets, fixed_octets, message_octets, open_octets}
+use Rattle.bgp_open.specs.Written.{FitsOpen, IsTooMany, AreOctets, parameters_with, header_octets, fixed_octets, message_octets, open_octets, notification_octets}
+use Rattle.bgp_open.proofs.WrittenMessage.{length-message_octets, written_notification}
 use Rattle.bgp_open.proofs.WrittenOpen.{room, written_open, reads_as}
 
 -- the capabilities of a configuration, choice by choice
@@ -210,5 +211,30 @@ is_frame octets are well limit =
     let whole = message.count in record {
       header = message.header;
       sound = no_fault limit (header_of octets) message.marker message.type_field (omega arith) (omega arith);
+      whole = sym whole;
+    }
+
+no_notification_fault : (limit : Limit) (header : List ℕ) → IsSynchronized header → type_of header ≡ 3 → 21 ≤ length_of header
+    → length_of header ≤ 4096 → IsSound limit header
+no_notification_fault Plain header marker kind long short subcode detail fault = elim fault [
+  | inl m ↦ m.1 marker
+  | inr r ↦ elim r [
+    | inl l ↦ elim (subst (λ (n : ℕ). IsBadLength Plain n (length_of header)) kind l.1) [
+      | inl few ↦ absurd (omega arith)
+      | inr q ↦ elim q [ inl many ↦ absurd (omega arith) | inr keepalive ↦ absurd (omega arith) ]
+    ]
+    | inr t ↦ t.1.2 kind
+  ]
+]
+
+pub notification_frame : (code subcode : ℕ) (detail : List ℕ) → length detail ≤ 4075
+    → (limit : Limit) → IsFrame limit (notification_octets code subcode detail)
+notification_frame code subcode detail fits limit =
+    let octets = notification_octets code subcode detail in
+    let message = (written_notification code subcode detail fits).message in
+    let count = length-message_octets 3 (code ∷ subcode ∷ detail) in
+    let whole = message.count in record {
+      header = message.header;
+      sound = no_notification_fault limit (header_of octets) message.marker message.type_field (omega arith) (omega arith);
       whole = sym whole;
     }

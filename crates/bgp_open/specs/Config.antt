@@ -12,8 +12,8 @@ abbrev pub IsBadHold : ℕ → Type 0
 IsBadHold hold = (hold ≡ 1) ⊎ (hold ≡ 2)
 
 -- AS numbers and the BGP Identifier aren't 0 (RFC 7607, 2; RFC 6286, 2.1), the Hold Time may be
--- proposed, a family is offered, the peer's OPEN is waited for, and without four-octet AS numbers
--- both AS numbers have two octets (RFC 6793, 1)
+-- proposed, a family is offered, the time for which the peer's OPEN is waited for isn't 0
+-- (RFC 4271, 8.2.2), and without four-octet AS numbers both AS numbers have two octets (RFC 6793, 1)
 pub record IsConfig (parts : ConfigParts) : Type 0 where
   pub local_as : parts.local_as ≢ 0
   pub peer_as : parts.peer_as ≢ 0
@@ -23,7 +23,7 @@ pub record IsConfig (parts : ConfigParts) : Type 0 where
   pub large_hold : parts.large_hold ≢ 0
   pub two_octets : parts.as4 ≡ false → (parts.local_as ≤ 65535) × (parts.peer_as ≤ 65535)
 
--- the numbers are those of their fields in code
+-- each number is one that its field in code can hold: 32 bits, or 16 for the Hold Time
 pub record AreNumbers (parts : ConfigParts) : Type 0 where
   pub local_as : parts.local_as < 2 ^ 32
   pub peer_as : parts.peer_as < 2 ^ 32

@@ -9,8 +9,8 @@ use Rattle.bgp_open.specs.Offer.{families_of, as_number_of}
 use Rattle.bgp_open.specs.Open.{OpenFields}
 
 -- The smaller Hold Time of both (RFC 4271, 4.2); four-octet AS numbers where both sides send that
--- capability (RFC 6793, 4.1); the families that both offer (RFC 4760, 8); whether the peer is
--- internal
+-- capability, the peer with a length of 4 (RFC 6793, 4.1); the families that both offer (RFC 4760,
+-- 8); whether the peer is internal
 abbrev pub link_of : Config → OpenFields → Link
 link_of config message = record {
   hold = min config.parts.hold message.hold;

@@ -9,8 +9,9 @@ use Rattle.bgp_open.specs.Offer.{as_number_of}
 use Rattle.bgp_open.specs.Open.{OpenFields, IsOpen, open_of}
 use Rattle.bgp_open.specs.OpenFault.{IsOtherVersion, IsMalformed, IsReadable, HasOtherParameter}
 
--- The AS number that a peer says it has: where four-octet AS numbers are offered, the one in its
--- first capability of them, if it has one (RFC 6793, 4.1); else My Autonomous System
+-- The AS number that a peer says it has: where the local system sends the capability of four-octet
+-- AS numbers, the one in the peer's first such capability of length 4, if it has one
+-- (RFC 6793, 4.1); else My Autonomous System
 abbrev pub peer_as_of : Config → OpenFields → ℕ
 peer_as_of config message =
     if config.parts.as4
@@ -35,8 +36,8 @@ IsOfOtherVersion octets = IsOpen octets × IsOtherVersion octets
 abbrev pub IsUnreadable : List ℕ → Type 0
 IsUnreadable octets = (¬ IsOpen octets) ⊎ ((¬ IsOtherVersion octets) × IsMalformed octets)
 
--- the subcodes that a malformed OPEN has, so that it may be answered by any of them (profile): what
--- else is wrong with it, nobody can tell
+-- the subcodes that a malformed OPEN has, so that it may be answered by any of them (profile):
+-- nobody can tell what else is wrong with it, or what it lacks
 abbrev pub IsOfMalformed : ℕ → Type 0
 IsOfMalformed subcode =
     (subcode ≡ 0) ⊎ (subcode ≡ 2) ⊎ (subcode ≡ 3) ⊎ (subcode ≡ 4) ⊎ (subcode ≡ 6) ⊎ (subcode ≡ 7)
@@ -59,7 +60,7 @@ mandatory_faults config octets subcode detail =
     ⊎ (IsOfMalformed subcode × IsUnreadable octets)
     ⊎ (IsReadable octets × HasFieldFault config octets subcode)
 
--- The faults for which one may be refused, since a speaker may reject any Hold Time (RFC 4271, 4.2)
+-- The faults for which one may be refused, since a speaker may reject any Hold Time (RFC 4271, 6.2)
 -- and require a capability (RFC 5492, 3): 6 and 7 of every OPEN but one of another version. Octets
 -- that are no whole OPEN have them too, as subcodes of a malformed one.
 abbrev pub permitted_faults : List ℕ → ℕ → List ℕ → Type 0

@@ -39,7 +39,7 @@ AreAllCapabilities octets = All (λ parameter. parameter.code ≡ 2) (triplets_o
 abbrev pub HasOtherParameter : List ℕ → Type 0
 HasOtherParameter octets = ¬ AreAllCapabilities (parameters_of octets)
 
--- a whole OPEN has the fault, whatever others it has
+-- an OPEN has the fault, whatever others it has; the octets are taken for a whole one
 abbrev pub HasOpenFault : List ℕ → OpenFault → Type 0
 HasOpenFault octets Malformed = IsMalformed octets
 HasOpenFault octets Version = IsOtherVersion octets

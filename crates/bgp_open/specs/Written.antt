@@ -3,6 +3,10 @@ use Rattle.std.specs.Prelude.{◌<◌, ◌+◌, ◌^◌, ◌++◌, ℕ, List, []
 use Rattle.byteorder.specs.Endian.{big_bytes}
 use Rattle.bgp_open.specs.Triplet.{Triplet, joined}
 use Rattle.bgp_open.specs.Open.{OpenFields}
+use Rattle.bgp_open.specs.declared.written_open.OpenWriteFault.{OpenWriteFault}
+use Rattle.bgp_open.specs.declared.written_open.OpenWriteFault.TheVariants as opens
+use Rattle.bgp_open.specs.declared.notification.NotificationWriteFault.{NotificationWriteFault}
+use Rattle.bgp_open.specs.declared.notification.NotificationWriteFault.TheVariants as notifications
 
 -- the header of a message: an all-255 marker, the Length and the Type
 unfoldable pub header_octets : ℕ → ℕ → List ℕ
@@ -46,6 +50,15 @@ pub record FitsOpen (fields : OpenFields) : Type 0 where
 -- a NOTIFICATION with this code, subcode and data
 abbrev pub notification_octets : ℕ → ℕ → List ℕ → List ℕ
 notification_octets code subcode detail = message_octets 3 (code ∷ subcode ∷ detail)
+
+-- the numbers of what keeps a message from being written
+abbrev pub open_write_number : OpenWriteFault → ℕ
+open_write_number opens.TooMany = 1
+open_write_number opens.Memory = 2
+
+abbrev pub notification_write_number : NotificationWriteFault → ℕ
+notification_write_number notifications.TooLarge = 1
+notification_write_number notifications.Memory = 2
 
 -- each number is that of an octet
 abbrev pub AreOctets : List ℕ → Type 0

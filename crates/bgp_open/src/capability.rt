@@ -11,7 +11,7 @@ use std::marker::Model;
 /// The Parameter Type of the parameter that has capabilities (RFC 5492, 4).
 pub(crate) const CAPABILITIES: u8 = 2;
 
-/// One capability: a code and what it says, at most 255 octets.
+/// One capability: a code and what it says. One that was read has at most 255 octets of value.
 #[derive(Clone, Copy, Debug, PartialEq, Eq)]
 pub struct Capability<'a> {
     /// The Capability Code.

@@ -43,8 +43,8 @@ impl OpenErrors {
         capability: false,
     };
 
-    /// What a speaker may refuse any OPEN for: its Hold Time (RFC 4271, 4.2), or that a capability
-    /// is missing (RFC 5492, 3).
+    /// What a speaker may refuse any OPEN of version 4 for: its Hold Time (RFC 4271, 6.2), or that
+    /// a capability is missing (RFC 5492, 3).
     const ANY_SPEAKERS: OpenErrors = OpenErrors {
         hold: true,
         capability: true,

@@ -35,5 +35,7 @@ pub use notification::{
 };
 pub use open::{Open, read_open};
 pub use own_open::{is_own_open, own_open_exists};
-pub use reading::{one_fault, one_reading, written_open_reads_back};
+pub use reading::{
+    one_fault, one_reading, written_notification_is_a_frame, written_open_reads_back,
+};
 pub use written_open::{OpenWriteFault, write_open};

@@ -22,7 +22,9 @@ pub struct Link {
     pub internal: bool,
 }
 
-/// What the configuration and the peer's OPEN settle.
+/// What the configuration and the peer's OPEN settle: the smaller Hold Time, AS numbers of four
+/// octets where both sides send that capability, the families that both offer, and whether the peer
+/// is internal. It is meant for an OPEN whose `open_faults` have an empty `must`.
 pub fn negotiate(config: &Config, message: &Open<'_>) -> Link
     ensures { result ≡ link_of config.now message.now }
 {

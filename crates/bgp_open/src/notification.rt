@@ -11,7 +11,7 @@ ghost use Rattle.std.specs.Prelude.{◌≡◌, ◌<◌, ◌+◌, ◌++◌, ◌�
 ghost use Rattle.std.specs.Prelude.{IfSome, IfNone, OnOk, OnErr, Err};
 ghost use Rattle.std.specs.Prelude.{length, drop, vec_len, vec_capacity};
 ghost use Rattle.bgp_open.specs.Notification.{IsNotification};
-ghost use Rattle.bgp_open.specs.Written.{notification_octets};
+ghost use Rattle.bgp_open.specs.Written.{notification_octets, notification_write_number};
 
 use crate::writing::{put, put_header, put_u8};
 use bgp_wire::{MessageType, message_body};
@@ -64,6 +64,15 @@ pub enum NotificationWriteFault {
     /// There was no memory for it.
     #[error("out of memory")]
     Memory = 2,
+}
+
+impl NotificationWriteFault {
+    /// The fault's number: 1 for too large data, 2 for memory.
+    pub fn number(self) -> u8
+        ensures { result ≡ notification_write_number self }
+    {
+        self as u8
+    }
 }
 
 /// Appends a NOTIFICATION. After a fault the vector is as before.

@@ -76,7 +76,7 @@ fn open_parts(octets: &[u8]) -> Option<(&[u8; FIXED_LENGTH], &[u8])>
     message_body(MessageType::Open, octets)?.split_first_chunk::<FIXED_LENGTH>()
 }
 
-/// An OPEN of version 4, its form being right. Contracts see it as the fields that it has.
+/// The fields of an OPEN of version 4. Contracts see it as these.
 #[derive(Debug, Drop)]
 pub struct Open<'a> {
     my_as: u16,
@@ -99,7 +99,8 @@ impl<'a> Model for Open<'a> {
 }
 
 impl<'a> Open<'a> {
-    /// My Autonomous System: the speaker's AS number, or 23456 where it has more than two octets.
+    /// My Autonomous System, as it was sent: a speaker whose AS number has more than two octets
+    /// sends 23456 (RFC 6793, 3 and 9).
     pub fn my_as(&self) -> u16
         ensures { result ≡ self.now.my_as }
     {
@@ -169,8 +170,9 @@ pub(crate) fn read_readable(octets: &[u8]) -> Result<ReadableOpen<'_>, OpenFault
     })
 }
 
-/// Reads a whole OPEN message. Of several faults it answers the least, but a version other than 4
-/// before any other, since nothing else is then known of the message.
+/// Reads a whole OPEN message. Octets that are none are malformed. Of several faults it answers the
+/// least, but a version other than 4 before any other, since nothing else is then known of the
+/// message.
 pub fn read_open(octets: &[u8]) -> Result<Open<'_>, OpenFault>
     ensures open { IfOk result (λ message. message ≡ open_of octets.entry.now) }
     ensures ok { IfOk result (λ message. IsWellFormed octets.entry.now) }

@@ -33,7 +33,9 @@ fn own_as_number(config: &Config) -> Option<u32>
     config.parts.as4.then_some(config.parts.local_as)
 }
 
-/// Whether the octets are an OPEN that the local system may send.
+/// Whether the octets are an OPEN that the local system may send: well-formed, with the AS number
+/// (or 23456), Hold Time, BGP Identifier and families that are configured, and with the four-octet
+/// AS number exactly where that is. Its other capabilities are free.
 pub fn is_own_open(config: &Config, octets: &[u8]) -> bool
     ensures { IsTrue result ↔ IsOwnOpen config.now octets.now }
 {
@@ -48,8 +50,8 @@ pub fn is_own_open(config: &Config, octets: &[u8]) -> bool
 }
 
 /// For every configuration there is an OPEN that the local system may send: what `write_open`
-/// writes of what is configured, which fits the fields of an OPEN. And a well-formed OPEN has no
-/// header fault, however long a message may be.
+/// writes of what is configured, which fits the fields of an OPEN and is octets. And a well-formed
+/// OPEN has no header fault, whichever [`Limit`](bgp_wire::Limit) there is.
 pub fn own_open_exists()
     ensures own { (config : Config) → IsOwnOpen config (open_octets (own_fields config)) }
     ensures fits { (config : Config) → FitsOpen (own_fields config) }

@@ -71,7 +71,8 @@ const FIELDS: [u8; 8] = [
     0xc0, 0x00, 0x02, 0x02, // BGP Identifier: 192.0.2.2
 ];
 
-/// An OPEN of a version whose octets behind the fixed fields are these.
+/// An OPEN of a version that ends with these octets: the Optional Parameters Length and what
+/// follows.
 fn open_with(alloc: Global, version: u8, behind: &[u8]) -> Result<Vec<u8>, AllocError>
     requires { length behind.now < 200 }
 {

@@ -9,6 +9,7 @@ ghost use Rattle.bgp_open.specs.Capability.{capability_of, said};
 ghost use Rattle.bgp_open.specs.Open.{open_of, parameters_of};
 ghost use Rattle.bgp_open.specs.OpenFault.{IsWellFormed};
 ghost use Rattle.bgp_open.specs.Written.{IsTooMany, fixed_octets, open_octets, parameters_with};
+ghost use Rattle.bgp_open.specs.Written.{open_write_number};
 
 use crate::capability::{CAPABILITIES, Capability};
 use crate::open::VERSION;
@@ -32,6 +33,15 @@ pub enum OpenWriteFault {
     /// There was no memory for it.
     #[error("out of memory")]
     Memory = 2,
+}
+
+impl OpenWriteFault {
+    /// The fault's number: 1 for too many capabilities, 2 for memory.
+    pub fn number(self) -> u8
+        ensures { result ≡ open_write_number self }
+    {
+        self as u8
+    }
 }
 
 /// How much of `room` octets is left behind these capabilities, if they fit.

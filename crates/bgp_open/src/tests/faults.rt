@@ -226,7 +226,7 @@ fn nothing_else_is_read_of_another_version(rt: HostRuntime) -> Result<(), Fail> 
 }
 
 #[test]
-fn real_fields_of_open_b_make_its_faults(rt: HostRuntime) -> Result<(), Fail> {
+fn a_changed_field_of_open_b_makes_a_fault(rt: HostRuntime) -> Result<(), Fail> {
     let config = Config::new(PARTS_A).ok_or("a configuration")?;
     let mut hold_1 = OPEN_B;
     hold_1[23] = 1; // Hold Time: 1

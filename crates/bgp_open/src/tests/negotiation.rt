@@ -1,7 +1,7 @@
 //! Configurations, what both OPENs settle, and the local system's own OPEN.
 
 use super::*;
-use crate::{Link, OpenFaults, is_own_open, negotiate, read_open};
+use crate::{Link, OpenFaults, is_own_open, negotiate, open_faults, read_open};
 use bgp_wire::vectors::{OPEN_A, OPEN_B};
 use std::test::Fail;
 
@@ -150,7 +150,7 @@ fn a_link_has_what_both_sides_offer(rt: HostRuntime) -> Result<(), Fail> {
 }
 
 #[test]
-fn capabilities_of_a_wrong_length_are_passed_over(rt: HostRuntime) -> Result<(), Fail> {
+fn capabilities_of_another_length_or_family_offer_nothing(rt: HostRuntime) -> Result<(), Fail> {
     let config = Config::new(PARTS_A).ok_or("a configuration")?;
     let rows: [(&str, &[u8], bool, Families); 4] = [
         (
@@ -260,13 +260,45 @@ fn an_own_open_says_what_is_configured(rt: HostRuntime) -> Result<(), Fail> {
     )?;
     assert!(rt; !is_own_open(&config, &trans));
     assert!(rt; is_own_open(&wide, &trans));
+
+    // Without four-octet AS numbers a capability of that code and another length is free.
+    let two_octets = Config::new(ConfigParts {
+        as4: false,
+        families: Families::V4,
+        ..PARTS_A
+    })
+    .ok_or("a configuration")?;
+    let rows: [(&str, &[u8], bool); 3] = [
+        ("none", &[0], true),
+        ("a length of 2", &[6, 2, 4, 65, 2, 0xfd, 0xe9], true),
+        ("a length of 4", &[8, 2, 6, 65, 4, 0, 0, 0xfd, 0xe9], false),
+    ];
+    for (lesson, behind, is_own) in rows {
+        let mut body = vec![in rt.alloc(); 4; 1]?;
+        body.extend_from_slice(&[0xfd, 0xe9, 0x00, 0x5a, 192, 0, 2, 1])?;
+        body.extend_from_slice(behind)?;
+        assert!(rt; body.len() < 256);
+        let octets = message(rt.alloc(), 1, &body)?;
+        assert_eq!(rt; is_own_open(&two_octets, &octets), is_own, "{lesson}");
+    }
     Ok(())
 }
 
+/// Only a `Copy` value can be given twice.
+fn twice<T: Copy>(value: T) -> (T, T) {
+    (value, value)
+}
+
 #[test]
-fn links_and_faults_are_small(rt: HostRuntime) {
+fn links_and_faults_are_small_and_copied(rt: HostRuntime) -> Result<(), Fail> {
     assert_eq!(rt; size_of::<Link>(), 6);
     assert_eq!(rt; size_of::<OpenFaults>(), 14);
+    let config = Config::new(PARTS_A).ok_or("a configuration")?;
+    let (link, other) = twice(negotiate(&config, &read_open(&OPEN_B)?));
+    assert!(rt; link == other);
+    let (faults, other) = twice(open_faults(&config, &OPEN_B));
+    assert!(rt; faults == other);
+    Ok(())
 }
 
 #[test]

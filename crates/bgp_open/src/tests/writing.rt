@@ -2,8 +2,8 @@
 
 use super::*;
 use crate::{
-    Capability, Notification, NotificationWriteFault, OpenWriteFault, write_notification,
-    write_open,
+    Capability, Notification, NotificationWriteFault, OpenWriteFault, is_own_open,
+    write_notification, write_open,
 };
 use bgp_wire::vectors::{ADMINISTRATIVE_SHUTDOWN, BAD_LENGTH_18, OPEN_A};
 use linked_list_allocator::LocalHeap;
@@ -42,6 +42,8 @@ fn ample_memory(rt: HostRuntime) -> Result<(), Fail> {
     let mut out = Vec::new(rt.alloc());
     write_open_a(&mut out)?;
     assert!(rt; out.as_slice() == OPEN_A.as_slice());
+    let config = Config::new(PARTS_A).ok_or("a configuration")?;
+    assert!(rt; is_own_open(&config, &out));
     write_notification(&BAD_LENGTH, &mut out)?;
     assert_eq!(rt; out.len(), 72);
     let (open, notification) = out.split_at(49);
@@ -145,4 +147,12 @@ fn refused_memory_leaves_the_vector(rt: HostRuntime) -> Result<(), Fail> {
     }
     assert!(rt; false, "always refused");
     Ok(())
+}
+
+#[test]
+fn faults_of_writers_have_their_numbers(rt: HostRuntime) {
+    assert_eq!(rt; OpenWriteFault::TooMany.number(), 1);
+    assert_eq!(rt; OpenWriteFault::Memory.number(), 2);
+    assert_eq!(rt; NotificationWriteFault::TooLarge.number(), 1);
+    assert_eq!(rt; NotificationWriteFault::Memory.number(), 2);
 }

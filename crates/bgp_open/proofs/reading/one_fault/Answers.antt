@@ -1,4 +1,4 @@
-use Rattle.bgp_open.proofs.EachOpen.{each_octets, least_fault}
+use Rattle.bgp_open.proofs.EachOpen.{each_octets, least_fault, mandatory_fault}
 use Rattle.bgp_open.proofs.LeastFault as lemmas
 use Rattle.bgp_open.proofs.reading.one_fault.Goals as goal
 
@@ -9,4 +9,5 @@ returns c =
       one = lemmas.one_fault;
       none = lemmas.none_if_well_formed;
       least = least_fault;
+      mandatory = mandatory_fault;
     }
