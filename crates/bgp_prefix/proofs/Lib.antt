@@ -1,1 +1,12 @@
+pub mod AddressNumbers
+pub mod BitsAndNumbers
+pub mod Masks
+pub mod OneSpelling
+pub mod OneWriting
+pub mod PlainDecimal
+pub mod PrefixParts
+pub mod PrintedIsRead
 pub mod PrintedTexts
+pub mod ReadExits
+pub mod ReadTexts
+pub mod RealEquality

@@ -1,2 +1,12 @@
+pub mod Bits
 pub mod Address
+pub mod Prefix
+pub mod PrefixOrder
+pub mod Fault
 pub mod Text
+pub mod ZeroRun
+pub mod Notation
+pub mod PrefixFields
+pub mod PrefixLaws
+pub mod Slash
+pub mod Shown

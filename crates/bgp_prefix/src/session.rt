@@ -3,6 +3,9 @@
 use crate::address::Address;
 
 /// The two ends of one BGP session, as the records of a capture name them.
+///
+/// What the local system is configured to do stands in `bgp_open`'s `Config`, and what both OPENs
+/// settle in its `Link`.
 #[derive(Clone, Copy, Debug, PartialEq, Eq, Hash)]
 pub struct Session {
     /// The peer's address.
