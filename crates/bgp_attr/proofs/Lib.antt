@@ -1,0 +1,8 @@
+pub mod Steps
+pub mod OneField
+pub mod WholeSegments
+pub mod Lead
+pub mod Fronts
+pub mod Lengths
+pub mod Written
+pub mod WrittenField

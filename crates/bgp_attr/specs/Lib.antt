@@ -1,0 +1,11 @@
+pub mod Field
+pub mod Split
+pub mod Types
+pub mod Segments
+pub mod Class
+pub mod AsPath
+pub mod Same
+pub mod Path
+pub mod SamePath
+pub mod SamePathLaws
+pub mod Writing

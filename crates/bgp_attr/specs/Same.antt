@@ -1,0 +1,50 @@
+-- Equality of contents as a test, which is what `==` answers: it is true exactly of equal values.
+use Rattle.std.specs.Prelude.{◌≡◌, Bool, true, false, ◌&&◌, nat_eq, List, Decides, refl}
+use Rattle.std.specs.Cmp.{IsEquivalence, IsPartialEquivalence, partial_equiv_from_equiv, decided}
+use Rattle.std.specs.Cmp.Lexicographic.{pointwise, pointwise_decides, bytes_decides}
+use Rattle.std.proofs.lemmas.Bool.Decides.{Decides-and}
+use Rattle.bgp_attr.specs.declared.as_path.SegmentKind.{SegmentKind}
+use Rattle.bgp_attr.specs.declared.as_path.SegmentKind.TheVariants.{Set, Sequence}
+use Rattle.bgp_attr.specs.AsPath.{PathSegment}
+
+abbrev pub same_kind : SegmentKind → SegmentKind → Bool
+same_kind Set Set = true
+same_kind Set Sequence = false
+same_kind Sequence Set = false
+same_kind Sequence Sequence = true
+
+same_kind_decides : (x y : SegmentKind) → Decides (same_kind x y) (x ≡ y)
+same_kind_decides Set Set = (λ _. refl, λ _. refl)
+same_kind_decides Set Sequence = (λ e. absurd cc, λ e. absurd cc)
+same_kind_decides Sequence Set = (λ e. absurd cc, λ e. absurd cc)
+same_kind_decides Sequence Sequence = (λ _. refl, λ _. refl)
+
+-- two segments
+abbrev pub same_segment : PathSegment → PathSegment → Bool
+same_segment s t = same_kind s.kind t.kind && pointwise nat_eq s.numbers t.numbers
+
+pub same_segment_decides : (s t : PathSegment) → Decides (same_segment s t) (s ≡ t)
+same_segment_decides s t =
+    let kinds = same_kind_decides s.kind t.kind in
+    let parts = Decides-and _ _ kinds (bytes_decides s.numbers t.numbers) in
+    let parted = λ (e : s ≡ t). parts.1 (λ i. (e i).kind, λ i. (e i).numbers) in
+    (λ e. let p = parts.0 e in rw (p.0, p.1) refl, parted)
+
+pub same_segment_equiv : IsEquivalence same_segment
+same_segment_equiv = decided same_segment same_segment_decides
+
+pub same_segment_per : IsPartialEquivalence same_segment
+same_segment_per = partial_equiv_from_equiv same_segment_equiv
+
+-- two paths
+abbrev pub same_path : List PathSegment → List PathSegment → Bool
+same_path p q = pointwise same_segment p q
+
+pub same_path_decides : (p q : List PathSegment) → Decides (same_path p q) (p ≡ q)
+same_path_decides = pointwise_decides same_segment_decides
+
+pub same_path_equiv : IsEquivalence same_path
+same_path_equiv = decided same_path same_path_decides
+
+pub same_path_per : IsPartialEquivalence same_path
+same_path_per = partial_equiv_from_equiv same_path_equiv

@@ -1,0 +1,158 @@
+//! The class of one path attribute: which error handling of RFC 7606, 2 its faults ask for.
+
+ghost use Rattle.std.specs.Prelude.{◌≡◌, ◌==◌, ◌&&◌, ◌<◌, if◌then◌else◌};
+ghost use Rattle.bgp_attr.specs.Field.{attribute_of};
+ghost use Rattle.bgp_attr.specs.Types.{number_of};
+ghost use Rattle.bgp_attr.specs.Class.{is_origin, are_items, is_as4_path, flag_rows, value_rows};
+ghost use Rattle.bgp_attr.specs.Class.{strongest, stronger, class_of, as_width};
+ghost use Rattle.bgp_attr.specs.declared.classes.AttrVerdict.TheVariants.{Good};
+
+use crate::field::{Attr, OPTIONAL};
+use crate::segments::{AS_CONFED_SET, AS_SEQUENCE, are_segments};
+use crate::types::{AttrType, OPTIONAL_TRANSITIVE};
+
+/// What of the session's state decides how an attribute is read.
+#[derive(Clone, Copy, Debug, PartialEq, Eq)]
+pub struct Side {
+    /// AS numbers have four octets, since both sides sent the four-octet AS capability
+    /// (RFC 6793, 4.1); else two.
+    pub as4: bool,
+    /// The peer is internal: it has the local system's AS number.
+    pub internal: bool,
+}
+
+impl Side {
+    /// How many octets an AS number takes.
+    pub fn as_width(self) -> usize
+        ensures { result ≡ as_width self }
+    {
+        if self.as4 { 4 } else { 2 }
+    }
+}
+
+/// What an attribute's faults ask for (RFC 7606, 2), the strongest last.
+#[derive(Clone, Copy, Debug, PartialEq, Eq, PartialOrd, Ord)]
+pub enum AttrVerdict {
+    /// There is no fault.
+    Good,
+    /// The attribute is discarded: "attribute discard".
+    Discard,
+    /// The UPDATE's routes are withdrawn: "treat-as-withdraw".
+    Withdraw,
+    /// The session is reset.
+    Reset,
+}
+
+/// The class of an attribute: of the rows that hold in the table of classes the strongest, Good
+/// where none does.
+///
+/// Types 14 and 15 (MP_REACH_NLRI and MP_UNREACH_NLRI) have no row there, and are Good here: what
+/// their faults ask for depends on the families in use and on their prefixes too, and whoever
+/// reads the UPDATE judges them (RFC 7606, 5.3, 7.11 and 7.12).
+pub fn class(side: Side, attr: &Attr<'_>) -> AttrVerdict
+    ensures { result ≡ class_of side (attribute_of attr.now) }
+{
+    let Some(attr_type) = AttrType::of(attr.kind) else {
+        // A well-known attribute that isn't recognised (RFC 4271, 6.3).
+        return good_if(attr.flags & OPTIONAL == OPTIONAL, AttrVerdict::Reset);
+    };
+    // The strongest of the faults decides (RFC 7606, 3 h).
+    stronger(
+        flags_class(attr_type, attr.flags),
+        value_class(side, attr_type, attr.value),
+    )
+}
+
+/// Of two classes the one that asks for more.
+fn stronger(one: AttrVerdict, other: AttrVerdict) -> AttrVerdict
+    ensures { result ≡ stronger one other }
+{
+    one.max(other)
+}
+
+/// Good where that holds.
+fn good_if(holds: bool, otherwise: AttrVerdict) -> AttrVerdict
+    ensures { result ≡ (if holds then Good else otherwise) }
+{
+    if holds { AttrVerdict::Good } else { otherwise }
+}
+
+/// The class by the Optional and Transitive bits.
+fn flags_class(attr_type: AttrType, flags: u8) -> AttrVerdict
+    ensures { result ≡ strongest (flag_rows flags (number_of attr_type)) }
+{
+    match attr_type {
+        AttrType::MpReachNlri | AttrType::MpUnreachNlri => AttrVerdict::Good,
+        // The bits are in conflict with the type (RFC 7606, 3 c).
+        _ => good_if(
+            flags & OPTIONAL_TRANSITIVE == attr_type.row().bits,
+            AttrVerdict::Withdraw,
+        ),
+    }
+}
+
+/// The class by the value.
+fn value_class(side: Side, attr_type: AttrType, value: &[u8]) -> AttrVerdict
+    ensures { result ≡ strongest (value_rows side (number_of attr_type) value.now) }
+{
+    use AttrVerdict::{Discard, Good, Withdraw};
+    match attr_type {
+        // RFC 7606, 7.1
+        AttrType::Origin => good_if(is_origin(value), Withdraw),
+        // RFC 7606, 7.2
+        AttrType::AsPath => good_if(are_segments(AS_SEQUENCE, side.as_width(), value), Withdraw),
+        // RFC 7606, 7.3 and 7.4
+        AttrType::NextHop | AttrType::MultiExitDisc => good_if(value.len() == 4, Withdraw),
+        // RFC 7606, 7.5 and 7.9
+        AttrType::LocalPref | AttrType::OriginatorId => {
+            if side.internal {
+                good_if(value.len() == 4, Withdraw)
+            } else {
+                Discard
+            }
+        }
+        // RFC 7606, 7.10
+        AttrType::ClusterList => {
+            if side.internal {
+                good_if(are_items(4, value), Withdraw)
+            } else {
+                Discard
+            }
+        }
+        // RFC 7606, 7.6
+        AttrType::AtomicAggregate => good_if(value.is_empty(), Discard),
+        // RFC 7606, 7.7
+        AttrType::Aggregator => good_if(value.len() == side.as_width() + 4, Discard),
+        // RFC 7606, 7.8
+        AttrType::Communities => good_if(are_items(4, value), Withdraw),
+        // RFC 7606, 7.14
+        AttrType::ExtendedCommunities => good_if(are_items(8, value), Withdraw),
+        // RFC 6793, 4.1 and 6
+        AttrType::As4Path => good_if(!side.as4 && is_as4_path(value), Discard),
+        AttrType::As4Aggregator => good_if(!side.as4 && value.len() == 8, Discard),
+        // Judged beside the families in use.
+        AttrType::MpReachNlri | AttrType::MpUnreachNlri => Good,
+    }
+}
+
+/// One octet: IGP, EGP or INCOMPLETE.
+fn is_origin(value: &[u8]) -> bool
+    ensures { result ≡ is_origin value.now }
+{
+    matches!(value, [0..=2])
+}
+
+/// At least one item, all of `size` octets.
+fn are_items(size: usize, value: &[u8]) -> bool
+    requires { 0 < size }
+    ensures { result ≡ are_items size value.now }
+{
+    !value.is_empty() && value.len() % size == 0
+}
+
+/// At least one segment, all of the four types that are defined (RFC 6793, 6).
+fn is_as4_path(value: &[u8]) -> bool
+    ensures { result ≡ is_as4_path value.now }
+{
+    !value.is_empty() && are_segments(AS_CONFED_SET, 4, value)
+}

@@ -1,0 +1,175 @@
+//! The value of an AS_PATH or AS4_PATH attribute (RFC 4271, 4.3 b; RFC 6793, 3): path segments,
+//! each a type, a count and as many AS numbers of two or four octets.
+
+ghost use Rattle.std.specs.Prelude.{◌≡◌, ℕ, ◌≤◌, ◌++◌, true, false, length, drop};
+ghost use Rattle.std.specs.Prelude.{IfSome, IfNone, OnOk, OnErr};
+ghost use Rattle.std.specs.List.{flat_map, list_any};
+ghost use Rattle.bgp_attr.specs.Segments.{TellsSegments, are_segments, has_segment, segment_len};
+ghost use Rattle.bgp_attr.specs.Segments.{segment_octets};
+ghost use Rattle.bgp_attr.specs.Writing.{as_octets, as_path_octets, has_large, is_large};
+ghost use Rattle.bgp_attr.specs.Writing.{wire_segment, KeepsFront};
+
+use crate::as_path::Segment;
+use crate::octets::{put_u16, put_u32};
+use std::alloc::{AllocError, Allocator};
+
+/// AS_TRANS, which stands for an AS number that needs four octets (RFC 6793, 9).
+const AS_TRANS: u16 = 23456;
+
+/// AS_SEQUENCE, the last of the segment types in an AS_PATH.
+pub(crate) const AS_SEQUENCE: u8 = 2;
+/// AS_CONFED_SET, the last of the segment types that are defined (RFC 5065, 3).
+pub(crate) const AS_CONFED_SET: u8 = 4;
+
+/// What follows the segment at the front: none where no whole segment of a type 1 to `most`
+/// stands there, with at least one AS number of `width` octets.
+#[tactic(auto, unfolding(crate::specs::Segments::has_segment))]
+fn after_segment(most: u8, width: usize, octets: &[u8]) -> Option<&[u8]>
+    requires { width ≤ 4 }
+    ensures some { IfSome result (λ _. has_segment most width octets.now ≡ true) }
+    ensures rest { IfSome result
+        (λ rest. rest.now ≡ drop (segment_len width octets.now) octets.now) }
+    ensures none { IfNone result (has_segment most width octets.now ≡ false) }
+{
+    if octets.len() < 2 {
+        return None;
+    }
+    let (kind, count) = (octets[0], octets[1]);
+    let len = 2 + width * usize::from(count);
+    if kind < 1 || kind > most || count < 1 || octets.len() < len {
+        return None;
+    }
+    Some(octets.split_at(len).1)
+}
+
+/// Whether the value is whole segments of types 1 to `most`, each with at least one AS number of
+/// `width` octets.
+pub(crate) fn are_segments(most: u8, width: usize, value: &[u8]) -> bool
+    requires { width ≤ 4 }
+    ensures { result ≡ are_segments most width value.now }
+{
+    let mut rest = value;
+    while !rest.is_empty() {
+        let Some(after) = after_segment(most, width, rest) else {
+            return false;
+        };
+        rest = after;
+    }
+    true
+}
+
+/// A law, with nothing to run: the test is true exactly of a value that is such segments, one
+/// after the other.
+pub fn segments_are_told()
+    ensures { TellsSegments }
+{}
+
+/// Appends the value of AS_PATH or AS4_PATH. After a refusal a part of it stands there.
+pub(crate) fn put_as_path<A: Allocator, B: Allocator>(
+    out: &mut Vec<u8, A>,
+    as4: bool,
+    segments: &[Segment<B>],
+) -> Result<(), AllocError>
+    ensures ok { OnOk result (out.new.items ≡ out.old.items ++ as_path_octets as4 segments.now) }
+    ensures front { KeepsFront out.old.items out.new.items }
+{
+    for segment in segments {
+        put_segment(out, as4, segment)?;
+    }
+    Ok(())
+}
+
+/// Appends a path segment. After a refusal a part of it stands there.
+fn put_segment<A: Allocator, B: Allocator>(
+    out: &mut Vec<u8, A>,
+    as4: bool,
+    segment: &Segment<B>,
+) -> Result<(), AllocError>
+    ensures ok { OnOk result (out.new.items ≡ out.old.items
+        ++ segment_octets (wire_segment as4 segment.now)) }
+    ensures front { KeepsFront out.old.items out.new.items }
+{
+    let numbers = segment.numbers();
+    out.extend_from_slice(&[segment.kind() as u8, numbers.len() as u8])?;
+    put_as_numbers(out, as4, numbers)
+}
+
+/// Appends AS numbers. After a refusal some of them stand there.
+fn put_as_numbers<A: Allocator>(
+    out: &mut Vec<u8, A>,
+    as4: bool,
+    numbers: &[u32],
+) -> Result<(), AllocError>
+    ensures ok { OnOk result (out.new.items ≡ out.old.items
+        ++ flat_map (as_octets as4) numbers.now) }
+    ensures front { KeepsFront out.old.items out.new.items }
+{
+    for number in numbers {
+        put_as_number(out, as4, *number)?;
+    }
+    Ok(())
+}
+
+/// Appends an AS number in four octets, or in two.
+pub(crate) fn put_as_number<A: Allocator>(
+    out: &mut Vec<u8, A>,
+    as4: bool,
+    number: u32,
+) -> Result<(), AllocError>
+    ensures ok { OnOk result (out.new.items ≡ out.old.items ++ as_octets as4 number) }
+    ensures err { OnErr result (out.new.items ≡ out.old.items) }
+{
+    if as4 {
+        return put_u32(out, number);
+    }
+    // AS_TRANS stands for a number that two octets can't hold (RFC 6793, 4.2.2).
+    put_u16(out, u16::try_from(number).unwrap_or(AS_TRANS))
+}
+
+/// How many octets the value of AS_PATH or AS4_PATH has.
+pub(crate) fn as_path_len<A: Allocator>(as4: bool, segments: &[Segment<A>]) -> u128
+    ensures { result ≡ length (as_path_octets as4 segments.now) }
+{
+    let mut len = 0;
+    for segment in segments {
+        len += wire_len(as4, segment) as u128;
+    }
+    len
+}
+
+/// How many octets a path segment takes.
+fn wire_len<A: Allocator>(as4: bool, segment: &Segment<A>) -> usize
+    ensures len { result ≡ length (segment_octets (wire_segment as4 segment.now)) }
+    ensures bound { result ≤ 1022 }
+{
+    2 + number_len(as4) * segment.numbers().len()
+}
+
+/// How many octets an AS number takes.
+fn number_len(as4: bool) -> usize
+    ensures each { (n : ℕ) → length (as_octets as4 n) ≡ result }
+    ensures bound { result ≤ 4 }
+{
+    if as4 { 4 } else { 2 }
+}
+
+/// Whether some AS number of the path needs four octets.
+pub(crate) fn has_large<A: Allocator>(segments: &[Segment<A>]) -> bool
+    ensures { result ≡ has_large segments.now }
+{
+    segments.iter().any(|segment| segment_has_large(segment))
+}
+
+/// Whether some AS number of the segment needs four octets.
+fn segment_has_large<A: Allocator>(segment: &Segment<A>) -> bool
+    ensures { result ≡ list_any is_large segment.now.numbers }
+{
+    segment.numbers().iter().any(|number| is_large(*number))
+}
+
+/// Whether the AS number needs four octets.
+pub(crate) fn is_large(number: u32) -> bool
+    ensures { result ≡ is_large number }
+{
+    number > 65535
+}

@@ -1,0 +1,82 @@
+//! Rows of the standards and octets of real routers, annotated field by field.
+
+mod classing;
+mod fields;
+mod memory;
+mod paths;
+
+use crate::*;
+use std::alloc::{AllocError, Allocator};
+use std::test::Fail;
+
+/// An external peer, and AS numbers of four octets.
+const WIDE: Side = Side {
+    as4: true,
+    internal: false,
+};
+
+/// An external peer, and AS numbers of two octets.
+const NARROW: Side = Side {
+    as4: false,
+    internal: false,
+};
+
+/// From a session whose AS numbers have two octets: FRR 8.4.4 prepends and aggregates as AS 70000.
+const TWO_OCTET_FIELD: &[u8] = &[
+    0x40, 1, 1, 0, // ORIGIN: IGP
+    0x50, 2, 0, 8, 2, 3, 0xfd, 0xea, 0x5b, 0xa0, 0x5b, 0xa0, // AS_PATH: 65002 23456 23456
+    0x40, 3, 4, 192, 0, 2, 2, // NEXT_HOP: 192.0.2.2
+    0x80, 4, 4, 0, 0, 0, 7, // MULTI_EXIT_DISC: 7
+    0x40, 6, 0, // ATOMIC_AGGREGATE
+    0xc0, 7, 6, 0x5b, 0xa0, 192, 0, 2, 2, // AGGREGATOR: 23456, 192.0.2.2
+    0xc0, 8, 8, 0xfd, 0xea, 0, 100, 0xff, 0xff, 0xff, 1, // COMMUNITIES: 65002:100, no-export
+    0xc0, 32, 12, 0, 0, 0xfd, 0xea, 0, 0, 0, 1, 0, 0, 0, 2, // not in the table (RFC 8092)
+    0xd0, 17, 0, 14, 2, 3, 0, 0, 0xfd, 0xea, 0, 1, 0x11, 0x70, 0, 1, 0x11, 0x71, // AS4_PATH
+    0xc0, 18, 8, 0, 1, 0x11, 0x70, 192, 0, 2, 2, // AS4_AGGREGATOR: 70000, 192.0.2.2
+];
+
+/// From a session whose AS numbers have four octets: GoBGP 3.10.0 announces 10.2.0.0/16.
+const FOUR_OCTET_FIELD: &[u8] = &[
+    0x40, 1, 1, 2, // ORIGIN: INCOMPLETE
+    0x40, 2, 6, 2, 1, 0, 0, 0xfd, 0xea, // AS_PATH: 65002
+    0x40, 3, 4, 192, 0, 2, 2, // NEXT_HOP: 192.0.2.2
+    0x80, 4, 4, 0, 0, 0, 7, // MULTI_EXIT_DISC: 7
+    0xc0, 7, 8, 0, 0, 0xfd, 0xea, 192, 0, 2, 2, // AGGREGATOR: 65002, 192.0.2.2
+    0xc0, 8, 8, 0xfd, 0xea, 0, 100, 0xff, 0xff, 0xff, 1, // COMMUNITIES: 65002:100, no-export
+    0xc0, 16, 8, 0, 2, 0xfd, 0xea, 0, 0, 0, 5, // EXTENDED COMMUNITIES: target 65002:5
+    0xc0, 32, 12, 0, 0, 0xfd, 0xea, 0, 0, 0, 1, 0, 0, 0, 2, // not in the table (RFC 8092)
+];
+
+/// From a session of FRR with AS numbers of four octets: an IPv6 prefix.
+const IPV6_FIELD: &[u8] = &[
+    0x90, 14, 0, 44, // MP_REACH_NLRI
+    0, 2, 1, 32, // IPv6 unicast, a next hop of 32 octets
+    0x20, 1, 0x0d, 0xb8, 0, 0, 0, 0, 0, 0, 0, 0, 0, 0, 0, 2, // 2001:db8::2
+    0xfe, 0x80, 0, 0, 0, 0, 0, 0, 0x4c, 0xbc, 0x1e, 0xff, 0xfe, 0xee, 0x7f, 0xed, // link-local
+    0, 48, 0x20, 1, 0x0d, 0xb8, 0, 2, // reserved, 2001:db8:2::/48
+    0x40, 1, 1, 0, // ORIGIN: IGP
+    0x50, 2, 0, 6, 2, 1, 0, 0, 0xfd, 0xea, // AS_PATH: 65002
+    0x80, 4, 4, 0, 0, 0, 0, // MULTI_EXIT_DISC: 0
+];
+
+/// A segment of 1 to 255 numbers.
+fn segment<A: Allocator + Copy>(
+    alloc: A,
+    kind: SegmentKind,
+    numbers: &[u32],
+) -> Result<Segment<A>, AllocError> {
+    let numbers = Vec::from_slice(alloc, numbers)?;
+    Segment::new(kind, numbers).ok_or(AllocError)
+}
+
+/// The path of these segments.
+fn as_path<A: Allocator + Copy>(
+    alloc: A,
+    segments: &[(SegmentKind, &[u32])],
+) -> Result<AsPath<A>, AllocError> {
+    let mut path = AsPath::new(alloc);
+    for (kind, numbers) in segments {
+        path.push(segment(alloc, *kind, numbers)?)?;
+    }
+    Ok(path)
+}

@@ -1,0 +1,141 @@
+//! Memory: enough of it, and growths that are refused.
+
+use super::SegmentKind::{Sequence, Set};
+use super::*;
+use linked_list_allocator::LocalHeap;
+use std::process::Abort;
+
+/// A path that takes memory for each of its parts.
+fn parts<A: Allocator + Copy>(alloc: A) -> Result<PathParts<A>, AllocError> {
+    Ok(PathParts {
+        origin: Origin::Egp,
+        as_path: as_path(alloc, &[(Sequence, &[65001, 70000]), (Set, &[1, 2])])?,
+        next_hop: NextHop::V4(0xc000_0202),
+        multi_exit_disc: Some(7),
+        local_pref: None,
+        atomic_aggregate: true,
+        aggregator: Some(Aggregator {
+            as_number: 70000,
+            address: 1,
+        }),
+        communities: Items::from(Vec::from_slice(alloc, &[1, 2])?),
+        originator_id: None,
+        cluster_list: Items::from(Vec::from_slice(alloc, &[3])?),
+        extended_communities: Items::from(Vec::from_slice(alloc, &[4])?),
+    })
+}
+
+/// What that path is written as in two octets.
+const WRITTEN: [u8; 108] = [
+    0x40, 1, 1, 1, // ORIGIN: EGP
+    0x40, 2, 12, 2, 2, 0xfd, 0xe9, 0x5b, 0xa0, 1, 2, 0, 1, 0, 2, // AS_PATH: 65001 23456 {1,2}
+    0x40, 3, 4, 192, 0, 2, 2, // NEXT_HOP: 192.0.2.2
+    0x80, 4, 4, 0, 0, 0, 7, // MULTI_EXIT_DISC: 7
+    0x40, 6, 0, // ATOMIC_AGGREGATE
+    0xc0, 7, 6, 0x5b, 0xa0, 0, 0, 0, 1, // AGGREGATOR: 23456, 0.0.0.1
+    0xc0, 8, 8, 0, 0, 0, 1, 0, 0, 0, 2, // COMMUNITIES: 0:1 0:2
+    0x80, 10, 4, 0, 0, 0, 3, // CLUSTER_LIST: 0.0.0.3
+    0xc0, 16, 8, 0, 0, 0, 0, 0, 0, 0, 4, // EXTENDED COMMUNITIES: 4
+    0xc0, 17, 20, 2, 2, 0, 0, 0xfd, 0xe9, 0, 1, 0x11, 0x70, // AS4_PATH: 65001 70000
+    1, 2, 0, 0, 0, 1, 0, 0, 0, 2, // {1,2}
+    0xc0, 18, 8, 0, 1, 0x11, 0x70, 0, 0, 0, 1, // AS4_AGGREGATOR: 70000, 0.0.0.1
+];
+
+#[test]
+fn ample_memory(rt: HostRuntime) -> Result<(), Fail> {
+    let alloc = rt.alloc();
+    let mut path = AsPath::with_capacity(alloc, 2)?;
+    let segment = segment(alloc, Set, &[1, 2])?;
+    path.push(segment.clone()?)?;
+    assert_eq!(rt; path.clone()?, path);
+    assert_eq!(rt; merge(alloc, &path, &AsPath::new(alloc))?, path);
+    let numbers = Items::from(vec![in alloc; 1u32, 2]?);
+    assert_eq!(rt; numbers.clone()?, numbers);
+    let path = Path::new(alloc, parts(alloc)?)?;
+    assert!(rt; path.clone()? == path);
+    let mut out = vec![in alloc; 9u8]?;
+    assert!(rt; is_writable(NARROW, &path));
+    write_path(NARROW, &path, &mut out)?;
+    assert_eq!(rt; out.get(..1), Some([9].as_slice()));
+    assert_eq!(rt; out.get(1..), Some(WRITTEN.as_slice()));
+    Ok(())
+}
+
+/// Whether a push into a heap of this size was done. Where it was refused, the path is as before.
+fn pushes(rt: &impl Abort, heap: &LocalHeap, ample: &LocalHeap) -> Result<bool, Fail> {
+    let mut path = AsPath::new(heap);
+    let pushed = path.push(segment(ample, Set, &[1])?).is_ok();
+    assert_eq!(rt; path.segments().len(), if pushed { 1 } else { 0 });
+    Ok(pushed)
+}
+
+/// Whether a merge into a heap of this size was done. In any case both paths are as before.
+fn merges(rt: &impl Abort, heap: &LocalHeap, ample: &LocalHeap) -> Result<bool, Fail> {
+    let path = as_path(ample, &[(Sequence, &[65001, 23456, 23456])])?;
+    let as4 = as_path(ample, &[(Sequence, &[70000, 70001])])?;
+    let merged = merge(heap, &path, &as4);
+    assert_eq!(rt;
+        path,
+        as_path(ample, &[(Sequence, &[65001, 23456, 23456])])?
+    );
+    assert_eq!(rt; as4, as_path(ample, &[(Sequence, &[70000, 70001])])?);
+    let Ok(merged) = merged else {
+        return Ok(false);
+    };
+    let whole = as_path(ample, &[(Sequence, &[65001]), (Sequence, &[70000, 70001])])?;
+    assert_eq!(rt; merged, whole);
+    Ok(true)
+}
+
+/// Whether a path was made and copied, with its lists, in a heap of this size. Where a copy was
+/// refused, its value is as before.
+fn copies(rt: &impl Abort, heap: &LocalHeap, ample: &LocalHeap) -> Result<bool, Fail> {
+    let whole = Path::new(ample, parts(ample)?)?;
+    let Ok(parts) = parts(heap) else {
+        return Ok(false);
+    };
+    let copied = parts.as_path.clone().is_ok() && parts.communities.clone().is_ok();
+    let Ok(path) = Path::new(heap, parts) else {
+        return Ok(false);
+    };
+    assert!(rt; path == whole);
+    Ok(copied && path.clone()? == whole)
+}
+
+/// Whether a path was written to a vector in a heap of this size. Where a growth was refused, the
+/// vector is as before.
+fn writes(rt: &impl Abort, heap: &LocalHeap, ample: &LocalHeap) -> Result<bool, Fail> {
+    let path = Path::new(ample, parts(ample)?)?;
+    assert!(rt; is_writable(NARROW, &path));
+    let mut out = Vec::new(heap);
+    if out.push(9u8).is_err() {
+        return Ok(false);
+    }
+    let wrote = write_path(NARROW, &path, &mut out).is_ok();
+    let rest = if wrote { WRITTEN.as_slice() } else { &[] };
+    assert_eq!(rt; out.get(..1), Some([9].as_slice()));
+    assert_eq!(rt; out.get(1..), Some(rest));
+    Ok(wrote)
+}
+
+#[test]
+fn a_refused_growth_changes_nothing(rt: HostRuntime) -> Result<(), Fail> {
+    let ample = LocalHeap::new(rt.alloc(), 8192)?;
+    for step in 0..128 {
+        let heap = LocalHeap::new(rt.alloc(), 16 * (step + 1))?;
+        let pushed = pushes(&rt, &heap, &ample)?;
+        let merged = merges(&rt, &heap, &ample)?;
+        let copied = copies(&rt, &heap, &ample)?;
+        let wrote = writes(&rt, &heap, &ample)?;
+        if step == 0 {
+            assert!(rt;
+                !(pushed || merged || copied || wrote),
+                "nothing was refused"
+            );
+        }
+        if pushed && merged && copied && wrote {
+            return Ok(());
+        }
+    }
+    Err(Fail::new("a growth was refused to the end"))
+}
