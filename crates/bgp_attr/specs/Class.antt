@@ -19,13 +19,14 @@ use Rattle.bgp_attr.specs.Segments.{are_segments}
 abbrev pub as_width : Side → ℕ
 as_width side = if side.as4 then 4 else 2
 
--- of two classes the one that asks for more (RFC 7606, 3 h)
+-- how much a class asks for
 abbrev pub rank : AttrVerdict → ℕ
 rank Good = 0
 rank Discard = 1
 rank Withdraw = 2
 rank Reset = 3
 
+-- of two classes the one that asks for more (RFC 7606, 3 h)
 abbrev pub stronger : AttrVerdict → AttrVerdict → AttrVerdict
 stronger x y = if nat_lt (rank x) (rank y) then y else x
 

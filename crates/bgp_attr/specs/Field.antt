@@ -59,7 +59,7 @@ pub record IsAttributeField
   pub each : All IsAttribute attributes
   pub last : IsTail rest tail
 
--- a field has one split
+-- a field has at most one split; that it has one, `Attrs::new` says
 abbrev pub HasOneSplit : Type 0
 HasOneSplit =
     (field : List ℕ) (attributes others : List Attribute) (tail other : Option Tail)

@@ -169,8 +169,8 @@ impl<'a> Iterator for Attrs<'a> {
     }
 }
 
-/// A law, with nothing to run: each field is the join of one list of attributes and one tail, and
-/// what is joined so is what `Attrs` reads.
+/// A law, with nothing to run: a field is the join of one list of attributes and one tail at most,
+/// and what is joined so is what `Attrs` reads. That it is one, `Attrs::new` says.
 pub fn one_split()
     ensures unique { HasOneSplit }
     ensures read { ReadsWhatIsSpelled }

@@ -1,6 +1,6 @@
 //! Numbers appended as octets, the highest first.
 
-ghost use Rattle.std.specs.Prelude.{◌≡◌, ◌++◌, IfSome, OnOk, OnErr};
+ghost use Rattle.std.specs.Prelude.{◌≡◌, ◌++◌, MatchOption, OnOk, OnErr};
 ghost use Rattle.std.specs.List.{flat_map};
 ghost use Rattle.byteorder.specs.Endian.{big_bytes};
 ghost use Rattle.bgp_attr.specs.Writing.{Appends, KeepsFront};
@@ -43,7 +43,7 @@ pub(crate) fn put_optional<A: Allocator>(
     out: &mut Vec<u8, A>,
     number: Option<u32>,
 ) -> Result<(), AllocError>
-    ensures ok { OnOk result (IfSome number
+    ensures ok { OnOk result (MatchOption number (out.new.items ≡ out.old.items)
         (λ n. Appends out.old.items out.new.items (big_bytes 4 n))) }
     ensures front { KeepsFront out.old.items out.new.items }
 {

@@ -1,4 +1,5 @@
-//! Rows of the standards and octets of real routers, annotated field by field.
+//! Rows of the standards, octets of real routers, and octets written down by hand from the layouts,
+//! annotated field by field.
 
 mod classing;
 mod fields;

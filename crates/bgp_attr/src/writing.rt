@@ -2,7 +2,7 @@
 
 ghost use Rattle.std.specs.Prelude.{◌≡◌, ◌++◌, [], ◌↔◌, ◌&&◌, IsTrue, All, not};
 ghost use Rattle.std.specs.Prelude.{if◌then◌else◌, true, length, option_map, Some, None, IfSome};
-ghost use Rattle.std.specs.Prelude.{OnOk, OnErr};
+ghost use Rattle.std.specs.Prelude.{MatchOption, OnOk, OnErr};
 ghost use Rattle.std.specs.List.{flat_map, filter_map};
 ghost use Rattle.std.specs.Option.{option_map_or};
 ghost use Rattle.bgp_attr.specs.Field.{spelled};
@@ -174,7 +174,7 @@ fn put_aggregator<A: Allocator>(
     as4: bool,
     aggregator: Option<Aggregator>,
 ) -> Result<(), AllocError>
-    ensures ok { OnOk result (IfSome aggregator
+    ensures ok { OnOk result (MatchOption aggregator (out.new.items ≡ out.old.items)
         (λ a. Appends out.old.items out.new.items (aggregator_octets as4 a))) }
     ensures front { KeepsFront out.old.items out.new.items }
 {
@@ -187,8 +187,8 @@ fn put_aggregator<A: Allocator>(
 
 /// Appends the value of NEXT_HOP, where the next hop has four octets (RFC 4760, 3).
 fn put_next_hop<A: Allocator>(out: &mut Vec<u8, A>, next_hop: NextHop) -> Result<(), AllocError>
-    ensures ok { OnOk result (IfSome (next_hop_octets next_hop)
-        (Appends out.old.items out.new.items)) }
+    ensures ok { OnOk result (MatchOption (next_hop_octets next_hop)
+        (out.new.items ≡ out.old.items) (Appends out.old.items out.new.items)) }
     ensures front { KeepsFront out.old.items out.new.items }
 {
     match next_hop {

@@ -13,7 +13,8 @@ IsBadHold hold = (hold ≡ 1) ⊎ (hold ≡ 2)
 
 -- AS numbers and the BGP Identifier aren't 0 (RFC 7607, 2; RFC 6286, 2.1), the Hold Time may be
 -- proposed, a family is offered, the time for which the peer's OPEN is waited for isn't 0
--- (RFC 4271, 8.2.2), and without four-octet AS numbers both AS numbers have two octets (RFC 6793, 1)
+-- (RFC 4271, 8.2.2), and without four-octet AS numbers both AS numbers have two octets
+-- (RFC 6793, 1)
 pub record IsConfig (parts : ConfigParts) : Type 0 where
   pub local_as : parts.local_as ≢ 0
   pub peer_as : parts.peer_as ≢ 0

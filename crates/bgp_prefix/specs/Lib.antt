@@ -9,4 +9,3 @@ pub mod Notation
 pub mod PrefixFields
 pub mod PrefixLaws
 pub mod Slash
-pub mod Shown

@@ -28,7 +28,8 @@ pub fn octets_begin_with_one_prefix()
 {}
 
 /// What [`Prefix::write`](crate::Prefix::write) appends spells the prefix, and the bits after it
-/// are zeros: no other octets are so. [`Prefix::read`](crate::Prefix::read) gives the prefix back.
+/// are zeros: no other octets are so. [`Prefix::read`](crate::Prefix::read) gives the prefix of
+/// octets that spell one, by its clause `exact`.
 pub fn written_octets_spell_the_prefix()
     ensures spelling { (prefix : PrefixBits) → IsPrefix prefix
         → IsPrefixSpelling prefix (prefix_octets prefix) }

@@ -62,9 +62,20 @@ fn octets_begin_with_a_prefix_or_have_a_fault(rt: HostRuntime) {
 }
 
 #[test]
-fn faults_have_their_numbers(rt: HostRuntime) {
-    assert_eq!(rt; PrefixFault::TooLong.number(), 1);
-    assert_eq!(rt; PrefixFault::Short.number(), 2);
+fn faults_have_their_numbers_and_texts(rt: HostRuntime) -> Result<(), Fail> {
+    let too_long = PrefixFault::TooLong;
+    assert_eq!(rt; too_long.number(), 1);
+    assert_eq!(rt;
+        format!(in rt.alloc(); "{too_long}")?.as_str(),
+        "a prefix has more bits than an address"
+    );
+    let short = PrefixFault::Short;
+    assert_eq!(rt; short.number(), 2);
+    assert_eq!(rt;
+        format!(in rt.alloc(); "{short}")?.as_str(),
+        "the octets end inside a prefix"
+    );
+    Ok(())
 }
 
 #[test]
@@ -427,6 +438,26 @@ fn writes_or_keeps<A: Allocator>(rt: &impl Abort, out: &mut Vec<u8, A>) -> bool 
 fn ample_memory(rt: HostRuntime) {
     let mut out = Vec::new(rt.alloc());
     assert!(rt; !writes_or_keeps(&rt, &mut out));
+}
+
+#[test]
+fn prefixes_of_every_length_are_written_and_printed(rt: HostRuntime) -> Result<(), Fail> {
+    for (zeros, text, bits) in [
+        (Address::V4(0), "0.0.0.0", 32u8),
+        (Address::V6(0), "::", 128),
+    ] {
+        for length in 0..=bits {
+            let prefix = prefix(&rt, zeros, length);
+            let mut out = Vec::new(rt.alloc());
+            prefix.write(&mut out)?;
+            assert_eq!(rt; out.len(), 1 + usize::from(length).div_ceil(8));
+            assert_eq!(rt; out.first().copied(), Some(length));
+            let printed = format!(in rt.alloc(); "{prefix}")?;
+            let wanted = format!(in rt.alloc(); "{text}/{length}")?;
+            assert_eq!(rt; printed.as_str(), wanted.as_str());
+        }
+    }
+    Ok(())
 }
 
 #[test]

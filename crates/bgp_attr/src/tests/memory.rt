@@ -61,6 +61,52 @@ fn ample_memory(rt: HostRuntime) -> Result<(), Fail> {
     Ok(())
 }
 
+/// A path of many segments, each as long as one can be, and 16000 communities.
+fn large_parts<A: Allocator + Copy>(alloc: A) -> Result<PathParts<A>, AllocError> {
+    Ok(PathParts {
+        as_path: as_path(alloc, &[(Sequence, [1; 255].as_slice()); 8])?,
+        communities: Items::from(vec![in alloc; 7u32; 16000]?),
+        cluster_list: Items::new(alloc),
+        extended_communities: Items::new(alloc),
+        multi_exit_disc: None,
+        atomic_aggregate: false,
+        aggregator: None,
+        ..parts(alloc)?
+    })
+}
+
+#[test]
+fn ample_memory_for_large_values(rt: HostRuntime) -> Result<(), Fail> {
+    let alloc = rt.alloc();
+    let path = as_path(alloc, &[(Sequence, [1; 255].as_slice()); 8])?;
+    let as4 = as_path(alloc, &[(Sequence, [2; 255].as_slice()); 5])?;
+    let merged = merge(alloc, &path, &as4)?;
+    assert_eq!(rt; merged.segments().len(), 8);
+    assert_eq!(rt; merged.segments().get(..3), path.segments().get(..3));
+    assert_eq!(rt; merged.segments().get(3..), Some(as4.segments()));
+    assert_eq!(rt; merged.clone()?, merged);
+
+    let path = Path::new(alloc, large_parts(alloc)?)?;
+    assert_eq!(rt; path.parts().communities.clone()?, path.parts().communities);
+    let mut out = Vec::new(alloc);
+    assert!(rt; is_writable(NARROW, &path));
+    write_path(NARROW, &path, &mut out)?;
+    // ORIGIN 4, AS_PATH 4 and 8 times 512, NEXT_HOP 7, COMMUNITIES 4 and 64000 octets
+    assert_eq!(rt; out.len(), 4 + 4 + 4096 + 7 + 4 + 64000);
+    Ok(())
+}
+
+#[test]
+fn a_copy_of_a_path_takes_no_memory(rt: HostRuntime) -> Result<(), Fail> {
+    let heap = LocalHeap::new(rt.alloc(), 8192)?;
+    let path = Path::new(&heap, parts(&heap)?)?;
+    let used = heap.used();
+    let copy = path.clone()?;
+    assert_eq!(rt; heap.used(), used);
+    assert!(rt; copy == path);
+    Ok(())
+}
+
 /// Whether a push into a heap of this size was done. Where it was refused, the path is as before.
 fn pushes(rt: &impl Abort, heap: &LocalHeap, ample: &LocalHeap) -> Result<bool, Fail> {
     let mut path = AsPath::new(heap);
