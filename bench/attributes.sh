@@ -7,6 +7,7 @@ set -euo pipefail
 
 here=$(cd "$(dirname "$0")" && pwd)
 program=${1:-$here/../crates/real_updates/out/real_updates}
+updates=$here/../crates/real_updates/data/updates.txt
 [[ -x $program ]] ||
     { echo "build the program first: (cd crates/real_updates && rt run -- /dev/null)" >&2; exit 1; }
 
@@ -15,7 +16,7 @@ trap 'rm -rf "$work"' EXIT
 
 # The fields' octets, as printf wants them.
 octets() {
-    sed -n 's/^[a-z][^ ]* 4 \([0-9a-f]\+\) .*/\1/p' "$here/../crates/real_updates/data/updates.txt" |
+    sed -n 's/^[a-z][^ ]* 4 \([0-9a-f]\+\) .*/\1/p' "$updates" |
         sed 's/../\\x&/g' | tr -d '\n'
 }
 

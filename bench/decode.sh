@@ -6,7 +6,8 @@ set -euo pipefail
 
 here=$(cd "$(dirname "$0")" && pwd)
 bgp=${1:-$here/../crates/bgp/out/bgp}
-[[ -x $bgp ]] || { echo "build the program first: (cd crates/bgp && rt run -- --version)" >&2; exit 1; }
+[[ -x $bgp ]] ||
+    { echo "build the program first: (cd crates/bgp && rt run -- --version)" >&2; exit 1; }
 
 work=$(mktemp -d)
 trap 'rm -rf "$work"' EXIT

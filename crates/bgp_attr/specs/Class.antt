@@ -53,8 +53,8 @@ abbrev pub flag_rows : ℕ → ℕ → List (Bool × AttrVerdict)
 flag_rows flags kind =
     -- A well-known attribute that isn't recognised (RFC 4271, 6.3).
     (is_none (bits_of kind) && not (is_optional flags), Reset)
-    -- The bits are in conflict with the type (RFC 7606, 3 c; for types 6 and 7 profile). Those of
-    -- types 14 and 15 are judged with their values.
+    -- The bits are in conflict with the type (RFC 7606, 3 c; profile for types that other rows have
+    -- discarded). Those of types 14 and 15 are judged with their values.
     ∷ (has_other_bits flags (bits_of kind) && not (is_of kind (14 ∷ 15 ∷ [])), Withdraw)
     ∷ []
 

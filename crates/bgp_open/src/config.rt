@@ -32,8 +32,8 @@ pub struct ConfigParts {
     pub as4: bool,
     /// Whether the OPEN may be delayed (RFC 4271, 8.1.1, DelayOpen).
     pub delay_open: bool,
-    /// How long the peer's OPEN is waited for, 240 by default (RFC 4271, 8.2.2: a large value of
-    /// the HoldTimer).
+    /// How long the peer's OPEN is waited for: RFC 4271, 8.2.2, suggests 4 minutes as a large value
+    /// of the HoldTimer.
     pub large_hold: Seconds,
     /// The two ends of the session.
     pub session: Session,

@@ -1,4 +1,4 @@
-//! Messages that tests of all crates share, field by field (RFC 4271, 4; RFC 4760; RFC 5492).
+//! Messages that tests of several crates share, field by field (RFC 4271, 4; RFC 4760; RFC 5492).
 //!
 //! Two routers speak: A is AS 65001 at 192.0.2.1, and B is AS 65002 at 192.0.2.2.
 

@@ -1,10 +1,9 @@
-//! Captures of BGP sessions, as MRT records (RFC 6396).
+//! What gives octets and what takes them: captures of BGP sessions and raw streams of messages are
+//! read from the one and written to the other.
 //!
-//! So far this crate has only what gives octets and what takes them, which captures and raw
-//! streams of messages are both read from and written to. Records, their reader and their writer
-//! come later.
+//! The captures themselves, as MRT records (RFC 6396), will stand here too.
 //!
-//! ```rust
+//! ```text
 //! let mut source = FromRead::new(file);
 //! let mut sink = FromWrite::new(writer);
 //! let mut buffer = [0; 4096];
