@@ -6,6 +6,7 @@
 set -euo pipefail
 
 here=$(cd "$(dirname "$0")" && pwd)
+. "$here/measure.sh"
 program=${1:-$here/../crates/real_updates/out/real_updates}
 updates=$here/../crates/real_updates/data/updates.txt
 [[ -x $program ]] ||
@@ -20,29 +21,9 @@ octets() {
         sed 's/../\\x&/g' | tr -d '\n'
 }
 
-# Doubles a file until it has so many octets.
-grow() {
-    while (($(stat -c %s "$1") < $2)); do
-        cat "$1" "$1" > "$1.twice"
-        mv "$1.twice" "$1"
-    done
-}
-
 printf "$(octets)" > "$work/fields"
 "$program" "$work/fields"
 grow "$work/fields" 200000000
-
-# The least of three runs, in milliseconds.
-best() {
-    local least=0 run began ended
-    for run in 1 2 3; do
-        began=$(date +%s%N)
-        "$@" > /dev/null
-        ended=$(date +%s%N)
-        ((least == 0 || ended - began < least)) && least=$((ended - began))
-    done
-    echo $((least / 1000000))
-}
 
 classed=$(best "$program" "$work/fields")
 md5=$(best md5sum "$work/fields")

@@ -5,6 +5,7 @@
 set -euo pipefail
 
 here=$(cd "$(dirname "$0")" && pwd)
+. "$here/measure.sh"
 bgp=${1:-$here/../crates/bgp/out/bgp}
 [[ -x $bgp ]] ||
     { echo "build the program first: (cd crates/bgp && rt run -- --version)" >&2; exit 1; }
@@ -52,30 +53,10 @@ unit() {
     notification
 }
 
-# Doubles a file until it has so many octets.
-grow() {
-    while (($(stat -c %s "$1") < $2)); do
-        cat "$1" "$1" > "$1.twice"
-        mv "$1.twice" "$1"
-    done
-}
-
 printf "$(unit)" > "$work/short"
 cp "$work/short" "$work/long"
 grow "$work/short" 2000000
 grow "$work/long" 200000000
-
-# The least of three runs, in milliseconds.
-best() {
-    local least=0 run began ended
-    for run in 1 2 3; do
-        began=$(date +%s%N)
-        "$@" > /dev/null
-        ended=$(date +%s%N)
-        ((least == 0 || ended - began < least)) && least=$((ended - began))
-    done
-    echo $((least / 1000000))
-}
 
 # The greatest resident memory of a decoding in KiB, looked at once all octets are handed over and
 # before the stream ends.

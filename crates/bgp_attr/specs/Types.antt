@@ -1,6 +1,6 @@
 -- The attribute table: which path attribute types are known, and the Optional (128) and Transitive
 -- (64) bits that each has.
-use Rattle.std.specs.Prelude.{ℕ, ◌==◌, List, [], ◌∷◌, Option, find, option_map}
+use Rattle.std.specs.Prelude.{ℕ, ◌==◌, List, [], ◌∷◌, Option, codes, find, option_map}
 use Rattle.bgp_attr.specs.declared.types.AttrType.{AttrType}
 use Rattle.bgp_attr.specs.declared.types.AttrType.TheVariants.{Origin, AsPath, NextHop}
 use Rattle.bgp_attr.specs.declared.types.AttrType.TheVariants.{MultiExitDisc, LocalPref}
@@ -27,6 +27,24 @@ row_of MpUnreachNlri = (15, 128)  -- RFC 4760, 4
 row_of ExtendedCommunities = (16, 192)  -- RFC 4360, 2
 row_of As4Path = (17, 192)  -- RFC 6793, 3
 row_of As4Aggregator = (18, 192)  -- RFC 6793, 3
+
+-- the names by which the standards call the types
+abbrev pub name_of : AttrType → List ℕ
+name_of Origin = codes "ORIGIN"
+name_of AsPath = codes "AS_PATH"
+name_of NextHop = codes "NEXT_HOP"
+name_of MultiExitDisc = codes "MULTI_EXIT_DISC"
+name_of LocalPref = codes "LOCAL_PREF"
+name_of AtomicAggregate = codes "ATOMIC_AGGREGATE"
+name_of Aggregator = codes "AGGREGATOR"
+name_of Communities = codes "COMMUNITIES"
+name_of OriginatorId = codes "ORIGINATOR_ID"
+name_of ClusterList = codes "CLUSTER_LIST"
+name_of MpReachNlri = codes "MP_REACH_NLRI"
+name_of MpUnreachNlri = codes "MP_UNREACH_NLRI"
+name_of ExtendedCommunities = codes "EXTENDED COMMUNITIES"
+name_of As4Path = codes "AS4_PATH"
+name_of As4Aggregator = codes "AS4_AGGREGATOR"
 
 -- every type, in ascending order of the numbers
 abbrev pub all_types : List AttrType

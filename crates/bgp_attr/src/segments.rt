@@ -13,7 +13,7 @@ use crate::as_path::Segment;
 use crate::octets::{put_u16, put_u32};
 use std::alloc::{AllocError, Allocator};
 
-/// AS_TRANS, which stands for an AS number that needs four octets (RFC 6793, 9).
+/// AS_TRANS, which stands for an AS number that needs four octets (RFC 6793, 3 and 9).
 const AS_TRANS: u16 = 23456;
 
 /// AS_SEQUENCE, the last of the segment types in an AS_PATH.

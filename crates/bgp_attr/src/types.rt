@@ -1,7 +1,7 @@
 //! The attribute table: the path attribute types that this project knows.
 
 ghost use Rattle.std.specs.Prelude.{◌≡◌, ◌==◌, Some, IfSome, IfNone, IsNone, find};
-ghost use Rattle.bgp_attr.specs.Types.{bits_of, number_of, type_bits};
+ghost use Rattle.bgp_attr.specs.Types.{bits_of, name_of, number_of, type_bits};
 
 use crate::field::{OPTIONAL, TRANSITIVE};
 
@@ -57,6 +57,7 @@ pub struct TypeRow {
 /// A row of the table.
 fn row(number: u8, name: &'static str, bits: u8) -> TypeRow
     ensures number { result.number ≡ number }
+    ensures name { result.name.now ≡ name.entry.now }
     ensures bits { result.bits ≡ bits }
 {
     TypeRow { number, name, bits }
@@ -85,6 +86,7 @@ impl AttrType {
     /// The table: the row of this type.
     pub fn row(self) -> TypeRow
         ensures number { result.number ≡ number_of self }
+        ensures name { result.name.now ≡ name_of self }
         ensures bits { result.bits ≡ type_bits self }
     {
         match self {
