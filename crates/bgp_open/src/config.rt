@@ -4,10 +4,7 @@ ghost use Rattle.std.specs.Prelude.{◌≡◌, ◌↔◌, ◌⊎◌, ◌≤◌, 
 ghost use Rattle.bgp_open.specs.Config.{IsConfig, AreNumbers, IsBadHold, is_internal};
 
 use crate::families::Families;
-use bgp_prefix::Session;
-
-/// Whole seconds.
-pub type Seconds = u32;
+use bgp_prefix::{Seconds, Session};
 
 /// The greatest AS number that has two octets (RFC 6793, 1).
 pub(crate) const TWO_OCTET_AS: u32 = 65535;

@@ -25,7 +25,7 @@ mod writing;
 mod written_open;
 
 pub use capability::{Capabilities, Capability};
-pub use config::{Config, ConfigParts, Seconds};
+pub use config::{Config, ConfigParts};
 pub use errors::{OpenErrors, OpenFaults, open_faults};
 pub use families::Families;
 pub use fault::OpenFault;

@@ -9,3 +9,4 @@ pub mod Notation
 pub mod PrefixFields
 pub mod PrefixLaws
 pub mod Slash
+pub mod Shown

@@ -23,7 +23,7 @@ pub use laws::{
     written_octets_spell_the_prefix,
 };
 pub use prefix::{Prefix, PrefixFault};
-pub use session::Session;
+pub use session::{Seconds, Session};
 pub use text::{read_address, read_prefix};
 
 #[cfg(test)]

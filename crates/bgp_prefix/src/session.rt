@@ -1,6 +1,9 @@
-//! Which session of a capture is meant.
+//! Which session of a capture is meant, and in what its times are told.
 
 use crate::address::Address;
+
+/// Whole seconds, of a moment or of a span: a capture's are those since 1970 (RFC 6396, 2).
+pub type Seconds = u32;
 
 /// The two ends of one BGP session, as the records of a capture name them.
 ///

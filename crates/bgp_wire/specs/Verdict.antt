@@ -48,3 +48,8 @@ abbrev pub IsVerdict : Limit → List ℕ → HeaderVerdict → Type 0
 IsVerdict limit header (Whole count kind) =
     IsSound limit header × (count ≡ length_of header) × (type_code kind ≡ type_of header)
 IsVerdict limit header (Faulty faults) = (¬ IsSound limit header) × AreFaults limit header faults
+
+-- field by field, where it is the set of the faults: it is then the only such set
+abbrev pub IsEachFault : Limit → List ℕ → HeaderVerdict → Type 0
+IsEachFault limit header (Whole count kind) = Unit {0}
+IsEachFault limit header (Faulty faults) = AreEachFault limit header faults

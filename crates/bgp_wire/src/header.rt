@@ -11,7 +11,7 @@ ghost use Rattle.std.specs.Prelude.{◌≡◌, ◌↔◌, ◌≤◌, IsTrue, IsS
 ghost use Rattle.bgp_wire.specs.Header.{header_of, length_of, type_of};
 ghost use Rattle.bgp_wire.specs.Header.{least_length, greatest_length};
 ghost use Rattle.bgp_wire.specs.Header.{IsSynchronized, IsBadLength, IsBadType};
-ghost use Rattle.bgp_wire.specs.Verdict.{type_code, IsEmpty, AreEachFault, IsVerdict};
+ghost use Rattle.bgp_wire.specs.Verdict.{type_code, IsEmpty, AreEachFault, IsEachFault, IsVerdict};
 
 use byteorder::{BigEndian, ByteOrder};
 
@@ -165,7 +165,8 @@ fn faults_of(header: &[u8; HEADER_LENGTH], limit: Limit) -> HeaderFaults
 /// Checks a message's header against RFC 4271, 6.1: answers its Length and type where nothing is
 /// wrong, and else the set of all its faults, any of which a NOTIFICATION may name.
 pub fn check_header(header: &[u8; HEADER_LENGTH], limit: Limit) -> HeaderVerdict
-    ensures { IsVerdict limit header.now result }
+    ensures verdict { IsVerdict limit header.now result }
+    ensures each { IsEachFault limit header.now result }
 {
     let faults = faults_of(header, limit);
     let Some(kind) = MessageType::from_code(read_type(header)) else {
