@@ -1,7 +1,6 @@
 pub mod Steps
 pub mod OneField
 pub mod WholeSegments
-pub mod Lead
 pub mod Fronts
 pub mod Lengths
 pub mod Written

@@ -8,7 +8,7 @@ use Rattle.bgp_attr.specs.declared.classes.Side.{Side}
 use Rattle.bgp_attr.specs.declared.types.AttrType.{AttrType}
 use Rattle.bgp_attr.specs.declared.types.AttrType.TheVariants as types
 use Rattle.bgp_attr.specs.Field.{IsAttribute, IsAttributeField, is_extended, spelled}
-use Rattle.bgp_attr.specs.Path.{PathValue}
+use Rattle.bgp_path.specs.Path.{PathValue}
 use Rattle.bgp_attr.specs.Types.{all_types, type_bits}
 use Rattle.bgp_attr.specs.Writing.{value_in, attribute_with, attribute_in, path_attributes, IsWritable}
 

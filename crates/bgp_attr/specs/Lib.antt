@@ -3,9 +3,4 @@ pub mod Split
 pub mod Types
 pub mod Segments
 pub mod Class
-pub mod AsPath
-pub mod Same
-pub mod Path
-pub mod SamePath
-pub mod SamePathLaws
 pub mod Writing

@@ -6,19 +6,19 @@ use Rattle.std.specs.Prelude.{IfSome, bit_or}
 use Rattle.std.specs.List.{flat_map, filter_map, list_any}
 use Rattle.std.specs.Option.{option_map}
 use Rattle.byteorder.specs.Endian.{big_bytes}
-use Rattle.bgp_attr.specs.declared.as_path.SegmentKind.{SegmentKind}
-use Rattle.bgp_attr.specs.declared.as_path.SegmentKind.TheVariants.{Set, Sequence}
+use Rattle.bgp_path.specs.declared.as_path.SegmentKind.{SegmentKind}
+use Rattle.bgp_path.specs.declared.as_path.SegmentKind.TheVariants.{Set, Sequence}
 use Rattle.bgp_attr.specs.declared.classes.Side.{Side}
-use Rattle.bgp_attr.specs.declared.path.Aggregator.{Aggregator}
-use Rattle.bgp_attr.specs.declared.path.NextHop.{NextHop}
-use Rattle.bgp_attr.specs.declared.path.NextHop.TheVariants.{V4, V6, V6WithLinkLocal}
-use Rattle.bgp_attr.specs.declared.path.Origin.{Origin}
-use Rattle.bgp_attr.specs.declared.path.Origin.TheVariants.{Igp, Egp, Incomplete}
+use Rattle.bgp_path.specs.declared.path.Aggregator.{Aggregator}
+use Rattle.bgp_path.specs.declared.path.NextHop.{NextHop}
+use Rattle.bgp_path.specs.declared.path.NextHop.TheVariants.{V4, V6, V6WithLinkLocal}
+use Rattle.bgp_path.specs.declared.path.Origin.{Origin}
+use Rattle.bgp_path.specs.declared.path.Origin.TheVariants.{Igp, Egp, Incomplete}
 use Rattle.bgp_attr.specs.declared.types.AttrType.{AttrType}
 use Rattle.bgp_attr.specs.declared.types.AttrType.TheVariants as types
-use Rattle.bgp_attr.specs.AsPath.{PathSegment}
+use Rattle.bgp_path.specs.AsPath.{PathSegment}
 use Rattle.bgp_attr.specs.Field.{Attribute, IsAttributeField, length_octets, spelled}
-use Rattle.bgp_attr.specs.Path.{PathValue}
+use Rattle.bgp_path.specs.Path.{PathValue}
 use Rattle.bgp_attr.specs.Segments.{WireSegment, segment_octets}
 use Rattle.bgp_attr.specs.Types.{all_types, number_of, type_bits}
 

@@ -2,9 +2,8 @@
 
 ghost use Rattle.std.specs.Prelude.{◌≡◌, ◌<◌, ◌≤◌, ◌==◌, length, drop};
 ghost use Rattle.std.specs.Prelude.{bit_and, IfSome, IfNone};
-ghost use Rattle.bgp_attr.specs.Field.{HasOneSplit, attribute_of, header_len, value_len};
-ghost use Rattle.bgp_attr.specs.Split.{ReadsWhatIsSpelled, attribute_len, first_attribute, rest_of};
-ghost use Rattle.bgp_attr.specs.Split.{tail_at};
+ghost use Rattle.bgp_attr.specs.Field.{attribute_of, header_len, value_len};
+ghost use Rattle.bgp_attr.specs.Split.{attribute_len, first_attribute, rest_of, tail_at};
 
 use byteorder::{BigEndian, ByteOrder};
 use std::marker::Model;
@@ -168,10 +167,3 @@ impl<'a> Iterator for Attrs<'a> {
         Some(attr)
     }
 }
-
-/// A law, with nothing to run: a field is the join of one list of attributes and one tail at most,
-/// and what is joined so is what `Attrs` reads. That it is one, `Attrs::new` says.
-pub fn one_split()
-    ensures unique { HasOneSplit }
-    ensures read { ReadsWhatIsSpelled }
-{}

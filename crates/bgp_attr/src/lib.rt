@@ -1,5 +1,5 @@
-//! Path attributes of BGP-4 (RFC 4271, 4.3 and 5): the field in which they stand, the class of
-//! each, AS paths, and the value of a route and how it is written.
+//! Path attributes of BGP-4 on the wire (RFC 4271, 4.3 and 5): the field in which they stand, the
+//! class of each, and how a route's value is written as them.
 //!
 //! ```text
 //! for attr in Attrs::new(field) {
@@ -12,24 +12,19 @@
 //! ```
 #![tactic(auto)]
 
-mod as_path;
 mod classes;
 mod field;
-mod items;
+mod laws;
 mod octets;
-mod path;
 mod segments;
 mod types;
 mod writing;
 
-pub use as_path::{AsPath, Segment, SegmentKind, merge, merge_keeps_the_count, one_leading_part};
 pub use classes::{AttrVerdict, Side, class};
-pub use field::{Attr, Attrs, Tail, one_split};
-pub use items::Items;
-pub use path::{Aggregator, NextHop, Origin, Path, PathParts, equality_is_real};
-pub use segments::segments_are_told;
+pub use field::{Attr, Attrs, Tail};
+pub use laws::{one_split, segments_are_told, writes_a_field};
 pub use types::{AttrType, TypeRow};
-pub use writing::{is_writable, write_path, writes_a_field};
+pub use writing::{is_writable, write_path};
 
 #[cfg(test)]
 mod tests;

@@ -4,13 +4,12 @@
 ghost use Rattle.std.specs.Prelude.{◌≡◌, ℕ, ◌≤◌, ◌++◌, true, false, length, drop};
 ghost use Rattle.std.specs.Prelude.{IfSome, IfNone, OnOk, OnErr};
 ghost use Rattle.std.specs.List.{flat_map, list_any};
-ghost use Rattle.bgp_attr.specs.Segments.{TellsSegments, are_segments, has_segment, segment_len};
-ghost use Rattle.bgp_attr.specs.Segments.{segment_octets};
+ghost use Rattle.bgp_attr.specs.Segments.{are_segments, has_segment, segment_len, segment_octets};
 ghost use Rattle.bgp_attr.specs.Writing.{as_octets, as_path_octets, has_large, is_large};
 ghost use Rattle.bgp_attr.specs.Writing.{wire_segment, KeepsFront};
 
-use crate::as_path::Segment;
 use crate::octets::{put_u16, put_u32};
+use bgp_path::Segment;
 use std::alloc::{AllocError, Allocator};
 
 /// AS_TRANS, which stands for an AS number that needs four octets (RFC 6793, 3 and 9).
@@ -57,12 +56,6 @@ pub(crate) fn are_segments(most: u8, width: usize, value: &[u8]) -> bool
     }
     true
 }
-
-/// A law, with nothing to run: the test is true exactly of a value that is such segments, one
-/// after the other.
-pub fn segments_are_told()
-    ensures { TellsSegments }
-{}
 
 /// Appends the value of AS_PATH or AS4_PATH. After a refusal a part of it stands there.
 pub(crate) fn put_as_path<A: Allocator, B: Allocator>(

@@ -4,9 +4,10 @@
 mod classing;
 mod fields;
 mod memory;
-mod paths;
+mod writing;
 
 use crate::*;
+use bgp_path::{Aggregator, AsPath, Items, NextHop, Origin, Path, PathParts, Segment, SegmentKind};
 use std::alloc::{AllocError, Allocator};
 use std::test::Fail;
 

@@ -6,21 +6,19 @@ ghost use Rattle.std.specs.Prelude.{MatchOption, OnOk, OnErr};
 ghost use Rattle.std.specs.List.{flat_map, filter_map};
 ghost use Rattle.std.specs.Option.{option_map_or};
 ghost use Rattle.bgp_attr.specs.Field.{spelled};
-ghost use Rattle.bgp_attr.specs.Writing.{WritesAField, as_path_octets, has_large};
-ghost use Rattle.bgp_attr.specs.Writing.{is_large, aggregator_octets};
+ghost use Rattle.bgp_attr.specs.Writing.{as_path_octets, has_large, is_large, aggregator_octets};
 ghost use Rattle.bgp_attr.specs.Writing.{as4_aggregator_octets, items_octets, value_in};
 ghost use Rattle.bgp_attr.specs.Writing.{next_hop_octets, header_of, attribute_in, path_attributes};
 ghost use Rattle.bgp_attr.specs.Writing.{HasShortValue, IsWritable, KeepsFront, Appends};
-ghost use Rattle.bgp_attr.specs.Path.{value_of};
-ghost use Rattle.bgp_attr.specs.declared.path.Aggregator.{Aggregator};
+ghost use Rattle.bgp_path.specs.Path.{value_of};
+ghost use Rattle.bgp_path.specs.declared.path.Aggregator.{Aggregator};
 
-use crate::as_path::Segment;
 use crate::classes::Side;
 use crate::field::EXTENDED_LENGTH;
 use crate::octets::{put_optional, put_u16, put_u32, put_u32s, put_u64s};
-use crate::path::{Aggregator, NextHop, Path, PathParts};
 use crate::segments::{as_path_len, has_large, is_large, put_as_number, put_as_path};
 use crate::types::AttrType;
+use bgp_path::{Aggregator, NextHop, Path, PathParts, Segment};
 use std::alloc::{AllocError, Allocator};
 
 /// The most octets that a value can have: its length has at most two octets (RFC 4271, 4.3).
@@ -56,11 +54,6 @@ pub fn is_writable<A: Allocator>(side: Side, path: &Path<A>) -> bool
 {
     are_short(side, path.parts(), &AttrType::ALL)
 }
-
-/// A law, with nothing to run: what is written is an attribute field of just these attributes.
-pub fn writes_a_field()
-    ensures { WritesAField }
-{}
 
 /// Whether the values of these types have at most 65535 octets each.
 fn are_short<A: Allocator>(side: Side, path: &PathParts<A>, types: &[AttrType]) -> bool

@@ -44,15 +44,7 @@ const WRITTEN: [u8; 108] = [
 #[test]
 fn ample_memory(rt: HostRuntime) -> Result<(), Fail> {
     let alloc = rt.alloc();
-    let mut path = AsPath::with_capacity(alloc, 2)?;
-    let segment = segment(alloc, Set, &[1, 2])?;
-    path.push(segment.clone()?)?;
-    assert_eq!(rt; path.clone()?, path);
-    assert_eq!(rt; merge(alloc, &path, &AsPath::new(alloc))?, path);
-    let numbers = Items::from(vec![in alloc; 1u32, 2]?);
-    assert_eq!(rt; numbers.clone()?, numbers);
     let path = Path::new(alloc, parts(alloc)?)?;
-    assert!(rt; path.clone()? == path);
     let mut out = vec![in alloc; 9u8]?;
     assert!(rt; is_writable(NARROW, &path));
     write_path(NARROW, &path, &mut out)?;
@@ -78,74 +70,13 @@ fn large_parts<A: Allocator + Copy>(alloc: A) -> Result<PathParts<A>, AllocError
 #[test]
 fn ample_memory_for_large_values(rt: HostRuntime) -> Result<(), Fail> {
     let alloc = rt.alloc();
-    let path = as_path(alloc, &[(Sequence, [1; 255].as_slice()); 8])?;
-    let as4 = as_path(alloc, &[(Sequence, [2; 255].as_slice()); 5])?;
-    let merged = merge(alloc, &path, &as4)?;
-    assert_eq!(rt; merged.segments().len(), 8);
-    assert_eq!(rt; merged.segments().get(..3), path.segments().get(..3));
-    assert_eq!(rt; merged.segments().get(3..), Some(as4.segments()));
-    assert_eq!(rt; merged.clone()?, merged);
-
     let path = Path::new(alloc, large_parts(alloc)?)?;
-    assert_eq!(rt; path.parts().communities.clone()?, path.parts().communities);
     let mut out = Vec::new(alloc);
     assert!(rt; is_writable(NARROW, &path));
     write_path(NARROW, &path, &mut out)?;
     // ORIGIN 4, AS_PATH 4 and 8 times 512, NEXT_HOP 7, COMMUNITIES 4 and 64000 octets
     assert_eq!(rt; out.len(), 4 + 4 + 4096 + 7 + 4 + 64000);
     Ok(())
-}
-
-#[test]
-fn a_copy_of_a_path_takes_no_memory(rt: HostRuntime) -> Result<(), Fail> {
-    let heap = LocalHeap::new(rt.alloc(), 8192)?;
-    let path = Path::new(&heap, parts(&heap)?)?;
-    let used = heap.used();
-    let copy = path.clone()?;
-    assert_eq!(rt; heap.used(), used);
-    assert!(rt; copy == path);
-    Ok(())
-}
-
-/// Whether a push into a heap of this size was done. Where it was refused, the path is as before.
-fn pushes(rt: &impl Abort, heap: &LocalHeap, ample: &LocalHeap) -> Result<bool, Fail> {
-    let mut path = AsPath::new(heap);
-    let pushed = path.push(segment(ample, Set, &[1])?).is_ok();
-    assert_eq!(rt; path.segments().len(), if pushed { 1 } else { 0 });
-    Ok(pushed)
-}
-
-/// Whether a merge into a heap of this size was done. In any case both paths are as before.
-fn merges(rt: &impl Abort, heap: &LocalHeap, ample: &LocalHeap) -> Result<bool, Fail> {
-    let path = as_path(ample, &[(Sequence, &[65001, 23456, 23456])])?;
-    let as4 = as_path(ample, &[(Sequence, &[70000, 70001])])?;
-    let merged = merge(heap, &path, &as4);
-    assert_eq!(rt;
-        path,
-        as_path(ample, &[(Sequence, &[65001, 23456, 23456])])?
-    );
-    assert_eq!(rt; as4, as_path(ample, &[(Sequence, &[70000, 70001])])?);
-    let Ok(merged) = merged else {
-        return Ok(false);
-    };
-    let whole = as_path(ample, &[(Sequence, &[65001]), (Sequence, &[70000, 70001])])?;
-    assert_eq!(rt; merged, whole);
-    Ok(true)
-}
-
-/// Whether a path was made and copied, with its lists, in a heap of this size. Where a copy was
-/// refused, its value is as before.
-fn copies(rt: &impl Abort, heap: &LocalHeap, ample: &LocalHeap) -> Result<bool, Fail> {
-    let whole = Path::new(ample, parts(ample)?)?;
-    let Ok(parts) = parts(heap) else {
-        return Ok(false);
-    };
-    let copied = parts.as_path.clone().is_ok() && parts.communities.clone().is_ok();
-    let Ok(path) = Path::new(heap, parts) else {
-        return Ok(false);
-    };
-    assert!(rt; path == whole);
-    Ok(copied && path.clone()? == whole)
 }
 
 /// Whether a path was written to a vector in a heap of this size. Where a growth was refused, the
@@ -167,21 +98,16 @@ fn writes(rt: &impl Abort, heap: &LocalHeap, ample: &LocalHeap) -> Result<bool, 
 #[test]
 fn a_refused_growth_changes_nothing(rt: HostRuntime) -> Result<(), Fail> {
     let ample = LocalHeap::new(rt.alloc(), 8192)?;
+    let (mut refused, mut done) = (false, false);
     for step in 0..128 {
         let heap = LocalHeap::new(rt.alloc(), 16 * (step + 1))?;
-        let pushed = pushes(&rt, &heap, &ample)?;
-        let merged = merges(&rt, &heap, &ample)?;
-        let copied = copies(&rt, &heap, &ample)?;
-        let wrote = writes(&rt, &heap, &ample)?;
-        if step == 0 {
-            assert!(rt;
-                !(pushed || merged || copied || wrote),
-                "nothing was refused"
-            );
-        }
-        if pushed && merged && copied && wrote {
-            return Ok(());
+        if writes(&rt, &heap, &ample)? {
+            done = true;
+        } else {
+            refused = true;
         }
     }
-    Err(Fail::new("a growth was refused to the end"))
+    assert!(rt; refused, "nothing was refused");
+    assert!(rt; done, "a growth was refused to the end");
+    Ok(())
 }

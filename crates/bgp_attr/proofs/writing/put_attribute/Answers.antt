@@ -1,5 +1,5 @@
 use Rattle.std.proofs.lemmas.Result.{on_ok_weaker}
-use Rattle.bgp_attr.specs.Path.{value_of}
+use Rattle.bgp_path.specs.Path.{value_of}
 use Rattle.bgp_attr.specs.Writing.{value_in}
 use Rattle.bgp_attr.proofs.Written.{one_put}
 use Rattle.bgp_attr.proofs.writing.put_attribute.Goals as goal

@@ -1,4 +1,4 @@
-use Rattle.bgp_attr.specs.Path.{value_of}
+use Rattle.bgp_path.specs.Path.{value_of}
 use Rattle.bgp_attr.specs.Writing.{attribute_in}
 use Rattle.bgp_attr.proofs.Fronts.{keeps_then}
 use Rattle.bgp_attr.proofs.Written.{more_put}

@@ -1,7 +1,7 @@
 use Rattle.std.proofs.Common.{take}
 use Rattle.std.specs.List.{flat_map, filter_map}
 use Rattle.bgp_attr.specs.Field.{spelled}
-use Rattle.bgp_attr.specs.Path.{value_of}
+use Rattle.bgp_path.specs.Path.{value_of}
 use Rattle.bgp_attr.specs.Writing.{attribute_in, Appends}
 use Rattle.bgp_attr.proofs.writing.put_attributes.Given as goal
 

@@ -1,5 +1,0 @@
-use Rattle.bgp_attr.proofs.WrittenField.{is_a_field}
-use Rattle.bgp_attr.proofs.writing.writes_a_field.Goals as goal
-
-pub returns : goal.returns
-returns c = is_a_field

@@ -1,0 +1,7 @@
+pub mod AsPath
+pub mod Path
+pub mod Fit
+pub mod Same
+pub mod SamePath
+pub mod SameLaws
+pub mod SamePathLaws
