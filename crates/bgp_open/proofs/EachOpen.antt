@@ -7,16 +7,16 @@ use Rattle.bgp_wire.proofs.Decided.{Either, decided_all, decided_equal}
 use Rattle.bgp_wire.proofs.EachFraming.{marker_or_not}
 use Rattle.bgp_open.specs.declared.fault.OpenFault.{OpenFault}
 use Rattle.bgp_open.specs.declared.fault.OpenFault.TheVariants.{Malformed, Version, Parameter}
-use Rattle.bgp_open.specs.Triplet.{Triplet, IsWhole, joined, triplets_of}
+use Rattle.bgp_open.specs.Triplet.{Triplet, IsWhole, triplets_octets, triplets_of}
 use Rattle.bgp_open.specs.Open.{IsOpen, fixed_fields_of, parameters_of, version_of, parameters_length_of}
 use Rattle.bgp_open.specs.OpenFault.{HasWholeCapabilities, AreParameters, IsWellFormed, IsAnswered}
-use Rattle.bgp_open.specs.OpenFault.{IsOtherVersion, HasOpenFault, IsReadable, number_of}
-use Rattle.bgp_open.specs.OpenErrors.{mandatory_faults}
+use Rattle.bgp_open.specs.OpenFault.{IsOtherVersion, HasOpenFault, IsReadable, open_fault_number}
+use Rattle.bgp_open.specs.OpenSubcodes.{mandatory_faults}
 use Rattle.bgp_open.specs.declared.config.Config.{Config}
 use Rattle.byteorder.specs.Endian.{big_bytes}
 
 whole_or_not : (octets : List ℕ) → Either (IsWhole octets)
-whole_or_not octets = decided_equal (joined (triplets_of octets)) octets
+whole_or_not octets = decided_equal (triplets_octets (triplets_of octets)) octets
 
 capabilities_or_not : (parameter : Triplet) → Either (HasWholeCapabilities parameter)
 capabilities_or_not parameter = elim (cases_eq parameter.code 2) [
@@ -96,7 +96,7 @@ each_octets octets = elim (open_or_not octets) [
 
 -- the fault that is answered of an OPEN of version 4 is the least that it has
 pub least_fault : (octets : List ℕ) (fault other : OpenFault) → IsOpen octets → (¬ IsOtherVersion octets)
-    → IsAnswered octets fault → HasOpenFault octets other → HasOpenFault octets fault × (number_of fault ≤ number_of other)
+    → IsAnswered octets fault → HasOpenFault octets other → HasOpenFault octets fault × (open_fault_number fault ≤ open_fault_number other)
 least_fault octets Malformed other whole four h k = elim h [
   | inl none ↦ absurd (none whole)
   | inr has ↦ (has.1, omega arith)
@@ -121,7 +121,7 @@ readable_with_other octets h = elim (cases_eq (version_of (fixed_fields_of octet
 
 -- for the fault that is answered the OPEN has to be refused
 pub mandatory_fault : (config : Config) (octets : List ℕ) (fault : OpenFault) → IsAnswered octets fault
-    → mandatory_faults config octets (number_of fault) (big_bytes 2 4)
+    → mandatory_faults config octets (open_fault_number fault) (big_bytes 2 4)
 mandatory_fault config octets Malformed h = inr (inl (inl refl, h))
 mandatory_fault config octets Version h = inl (refl, refl, h)
 mandatory_fault config octets Parameter h = inr (inr (readable_with_other octets h, inl (refl, h.3)))

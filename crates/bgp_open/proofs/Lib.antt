@@ -1,9 +1,10 @@
 pub mod OneReading
 pub mod JoinedCapabilities
 pub mod LeastFault
-pub mod NamedErrors
-pub mod WrittenMessage
+pub mod NamedSubcodes
+pub mod WrittenNotification
 pub mod WrittenOpen
 pub mod CapabilityOctets
 pub mod OwnOpens
 pub mod EachOpen
+pub mod OneSetOfSubcodes

@@ -5,7 +5,7 @@ use Rattle.std.proofs.lemmas.Bool.{le-leb, lt-leb, cases_lt}
 use Rattle.std.proofs.lemmas.List.{length-take-le, take-append-drop}
 use Rattle.std.proofs.Math.Seq.{take-append_seam, drop-append_seam}
 use Rattle.std.specs.Prelude.{nat_le, if◌then◌else◌}
-use Rattle.bgp_open.specs.Triplet.{Triplet, spelled, joined, IsCut, IsWhole, triplets_in, triplets_of}
+use Rattle.bgp_open.specs.Triplet.{Triplet, triplet_octets, triplets_octets, IsCutTriplet, IsWhole, triplets_in, triplets_of}
 
 -- any bound does that is no less than the count of octets
 enough : (f g : ℕ) (octets : List ℕ) → length octets ≤ f → length octets ≤ g
@@ -32,7 +32,7 @@ triplets_of-whole code count rest whole =
     rw (le-leb count (length rest) whole) (ap (λ (ts : List Triplet). record { code = code; value = take count rest } ∷ ts) same)
 
 -- nothing is read of what is cut short
-pub triplets_of-cut : (octets : List ℕ) → IsCut octets → triplets_of octets ≡ []
+pub triplets_of-cut : (octets : List ℕ) → IsCutTriplet octets → triplets_of octets ≡ []
 unfolding triplets_of
 triplets_of-cut [] cut = refl
 triplets_of-cut (code ∷ []) cut = refl
@@ -46,7 +46,7 @@ read_front (code ∷ []) long whole = absurd (omega arith)
 read_front (code ∷ count ∷ rest) long whole = triplets_of-whole code count rest whole
 
 pub spelled_front : (octets : List ℕ) → 2 ≤ length octets → slice_index octets 1 ≤ length (drop 2 octets)
-    → octets ≡ spelled (record { code = slice_index octets 0; value = take (slice_index octets 1) (drop 2 octets) }) ++ drop (slice_index octets 1) (drop 2 octets)
+    → octets ≡ triplet_octets (record { code = slice_index octets 0; value = take (slice_index octets 1) (drop 2 octets) }) ++ drop (slice_index octets 1) (drop 2 octets)
 spelled_front [] long whole = absurd (omega arith)
 spelled_front (code ∷ []) long whole = absurd (omega arith)
 spelled_front (code ∷ count ∷ rest) long whole =
@@ -74,15 +74,15 @@ same_behind xs ys zs same =
 
 -- octets are whole exactly where what stands behind their first triplet is
 pub whole_behind : (triplet : Triplet) (octets behind : List ℕ) → triplets_of octets ≡ triplet ∷ triplets_of behind
-    → octets ≡ spelled triplet ++ behind → (IsWhole behind ↔ IsWhole octets)
+    → octets ≡ triplet_octets triplet ++ behind → (IsWhole behind ↔ IsWhole octets)
 whole_behind triplet octets behind read front = (
-  λ whole. rw read (ap (λ (us : List ℕ). spelled triplet ++ us) whole ∙ sym front),
-  λ whole. same_behind (spelled triplet) (joined (triplets_of behind)) behind ((rw read at whole) ∙ front),
+  λ whole. rw read (ap (λ (us : List ℕ). triplet_octets triplet ++ us) whole ∙ sym front),
+  λ whole. same_behind (triplet_octets triplet) (triplets_octets (triplets_of behind)) behind ((rw read at whole) ∙ front),
 )
 
 -- what octets hold is their triplets and then what is cut short
 reads_in : (most : ℕ) (octets : List ℕ) → length octets ≤ most
-    → (cut : List ℕ) × (octets ≡ joined (triplets_of octets) ++ cut) × IsCut cut
+    → (cut : List ℕ) × (octets ≡ triplets_octets (triplets_of octets) ++ cut) × IsCutTriplet cut
 reads_in most [] within = ([], rw triplets_of_nothing refl, tt)
 reads_in most (code ∷ []) within = (code ∷ [], rw (triplets_of-cut (code ∷ []) tt) refl, tt)
 reads_in zero (code ∷ count ∷ rest) within = absurd (omega arith)
@@ -93,10 +93,10 @@ reads_in (suc most) (code ∷ count ∷ rest) within = elim (cases_lt (length re
       let behind = reads_in most (drop count rest) short in
       let front = spelled_front (code ∷ count ∷ rest) (omega arith) whole in
       let triplet : Triplet = record { code = code; value = take count rest } in
-      (behind.0, front ∙ ap (λ (us : List ℕ). spelled triplet ++ us) behind.1 ∙ sym (append_assoc (spelled triplet) (joined (triplets_of (drop count rest))) behind.0) ∙ sym (ap (λ (ts : List Triplet). joined ts ++ behind.0) (triplets_of-whole code count rest whole)), behind.2)
+      (behind.0, front ∙ ap (λ (us : List ℕ). triplet_octets triplet ++ us) behind.1 ∙ sym (append_assoc (triplet_octets triplet) (triplets_octets (triplets_of (drop count rest))) behind.0) ∙ sym (ap (λ (ts : List Triplet). triplets_octets ts ++ behind.0) (triplets_of-whole code count rest whole)), behind.2)
 ]
 
-pub reads : (octets : List ℕ) → (cut : List ℕ) × (octets ≡ joined (triplets_of octets) ++ cut) × IsCut cut
+pub reads : (octets : List ℕ) → (cut : List ℕ) × (octets ≡ triplets_octets (triplets_of octets) ++ cut) × IsCutTriplet cut
 reads octets = reads_in (length octets) octets (omega arith)
 
 -- two lists of one length, each before a rest
@@ -114,10 +114,10 @@ same_triplet triplet other code value =
     ∙ ap (λ (v : List ℕ). let t : Triplet = record { code = other.code; value = v } in t) value
 
 -- a triplet at the front isn't cut short
-front_is_whole : (triplet : Triplet) (behind : List ℕ) → IsCut (spelled triplet ++ behind) → ⊥
+front_is_whole : (triplet : Triplet) (behind : List ℕ) → IsCutTriplet (triplet_octets triplet ++ behind) → ⊥
 front_is_whole triplet behind cut = absurd (omega (arith, length-append triplet.value behind))
 
-first_is_same : (triplet other : Triplet) (us vs : List ℕ) → spelled triplet ++ us ≡ spelled other ++ vs → (triplet ≡ other) × (us ≡ vs)
+first_is_same : (triplet other : Triplet) (us vs : List ℕ) → triplet_octets triplet ++ us ≡ triplet_octets other ++ vs → (triplet ≡ other) × (us ≡ vs)
 first_is_same triplet other us vs same =
     let code : triplet.code ≡ other.code = cc in
     let count : length triplet.value ≡ length other.value = cc in
@@ -126,28 +126,28 @@ first_is_same triplet other us vs same =
     (same_triplet triplet other code parts.0, parts.1)
 
 -- octets are triplets and a rest that is cut short in one way
-pub one_split : (triplets others : List Triplet) (cut rest : List ℕ) → joined triplets ++ cut ≡ joined others ++ rest
-    → IsCut cut → IsCut rest → triplets ≡ others
+pub one_split : (triplets others : List Triplet) (cut rest : List ℕ) → triplets_octets triplets ++ cut ≡ triplets_octets others ++ rest
+    → IsCutTriplet cut → IsCutTriplet rest → triplets ≡ others
 one_split [] [] cut rest same c r = refl
 one_split [] (other ∷ others) cut rest same c r =
-    absurd (front_is_whole other (joined others ++ rest) (subst IsCut (same ∙ append_assoc (spelled other) (joined others) rest) c))
+    absurd (front_is_whole other (triplets_octets others ++ rest) (subst IsCutTriplet (same ∙ append_assoc (triplet_octets other) (triplets_octets others) rest) c))
 one_split (triplet ∷ triplets) [] cut rest same c r =
-    absurd (front_is_whole triplet (joined triplets ++ cut) (subst IsCut (sym same ∙ append_assoc (spelled triplet) (joined triplets) cut) r))
+    absurd (front_is_whole triplet (triplets_octets triplets ++ cut) (subst IsCutTriplet (sym same ∙ append_assoc (triplet_octets triplet) (triplets_octets triplets) cut) r))
 one_split (triplet ∷ triplets) (other ∷ others) cut rest same c r =
-    let first = first_is_same triplet other (joined triplets ++ cut) (joined others ++ rest)
-    (sym (append_assoc (spelled triplet) (joined triplets) cut) ∙ same ∙ append_assoc (spelled other) (joined others) rest) in
+    let first = first_is_same triplet other (triplets_octets triplets ++ cut) (triplets_octets others ++ rest)
+    (sym (append_assoc (triplet_octets triplet) (triplets_octets triplets) cut) ∙ same ∙ append_assoc (triplet_octets other) (triplets_octets others) rest) in
     let behind = one_split triplets others cut rest first.1 c r in
     ap (λ (t : Triplet). t ∷ triplets) first.0 ∙ ap (λ (ts : List Triplet). other ∷ ts) behind
 
 -- what was spelled is read
-pub reads_back : (triplets : List Triplet) → triplets_of (joined triplets) ≡ triplets
+pub reads_back : (triplets : List Triplet) → triplets_of (triplets_octets triplets) ≡ triplets
 reads_back triplets =
-    let read = reads (joined triplets) in
-    sym (one_split triplets (triplets_of (joined triplets)) [] read.0 (append-nil (joined triplets) ∙ read.1) tt read.2)
+    let read = reads (triplets_octets triplets) in
+    sym (one_split triplets (triplets_of (triplets_octets triplets)) [] read.0 (append-nil (triplets_octets triplets) ∙ read.1) tt read.2)
 
 -- octets are whole where some triplets spell them
-pub is_whole-spelled : (octets : List ℕ) → (IsWhole octets ↔ ((triplets : List Triplet) × (octets ≡ joined triplets)))
-is_whole-spelled octets = (
+pub is_whole-triplet_octets : (octets : List ℕ) → (IsWhole octets ↔ ((triplets : List Triplet) × (octets ≡ triplets_octets triplets)))
+is_whole-triplet_octets octets = (
   λ whole. (triplets_of octets, sym whole),
-  λ spelling. rw spelling.1 (ap (λ (ts : List Triplet). joined ts) (reads_back spelling.0)),
+  λ spelling. rw spelling.1 (ap (λ (ts : List Triplet). triplets_octets ts) (reads_back spelling.0)),
 )

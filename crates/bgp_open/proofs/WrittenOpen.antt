@@ -6,29 +6,30 @@ use Rattle.std.proofs.lemmas.Bool.{cases_lt}
 use Rattle.std.proofs.lemmas.List.Elements.{All-nil, All-cons, All-same}
 use Rattle.byteorder.specs.Endian.{big_bytes}
 use Rattle.byteorder.specs.Numbers.{big_number-reads_back}
-use Rattle.bgp_wire.specs.Message.{body_of}
-use Rattle.bgp_open.specs.Triplet.{Triplet, joined, triplets_of}
+use Rattle.bgp_wire.specs.Header.{header_octets}
+use Rattle.bgp_wire.specs.Message.{body_of, message_octets}
+use Rattle.bgp_open.specs.Triplet.{Triplet, triplets_octets, triplets_of}
 use Rattle.bgp_open.specs.Open.{OpenFields, IsOpen, open_of, fixed_fields_of, parameters_of, capabilities_in, capabilities_of, version_of, my_as_of, hold_of, id_of, parameters_length_of}
 use Rattle.bgp_open.specs.OpenFault.{HasWholeCapabilities, IsReadable, IsWellFormed}
-use Rattle.bgp_open.specs.Written.{header_octets, message_octets, fixed_octets, parameters_with, open_octets, FitsOpen}
-use Rattle.bgp_open.proofs.OneReading.{reads_back, is_whole-spelled}
-use Rattle.bgp_open.proofs.WrittenMessage.{appended, written_message, body_of-message_octets, length-message_octets}
+use Rattle.bgp_open.specs.Written.{fixed_octets, parameters_with, open_octets, FitsOpen}
+use Rattle.bgp_open.proofs.OneReading.{reads_back, is_whole-triplet_octets}
+use Rattle.bgp_wire.proofs.WrittenMessage.{appended, written_message, body_of-message_octets, length-message_octets}
 
 length-fixed_octets : (my_as hold id count : ℕ) → length (fixed_octets my_as hold id count) ≡ 10
 unfolding fixed_octets
 length-fixed_octets my_as hold id count = refl
 
 -- what stands where
-body-open_octets : (fields : OpenFields) → let ps = joined (parameters_with fields.capabilities) in
+body-open_octets : (fields : OpenFields) → let ps = triplets_octets (parameters_with fields.capabilities) in
     body_of (open_octets fields) ≡ fixed_octets fields.my_as fields.hold fields.id (length ps) ++ ps
 body-open_octets fields = body_of-message_octets 1 _
 
 pub fixed-open_octets : (fields : OpenFields)
-    → fixed_fields_of (open_octets fields) ≡ fixed_octets fields.my_as fields.hold fields.id (length (joined (parameters_with fields.capabilities)))
+    → fixed_fields_of (open_octets fields) ≡ fixed_octets fields.my_as fields.hold fields.id (length (triplets_octets (parameters_with fields.capabilities)))
 unfolding fixed_octets
 fixed-open_octets fields = rw (body-open_octets fields) refl
 
-pub parameters-open_octets : (fields : OpenFields) → parameters_of (open_octets fields) ≡ joined (parameters_with fields.capabilities)
+pub parameters-open_octets : (fields : OpenFields) → parameters_of (open_octets fields) ≡ triplets_octets (parameters_with fields.capabilities)
 unfolding fixed_octets
 parameters-open_octets fields = rw (body-open_octets fields) refl
 
@@ -40,11 +41,11 @@ all_capabilities (capability ∷ capabilities) = All-cons (λ (parameter : Tripl
 all_whole : (capabilities : List Triplet) → All HasWholeCapabilities (parameters_with capabilities)
 all_whole [] = All-nil HasWholeCapabilities
 all_whole (capability ∷ capabilities) =
-    All-cons HasWholeCapabilities _ [] (λ is. (is_whole-spelled (joined (capability ∷ capabilities))).1 (capability ∷ capabilities, refl)) (All-nil HasWholeCapabilities)
+    All-cons HasWholeCapabilities _ [] (λ is. (is_whole-triplet_octets (triplets_octets (capability ∷ capabilities))).1 (capability ∷ capabilities, refl)) (All-nil HasWholeCapabilities)
 
 same_capabilities : (capabilities : List Triplet) → flat_map capabilities_in (parameters_with capabilities) ≡ capabilities
 same_capabilities [] = refl
-same_capabilities (capability ∷ capabilities) = append-nil (triplets_of (joined (capability ∷ capabilities))) ∙ reads_back (capability ∷ capabilities)
+same_capabilities (capability ∷ capabilities) = append-nil (triplets_of (triplets_octets (capability ∷ capabilities))) ∙ reads_back (capability ∷ capabilities)
 
 pub one_parameter : (fields : OpenFields) → triplets_of (parameters_of (open_octets fields)) ≡ parameters_with fields.capabilities
 one_parameter fields = rw (parameters-open_octets fields) (reads_back (parameters_with fields.capabilities))
@@ -72,14 +73,14 @@ unfolding fixed_octets parameters_length_of
 count-written fields count = refl
 
 -- the whole message
-length-body : (fields : OpenFields) → let ps = joined (parameters_with fields.capabilities) in
+length-body : (fields : OpenFields) → let ps = triplets_octets (parameters_with fields.capabilities) in
     length (fixed_octets fields.my_as fields.hold fields.id (length ps) ++ ps) ≡ 10 + length ps
 length-body fields =
-    length-append (fixed_octets fields.my_as fields.hold fields.id (length (joined (parameters_with fields.capabilities)))) (joined (parameters_with fields.capabilities))
-    ∙ ap (λ (n : ℕ). n + length (joined (parameters_with fields.capabilities))) (length-fixed_octets fields.my_as fields.hold fields.id (length (joined (parameters_with fields.capabilities))))
+    length-append (fixed_octets fields.my_as fields.hold fields.id (length (triplets_octets (parameters_with fields.capabilities)))) (triplets_octets (parameters_with fields.capabilities))
+    ∙ ap (λ (n : ℕ). n + length (triplets_octets (parameters_with fields.capabilities))) (length-fixed_octets fields.my_as fields.hold fields.id (length (triplets_octets (parameters_with fields.capabilities))))
 
-pub room : (fields : OpenFields) → FitsOpen fields → length (joined (parameters_with fields.capabilities)) ≤ 255
-room fields fits = elim (cases_lt 255 (length (joined (parameters_with fields.capabilities)))) [
+pub room : (fields : OpenFields) → FitsOpen fields → length (triplets_octets (parameters_with fields.capabilities)) ≤ 255
+room fields fits = elim (cases_lt 255 (length (triplets_octets (parameters_with fields.capabilities)))) [
   | inl many ↦ absurd (fits.capabilities many)
   | inr few ↦ few
 ]
@@ -100,7 +101,7 @@ readable fields fits = record {
       ap parameters_length_of (fixed-open_octets fields)
       ∙ count-written fields _ ∙ sym (ap length (parameters-open_octets fields));
   parameters = (
-    rw (parameters-open_octets fields) ((is_whole-spelled (joined (parameters_with fields.capabilities))).1 (parameters_with fields.capabilities, refl)),
+    rw (parameters-open_octets fields) ((is_whole-triplet_octets (triplets_octets (parameters_with fields.capabilities))).1 (parameters_with fields.capabilities, refl)),
     All-same HasWholeCapabilities _ _ (one_parameter fields) (all_whole fields.capabilities),
   );
 }
@@ -133,19 +134,19 @@ reads_as fields fits =
     (capabilities-written fields)
 
 -- how long it is, and how it is appended
-pub length-open_octets : (fields : OpenFields) → length (open_octets fields) ≡ 29 + length (joined (parameters_with fields.capabilities))
+pub length-open_octets : (fields : OpenFields) → length (open_octets fields) ≡ 29 + length (triplets_octets (parameters_with fields.capabilities))
 length-open_octets fields =
-    let whole = length-message_octets 1 (fixed_octets fields.my_as fields.hold fields.id (length (joined (parameters_with fields.capabilities))) ++ joined (parameters_with fields.capabilities)) in
+    let whole = length-message_octets 1 (fixed_octets fields.my_as fields.hold fields.id (length (triplets_octets (parameters_with fields.capabilities))) ++ triplets_octets (parameters_with fields.capabilities)) in
     let body = length-body fields in omega arith
 
-pub appended_open : (old : List ℕ) (fields : OpenFields) (count total : ℕ) → count ≡ length (joined (parameters_with fields.capabilities))
+pub appended_open : (old : List ℕ) (fields : OpenFields) (count total : ℕ) → count ≡ length (triplets_octets (parameters_with fields.capabilities))
     → total ≡ 29 + count
-    → ((old ++ header_octets 1 total) ++ fixed_octets fields.my_as fields.hold fields.id count) ++ joined (parameters_with fields.capabilities)
+    → ((old ++ header_octets 1 total) ++ fixed_octets fields.my_as fields.hold fields.id count) ++ triplets_octets (parameters_with fields.capabilities)
     ≡ old ++ open_octets fields
 unfolding message_octets
 appended_open old fields count total few is =
     let body = length-body fields in
-    let same : total ≡ 19 + length (fixed_octets fields.my_as fields.hold fields.id (length (joined (parameters_with fields.capabilities))) ++ joined (parameters_with fields.capabilities)) = omega arith in
+    let same : total ≡ 19 + length (fixed_octets fields.my_as fields.hold fields.id (length (triplets_octets (parameters_with fields.capabilities))) ++ triplets_octets (parameters_with fields.capabilities)) = omega arith in
     rw (same, few) (simp append_assoc)
 
 -- what was appended reads as what was to be said

@@ -7,6 +7,6 @@ pub mod Families
 pub mod Config
 pub mod Offer
 pub mod Link
-pub mod OpenErrors
+pub mod OpenSubcodes
 pub mod OwnOpen
 pub mod Written

@@ -7,10 +7,10 @@ use Rattle.bgp_open.specs.declared.fault.OpenFault.{OpenFault}
 use Rattle.bgp_open.specs.declared.fault.OpenFault.TheVariants.{Malformed, Version, Parameter}
 
 -- the subcode of OPEN Message Error that stands for a fault, 0 being Unspecific
-abbrev pub number_of : OpenFault → ℕ
-number_of Malformed = 0
-number_of Version = 1
-number_of Parameter = 4
+abbrev pub open_fault_number : OpenFault → ℕ
+open_fault_number Malformed = 0
+open_fault_number Version = 1
+open_fault_number Parameter = 4
 
 -- Unsupported Version Number: the version isn't 4
 abbrev pub IsOtherVersion : List ℕ → Type 0

@@ -1,27 +1,23 @@
 -- The local system's own OPEN: what it may send, by its configuration.
-use Rattle.std.specs.Prelude.{◌≡◌, ◌++◌, nat_le, if◌then◌else◌, ℕ, List, [], ◌∷◌, Some, None}
+use Rattle.std.specs.Prelude.{◌≡◌, ◌++◌, if◌then◌else◌, ℕ, List, [], ◌∷◌, Some, None}
 use Rattle.byteorder.specs.Endian.{big_bytes}
 use Rattle.bgp_prefix.specs.declared.family.Family.{Family}
 use Rattle.bgp_prefix.specs.declared.family.Family.TheVariants.{V4, V6}
+use Rattle.bgp_wire.specs.AsNumber.{two_octet_as}
 use Rattle.bgp_open.specs.declared.config.Config.{Config}
 use Rattle.bgp_open.specs.Triplet.{Triplet}
 use Rattle.bgp_open.specs.Offer.{afi_of, families_of, as_number_of}
 use Rattle.bgp_open.specs.Open.{OpenFields, open_of}
 use Rattle.bgp_open.specs.OpenFault.{IsWellFormed}
 
--- My Autonomous System of a speaker with this AS number: AS_TRANS, 23456, where it has more than
--- two octets (RFC 6793, 3 and 9)
-abbrev pub my_as_for : ℕ → ℕ
-my_as_for number = if nat_le number 65535 then number else 23456
-
 -- The octets are an OPEN that the local system may send: whole, of version 4 and well-formed, with
--- the AS number, Hold Time and identifier that are configured; the families that it offers (RFC
+-- the AS number (or AS_TRANS), Hold Time and identifier that are configured; the families that it offers (RFC
 -- 4760, 8) are those that are configured; and it has a capability of four-octet AS numbers, the
 -- first with its own, exactly where that is configured (RFC 6793, 4.1). Other capabilities are
 -- free.
 pub record IsOwnOpen (config : Config) (octets : List ℕ) : Type 0 where
   pub form : IsWellFormed octets
-  pub my_as : (open_of octets).my_as ≡ my_as_for config.parts.local_as
+  pub my_as : (open_of octets).my_as ≡ two_octet_as config.parts.local_as
   pub hold : (open_of octets).hold ≡ config.parts.hold
   pub id : (open_of octets).id ≡ config.parts.local_id
   pub families : families_of (open_of octets).capabilities ≡ config.parts.families
@@ -46,7 +42,7 @@ own_capabilities config =
 -- what the local system's OPEN says that says no more than is configured
 abbrev pub own_fields : Config → OpenFields
 own_fields config = record {
-  my_as = my_as_for config.parts.local_as;
+  my_as = two_octet_as config.parts.local_as;
   hold = config.parts.hold;
   id = config.parts.local_id;
   capabilities = own_capabilities config;

@@ -10,18 +10,18 @@ pub record Triplet : Type 0 where
   pub value : List ℕ
 
 -- the octets of a triplet
-abbrev pub spelled : Triplet → List ℕ
-spelled triplet = triplet.code ∷ length triplet.value ∷ triplet.value
+abbrev pub triplet_octets : Triplet → List ℕ
+triplet_octets triplet = triplet.code ∷ length triplet.value ∷ triplet.value
 
 -- the octets of triplets, one after another
-abbrev pub joined : List Triplet → List ℕ
-joined triplets = flat_map spelled triplets
+abbrev pub triplets_octets : List Triplet → List ℕ
+triplets_octets triplets = flat_map triplet_octets triplets
 
 -- no triplet stands at the front: a code or a length is missing, or the value runs over
-abbrev pub IsCut : List ℕ → Type 0
-IsCut [] = ⊤
-IsCut (code ∷ []) = ⊤
-IsCut (code ∷ count ∷ rest) = length rest < count
+abbrev pub IsCutTriplet : List ℕ → Type 0
+IsCutTriplet [] = ⊤
+IsCutTriplet (code ∷ []) = ⊤
+IsCutTriplet (code ∷ count ∷ rest) = length rest < count
 
 -- the triplets at the front of octets, at most as many as the first number
 abbrev pub triplets_in : ℕ → List ℕ → List Triplet
@@ -39,4 +39,4 @@ triplets_of octets = triplets_in (length octets) octets
 
 -- the octets are triplets and nothing else: none runs over, and no octet is left
 abbrev pub IsWhole : List ℕ → Type 0
-IsWhole octets = joined (triplets_of octets) ≡ octets
+IsWhole octets = triplets_octets (triplets_of octets) ≡ octets

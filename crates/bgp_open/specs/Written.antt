@@ -1,27 +1,20 @@
--- The octets of messages as they are written (RFC 4271, 4.1, 4.2 and 4.5).
-use Rattle.std.specs.Prelude.{◌<◌, ◌+◌, ◌^◌, ◌++◌, ℕ, List, [], ◌∷◌, All, length, replicate}
+-- The octets of messages as they are written (RFC 4271, 4.2 and 4.5).
+use Rattle.std.specs.Prelude.{◌<◌, ◌^◌, ◌++◌, ℕ, List, [], ◌∷◌, length}
 use Rattle.byteorder.specs.Endian.{big_bytes}
-use Rattle.bgp_open.specs.Triplet.{Triplet, joined}
+use Rattle.bgp_wire.specs.Message.{message_octets}
+use Rattle.bgp_open.specs.Triplet.{Triplet, triplets_octets}
 use Rattle.bgp_open.specs.Open.{OpenFields}
 use Rattle.bgp_open.specs.declared.written_open.OpenWriteFault.{OpenWriteFault}
 use Rattle.bgp_open.specs.declared.written_open.OpenWriteFault.TheVariants as opens
 use Rattle.bgp_open.specs.declared.notification.NotificationWriteFault.{NotificationWriteFault}
 use Rattle.bgp_open.specs.declared.notification.NotificationWriteFault.TheVariants as notifications
 
--- the header of a message: an all-255 marker, the Length and the Type
-unfoldable pub header_octets : ℕ → ℕ → List ℕ
-header_octets kind count = replicate 16 255 ++ (big_bytes 2 count ++ kind ∷ [])
-
--- a message of a type with this body
-unfoldable pub message_octets : ℕ → List ℕ → List ℕ
-message_octets kind body = header_octets kind (19 + length body) ++ body
-
 -- the parameters that have capabilities: one of type 2 with all of them, and none where there are
 -- none
 abbrev pub parameters_with : List Triplet → List Triplet
 parameters_with [] = []
 parameters_with (capability ∷ capabilities) =
-    (record { code = 2; value = joined (capability ∷ capabilities) }) ∷ []
+    (record { code = 2; value = triplets_octets (capability ∷ capabilities) }) ∷ []
 
 -- the octets of the fixed fields of an OPEN of version 4, with this Optional Parameters Length
 unfoldable pub fixed_octets : ℕ → ℕ → ℕ → ℕ → List ℕ
@@ -31,14 +24,14 @@ fixed_octets my_as hold id count =
 -- an OPEN that says this
 abbrev pub open_octets : OpenFields → List ℕ
 open_octets fields =
-    let parameters = joined (parameters_with fields.capabilities) in
+    let parameters = triplets_octets (parameters_with fields.capabilities) in
     message_octets 1
     (fixed_octets fields.my_as fields.hold fields.id (length parameters) ++ parameters)
 
 -- no OPEN has room for these capabilities: their parameter would have more than 255 octets, as also
 -- where one value alone has
 abbrev pub IsTooMany : List Triplet → Type 0
-IsTooMany capabilities = 255 < length (joined (parameters_with capabilities))
+IsTooMany capabilities = 255 < length (triplets_octets (parameters_with capabilities))
 
 -- the numbers fit the fields of an OPEN, and there is room for the capabilities
 pub record FitsOpen (fields : OpenFields) : Type 0 where
@@ -59,7 +52,3 @@ open_write_number opens.Memory = 2
 abbrev pub notification_write_number : NotificationWriteFault → ℕ
 notification_write_number notifications.TooLarge = 1
 notification_write_number notifications.Memory = 2
-
--- each number is that of an octet
-abbrev pub AreOctets : List ℕ → Type 0
-AreOctets octets = All (λ octet. octet < 256) octets

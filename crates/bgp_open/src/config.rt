@@ -1,13 +1,12 @@
 //! What the local system is configured to do.
 
-ghost use Rattle.std.specs.Prelude.{◌≡◌, ◌↔◌, ◌⊎◌, ◌≤◌, IsTrue, IfSome, IfNone};
-ghost use Rattle.bgp_open.specs.Config.{IsConfig, AreNumbers, IsBadHold, is_internal};
+ghost use Rattle.std.specs.Prelude.{◌≡◌, ◌↔◌, ◌⊎◌, IsTrue, IfSome, IfNone};
+ghost use Rattle.bgp_open.specs.Config.{IsConfig, AreNumbers, HaveTwoOctets};
+ghost use Rattle.bgp_open.specs.Config.{IsBadHold, is_internal};
 
 use crate::families::Families;
 use bgp_prefix::{Seconds, Session};
-
-/// The greatest AS number that has two octets (RFC 6793, 1).
-pub(crate) const TWO_OCTET_AS: u32 = 65535;
+use bgp_wire::needs_four_octets;
 
 /// The parts of a configuration, not yet checked.
 ///
@@ -54,11 +53,11 @@ pub(crate) fn is_bad_hold(hold: u16) -> bool
     hold == 1 || hold == 2
 }
 
-/// Whether both AS numbers have two octets.
+/// Whether two octets can hold both AS numbers.
 fn have_two_octets(parts: &ConfigParts) -> bool
-    ensures { IsTrue result ↔ ((parts.now.local_as ≤ 65535) × (parts.now.peer_as ≤ 65535)) }
+    ensures { IsTrue result ↔ HaveTwoOctets parts.now }
 {
-    parts.local_as <= TWO_OCTET_AS && parts.peer_as <= TWO_OCTET_AS
+    !needs_four_octets(parts.local_as) && !needs_four_octets(parts.peer_as)
 }
 
 /// Whether the parts make a configuration.

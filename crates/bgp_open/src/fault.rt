@@ -1,7 +1,7 @@
 //! What can be wrong with the form of an OPEN (RFC 4271, 6.2).
 
 ghost use Rattle.std.specs.Prelude.{◌≡◌};
-ghost use Rattle.bgp_open.specs.OpenFault.{number_of};
+ghost use Rattle.bgp_open.specs.OpenFault.{open_fault_number};
 
 use thiserror::Error;
 
@@ -23,7 +23,7 @@ pub enum OpenFault {
 impl OpenFault {
     /// The subcode of OPEN Message Error for this fault (RFC 4271, 4.5): 0 is Unspecific.
     pub fn number(self) -> u8
-        ensures { result ≡ number_of self }
+        ensures { result ≡ open_fault_number self }
     {
         self as u8
     }

@@ -8,34 +8,34 @@
 
 mod capability;
 mod config;
-mod errors;
 mod families;
 mod fault;
+mod laws;
 mod link;
 mod notification;
 mod offer;
 mod open;
 mod own_open;
 mod parameters;
-mod reading;
+mod subcodes;
 #[cfg(test)]
 mod tests;
 mod triplet;
-mod writing;
 mod written_open;
 
 pub use capability::{Capabilities, Capability};
 pub use config::{Config, ConfigParts};
-pub use errors::{OpenErrors, OpenFaults, open_faults};
 pub use families::Families;
 pub use fault::OpenFault;
+pub use laws::{
+    one_fault, one_reading, one_set_of_subcodes, own_open_exists, subcodes_of_both_sets,
+    written_notification_is_a_frame, written_open_reads_back,
+};
 pub use link::{Link, negotiate};
 pub use notification::{
     Notification, NotificationWriteFault, read_notification, write_notification,
 };
 pub use open::{Open, read_open};
-pub use own_open::{is_own_open, own_open_exists};
-pub use reading::{
-    one_fault, one_reading, written_notification_is_a_frame, written_open_reads_back,
-};
+pub use own_open::is_own_open;
+pub use subcodes::{OpenFaults, OpenSubcodes, open_faults};
 pub use written_open::{OpenWriteFault, write_open};

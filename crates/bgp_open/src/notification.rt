@@ -13,8 +13,7 @@ ghost use Rattle.std.specs.Prelude.{length, drop, vec_len, vec_capacity};
 ghost use Rattle.bgp_open.specs.Notification.{IsNotification};
 ghost use Rattle.bgp_open.specs.Written.{notification_octets, notification_write_number};
 
-use crate::writing::{put, put_header, put_u8};
-use bgp_wire::{MessageType, message_body};
+use bgp_wire::{MessageType, message_body, put, put_header, put_u8};
 use std::alloc::Allocator;
 use thiserror::Error;
 

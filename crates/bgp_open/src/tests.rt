@@ -8,7 +8,7 @@ mod negotiation;
 mod reading;
 mod writing;
 
-use crate::{Config, ConfigParts, Families, OpenErrors};
+use crate::{Config, ConfigParts, Families, OpenSubcodes};
 use bgp_prefix::{Address, Session};
 use std::alloc::{AllocError, Global};
 use std::process::Abort;
@@ -83,7 +83,7 @@ fn open_with(alloc: Global, version: u8, behind: &[u8]) -> Result<Vec<u8>, Alloc
 }
 
 /// The set has these subcodes and no others, and 1 only with its data.
-fn assert_subcodes(rt: &impl Abort, errors: &OpenErrors, wanted: &[u8], lesson: &str) {
+fn assert_subcodes(rt: &impl Abort, errors: &OpenSubcodes, wanted: &[u8], lesson: &str) {
     for subcode in 0..9u8 {
         let is_wanted = wanted.iter().any(|s| *s == subcode);
         let version_4 = [0x00, 0x04];

@@ -9,7 +9,7 @@
 //! ```
 
 ghost use Rattle.std.specs.Prelude.{◌≡◌, ◌<◌, ◌++◌, ◌∷◌, [], IfSome, IfNone, length};
-ghost use Rattle.bgp_open.specs.Triplet.{spelled, triplets_of};
+ghost use Rattle.bgp_open.specs.Triplet.{triplet_octets, triplets_of};
 ghost use Rattle.bgp_open.specs.Capability.{triplet_of};
 
 use std::marker::Model;
@@ -26,7 +26,7 @@ pub(crate) fn first_triplet<'a>(octets: &'a [u8]) -> Option<(RawTriplet<'a>, &'a
     ensures some { IfSome result (λ r.
         triplets_of octets.entry.now ≡ triplet_of r.0 ∷ triplets_of r.1.now) }
     ensures front { IfSome result (λ r.
-        octets.entry.now ≡ spelled (triplet_of r.0) ++ r.1.now) }
+        octets.entry.now ≡ triplet_octets (triplet_of r.0) ++ r.1.now) }
     ensures shorter { IfSome result (λ r. length r.1.now < length octets.entry.now) }
     ensures none { IfNone result (triplets_of octets.entry.now ≡ []) }
 {

@@ -4,7 +4,7 @@
 ghost use Rattle.std.specs.Prelude.{◌≡◌, ◌<◌, ◌≤◌, ◌+◌, ◌++◌, ◌↔◌};
 ghost use Rattle.std.specs.Prelude.{IfSome, IfNone, OnOk, OnErr, Err};
 ghost use Rattle.std.specs.Prelude.{length, drop, map, vec_len, vec_capacity};
-ghost use Rattle.bgp_open.specs.Triplet.{joined, triplets_of};
+ghost use Rattle.bgp_open.specs.Triplet.{triplets_octets, triplets_of};
 ghost use Rattle.bgp_open.specs.Capability.{capability_of, said};
 ghost use Rattle.bgp_open.specs.Open.{open_of, parameters_of};
 ghost use Rattle.bgp_open.specs.OpenFault.{IsWellFormed};
@@ -13,8 +13,7 @@ ghost use Rattle.bgp_open.specs.Written.{open_write_number};
 
 use crate::capability::{CAPABILITIES, Capability};
 use crate::open::VERSION;
-use crate::writing::{put, put_header, put_u8, put_u16, put_u32};
-use bgp_wire::MessageType;
+use bgp_wire::{MessageType, put, put_header, put_u8, put_u16, put_u32};
 use std::alloc::Allocator;
 use thiserror::Error;
 
@@ -47,8 +46,8 @@ impl OpenWriteFault {
 /// How much of `room` octets is left behind these capabilities, if they fit.
 fn room_behind(capabilities: &[Capability<'_>], room: usize) -> Option<usize>
     ensures some { IfSome result (λ left.
-        left + length (joined (map capability_of capabilities.now)) ≡ room) }
-    ensures none { IfNone result (room < length (joined (map capability_of capabilities.now))) }
+        left + length (triplets_octets (map capability_of capabilities.now)) ≡ room) }
+    ensures none { IfNone result (room < length (triplets_octets (map capability_of capabilities.now))) }
 {
     let mut left = room;
     for capability in capabilities {
@@ -61,7 +60,7 @@ fn room_behind(capabilities: &[Capability<'_>], room: usize) -> Option<usize>
 /// type and length of one and the capabilities.
 fn parameters_length(capabilities: &[Capability<'_>]) -> Option<u8>
     ensures one_parameter { IfSome result (λ count.
-        count ≡ length (joined (parameters_with (map capability_of capabilities.now)))) }
+        count ≡ length (triplets_octets (parameters_with (map capability_of capabilities.now)))) }
     ensures few { IfSome result (λ count. ¬ IsTooMany (map capability_of capabilities.now)) }
     ensures none { IfNone result (IsTooMany (map capability_of capabilities.now)) }
 {
@@ -74,11 +73,11 @@ fn parameters_length(capabilities: &[Capability<'_>]) -> Option<u8>
 
 /// Appends capabilities.
 fn put_capabilities<A: Allocator>(out: &mut Vec<u8, A>, capabilities: &[Capability<'_>])
-    requires few { length (joined (map capability_of capabilities.now)) ≤ 253 }
-    requires room { vec_len out.old + length (joined (map capability_of capabilities.now))
+    requires few { length (triplets_octets (map capability_of capabilities.now)) ≤ 253 }
+    requires room { vec_len out.old + length (triplets_octets (map capability_of capabilities.now))
         ≤ vec_capacity out.old }
     ensures items { out.new.items
-        ≡ out.old.items ++ joined (map capability_of capabilities.now) }
+        ≡ out.old.items ++ triplets_octets (map capability_of capabilities.now) }
 {
     for capability in capabilities {
         put_u8(out, capability.code);
@@ -90,10 +89,10 @@ fn put_capabilities<A: Allocator>(out: &mut Vec<u8, A>, capabilities: &[Capabili
 /// Appends one parameter with all capabilities, or none where there are none; `count` octets.
 fn put_parameters<A: Allocator>(out: &mut Vec<u8, A>, capabilities: &[Capability<'_>], count: u8)
     requires count { count
-        ≡ length (joined (parameters_with (map capability_of capabilities.now))) }
+        ≡ length (triplets_octets (parameters_with (map capability_of capabilities.now))) }
     requires room { vec_len out.old + count ≤ vec_capacity out.old }
     ensures one_parameter { out.new.items
-        ≡ out.old.items ++ joined (parameters_with (map capability_of capabilities.now)) }
+        ≡ out.old.items ++ triplets_octets (parameters_with (map capability_of capabilities.now)) }
 {
     if capabilities.is_empty() {
         return;

@@ -8,7 +8,7 @@ use Rattle.bgp_prefix.specs.Text.{address_text}
 use Rattle.bgp_wire.specs.declared.header.HeaderFaults.{HeaderFaults}
 use Rattle.bgp_open.specs.Triplet.{Triplet}
 use Rattle.bgp_open.specs.Open.{OpenFields}
-use Rattle.bgp_open.specs.OpenFault.{number_of}
+use Rattle.bgp_open.specs.OpenFault.{open_fault_number}
 use Rattle.bgp_open.specs.declared.fault.OpenFault.{OpenFault}
 use Rattle.bgp_tool.specs.Message.{Message, open_message, malformed_open_message, update_message}
 use Rattle.bgp_tool.specs.Message.{notification_message, keepalive_message}
@@ -37,7 +37,7 @@ open_line fields =
 
 -- an OPEN whose form is wrong: the number of its fault (RFC 4271, 6.2)
 unfoldable pub malformed_open_line : OpenFault → List ℕ
-malformed_open_line fault = codes "open malformed " ++ (decimal (number_of fault) ++ codes "\n")
+malformed_open_line fault = codes "open malformed " ++ (decimal (open_fault_number fault) ++ codes "\n")
 
 -- an UPDATE, which isn't read yet: the count of the whole message's octets
 unfoldable pub update_line : ℕ → List ℕ

@@ -1,10 +1,11 @@
 -- The set whose fields hold each fault by itself is the set of the header's faults.
-use Rattle.std.proofs.Common.{◌≡◌, ◌↔◌, ℕ, List, [], Option, Some, None, IsSome, IfSome, IsNone, IsSomeAnd, refl, sym, subst, inl, inr}
+use Rattle.std.proofs.Common.{◌≡◌, ◌↔◌, ◌∙◌, Bool, true, false, IsTrue, ℕ, List, [], Option, Some, None, IsSome, IsNone, IfSome, IsSomeAnd, refl, sym, ap, subst, inl, inr}
 use Rattle.byteorder.specs.Endian.{big_bytes}
 use Rattle.bgp_wire.specs.declared.header.Limit.{Limit}
 use Rattle.bgp_wire.specs.declared.header.HeaderFaults.{HeaderFaults}
 use Rattle.bgp_wire.specs.Header.{IsSound, IsBadType, type_of, length_of}
 use Rattle.bgp_wire.specs.Verdict.{AreEachFault, AreFaults, IsEmpty}
+use Rattle.bgp_wire.proofs.OneFaultSet.{same_bool}
 
 -- a field that is there exactly where F holds, and then is n, holds what n does where F holds
 field_is : (o : Option ℕ) (n : ℕ) (F : Type 0) (D : ℕ → Type 0)
@@ -37,16 +38,48 @@ same_faults limit header faults each subcode detail =
 pub bad_type_is_a_fault : (limit : Limit) (header : List ℕ) → IsBadType (type_of header) → IsSound limit header → ⊥
 bad_type_is_a_fault limit header bad sound = sound 3 (big_bytes 1 (type_of header)) (inr (inr (refl, bad, refl)))
 
--- an option that isn't there is none
-none_of : {A : Type 0} (o : Option A) → (IsSome o → ⊥) → IsNone o
-none_of None empty = refl
-none_of (Some v) empty = absurd (empty refl)
-
 -- the set of a sound header is empty
 pub sound_is_empty : (limit : Limit) (header : List ℕ) (faults : HeaderFaults)
     → AreEachFault limit header faults → IsSound limit header → IsEmpty faults
-sound_is_empty limit header faults each sound = (
-  λ marker. sound 1 [] (inl (refl, each.marker.0 marker)),
-  none_of faults.length (λ h. sound 2 (big_bytes 2 (length_of header)) (inr (inl (refl, each.bad_length.0 h, refl)))),
-  none_of faults.kind (λ h. bad_type_is_a_fault limit header (each.bad_type.0 h) sound),
+sound_is_empty limit header faults each sound subcode detail named =
+    sound subcode detail ((same_faults limit header faults each subcode detail).0 named)
+
+-- a header whose set is empty is sound
+pub empty_is_sound : (limit : Limit) (header : List ℕ) (faults : HeaderFaults)
+    → AreEachFault limit header faults → IsEmpty faults → IsSound limit header
+empty_is_sound limit header faults each empty subcode detail fault =
+    empty subcode detail ((same_faults limit header faults each subcode detail).1 fault)
+
+-- where no field is set, nothing is named, and the other way round
+none_named : (marker : Bool) (count kind : Option ℕ) → (((¬ IsTrue marker) × IsNone count × IsNone kind)
+    ↔ IsEmpty (record { marker = marker; length = count; kind = kind }))
+none_named true count kind = (λ h. absurd (h.0 refl), λ empty. absurd (empty 1 [] (inl (refl, refl))))
+none_named false (Some n) kind = (λ h. absurd (cc), λ empty. absurd (empty 2 (big_bytes 2 n) (inr (inl (refl, refl)))))
+none_named false None (Some n) = (λ h. absurd (cc), λ empty. absurd (empty 3 (big_bytes 1 n) (inr (inr (refl, refl)))))
+none_named false None None = (
+  λ h subcode detail named. elim named [ inl a ↦ absurd (cc) | inr b ↦ elim b [ inl c ↦ absurd c.1 | inr d ↦ absurd d.1 ] ],
+  λ empty. (λ t. absurd (cc), refl, refl),
 )
+
+pub no_field_is_set : (faults : HeaderFaults) → (((¬ IsTrue faults.marker) × IsNone faults.length × IsNone faults.kind)
+    ↔ IsEmpty faults)
+no_field_is_set faults = none_named faults.marker faults.length faults.kind
+
+-- a field that is there exactly where F holds, and then is n
+same_field : (F : Type 0) (n : ℕ) (o p : Option ℕ) → (IsSome o ↔ F) → IfSome o (λ v. v ≡ n)
+    → (IsSome p ↔ F) → IfSome p (λ v. v ≡ n) → o ≡ p
+same_field F n None None there is there' is' = refl
+same_field F n None (Some m) there is there' is' = let bad = there.1 (there'.0 refl) in absurd (cc)
+same_field F n (Some m) None there is there' is' = let bad = there'.1 (there.0 refl) in absurd (cc)
+same_field F n (Some m) (Some k) there is there' is' = ap (λ (v : ℕ). Some v) (is ∙ sym is')
+
+-- two sets that have each fault of one header are equal
+pub one_set : (limit : Limit) (header : List ℕ) (faults others : HeaderFaults)
+    → AreEachFault limit header faults → AreEachFault limit header others → faults ≡ others
+one_set limit header faults others h k =
+    let marker = same_bool faults.marker others.marker (λ t. k.marker.1 (h.marker.0 t)) (λ t. h.marker.1 (k.marker.0 t)) in
+    let count = same_field _ (length_of header) faults.length others.length h.bad_length h.length_field k.bad_length k.length_field in
+    let kind = same_field _ (type_of header) faults.kind others.kind h.bad_type h.type_field k.bad_type k.type_field in
+    ap (λ (x : Bool). let f : HeaderFaults = record { marker = x; length = faults.length; kind = faults.kind } in f) marker
+    ∙ ap (λ (x : Option ℕ). let f : HeaderFaults = record { marker = others.marker; length = x; kind = faults.kind } in f) count
+    ∙ ap (λ (x : Option ℕ). let f : HeaderFaults = record { marker = others.marker; length = others.length; kind = x } in f) kind

@@ -1,7 +1,10 @@
 pub mod Decided
+pub mod OneFaultSet
 pub mod EachFault
 pub mod Front
 pub mod OneFraming
 pub mod EachFraming
 pub mod WholeFrame
-pub mod OneFaultSet
+pub mod WrittenMessage
+pub mod WholeMessages
+pub mod EachOctet

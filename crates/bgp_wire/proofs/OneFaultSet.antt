@@ -6,7 +6,7 @@ use Rattle.bgp_wire.specs.declared.header.HeaderFaults.{HeaderFaults}
 use Rattle.bgp_wire.specs.Verdict.{Names, AreFaults}
 
 -- booleans that are true together are one
-same_bool : (b c : Bool) → (IsTrue b → IsTrue c) → (IsTrue c → IsTrue b) → b ≡ c
+pub same_bool : (b c : Bool) → (IsTrue b → IsTrue c) → (IsTrue c → IsTrue b) → b ≡ c
 same_bool true true h k = refl
 same_bool false false h k = refl
 same_bool true false h k = sym (h refl)

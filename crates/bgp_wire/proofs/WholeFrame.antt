@@ -1,7 +1,7 @@
 -- What holds of a frame: it is a whole message of its type, as long as that type needs.
-use Rattle.std.proofs.Common.{◌≡◌, ◌⊎◌, ◌<◌, ◌≤◌, ◌∷◌, [], ℕ, List, length, refl, sym, subst, inl, inr, arith}
+use Rattle.std.proofs.Common.{◌≡◌, ◌↔◌, ◌∙◌, ◌==◌, ◌⊎◌, ◌<◌, ◌≤◌, ◌∷◌, [], false, IsTrue, ℕ, List, length, refl, sym, ap, subst, inl, inr, arith}
 use Rattle.std.proofs.lemmas.List.{length-drop}
-use Rattle.std.proofs.lemmas.Bool.{cases_lt, cases_eq}
+use Rattle.std.proofs.lemmas.Bool.{cases_lt, cases_eq, eq-eqb, eqb-true}
 use Rattle.byteorder.specs.Endian.{big_bytes}
 use Rattle.bgp_wire.specs.declared.header.Limit.{Limit}
 use Rattle.bgp_wire.specs.Header.{header_of, length_of, type_of, least_length, IsSound}
@@ -68,3 +68,21 @@ frame_is_keepalive limit frame whole is =
       | inr other ↦
           absurd (whole.sound 2 (big_bytes 2 (length_of (header_of frame))) (inr (inl (refl, inr (inr (is, other)), refl))))
     ]
+
+-- octets behind a faulty header are no frame
+pub no_frame : (limit : Limit) (octets header : List ℕ) → header ≡ header_of octets → (IsSound limit header → ⊥)
+    → (IsTrue false ↔ IsFrame limit octets)
+no_frame limit octets header e faulty =
+    (λ t. absurd (cc), λ whole. absurd (faulty (subst (λ (h : List ℕ). IsSound limit h) (sym e) whole.sound)))
+
+-- octets behind a sound header are a frame exactly where they are as many as it says
+pub frame_by_count : (limit : Limit) (octets header : List ℕ) (count n : ℕ) → header ≡ header_of octets → 19 ≤ length octets
+    → IsSound limit header → count ≡ length_of header → n ≡ count → (IsTrue (length octets == n) ↔ IsFrame limit octets)
+frame_by_count limit octets header count n e long sound is same = (
+  λ t. record {
+    header = long;
+    sound = subst (λ (h : List ℕ). IsSound limit h) e sound;
+    whole = eqb-true (length octets) n t ∙ same ∙ is ∙ ap length_of e;
+  },
+  λ whole. eq-eqb (length octets) n (whole.whole ∙ sym (same ∙ is ∙ ap length_of e)),
+)

@@ -1,6 +1,6 @@
 -- The message header (RFC 4271, 4.1), and what can be wrong with it (6.1).
-use Rattle.std.specs.Prelude.{◌≡◌, ◌≢◌, ◌<◌, ◌==◌, ◌⊎◌, if◌then◌else◌, ℕ, List, All, take, drop}
-use Rattle.std.specs.Prelude.{slice_index}
+use Rattle.std.specs.Prelude.{◌≡◌, ◌≢◌, ◌<◌, ◌==◌, ◌⊎◌, if◌then◌else◌, ℕ, List, [], ◌∷◌, ◌++◌}
+use Rattle.std.specs.Prelude.{All, take, drop, replicate, slice_index}
 use Rattle.byteorder.specs.Endian.{big_number, big_bytes}
 use Rattle.bgp_wire.specs.declared.header.Limit.{Limit}
 use Rattle.bgp_wire.specs.declared.header.Limit.TheVariants.{Plain}
@@ -16,6 +16,10 @@ length_of header = big_number 2 (drop 16 header)
 -- the Type field, octet 18
 unfoldable pub type_of : List ℕ → ℕ
 type_of header = slice_index header 18
+
+-- a header as it is written: an all-255 marker, the Length and the Type
+unfoldable pub header_octets : ℕ → ℕ → List ℕ
+header_octets kind count = replicate 16 255 ++ (big_bytes 2 count ++ kind ∷ [])
 
 -- the least Length of a message of a type: that of its fixed fields (4.2 to 4.5)
 abbrev pub least_length : ℕ → ℕ

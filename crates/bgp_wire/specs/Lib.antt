@@ -1,3 +1,5 @@
+pub mod Octets
+pub mod AsNumber
 pub mod Header
 pub mod Verdict
 pub mod Message

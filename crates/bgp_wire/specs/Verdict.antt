@@ -1,5 +1,5 @@
 -- What a check of a header answers: its Length and Type, or the set of its faults (RFC 4271, 6.1).
-use Rattle.std.specs.Prelude.{◌≡◌, ◌↔◌, ◌⊎◌, ℕ, List, IsSome, IsNone, IfSome, IsSomeAnd, IsTrue}
+use Rattle.std.specs.Prelude.{◌≡◌, ◌↔◌, ◌⊎◌, ℕ, List, IsSome, IfSome, IsSomeAnd, IsTrue}
 use Rattle.byteorder.specs.Endian.{big_bytes}
 use Rattle.bgp_wire.specs.declared.header.Limit.{Limit}
 use Rattle.bgp_wire.specs.declared.header.MessageType.{MessageType}
@@ -18,16 +18,17 @@ type_code Update = 2
 type_code Notification = 3
 type_code Keepalive = 4
 
--- this subcode, with these data, is in the set; for an unsynchronized marker any data are
+-- a NOTIFICATION with this subcode and these data names a fault of the set; for an unsynchronized
+-- marker any data do
 abbrev pub Names : HeaderFaults → ℕ → List ℕ → Type 0
 Names faults subcode detail =
     ((subcode ≡ 1) × IsTrue faults.marker)
     ⊎ ((subcode ≡ 2) × IsSomeAnd faults.length (λ count. detail ≡ big_bytes 2 count))
     ⊎ ((subcode ≡ 3) × IsSomeAnd faults.kind (λ kind. detail ≡ big_bytes 1 kind))
 
--- no subcode is in the set
+-- no fault is in the set
 abbrev pub IsEmpty : HeaderFaults → Type 0
-IsEmpty faults = (¬ IsTrue faults.marker) × IsNone faults.length × IsNone faults.kind
+IsEmpty faults = (subcode : ℕ) (detail : List ℕ) → ¬ Names faults subcode detail
 
 -- field by field: a fault is in the set exactly where the header has it, with what the header holds
 pub record AreEachFault (limit : Limit) (header : List ℕ) (faults : HeaderFaults) : Type 0 where

@@ -1,15 +1,17 @@
 //! A stream as frames (RFC 4271, 4.1), in whatever pieces it comes.
 
-ghost use Rattle.std.specs.Prelude.{◌≡◌, ◌<◌, ◌≤◌, ◌^◌, ◌++◌, IsTrue, IsOk, IfOk, OnOk, OnErr};
+ghost use Rattle.std.specs.Prelude.{◌≡◌, ◌<◌, ◌≤◌, ◌^◌, ◌++◌, ◌↔◌};
+ghost use Rattle.std.specs.Prelude.{IsTrue, IsOk, IfOk, OnOk, OnErr};
 ghost use Rattle.std.specs.Prelude.{length, drop};
 ghost use Rattle.std.specs.Borrow.{sem};
 ghost use Rattle.std.specs.Io.BufRead.{Rests};
+ghost use Rattle.bgp_wire.specs.Framing.{IsFrame};
 ghost use Rattle.bgp_wire.specs.Held.{nothing_held, after_feed};
 ghost use Rattle.bgp_wire.specs.Next.{IsNext, after_next, IsFault};
 ghost use Rattle.bgp_wire.specs.contracts.frames.Frames.{the_row};
 
 use crate::header::{
-    HEADER_LENGTH, HeaderFaults, HeaderVerdict, Limit, MessageType, check_header, header_at,
+    HEADER_LEN, HeaderFaults, HeaderVerdict, Limit, MessageType, check_header, header_at,
 };
 use bytes::BytesMut;
 use std::alloc::{AllocError, Allocator, Global};
@@ -24,7 +26,7 @@ pub enum Next<'a> {
     /// Neither a whole frame nor a header with faults is held: more octets decide.
     More,
     /// A header with faults stands where a frame should: the set of all of them, and its octets.
-    Fault(HeaderFaults, &'a [u8; HEADER_LENGTH]),
+    Fault(HeaderFaults, &'a [u8; HEADER_LEN]),
 }
 
 /// Splits a stream into frames. What it answers depends on the octets alone, however they are cut
@@ -70,7 +72,8 @@ impl<A: Allocator + Copy> Frames<A> {
         }
     }
 
-    /// How many octets are held: those that came, less those of the frames handed out.
+    /// How many octets are held: those that came before a fault was answered, less those of the
+    /// frames handed out.
     pub fn len(&self) -> usize
         ensures { result ≡ length self.now.octets }
     {
@@ -150,5 +153,18 @@ fn first_of(limit: Limit, octets: &[u8]) -> Next<'_>
                 Next::Frame(kind, &octets[..length])
             }
         }
+    }
+}
+
+/// Whether the octets are one frame: a header without a fault, and as many octets as it says.
+pub fn is_frame(limit: Limit, octets: &[u8]) -> bool
+    ensures { IsTrue result ↔ IsFrame limit octets.now }
+{
+    let Some(header) = header_at(octets) else {
+        return false;
+    };
+    match check_header(header, limit) {
+        HeaderVerdict::Faulty(_) => false,
+        HeaderVerdict::Whole(length, _) => octets.len() == usize::from(length),
     }
 }

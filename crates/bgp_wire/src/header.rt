@@ -1,4 +1,4 @@
-//! The message header (RFC 4271, 4.1), and which of its fields are at fault (6.1).
+//! The message header both ways (RFC 4271, 4.1), and which of its fields are at fault (6.1).
 //!
 //! ```text
 //!  0                    16        18     19
@@ -7,16 +7,28 @@
 //! +---------------------+---------+------+
 //! ```
 
-ghost use Rattle.std.specs.Prelude.{◌≡◌, ◌↔◌, ◌≤◌, IsTrue, IsSome, IfSome, IfNone, length};
-ghost use Rattle.bgp_wire.specs.Header.{header_of, length_of, type_of};
+ghost use Rattle.std.specs.Prelude.{◌≡◌, ◌↔◌, ◌≤◌, ◌+◌, ◌++◌, IsTrue, IsSome, IsNone};
+ghost use Rattle.std.specs.Prelude.{IfSome, IfNone};
+ghost use Rattle.std.specs.Prelude.{length, vec_len, vec_capacity};
+ghost use Rattle.byteorder.specs.Endian.{big_bytes};
+ghost use Rattle.bgp_wire.specs.Header.{header_of, header_octets, length_of, type_of};
 ghost use Rattle.bgp_wire.specs.Header.{least_length, greatest_length};
 ghost use Rattle.bgp_wire.specs.Header.{IsSynchronized, IsBadLength, IsBadType};
-ghost use Rattle.bgp_wire.specs.Verdict.{type_code, IsEmpty, AreEachFault, IsEachFault, IsVerdict};
+ghost use Rattle.bgp_wire.specs.Verdict.{type_code, Names, IsEmpty, AreEachFault, IsEachFault};
+ghost use Rattle.bgp_wire.specs.Verdict.{IsVerdict};
 
+use crate::octets::{put, put_u8, put_u16};
 use byteorder::{BigEndian, ByteOrder};
+use std::alloc::Allocator;
 
-/// The octets of a message header.
-pub const HEADER_LENGTH: usize = 19;
+/// How many octets a message header has.
+pub const HEADER_LEN: usize = 19; // marker 16, Length 2, Type 1
+
+/// How many octets the marker has (RFC 4271, 4.1).
+const MARKER_LEN: usize = 16;
+
+/// Each octet of a marker: all ones.
+const MARKER_OCTET: u8 = 255;
 
 /// How long a message may be, its header included.
 #[derive(Clone, Copy, Debug, PartialEq, Eq)]
@@ -85,48 +97,88 @@ impl HeaderFaults {
     pub fn is_empty(&self) -> bool
         ensures { IsTrue result ↔ IsEmpty self.now }
     {
+        self.has_no_field()
+    }
+
+    /// Whether no field is at fault.
+    fn has_no_field(&self) -> bool
+        ensures { IsTrue result ↔ ((¬ IsTrue self.now.marker) × IsNone self.now.length
+            × IsNone self.now.kind) }
+    {
         !self.marker && self.length.is_none() && self.kind.is_none()
     }
+
+    /// Whether a NOTIFICATION with this subcode of Message Header Error and these data names a
+    /// fault of the set: with subcode 1 the data are free, with 2 and 3 they are the field's octets.
+    pub fn contains(&self, subcode: u8, detail: &[u8]) -> bool
+        ensures { IsTrue result ↔ Names self.now subcode detail.now }
+    {
+        match subcode {
+            1 => self.marker,
+            2 => self.length.is_some_and(|length| is_length(detail, length)),
+            3 => self.kind.is_some_and(|kind| is_kind(detail, kind)),
+            _ => false,
+        }
+    }
+}
+
+/// Whether the data are these two octets of a Length field.
+fn is_length(detail: &[u8], length: u16) -> bool
+    ensures { IsTrue result ↔ (detail.now ≡ big_bytes 2 length) }
+{
+    let mut octets = [0; 2];
+    BigEndian::write_u16(&mut octets, length);
+    detail == octets.as_slice()
+}
+
+/// Whether the data are this octet of a Type field.
+fn is_kind(detail: &[u8], kind: u8) -> bool
+    ensures { IsTrue result ↔ (detail.now ≡ big_bytes 1 kind) }
+{
+    detail.len() == 1 && detail[0] == kind
 }
 
 /// What a check of a header answers.
 #[derive(Clone, Copy, Debug, PartialEq, Eq)]
 pub enum HeaderVerdict {
-    /// No fault: the whole message's count of octets, and its type.
+    /// A sound header, without a fault: its Length, which is the count of the whole message's
+    /// octets, and its type. Nothing is said of the octets behind it.
     Whole(u16, MessageType),
     /// The set of all faults, at least one.
     Faulty(HeaderFaults),
 }
 
-/// The header at the front of the octets, if there is a whole one.
-pub(crate) fn header_at(octets: &[u8]) -> Option<&[u8; HEADER_LENGTH]>
+/// The header at the front of the octets, faulty or not: `None` where they are fewer than 19.
+pub fn header_at(octets: &[u8]) -> Option<&[u8; HEADER_LEN]>
     ensures some { IfSome result (λ header. header.now ≡ header_of octets.entry.now) }
     ensures whole { IsSome result ↔ (19 ≤ length octets.entry.now) }
 {
-    octets.first_chunk::<HEADER_LENGTH>()
+    octets.first_chunk::<HEADER_LEN>()
 }
 
 /// The Length field.
 #[tactic(auto, unfolding(crate::specs::Header::length_of))]
-pub(crate) fn read_length(header: &[u8; HEADER_LENGTH]) -> u16
+pub(crate) fn read_length(header: &[u8; HEADER_LEN]) -> u16
     ensures { result ≡ length_of header.now }
 {
-    BigEndian::read_u16(&header[16..])
+    BigEndian::read_u16(&header[MARKER_LEN..])
 }
 
 /// The Type field.
 #[tactic(auto, unfolding(crate::specs::Header::type_of))]
-pub(crate) fn read_type(header: &[u8; HEADER_LENGTH]) -> u8
+pub(crate) fn read_type(header: &[u8; HEADER_LEN]) -> u8
     ensures { result ≡ type_of header.now }
 {
     header[18]
 }
 
 /// Whether all octets of the marker are 255.
-pub(crate) fn is_synchronized(header: &[u8; HEADER_LENGTH]) -> bool
+pub(crate) fn is_synchronized(header: &[u8; HEADER_LEN]) -> bool
     ensures { IsTrue result ↔ IsSynchronized header.now }
 {
-    header[..16].iter().all(|octet| *octet == 255)
+    header[..MARKER_LEN]
+        .iter()
+        .all(|octet| *octet == MARKER_OCTET)
 }
 
 /// The least Length of a message of this type: that of its fixed fields.
@@ -134,10 +186,10 @@ fn least_length_of(kind: u8) -> u16
     ensures { result ≡ least_length kind }
 {
     match kind {
-        1 => 29,
-        2 => 23,
-        3 => 21,
-        _ => 19,
+        1 => 29, // header 19, version 1, AS 2, hold time 2, identifier 4, parameters' length 1
+        2 => 23, // header 19, length of withdrawn routes 2, length of path attributes 2
+        3 => 21, // header 19, code 1, subcode 1
+        _ => 19, // header 19
     }
 }
 
@@ -150,7 +202,7 @@ fn is_bad_length(limit: Limit, kind: u8, length: u16) -> bool
 }
 
 /// The faults of a header, each by itself.
-fn faults_of(header: &[u8; HEADER_LENGTH], limit: Limit) -> HeaderFaults
+fn faults_of(header: &[u8; HEADER_LEN], limit: Limit) -> HeaderFaults
     ensures { AreEachFault limit header.now result }
 {
     let kind = read_type(header);
@@ -164,7 +216,7 @@ fn faults_of(header: &[u8; HEADER_LENGTH], limit: Limit) -> HeaderFaults
 
 /// Checks a message's header against RFC 4271, 6.1: answers its Length and type where nothing is
 /// wrong, and else the set of all its faults, any of which a NOTIFICATION may name.
-pub fn check_header(header: &[u8; HEADER_LENGTH], limit: Limit) -> HeaderVerdict
+pub fn check_header(header: &[u8; HEADER_LEN], limit: Limit) -> HeaderVerdict
     ensures verdict { IsVerdict limit header.now result }
     ensures each { IsEachFault limit header.now result }
 {
@@ -177,4 +229,17 @@ pub fn check_header(header: &[u8; HEADER_LENGTH], limit: Limit) -> HeaderVerdict
     } else {
         HeaderVerdict::Faulty(faults)
     }
+}
+
+/// Appends the header of a message of this type and of `length` octets, for which there is room.
+#[tactic(auto, unfolding(crate::specs::Header::header_octets))]
+pub fn put_header<A: Allocator>(out: &mut Vec<u8, A>, kind: MessageType, length: u16)
+    requires { vec_len out.old + 19 ≤ vec_capacity out.old }
+    ensures items { out.new.items ≡ out.old.items ++ header_octets (type_code kind) length }
+    ensures len { vec_len out.new ≡ vec_len out.old + 19 }
+    ensures capacity { vec_capacity out.old ≤ vec_capacity out.new }
+{
+    put(out, &[MARKER_OCTET; MARKER_LEN]);
+    put_u16(out, length);
+    put_u8(out, kind.code());
 }

@@ -13,16 +13,25 @@
 //! ```
 #![tactic(auto)]
 
+mod as_number;
 mod frames;
-mod framing;
 mod header;
+mod laws;
 mod message;
+mod octets;
 pub mod vectors;
 
-pub use frames::{Frames, Next};
-pub use framing::each_stream_has_one_framing;
-pub use header::{HEADER_LENGTH, HeaderFaults, HeaderVerdict, Limit, MessageType, check_header};
+pub use as_number::{AS_TRANS, needs_four_octets, two_octet_as};
+pub use frames::{Frames, Next, is_frame};
+pub use header::{
+    HEADER_LEN, HeaderFaults, HeaderVerdict, Limit, MessageType, check_header, header_at,
+    put_header,
+};
+pub use laws::{
+    each_header_has_one_set_of_faults, each_stream_has_one_framing, whole_messages_are_frames,
+};
 pub use message::message_body;
+pub use octets::{put, put_u8, put_u16, put_u32, put_u64};
 
 #[cfg(test)]
 mod tests;

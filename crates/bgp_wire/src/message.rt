@@ -5,9 +5,7 @@ ghost use Rattle.bgp_wire.specs.Header.{length_of, type_of};
 ghost use Rattle.bgp_wire.specs.Verdict.{type_code};
 ghost use Rattle.bgp_wire.specs.Message.{IsMessage, body_of};
 
-use crate::header::{
-    HEADER_LENGTH, MessageType, header_at, is_synchronized, read_length, read_type,
-};
+use crate::header::{HEADER_LEN, MessageType, header_at, is_synchronized, read_length, read_type};
 
 /// Whether the octets are one message of this type.
 fn is_message(kind: MessageType, octets: &[u8]) -> bool
@@ -34,7 +32,7 @@ pub fn message_body(kind: MessageType, octets: &[u8]) -> Option<&[u8]>
     ensures none { IfNone result (¬ IsMessage (type_code kind) octets.entry.now) }
 {
     if is_message(kind, octets) {
-        Some(octets.split_at(HEADER_LENGTH).1)
+        Some(octets.split_at(HEADER_LEN).1)
     } else {
         None
     }

@@ -8,8 +8,8 @@ use std::process::Abort;
 use std::test::Fail;
 
 /// A header of this Length and Type code.
-fn header(length: u16, code: u8) -> [u8; HEADER_LENGTH] {
-    let mut header = [255; HEADER_LENGTH];
+fn header(length: u16, code: u8) -> [u8; HEADER_LEN] {
+    let mut header = [255; HEADER_LEN];
     let octets = length.to_be_bytes();
     header[16] = octets[0];
     header[17] = octets[1];

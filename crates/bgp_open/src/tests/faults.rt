@@ -286,30 +286,30 @@ fn what_is_configured_decides_on_as_and_identifier(rt: HostRuntime) -> Result<()
 fn equal_faults_have_equal_fields(rt: HostRuntime) -> Result<(), Fail> {
     let config = Config::new(PARTS_A).ok_or("a configuration")?;
     let faults = open_faults(&config, &OPEN_B);
-    let none = OpenErrors::NONE;
+    let none = OpenSubcodes::NONE;
     let rows = [
-        OpenErrors {
+        OpenSubcodes {
             unspecific: true,
             ..none
         },
-        OpenErrors {
+        OpenSubcodes {
             version: true,
             ..none
         },
-        OpenErrors {
+        OpenSubcodes {
             peer_as: true,
             ..none
         },
-        OpenErrors {
+        OpenSubcodes {
             identifier: true,
             ..none
         },
-        OpenErrors {
+        OpenSubcodes {
             parameter: true,
             ..none
         },
-        OpenErrors { hold: true, ..none },
-        OpenErrors {
+        OpenSubcodes { hold: true, ..none },
+        OpenSubcodes {
             capability: true,
             ..none
         },

@@ -1,5 +1,5 @@
 use Rattle.std.proofs.Common.{arith}
-use Rattle.bgp_open.proofs.WrittenMessage.{appended_notification, appended_reads_back}
+use Rattle.bgp_open.proofs.WrittenNotification.{appended_notification, appended_reads_back}
 use Rattle.bgp_open.proofs.notification.write_notification.Goals as goal
 
 pub returns-clause-ok : goal.returns-clause-ok

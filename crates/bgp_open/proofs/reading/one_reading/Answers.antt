@@ -1,5 +1,0 @@
-use Rattle.bgp_open.proofs.OneReading as lemmas
-use Rattle.bgp_open.proofs.reading.one_reading.Goals as goal
-
-pub returns : goal.returns
-returns c = record { reads = lemmas.reads; once = lemmas.one_split; reads_back = lemmas.reads_back; whole = lemmas.is_whole-spelled }

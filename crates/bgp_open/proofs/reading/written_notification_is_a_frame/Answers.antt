@@ -1,5 +1,0 @@
-use Rattle.bgp_open.proofs.OwnOpens.{notification_frame}
-use Rattle.bgp_open.proofs.reading.written_notification_is_a_frame.Goals as goal
-
-pub returns : goal.returns
-returns c = notification_frame

@@ -1,0 +1,101 @@
+//! Laws of OPENs and NOTIFICATIONs: what stands in octets is read in the one way that there is, what
+//! is written is a frame, and a set of faults is told by what it names.
+
+ghost use Rattle.std.specs.Prelude.{◌≡◌, ◌≤◌, ◌↔◌, ◌⊎◌, ◌++◌, ℕ, List, length};
+ghost use Rattle.byteorder.specs.Endian.{big_bytes};
+ghost use Rattle.bgp_wire.specs.Framing.{IsFrame};
+ghost use Rattle.bgp_wire.specs.Octets.{AreOctets};
+ghost use Rattle.bgp_wire.specs.declared.header.Limit.{Limit};
+ghost use Rattle.bgp_open.specs.Triplet.{Triplet, IsCutTriplet, IsWhole, triplets_octets, triplets_of};
+ghost use Rattle.bgp_open.specs.Open.{IsOpen};
+ghost use Rattle.bgp_open.specs.OpenFault.{IsWellFormed, IsAnswered, HasOpenFault};
+ghost use Rattle.bgp_open.specs.OpenFault.{IsOtherVersion, open_fault_number};
+ghost use Rattle.bgp_open.specs.Open.{OpenFields, open_of, parameters_of};
+ghost use Rattle.bgp_open.specs.OpenSubcodes.{mandatory_faults, permitted_faults};
+ghost use Rattle.bgp_open.specs.OpenSubcodes.{Names, AreSubcodesOf, union};
+ghost use Rattle.bgp_open.specs.OwnOpen.{IsOwnOpen, own_fields};
+ghost use Rattle.bgp_open.specs.Written.{FitsOpen, open_octets, parameters_with};
+ghost use Rattle.bgp_open.specs.Written.{notification_octets};
+ghost use Rattle.bgp_open.specs.declared.subcodes.OpenSubcodes.{OpenSubcodes};
+ghost use Rattle.bgp_open.specs.declared.config.Config.{Config};
+ghost use Rattle.bgp_open.specs.declared.fault.OpenFault.{OpenFault};
+
+/// Octets are triplets, as parameters and capabilities are, and then a rest in which no whole one
+/// stands, in one way; and those are the triplets that are read (RFC 4271, 4.2; RFC 5492, 4).
+pub fn one_reading()
+    ensures reads { (octets : List ℕ) → (cut : List ℕ)
+        × (octets ≡ triplets_octets (triplets_of octets) ++ cut) × IsCutTriplet cut }
+    ensures once { (triplets others : List Triplet) (cut rest : List ℕ)
+        → triplets_octets triplets ++ cut ≡ triplets_octets others ++ rest → IsCutTriplet cut → IsCutTriplet rest
+        → triplets ≡ others }
+    ensures reads_back { (triplets : List Triplet) → triplets_of (triplets_octets triplets) ≡ triplets }
+    ensures whole { (octets : List ℕ)
+        → IsWhole octets ↔ ((triplets : List Triplet) × (octets ≡ triplets_octets triplets)) }
+{}
+
+/// Octets are a well-formed OPEN or have just one fault that is answered. Of an OPEN of version 4
+/// it is the least of those that it has, by their numbers. And it is one for which `open_faults`
+/// says that the OPEN has to be refused, with `00 04` as the data of subcode 1.
+pub fn one_fault()
+    ensures each { (octets : List ℕ)
+        → IsWellFormed octets ⊎ ((fault : OpenFault) × IsAnswered octets fault) }
+    ensures one { (octets : List ℕ) (fault other : OpenFault)
+        → IsAnswered octets fault → IsAnswered octets other → fault ≡ other }
+    ensures none { (octets : List ℕ) (fault : OpenFault)
+        → IsWellFormed octets → ¬ IsAnswered octets fault }
+    ensures least { (octets : List ℕ) (fault other : OpenFault)
+        → IsOpen octets → (¬ IsOtherVersion octets)
+        → IsAnswered octets fault → HasOpenFault octets other
+        → HasOpenFault octets fault × (open_fault_number fault ≤ open_fault_number other) }
+    ensures mandatory { (config : Config) (octets : List ℕ) (fault : OpenFault)
+        → IsAnswered octets fault
+        → mandatory_faults config octets (open_fault_number fault) (big_bytes 2 4) }
+{}
+
+/// What is written reads as it was meant: a well-formed OPEN with all capabilities in one
+/// parameter, or none.
+pub fn written_open_reads_back()
+    ensures { (fields : OpenFields) → FitsOpen fields → IsWellFormed (open_octets fields)
+        × (open_of (open_octets fields) ≡ fields)
+        × (triplets_of (parameters_of (open_octets fields)) ≡ parameters_with fields.capabilities) }
+{}
+
+/// A NOTIFICATION that is written has no header fault, whichever [`Limit`](bgp_wire::Limit) there
+/// is.
+pub fn written_notification_is_a_frame()
+    ensures { (code subcode : ℕ) (detail : List ℕ) → length detail ≤ 4075
+        → (limit : Limit) → IsFrame limit (notification_octets code subcode detail) }
+{}
+
+/// For every configuration there is an OPEN that the local system may send: what `write_open`
+/// writes of what is configured, which fits the fields of an OPEN and is octets. And a well-formed
+/// OPEN has no header fault, whichever [`Limit`](bgp_wire::Limit) there is.
+pub fn own_open_exists()
+    ensures own { (config : Config) → IsOwnOpen config (open_octets (own_fields config)) }
+    ensures fits { (config : Config) → FitsOpen (own_fields config) }
+    ensures octets { (config : Config) → AreOctets (open_octets (own_fields config)) }
+    ensures frame { (octets : List ℕ) → AreOctets octets → IsWellFormed octets
+        → (limit : Limit) → IsFrame limit octets }
+{}
+
+/// Sets of subcodes that name the same are equal values. So there is one set of the faults for which
+/// an OPEN has to be refused, and one of those for which it may be.
+pub fn one_set_of_subcodes()
+    ensures same { (subcodes others : OpenSubcodes)
+        → ((subcode : ℕ) (detail : List ℕ)
+        → (Names subcodes subcode detail ↔ Names others subcode detail))
+        → subcodes ≡ others }
+    ensures mandatory { (config : Config) (octets : List ℕ) (subcodes others : OpenSubcodes)
+        → AreSubcodesOf (mandatory_faults config octets) subcodes
+        → AreSubcodesOf (mandatory_faults config octets) others → subcodes ≡ others }
+    ensures permitted { (octets : List ℕ) (subcodes others : OpenSubcodes)
+        → AreSubcodesOf (permitted_faults octets) subcodes
+        → AreSubcodesOf (permitted_faults octets) others → subcodes ≡ others }
+{}
+
+/// The union of two sets of subcodes names what one of both names, and nothing else.
+pub fn subcodes_of_both_sets()
+    ensures { (subcodes others : OpenSubcodes) (subcode : ℕ) (detail : List ℕ)
+        → (Names (union subcodes others) subcode detail
+        ↔ (Names subcodes subcode detail ⊎ Names others subcode detail)) }
+{}
