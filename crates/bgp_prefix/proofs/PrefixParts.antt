@@ -1,13 +1,13 @@
 -- What the fields of a prefix come to, and what is made of an address or read from octets.
 use Rattle.std.proofs.Common.{◌≡◌, ℕ, suc, ◌+◌, ◌-◌, ◌*◌, ◌/◌, ◌<◌, ◌≤◌, List, [], ◌∷◌, ◌++◌, length, take, drop, get_or, refl, sym, ap, ◌∙◌, arith, Result, Ok, Err, one-add, subst}
-use Rattle.std.specs.Prelude.{OnOk, is_ok, if◌then◌else◌}
+use Rattle.std.specs.Prelude.{OnOk, OnErr, is_ok, if◌then◌else◌}
 use Rattle.std.proofs.lemmas.List.{append-nil, length-take-le, take_at, take-take, take_rest, drop_more}
 use Rattle.byteorder.specs.Endian.{big_bytes, big_number}
 use Rattle.bgp_prefix.specs.Bits.{bits_of_number, bits_of, number_of, with_zeros, octets_of}
 use Rattle.bgp_prefix.specs.Address.{family_of, bit_count, address_bits}
-use Rattle.bgp_prefix.specs.Prefix.{PrefixBits, BeginsWithPrefix, prefix_octets, prefix_of, lowest_address}
+use Rattle.bgp_prefix.specs.Prefix.{PrefixBits, BeginsWithPrefix, prefix_length, prefix_octets, prefix_of, lowest_address}
 use Rattle.bgp_prefix.specs.PrefixFields.{kept_bits, IsKept}
-use Rattle.bgp_prefix.specs.PrefixLaws.{length-bits_of_number, length-bits_of, length-kept_bits, bit_count-le}
+use Rattle.bgp_prefix.specs.PrefixLaws.{length-bits_of_number, length-bits_of, length-octets_of, length-kept_bits, bit_count-le}
 use Rattle.bgp_prefix.specs.declared.family.Family.{Family}
 use Rattle.bgp_prefix.specs.declared.address.Address.{Address}
 use Rattle.bgp_prefix.specs.declared.address.Address.TheVariants.{V4, V6}
@@ -63,11 +63,29 @@ written family count octets kept =
     ap (take ((count + 7) / 8)) kept.zeros ∙ take-octets_of ((count + 7) / 8) 16 (kept_bits count octets) (omega arith) in
     rw (as_long, front) refl
 
+-- how many octets spell a prefix
+pub count_of_octets : (prefix : PrefixBits) → length (prefix_octets prefix) ≡ 1 + (prefix_length prefix + 7) / 8
+unfolding prefix_octets
+count_of_octets prefix = omega (arith, length-octets_of ((prefix_length prefix + 7) / 8) prefix.bits)
+
 -- what an append of them leaves
 pub appended : {E : Type 0} (result : Result (Unit {0}) E) (old new : List ℕ) (family : Family) (count places : ℕ) (octets copied : List ℕ) (prefix : PrefixBits) → IsKept family count octets → ◌≡◌ {A = PrefixBits} (record { family = family; bits = kept_bits count octets }) prefix → copied ≡ octets → places ≡ (count + 7) / 8 → new ≡ (if is_ok result then old ++ take (1 + places) (count ∷ (copied ++ [])) else old) → OnOk result (new ≡ old ++ prefix_octets prefix)
 appended (Ok value) old new family count places octets copied prefix kept seen copy many items =
     rw (items, one-add, append-nil, copy, many) (ap (λ (back : List ℕ). old ++ back) (written family count octets kept ∙ ap prefix_octets seen))
 appended (Err error) old new family count places octets copied prefix kept seen copy many items = tt
+
+-- and how many of them it asks for
+pub asked : (family : Family) (count places : ℕ) (octets copied : List ℕ) (prefix : PrefixBits) → IsKept family count octets → ◌≡◌ {A = PrefixBits} (record { family = family; bits = kept_bits count octets }) prefix → copied ≡ octets → places ≡ (count + 7) / 8 → length (take (1 + places) (count ∷ (copied ++ []))) ≡ length (prefix_octets prefix)
+asked family count places octets copied prefix kept seen copy many =
+    rw (one-add, append-nil, copy, many) (ap length (written family count octets kept ∙ ap prefix_octets seen))
+
+pub refused_for : {E : Type 0} (result : Result (Unit {0}) E) (room count all same : ℕ) → OnErr result (room < count + all) → all ≡ same → OnErr result (room < count + same)
+refused_for (Ok value) room count all same full is = tt
+refused_for (Err error) room count all same full is = omega arith
+
+pub grown_by : {E : Type 0} (result : Result (Unit {0}) E) (new count all same : ℕ) → new ≡ (if is_ok result then count + all else count) → all ≡ same → OnOk result (new ≡ count + same)
+grown_by (Ok value) new count all same len is = omega arith
+grown_by (Err error) new count all same len is = tt
 
 -- the first bits of a field need its first octets alone
 few_octets : (count places : ℕ) (field : List ℕ) → count ≤ 8 * places → take count (bits_of (take places field)) ≡ take count (bits_of field)

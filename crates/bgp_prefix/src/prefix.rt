@@ -2,6 +2,7 @@
 
 ghost use Rattle.std.specs.Prelude.{◌≡◌, ◌≤◌, ◌<◌, ◌*◌, ◌+◌, ◌/◌, ◌++◌, ◌↔◌, ℕ};
 ghost use Rattle.std.specs.Prelude.{length, take, IfOk, IfSome, IsSome, OnOk, OnErr, Some};
+ghost use Rattle.std.specs.Prelude.{vec_len, vec_capacity};
 ghost use Rattle.bgp_prefix.specs.Bits.{bits_of, octets_of};
 ghost use Rattle.bgp_prefix.specs.Address.{family_of, bit_count, address_bits};
 ghost use Rattle.bgp_prefix.specs.Prefix.{
@@ -147,11 +148,25 @@ impl Prefix {
         Ok((prefix, 1 + count))
     }
 
-    /// Appends the octets that spell the prefix, with zeros for the bits after it. Refused for
-    /// memory it leaves all as before.
+    /// How many octets spell the prefix: one for its length, and the fewest that hold so many bits.
+    #[tactic(auto, using(crate::proofs::PrefixParts::count_of_octets))]
+    pub fn octet_len(&self) -> usize
+        ensures value { result ≡ length (prefix_octets self.now) }
+        ensures bound { result ≤ 17 }
+    {
+        1 + octet_count(self.length())
+    }
+
+    /// Appends the octets that spell the prefix, with zeros for the bits after it. It is `Err` only
+    /// where memory is refused, and then `out` is as before.
     pub fn write<A: Allocator>(&self, out: &mut Vec<u8, A>) -> Result<(), AllocError>
         ensures ok { OnOk result (out.new.items ≡ out.old.items ++ prefix_octets self.now) }
         ensures err { OnErr result (out.new.items ≡ out.old.items) }
+        ensures memory { OnErr result
+            (vec_capacity out.old < vec_len out.old + length (prefix_octets self.now)) }
+        ensures len { OnOk result
+            (vec_len out.new ≡ vec_len out.old + length (prefix_octets self.now)) }
+        ensures capacity { vec_capacity out.old ≤ vec_capacity out.new }
     {
         let mut octets = [0; 17];
         octets[0] = self.length;

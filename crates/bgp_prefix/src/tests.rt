@@ -451,6 +451,7 @@ fn prefixes_of_every_length_are_written_and_printed(rt: HostRuntime) -> Result<(
             let mut out = Vec::new(rt.alloc());
             prefix.write(&mut out)?;
             assert_eq!(rt; out.len(), 1 + usize::from(length).div_ceil(8));
+            assert_eq!(rt; prefix.octet_len(), 1 + usize::from(length).div_ceil(8));
             assert_eq!(rt; out.first().copied(), Some(length));
             let printed = format!(in rt.alloc(); "{prefix}")?;
             let wanted = format!(in rt.alloc(); "{text}/{length}")?;
