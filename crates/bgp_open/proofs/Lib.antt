@@ -8,3 +8,4 @@ pub mod CapabilityOctets
 pub mod OwnOpens
 pub mod EachOpen
 pub mod OneSetOfSubcodes
+pub mod OpenParts

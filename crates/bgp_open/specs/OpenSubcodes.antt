@@ -108,8 +108,8 @@ union subcodes others = record {
 
 -- fault by fault: the set of an OPEN whose fields can be told, and which has capabilities alone or
 -- not
-pub record AreOfFields (config : Config) (message : OpenFields) (alone : Bool) (subcodes : OpenSubcodes)
-    : Type 0 where
+pub record AreOfFields
+    (config : Config) (message : OpenFields) (alone : Bool) (subcodes : OpenSubcodes) : Type 0 where
   pub unspecific : ¬ IsTrue subcodes.unspecific
   pub version : ¬ IsTrue subcodes.version
   pub peer_as : IsTrue subcodes.peer_as ↔ IsBadPeerAs config message

@@ -11,10 +11,10 @@ use Rattle.bgp_open.specs.Open.{OpenFields, open_of}
 use Rattle.bgp_open.specs.OpenFault.{IsWellFormed}
 
 -- The octets are an OPEN that the local system may send: whole, of version 4 and well-formed, with
--- the AS number (or AS_TRANS), Hold Time and identifier that are configured; the families that it offers (RFC
--- 4760, 8) are those that are configured; and it has a capability of four-octet AS numbers, the
--- first with its own, exactly where that is configured (RFC 6793, 4.1). Other capabilities are
--- free.
+-- the AS number (or AS_TRANS), Hold Time and identifier that are configured; the families that it
+-- offers (RFC 4760, 8) are those that are configured; and it has a capability of four-octet AS
+-- numbers, the first with its own, exactly where that is configured (RFC 6793, 4.1). Other
+-- capabilities are free.
 pub record IsOwnOpen (config : Config) (octets : List ℕ) : Type 0 where
   pub form : IsWellFormed octets
   pub my_as : (open_of octets).my_as ≡ two_octet_as config.parts.local_as

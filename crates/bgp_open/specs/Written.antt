@@ -21,12 +21,16 @@ unfoldable pub fixed_octets : ℕ → ℕ → ℕ → ℕ → List ℕ
 fixed_octets my_as hold id count =
     4 ∷ (big_bytes 2 my_as ++ (big_bytes 2 hold ++ (big_bytes 4 id ++ count ∷ [])))
 
+-- an OPEN with these fields and these parameters
+abbrev pub open_with : ℕ → ℕ → ℕ → List Triplet → List ℕ
+open_with my_as hold id parameters =
+    let octets = triplets_octets parameters in
+    message_octets 1 (fixed_octets my_as hold id (length octets) ++ octets)
+
 -- an OPEN that says this
 abbrev pub open_octets : OpenFields → List ℕ
 open_octets fields =
-    let parameters = triplets_octets (parameters_with fields.capabilities) in
-    message_octets 1
-    (fixed_octets fields.my_as fields.hold fields.id (length parameters) ++ parameters)
+    open_with fields.my_as fields.hold fields.id (parameters_with fields.capabilities)
 
 -- no OPEN has room for these capabilities: their parameter would have more than 255 octets, as also
 -- where one value alone has

@@ -1,20 +1,22 @@
-//! Laws of OPENs and NOTIFICATIONs: what stands in octets is read in the one way that there is, what
-//! is written is a frame, and a set of faults is told by what it names.
+//! Laws of OPENs and NOTIFICATIONs: what stands in octets is read in the one way that there is,
+//! what is written is a frame, and a set of faults is told by what it names.
 
 ghost use Rattle.std.specs.Prelude.{◌≡◌, ◌≤◌, ◌↔◌, ◌⊎◌, ◌++◌, ℕ, List, length};
+ghost use Rattle.std.specs.List.{flat_map};
 ghost use Rattle.byteorder.specs.Endian.{big_bytes};
 ghost use Rattle.bgp_wire.specs.Framing.{IsFrame};
 ghost use Rattle.bgp_wire.specs.Octets.{AreOctets};
 ghost use Rattle.bgp_wire.specs.declared.header.Limit.{Limit};
-ghost use Rattle.bgp_open.specs.Triplet.{Triplet, IsCutTriplet, IsWhole, triplets_octets, triplets_of};
+ghost use Rattle.bgp_open.specs.Triplet.{Triplet, IsCutTriplet, IsWhole};
+ghost use Rattle.bgp_open.specs.Triplet.{triplets_octets, triplets_of};
 ghost use Rattle.bgp_open.specs.Open.{IsOpen};
-ghost use Rattle.bgp_open.specs.OpenFault.{IsWellFormed, IsAnswered, HasOpenFault};
+ghost use Rattle.bgp_open.specs.OpenFault.{IsReadable, IsWellFormed, IsAnswered, HasOpenFault};
 ghost use Rattle.bgp_open.specs.OpenFault.{IsOtherVersion, open_fault_number};
-ghost use Rattle.bgp_open.specs.Open.{OpenFields, open_of, parameters_of};
+ghost use Rattle.bgp_open.specs.Open.{OpenFields, open_of, parameters_of, capabilities_in};
 ghost use Rattle.bgp_open.specs.OpenSubcodes.{mandatory_faults, permitted_faults};
 ghost use Rattle.bgp_open.specs.OpenSubcodes.{Names, AreSubcodesOf, union};
 ghost use Rattle.bgp_open.specs.OwnOpen.{IsOwnOpen, own_fields};
-ghost use Rattle.bgp_open.specs.Written.{FitsOpen, open_octets, parameters_with};
+ghost use Rattle.bgp_open.specs.Written.{FitsOpen, open_with, open_octets, parameters_with};
 ghost use Rattle.bgp_open.specs.Written.{notification_octets};
 ghost use Rattle.bgp_open.specs.declared.subcodes.OpenSubcodes.{OpenSubcodes};
 ghost use Rattle.bgp_open.specs.declared.config.Config.{Config};
@@ -26,9 +28,10 @@ pub fn one_reading()
     ensures reads { (octets : List ℕ) → (cut : List ℕ)
         × (octets ≡ triplets_octets (triplets_of octets) ++ cut) × IsCutTriplet cut }
     ensures once { (triplets others : List Triplet) (cut rest : List ℕ)
-        → triplets_octets triplets ++ cut ≡ triplets_octets others ++ rest → IsCutTriplet cut → IsCutTriplet rest
-        → triplets ≡ others }
-    ensures reads_back { (triplets : List Triplet) → triplets_of (triplets_octets triplets) ≡ triplets }
+        → triplets_octets triplets ++ cut ≡ triplets_octets others ++ rest
+        → IsCutTriplet cut → IsCutTriplet rest → triplets ≡ others }
+    ensures reads_back { (triplets : List Triplet)
+        → triplets_of (triplets_octets triplets) ≡ triplets }
     ensures whole { (octets : List ℕ)
         → IsWhole octets ↔ ((triplets : List Triplet) × (octets ≡ triplets_octets triplets)) }
 {}
@@ -50,6 +53,16 @@ pub fn one_fault()
     ensures mandatory { (config : Config) (octets : List ℕ) (fault : OpenFault)
         → IsAnswered octets fault
         → mandatory_faults config octets (open_fault_number fault) (big_bytes 2 4) }
+{}
+
+/// A readable OPEN is its header, its fixed fields and its parameters, however many there are, and
+/// its capabilities are those of all its parameters, joined.
+pub fn each_readable_open_is_its_parts()
+    ensures parts { (octets : List ℕ) → AreOctets octets → IsReadable octets
+        → octets ≡ open_with (open_of octets).my_as (open_of octets).hold (open_of octets).id
+        (triplets_of (parameters_of octets)) }
+    ensures capabilities { (octets : List ℕ) → (open_of octets).capabilities
+        ≡ flat_map capabilities_in (triplets_of (parameters_of octets)) }
 {}
 
 /// What is written reads as it was meant: a well-formed OPEN with all capabilities in one
@@ -78,8 +91,8 @@ pub fn own_open_exists()
         → (limit : Limit) → IsFrame limit octets }
 {}
 
-/// Sets of subcodes that name the same are equal values. So there is one set of the faults for which
-/// an OPEN has to be refused, and one of those for which it may be.
+/// Sets of subcodes that name the same are equal values. So there is one set of the faults for
+/// which an OPEN has to be refused, and one of those for which it may be.
 pub fn one_set_of_subcodes()
     ensures same { (subcodes others : OpenSubcodes)
         → ((subcode : ℕ) (detail : List ℕ)

@@ -17,11 +17,11 @@ use bgp_wire::{MessageType, message_body, put, put_header, put_u8};
 use std::alloc::Allocator;
 use thiserror::Error;
 
-/// The octets before the data: the header, the code and the subcode.
-const DETAIL_AT: usize = 21;
+/// The octets before the data.
+const DETAIL_AT: usize = 21; // header 19, code 1, subcode 1
 
-/// The most octets of data, so that the message has at most 4096 (RFC 4271, 4.1).
-const MOST_DETAIL: usize = 4075;
+/// The most octets of data (RFC 4271, 4.1).
+const MOST_DETAIL: usize = 4075; // message 4096, less 21 before the data
 
 /// Why a speaker closes the connection.
 #[derive(Clone, Copy, Debug, PartialEq, Eq)]

@@ -20,15 +20,15 @@ use bgp_wire::{MessageType, message_body};
 use byteorder::{BigEndian, ByteOrder};
 use std::marker::Model;
 
-/// The octets of the fields that every OPEN has.
-const FIXED_LENGTH: usize = 10;
+/// How many octets the fields have that are in every OPEN.
+const FIXED_LEN: usize = 10; // version 1, AS 2, hold time 2, identifier 4, parameters' length 1
 
 /// The only version of BGP that is spoken here.
 pub(crate) const VERSION: u8 = 4;
 
 /// Version.
 #[tactic(auto, unfolding(crate::specs::Open::version_of))]
-fn read_version(fields: &[u8; FIXED_LENGTH]) -> u8
+fn read_version(fields: &[u8; FIXED_LEN]) -> u8
     ensures { result ≡ version_of fields.now }
 {
     fields[0]
@@ -36,7 +36,7 @@ fn read_version(fields: &[u8; FIXED_LENGTH]) -> u8
 
 /// My Autonomous System.
 #[tactic(auto, unfolding(crate::specs::Open::my_as_of))]
-fn read_my_as(fields: &[u8; FIXED_LENGTH]) -> u16
+fn read_my_as(fields: &[u8; FIXED_LEN]) -> u16
     ensures { result ≡ my_as_of fields.now }
 {
     BigEndian::read_u16(&fields[1..])
@@ -44,7 +44,7 @@ fn read_my_as(fields: &[u8; FIXED_LENGTH]) -> u16
 
 /// Hold Time, in seconds.
 #[tactic(auto, unfolding(crate::specs::Open::hold_of))]
-fn read_hold(fields: &[u8; FIXED_LENGTH]) -> u16
+fn read_hold(fields: &[u8; FIXED_LEN]) -> u16
     ensures { result ≡ hold_of fields.now }
 {
     BigEndian::read_u16(&fields[3..])
@@ -52,7 +52,7 @@ fn read_hold(fields: &[u8; FIXED_LENGTH]) -> u16
 
 /// BGP Identifier.
 #[tactic(auto, unfolding(crate::specs::Open::id_of))]
-fn read_id(fields: &[u8; FIXED_LENGTH]) -> u32
+fn read_id(fields: &[u8; FIXED_LEN]) -> u32
     ensures { result ≡ id_of fields.now }
 {
     BigEndian::read_u32(&fields[5..])
@@ -60,20 +60,20 @@ fn read_id(fields: &[u8; FIXED_LENGTH]) -> u32
 
 /// Optional Parameters Length.
 #[tactic(auto, unfolding(crate::specs::Open::parameters_length_of))]
-fn read_parameters_length(fields: &[u8; FIXED_LENGTH]) -> u8
+fn read_parameters_length(fields: &[u8; FIXED_LEN]) -> u8
     ensures { result ≡ parameters_length_of fields.now }
 {
     fields[9]
 }
 
 /// The fixed fields and the parameters of a whole OPEN.
-fn open_parts(octets: &[u8]) -> Option<(&[u8; FIXED_LENGTH], &[u8])>
+fn open_parts(octets: &[u8]) -> Option<(&[u8; FIXED_LEN], &[u8])>
     ensures whole { IfSome result (λ parts. IsOpen octets.entry.now) }
     ensures fields { IfSome result (λ parts. parts.0.now ≡ fixed_fields_of octets.entry.now) }
     ensures parameters { IfSome result (λ parts. parts.1.now ≡ parameters_of octets.entry.now) }
     ensures none { IfNone result (¬ IsOpen octets.entry.now) }
 {
-    message_body(MessageType::Open, octets)?.split_first_chunk::<FIXED_LENGTH>()
+    message_body(MessageType::Open, octets)?.split_first_chunk::<FIXED_LEN>()
 }
 
 /// The fields of an OPEN of version 4. Contracts see it as these.

@@ -17,11 +17,11 @@ use bgp_wire::{MessageType, put, put_header, put_u8, put_u16, put_u32};
 use std::alloc::Allocator;
 use thiserror::Error;
 
-/// The octets before the parameters: the header and the fixed fields.
-const PARAMETERS_AT: usize = 29;
+/// The octets before the parameters.
+const PARAMETERS_AT: usize = 29; // header 19, fixed fields 10
 
-/// The most octets of capabilities in one parameter of at most 255.
-const MOST_CAPABILITIES: usize = 253;
+/// The most octets of capabilities in the one parameter.
+const MOST_CAPABILITIES: usize = 253; // parameters 255, less type 1, length 1
 
 /// Why an OPEN isn't written.
 #[derive(Clone, Copy, Debug, PartialEq, Eq, Error)]
@@ -47,7 +47,8 @@ impl OpenWriteFault {
 fn room_behind(capabilities: &[Capability<'_>], room: usize) -> Option<usize>
     ensures some { IfSome result (λ left.
         left + length (triplets_octets (map capability_of capabilities.now)) ≡ room) }
-    ensures none { IfNone result (room < length (triplets_octets (map capability_of capabilities.now))) }
+    ensures none { IfNone result
+        (room < length (triplets_octets (map capability_of capabilities.now))) }
 {
     let mut left = room;
     for capability in capabilities {

@@ -9,10 +9,10 @@ use Rattle.std.specs.Net.Addr.{segments_of, octets_of as octets_of_segments}
 use Rattle.byteorder.specs.Endian.{big_bytes, big_number}
 use Rattle.byteorder.specs.Numbers.{big_from-cons, big_from-lt, big_number-reads_back, length-bytes_high_first}
 use Rattle.byteorder.proofs.Bytes.{pow256}
-use Rattle.bgp_prefix.specs.Bits.{bits_of_number, bits_of, number_of}
+use Rattle.bgp_prefix.specs.Bits.{bits_of_number, bits_of_octets, number_of_bits}
 use Rattle.bgp_prefix.specs.Address.{ipv6_groups}
 use Rattle.bgp_prefix.specs.PrefixLaws.{length-bits_of_number}
-use Rattle.bgp_prefix.proofs.BitsAndNumbers.{number_of-bits, bits_of_number-add, bits-low, bits_of-big_bytes}
+use Rattle.bgp_prefix.proofs.BitsAndNumbers.{number_of_bits-bits, bits_of_number-add, bits-low, bits_of_octets-big_bytes}
 use Rattle.bgp_prefix.proofs.PrintedTexts.{octets_below}
 
 abbrev pub AreOctets : List ℕ → Type 0
@@ -20,28 +20,28 @@ AreOctets octets = (k : ℕ) → get_or octets k 0 < 256
 
 -- ---- octets and their number
 
-bits_of-big_number : (octets : List ℕ) → AreOctets octets → bits_of_number (8 * length octets) (big_number (length octets) octets) ≡ bits_of octets
-unfolding bits_of
-bits_of-big_number [] fit = unfold bits_of_number in refl
-bits_of-big_number (octet ∷ octets) fit =
+bits_of_octets-big_number : (octets : List ℕ) → AreOctets octets → bits_of_number (8 * length octets) (big_number (length octets) octets) ≡ bits_of_octets octets
+unfolding bits_of_octets
+bits_of_octets-big_number [] fit = unfold bits_of_number in refl
+bits_of_octets-big_number (octet ∷ octets) fit =
     let n = length octets in
     let eight : 8 * suc n ≡ 8 + 8 * n = omega arith in
-    let later = bits_of-big_number octets (λ k. fit (suc k)) in
+    let later = bits_of_octets-big_number octets (λ k. fit (suc k)) in
     let moved = big_from-cons 0 n octet octets in
     let small : big_number n octets < 2 ^ (8 * n) = rw (← pow256 n) (big_from-lt 0 n octets (λ k. fit (suc k))) in
     rw (eight, moved, pow256 n, bits_of_number-add, shr_high octet (8 * n) (big_number n octets) small, bits-low (8 * n) (8 * n) octet (big_number n octets) (omega arith), later) refl
 
-same_octets : (octets also : List ℕ) → AreOctets octets → AreOctets also → length octets ≡ length also → bits_of octets ≡ bits_of also → octets ≡ also
-unfolding bits_of
+same_octets : (octets also : List ℕ) → AreOctets octets → AreOctets also → length octets ≡ length also → bits_of_octets octets ≡ bits_of_octets also → octets ≡ also
+unfolding bits_of_octets
 same_octets [] [] fit fit' len same = refl
 same_octets [] (o ∷ also) fit fit' len same = absurd (omega arith)
 same_octets (o ∷ octets) [] fit fit' len same = absurd (omega arith)
 same_octets (o ∷ octets) (p ∷ also) fit fit' len same =
     let front : bits_of_number 8 o ≡ bits_of_number 8 p =
-    sym (take_at (bits_of_number 8 o) (bits_of octets) 8 (length-bits_of_number 8 o)) ∙ ap (take 8) same ∙ take_at (bits_of_number 8 p) (bits_of also) 8 (length-bits_of_number 8 p) in
-    let back : bits_of octets ≡ bits_of also =
-    sym (drop_at (bits_of_number 8 o) (bits_of octets) 8 (length-bits_of_number 8 o)) ∙ ap (drop 8) same ∙ drop_at (bits_of_number 8 p) (bits_of also) 8 (length-bits_of_number 8 p) in
-    let numbers : o % 2 ^ 8 ≡ p % 2 ^ 8 = sym (number_of-bits 8 o) ∙ ap number_of front ∙ number_of-bits 8 p in
+    sym (take_at (bits_of_number 8 o) (bits_of_octets octets) 8 (length-bits_of_number 8 o)) ∙ ap (take 8) same ∙ take_at (bits_of_number 8 p) (bits_of_octets also) 8 (length-bits_of_number 8 p) in
+    let back : bits_of_octets octets ≡ bits_of_octets also =
+    sym (drop_at (bits_of_number 8 o) (bits_of_octets octets) 8 (length-bits_of_number 8 o)) ∙ ap (drop 8) same ∙ drop_at (bits_of_number 8 p) (bits_of_octets also) 8 (length-bits_of_number 8 p) in
+    let numbers : o % 2 ^ 8 ≡ p % 2 ^ 8 = sym (number_of_bits-bits 8 o) ∙ ap number_of_bits front ∙ number_of_bits-bits 8 p in
     let first : o ≡ p = omega (arith, fit 0, fit' 0) in
     ap₂ ◌∷◌ first (same_octets octets also (λ k. fit (suc k)) (λ k. fit' (suc k)) (omega arith) back)
 
@@ -49,7 +49,7 @@ pub big_bytes-big_number : (count : ℕ) (octets : List ℕ) → length octets �
 big_bytes-big_number count octets len fit =
     rw (← len)
     (same_octets (big_bytes (length octets) (big_number (length octets) octets)) octets (octets_below (length octets) _) fit (length-bytes_high_first (length octets) _)
-    (bits_of-big_bytes (length octets) _ ∙ bits_of-big_number octets fit))
+    (bits_of_octets-big_bytes (length octets) _ ∙ bits_of_octets-big_number octets fit))
 
 pub from_be_bytes-4 : (octets : List ℕ) → from_be_bytes w32 octets ≡ big_number 4 octets
 from_be_bytes-4 octets = omega arith

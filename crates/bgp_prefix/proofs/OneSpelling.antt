@@ -2,10 +2,10 @@
 use Rattle.std.proofs.Common.{◌≡◌, ℕ, suc, ◌+◌, ◌-◌, ◌*◌, ◌/◌, ◌<◌, ◌≤◌, false, List, length, take, drop, replicate, get_or, Result, Ok, refl, sym, ap, ap₂, ◌∙◌, arith}
 use Rattle.std.proofs.lemmas.List.{length-take-le, get_or-take, take_at, drop_at}
 use Rattle.std.proofs.lemmas.List.Elements.{All-replicate}
-use Rattle.bgp_prefix.specs.Bits.{bits_of, with_zeros, octets_of}
+use Rattle.bgp_prefix.specs.Bits.{bits_of_octets, with_zeros, octets_of}
 use Rattle.bgp_prefix.specs.Prefix.{PrefixBits, prefix_length, IsPrefix, IsPrefixSpelling, HasZerosAfter, BeginsWithPrefix, prefix_octets}
 use Rattle.bgp_prefix.specs.PrefixLaws.{length-octets_of}
-use Rattle.bgp_prefix.proofs.BitsAndNumbers.{bits_of-octets_of}
+use Rattle.bgp_prefix.proofs.BitsAndNumbers.{bits_of_octets-octets_of}
 use Rattle.bgp_prefix.specs.declared.family.Family.{Family}
 use Rattle.bgp_prefix.specs.declared.prefix.PrefixFault.{PrefixFault}
 
@@ -13,7 +13,7 @@ use Rattle.bgp_prefix.specs.declared.prefix.PrefixFault.{PrefixFault}
 pub record Tells (family : Family) (octets : List ℕ) (prefix : PrefixBits) (count : ℕ) : Type 0 where
   pub as_long : prefix_length prefix ≡ get_or octets 0 0
   pub many : count ≡ suc ((get_or octets 0 0 + 7) / 8)
-  pub bits : prefix.bits ≡ take (get_or octets 0 0) (bits_of (drop 1 (take (suc ((get_or octets 0 0 + 7) / 8)) octets)))
+  pub bits : prefix.bits ≡ take (get_or octets 0 0) (bits_of_octets (drop 1 (take (suc ((get_or octets 0 0 + 7) / 8)) octets)))
 
 pub tells : (family : Family) (octets : List ℕ) (prefix : PrefixBits) (count : ℕ) → BeginsWithPrefix family octets prefix count → Tells family octets prefix count
 tells family octets prefix count begins =
@@ -32,7 +32,7 @@ tells family octets prefix count begins =
     record {
       as_long = as_long;
       many = rw (← as_long) many;
-      bits = rw (← as_long) (sym s.first ∙ ap (λ (all : List ℕ). take n (bits_of all)) field);
+      bits = rw (← as_long) (sym s.first ∙ ap (λ (all : List ℕ). take n (bits_of_octets all)) field);
     }
 
 pub one_spelling : (family : Family) (octets : List ℕ) (p q : PrefixBits) (m n : ℕ) → BeginsWithPrefix family octets p m → BeginsWithPrefix family octets q n → (p ≡ q) × (m ≡ n)
@@ -64,7 +64,7 @@ written_spelling prefix fits =
       spelled = refl;
       enough = omega arith;
       fewest = λ count more. omega arith;
-      first = rw (bits_of-octets_of places prefix.bits (omega arith)) (take_at prefix.bits _ n refl);
+      first = rw (bits_of_octets-octets_of places prefix.bits (omega arith)) (take_at prefix.bits _ n refl);
     }
 
 -- the bits after the prefix are zeros
@@ -73,5 +73,5 @@ unfolding prefix_octets with_zeros
 written_zeros prefix =
     let n = prefix_length prefix in
     let zeros = replicate (8 * ((n + 7) / 8) - n) false in
-    rw (bits_of-octets_of ((n + 7) / 8) prefix.bits (omega arith), drop_at prefix.bits zeros n refl)
+    rw (bits_of_octets-octets_of ((n + 7) / 8) prefix.bits (omega arith), drop_at prefix.bits zeros n refl)
     (All-replicate (λ bit. bit ≡ false) (8 * ((n + 7) / 8) - n) false refl)

@@ -2,10 +2,10 @@
 use Rattle.std.proofs.Common.{◌≡◌, ℕ, zero, suc, ◌+◌, ◌-◌, ◌*◌, ◌/◌, ◌^◌, ◌<◌, ◌≤◌, Bool, false, List, [], ◌∷◌, ◌++◌, length, take, drop, replicate, get_or, All, refl, sym, ap, ap₂, ◌∙◌, arith}
 use Rattle.std.proofs.lemmas.List.{append-nil, length-drop, length-take, take_all, take-append-drop}
 use Rattle.std.proofs.lemmas.List.Elements.{All-head, All-tail}
-use Rattle.bgp_prefix.specs.Bits.{bits_of, number_of, with_zeros, octets_of}
+use Rattle.bgp_prefix.specs.Bits.{bits_of_octets, number_of_bits, with_zeros, octets_of}
 use Rattle.bgp_prefix.specs.Prefix.{PrefixBits, prefix_length, IsPrefixSpelling, HasZerosAfter, prefix_octets}
-use Rattle.bgp_prefix.specs.PrefixLaws.{length-bits_of, length-octets_of}
-use Rattle.bgp_prefix.proofs.BitsAndNumbers.{length-with_zeros, number_of-lt, bits_of-octets_of}
+use Rattle.bgp_prefix.specs.PrefixLaws.{length-bits_of_octets, length-octets_of}
+use Rattle.bgp_prefix.proofs.BitsAndNumbers.{length-with_zeros, number_of_bits-lt, bits_of_octets-octets_of}
 use Rattle.bgp_prefix.proofs.Masks.{whole_octets}
 
 abbrev AreOctets : List ℕ → Type 0
@@ -21,15 +21,15 @@ unfolding octets_of
 no_octets bits = refl
 
 -- octets are told by their bits
-same_octets : (octets : List ℕ) → AreOctets octets → octets_of (length octets) (bits_of octets) ≡ octets
+same_octets : (octets : List ℕ) → AreOctets octets → octets_of (length octets) (bits_of_octets octets) ≡ octets
 same_octets octets fit =
     let n = length octets in
     let many : n + 0 ≡ n = omega arith in
-    let bits : take (8 * n + 0) (bits_of octets) ≡ bits_of octets =
-    take_all (8 * n + 0) (bits_of octets) (omega (arith, length-bits_of octets)) in
+    let bits : take (8 * n + 0) (bits_of_octets octets) ≡ bits_of_octets octets =
+    take_all (8 * n + 0) (bits_of_octets octets) (omega (arith, length-bits_of_octets octets)) in
     sym (ap₂ octets_of many bits)
     ∙ whole_octets n 0 0 octets fit (omega arith)
-    ∙ ap (λ (rest : List ℕ). take n octets ++ rest) (no_octets (take 0 (bits_of (drop n octets))))
+    ∙ ap (λ (rest : List ℕ). take n octets ++ rest) (no_octets (take 0 (bits_of_octets (drop n octets))))
     ∙ append-nil (take n octets)
     ∙ take_all n octets (omega arith)
 
@@ -39,8 +39,8 @@ unfolding octets_of
 made_octets zero bits k = omega arith
 made_octets (suc count) bits zero =
     let eight = length-with_zeros 8 (take 8 bits) (omega (arith, length-take 8 bits)) in
-    let below = number_of-lt (with_zeros 8 (take 8 bits)) in
-    let bound : number_of (with_zeros 8 (take 8 bits)) < 2 ^ 8 = rw eight at below in
+    let below = number_of_bits-lt (with_zeros 8 (take 8 bits)) in
+    let bound : number_of_bits (with_zeros 8 (take 8 bits)) < 2 ^ 8 = rw eight at below in
     bound
 made_octets (suc count) bits (suc k) = made_octets count (drop 8 bits) k
 
@@ -50,19 +50,19 @@ all_false (bit ∷ bits) each =
     ap₂ ◌∷◌ (All-head (λ b. b ≡ false) bit bits each) (all_false bits (All-tail (λ b. b ≡ false) bit bits each))
 
 -- the octets after the length
-one_field : (bits : List Bool) (field : List ℕ) → AreOctets field → length bits ≤ 8 * length field → take (length bits) (bits_of field) ≡ bits
-    → All (λ bit. bit ≡ false) (drop (length bits) (bits_of field)) → field ≡ octets_of (length field) bits
+one_field : (bits : List Bool) (field : List ℕ) → AreOctets field → length bits ≤ 8 * length field → take (length bits) (bits_of_octets field) ≡ bits
+    → All (λ bit. bit ≡ false) (drop (length bits) (bits_of_octets field)) → field ≡ octets_of (length field) bits
 unfolding with_zeros
 one_field bits field fit enough first zeros =
     let n = length bits in
     let made = octets_of (length field) bits in
-    let gap : length (drop n (bits_of field)) ≡ 8 * length field - n = omega (arith, length-drop n (bits_of field), length-bits_of field) in
-    let after : drop n (bits_of field) ≡ replicate (8 * length field - n) false =
-    all_false (drop n (bits_of field)) zeros ∙ ap (λ k. replicate k false) gap in
-    let whole : bits_of field ≡ bits_of made =
-    sym (take-append-drop n (bits_of field)) ∙ ap₂ ◌++◌ first after ∙ sym (bits_of-octets_of (length field) bits enough) in
-    let back : octets_of (length field) (bits_of made) ≡ made =
-    ap (λ k. octets_of k (bits_of made)) (sym (length-octets_of (length field) bits)) ∙ same_octets made (made_octets (length field) bits) in
+    let gap : length (drop n (bits_of_octets field)) ≡ 8 * length field - n = omega (arith, length-drop n (bits_of_octets field), length-bits_of_octets field) in
+    let after : drop n (bits_of_octets field) ≡ replicate (8 * length field - n) false =
+    all_false (drop n (bits_of_octets field)) zeros ∙ ap (λ k. replicate k false) gap in
+    let whole : bits_of_octets field ≡ bits_of_octets made =
+    sym (take-append-drop n (bits_of_octets field)) ∙ ap₂ ◌++◌ first after ∙ sym (bits_of_octets-octets_of (length field) bits enough) in
+    let back : octets_of (length field) (bits_of_octets made) ≡ made =
+    ap (λ k. octets_of k (bits_of_octets made)) (sym (length-octets_of (length field) bits)) ∙ same_octets made (made_octets (length field) bits) in
     sym (same_octets field fit) ∙ ap (octets_of (length field)) whole ∙ back
 
 pub one_writing : (prefix : PrefixBits) (octets : List ℕ) → All (λ octet. octet < 256) octets → IsPrefixSpelling prefix octets → HasZerosAfter prefix octets
@@ -77,5 +77,5 @@ one_writing prefix octets each s zeros =
     let is_field : drop 1 octets ≡ field = ap (drop 1) s.spelled in
     let all : All (λ octet. octet < 256) (n ∷ field) = rw s.spelled at each in
     let fit = are_octets field (All-tail (λ o. o < 256) n field all) in
-    let after : All (λ bit. bit ≡ false) (drop n (bits_of field)) = rw is_field at zeros in
+    let after : All (λ bit. bit ≡ false) (drop n (bits_of_octets field)) = rw is_field at zeros in
     s.spelled ∙ ap (λ (f : List ℕ). n ∷ f) (one_field prefix.bits field fit enough s.first after ∙ ap (λ k. octets_of k prefix.bits) many)

@@ -5,17 +5,17 @@ use Rattle.std.proofs.lemmas.Fmt.{digits_is_IsNumeral}
 use Rattle.std.specs.List.{AllZip}
 use Rattle.std.specs.Net.Text.{hex}
 use Rattle.std.proofs.NetLemmas.Texts.{AllSegments, AllSegments-take, AllSegments-drop}
-use Rattle.bgp_prefix.specs.Bits.{bits_of_number, number_of, with_zeros}
+use Rattle.bgp_prefix.specs.Bits.{bits_of_number, number_of_bits, with_zeros}
 use Rattle.bgp_prefix.specs.Address.{IsAddress, ipv6_groups, family_of, bit_count, address_bits}
 use Rattle.bgp_prefix.specs.Prefix.{PrefixBits, prefix_length, IsPrefix, prefix_of, lowest_address, address_of}
-use Rattle.bgp_prefix.specs.Text.{hex_text, colon_text, longest_zeros, shortened_text, address_text, prefix_text}
+use Rattle.bgp_prefix.specs.Text.{group_text, colon_text, longest_zeros, shortened_text, address_text, prefix_text}
 use Rattle.bgp_prefix.specs.ZeroRun.{IsShortenedRun}
 use Rattle.bgp_prefix.specs.Notation.{IsGroupText, AreGroups, IsIpv6Text, IsAddressText, IsPrefixText}
 use Rattle.bgp_prefix.specs.declared.family.Family.{Family}
 use Rattle.bgp_prefix.specs.declared.address.Address.{Address}
 use Rattle.bgp_prefix.specs.declared.address.Address.TheVariants.{V4, V6}
-use Rattle.bgp_prefix.proofs.BitsAndNumbers.{length-with_zeros, number_of-lt, bits-number_of}
-use Rattle.bgp_prefix.proofs.PrintedTexts.{hex_text-hex, longest_zeros_first, ipv6_groups-fit}
+use Rattle.bgp_prefix.proofs.BitsAndNumbers.{length-with_zeros, number_of_bits-lt, bits-number_of_bits}
+use Rattle.bgp_prefix.proofs.PrintedTexts.{group_text-hex, longest_zeros_first, ipv6_groups-fit}
 
 -- ---- groups
 
@@ -23,19 +23,19 @@ length-hex : (group : ℕ) → length (hex group) ≤ 4
 unfolding hex
 length-hex group = omega (arith, length-drop {A = ℕ})
 
-group_text : (group : ℕ) → group < 2 ^ 16 → IsGroupText (hex_text group) group
-unfolding hex_text
-group_text group fits =
+group_is_read : (group : ℕ) → group < 2 ^ 16 → IsGroupText (group_text group) group
+unfolding group_text
+group_is_read group fits =
     let (numeral, value) = digits_is_IsNumeral 16 false (omega arith) (omega arith) group (omega arith) in
-    (numeral, omega (arith, ap length (hex_text-hex group fits), length-hex group), value)
+    (numeral, omega (arith, ap length (group_text-hex group fits), length-hex group), value)
 
-group_texts : (groups : List ℕ) → AllSegments groups → AllZip IsGroupText (map hex_text groups) groups
+group_texts : (groups : List ℕ) → AllSegments groups → AllZip IsGroupText (map group_text groups) groups
 group_texts [] fit = tt
-group_texts (group ∷ groups) fit = (group_text group (fit 0), group_texts groups (λ k. fit (suc k)))
+group_texts (group ∷ groups) fit = (group_is_read group (fit 0), group_texts groups (λ k. fit (suc k)))
 
 groups_read : (groups : List ℕ) → AllSegments groups → AreGroups (colon_text groups) groups
 unfolding colon_text
-groups_read groups fit = (map hex_text groups, refl, group_texts groups fit)
+groups_read groups fit = (map group_text groups, refl, group_texts groups fit)
 
 shortened_read : (groups : List ℕ) → length groups ≡ 8 → AllSegments groups → (run : Option (ℕ × ℕ)) → IsShortenedRun groups run → IsIpv6Text (shortened_text groups run) groups
 unfolding shortened_text
@@ -72,13 +72,13 @@ address_read (V6 number) fits =
 
 -- ---- prefixes
 
-zeros_number : (count : ℕ) (bits : List Bool) → length bits ≤ count → (number_of (with_zeros count bits) < 2 ^ count) × (take (length bits) (bits_of_number count (number_of (with_zeros count bits))) ≡ bits)
+zeros_number : (count : ℕ) (bits : List Bool) → length bits ≤ count → (number_of_bits (with_zeros count bits) < 2 ^ count) × (take (length bits) (bits_of_number count (number_of_bits (with_zeros count bits))) ≡ bits)
 unfolding with_zeros
 zeros_number count bits fits =
     let all = length-with_zeros count bits fits in
-    let below = number_of-lt (with_zeros count bits) in
-    let same : bits_of_number count (number_of (with_zeros count bits)) ≡ with_zeros count bits =
-    ap (λ k. bits_of_number k (number_of (with_zeros count bits))) (sym all) ∙ bits-number_of (with_zeros count bits) in
+    let below = number_of_bits-lt (with_zeros count bits) in
+    let same : bits_of_number count (number_of_bits (with_zeros count bits)) ≡ with_zeros count bits =
+    ap (λ k. bits_of_number k (number_of_bits (with_zeros count bits))) (sym all) ∙ bits-number_of_bits (with_zeros count bits) in
     (rw all at below, rw same (take_at bits (replicate (count - length bits) false) (length bits) refl))
 
 lowest_is_address : (family : Family) (bits : List Bool) → length bits ≤ bit_count family → IsAddress (lowest_address family bits)

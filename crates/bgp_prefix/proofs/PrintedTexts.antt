@@ -14,7 +14,7 @@ use Rattle.std.specs.Net.Text.{ipv4_text, hex, groups_text, longest_zero_run, he
 use Rattle.std.specs.declared.net.ipv4_addr.Ipv4Addr.{Ipv4Addr}
 use Rattle.std.specs.declared.net.ipv6_addr.Ipv6Addr.{Ipv6Addr}
 use Rattle.std.proofs.NetLemmas.Texts.{AllSegments, AllSegments-take, AllSegments-drop, IsZeroRun-longest_zero_run, longest_zero_run_first}
-use Rattle.bgp_prefix.specs.Text.{dotted_text, hex_text, colon_text, first_zeros, longest_zeros, shortened_text, address_text, prefix_text}
+use Rattle.bgp_prefix.specs.Text.{dotted_text, group_text, colon_text, first_zeros, longest_zeros, shortened_text, address_text, prefix_text}
 use Rattle.bgp_prefix.specs.Prefix.{PrefixBits, prefix_length, address_of}
 use Rattle.bgp_prefix.specs.ZeroRun.{IsZeroRun, IsShortenedRun}
 use Rattle.bgp_prefix.specs.declared.address.Address.{Address}
@@ -32,9 +32,9 @@ address_text-V4 address number ip of_V4 bits = rw (of_V4, bits) (dotted_text-fou
 
 -- ---- a group, and groups with colons
 
-pub hex_text-hex : (group : ℕ) → group < 2 ^ 16 → hex_text group ≡ hex group
-unfolding hex_text hex digits
-hex_text-hex group fits =
+pub group_text-hex : (group : ℕ) → group < 2 ^ 16 → group_text group ≡ hex group
+unfolding group_text hex digits
+group_text-hex group fits =
     let two : group / 16 / 16 ≡ group / 0x100 = omega arith in
     let three : group / 0x100 / 16 ≡ group / 0x1000 = omega arith in
     let no_fifth : group / 0x1000 / 16 ≡ 0 = omega arith in
@@ -67,10 +67,10 @@ hex_text-hex group fits =
 colon_text-groups : (groups : List ℕ) → AllSegments groups → colon_text groups ≡ groups_text groups
 unfolding colon_text
 colon_text-groups [] fit = refl
-colon_text-groups (group ∷ []) fit = hex_text-hex group (fit 0) ∙ sym (append-nil (hex group))
+colon_text-groups (group ∷ []) fit = group_text-hex group (fit 0) ∙ sym (append-nil (hex group))
 colon_text-groups (group ∷ next ∷ groups) fit =
     let later : colon_text (next ∷ groups) ≡ groups_text (next ∷ groups) = colon_text-groups (next ∷ groups) (λ k. fit (suc k)) in
-    ap₂ (λ (front back : List ℕ). front ++ (58 ∷ back)) (hex_text-hex group (fit 0)) later
+    ap₂ (λ (front back : List ℕ). front ++ (58 ∷ back)) (group_text-hex group (fit 0)) later
 
 -- ---- the run of zeros
 

@@ -10,13 +10,13 @@ bits_of_number zero number = []
 bits_of_number (suc count) number = (bit_at number count == 1) ∷ bits_of_number count number
 
 -- the eight bits of each octet
-unfoldable pub bits_of : List ℕ → List Bool
-bits_of octets = flat_map (bits_of_number 8) octets
+unfoldable pub bits_of_octets : List ℕ → List Bool
+bits_of_octets octets = flat_map (bits_of_number 8) octets
 
 -- the number that bits spell
-unfoldable pub number_of : List Bool → ℕ
-number_of [] = 0
-number_of (bit ∷ bits) = (if bit then 2 ^ length bits else 0) + number_of bits
+unfoldable pub number_of_bits : List Bool → ℕ
+number_of_bits [] = 0
+number_of_bits (bit ∷ bits) = (if bit then 2 ^ length bits else 0) + number_of_bits bits
 
 -- bits and then as many zeros as make them `count`
 unfoldable pub with_zeros : ℕ → List Bool → List Bool
@@ -26,4 +26,4 @@ with_zeros count bits = bits ++ replicate (count - length bits) false
 unfoldable pub octets_of : ℕ → List Bool → List ℕ
 octets_of zero bits = []
 octets_of (suc count) bits =
-    number_of (with_zeros 8 (take 8 bits)) ∷ octets_of count (drop 8 bits)
+    number_of_bits (with_zeros 8 (take 8 bits)) ∷ octets_of count (drop 8 bits)

@@ -2,7 +2,7 @@
 use Rattle.std.proofs.Common.{◌≡◌, ℕ, zero, suc, ◌*◌, ◌≤◌, Bool, List, [], ◌∷◌, length, drop, refl}
 use Rattle.std.proofs.Common.{ap, arith}
 use Rattle.std.proofs.lemmas.List.{length-append, length-take-le}
-use Rattle.bgp_prefix.specs.Bits.{bits_of_number, bits_of, octets_of}
+use Rattle.bgp_prefix.specs.Bits.{bits_of_number, bits_of_octets, octets_of}
 use Rattle.bgp_prefix.specs.Address.{bit_count}
 use Rattle.bgp_prefix.specs.PrefixFields.{kept_bits, IsKept}
 use Rattle.bgp_prefix.specs.declared.family.Family.{Family}
@@ -13,11 +13,11 @@ unfolding bits_of_number
 length-bits_of_number zero number = refl
 length-bits_of_number (suc count) number = ap suc (length-bits_of_number count number)
 
-pub length-bits_of : (octets : List ℕ) → length (bits_of octets) ≡ 8 * length octets
-unfolding bits_of
-length-bits_of [] = omega arith
-length-bits_of (octet ∷ octets) =
-    rw (length-append, length-bits_of_number 8 octet) (omega (arith, length-bits_of octets))
+pub length-bits_of_octets : (octets : List ℕ) → length (bits_of_octets octets) ≡ 8 * length octets
+unfolding bits_of_octets
+length-bits_of_octets [] = omega arith
+length-bits_of_octets (octet ∷ octets) =
+    rw (length-append, length-bits_of_number 8 octet) (omega (arith, length-bits_of_octets octets))
 
 pub length-octets_of : (count : ℕ) (bits : List Bool) → length (octets_of count bits) ≡ count
 unfolding octets_of
@@ -34,6 +34,6 @@ pub length-kept_bits : (family : Family) (count : ℕ) (octets : List ℕ)
 length-kept_bits family count octets kept =
     let sixteen = ap length kept.zeros in
     let made = length-octets_of 16 (kept_bits count octets) in
-    let bits = length-bits_of octets in
+    let bits = length-bits_of_octets octets in
     let most = bit_count-le family in
-    length-take-le count (bits_of octets) (omega (arith, kept.is_prefix))
+    length-take-le count (bits_of_octets octets) (omega (arith, kept.is_prefix))

@@ -14,12 +14,12 @@ unfoldable pub dotted_text : List ℕ → List ℕ
 dotted_text octets = join_with_byte 46 (map decimal octets)
 
 -- a group in lower-case hexadecimal, without leading zeros (RFC 5952, 4.1 and 4.3)
-unfoldable pub hex_text : ℕ → List ℕ
-hex_text group = digits 16 false group
+unfoldable pub group_text : ℕ → List ℕ
+group_text group = digits 16 false group
 
 -- groups with colons between them
 unfoldable pub colon_text : List ℕ → List ℕ
-colon_text groups = join_with_byte 58 (map hex_text groups)
+colon_text groups = join_with_byte 58 (map group_text groups)
 
 -- the first place where so many groups in a row are zero
 unfoldable pub first_zeros : ℕ → List ℕ → Option ℕ

@@ -1,9 +1,16 @@
 //! Prefixes (RFC 4271, 4.3; RFC 4760, 5): the first bits of the addresses that a route leads to.
+//!
+//! ```text
+//!  0        1
+//! +--------+-----------------------------------------------------+
+//! | Length | Prefix: its first Length bits, in the fewest octets |
+//! +--------+-----------------------------------------------------+
+//! ```
 
 ghost use Rattle.std.specs.Prelude.{◌≡◌, ◌≤◌, ◌<◌, ◌*◌, ◌+◌, ◌/◌, ◌++◌, ◌↔◌, ℕ};
 ghost use Rattle.std.specs.Prelude.{length, take, IfOk, IfSome, IsSome, OnOk, OnErr, Some};
 ghost use Rattle.std.specs.Prelude.{vec_len, vec_capacity};
-ghost use Rattle.bgp_prefix.specs.Bits.{bits_of, octets_of};
+ghost use Rattle.bgp_prefix.specs.Bits.{bits_of_octets, octets_of};
 ghost use Rattle.bgp_prefix.specs.Address.{family_of, bit_count, address_bits};
 ghost use Rattle.bgp_prefix.specs.Prefix.{
   PrefixBits,
@@ -12,7 +19,7 @@ ghost use Rattle.bgp_prefix.specs.Prefix.{
   prefix_octets,
   BeginsWithPrefix,
   IsTooLong,
-  IsShort,
+  EndsInPrefix,
   prefix_of,
   address_of,
 };
@@ -127,7 +134,7 @@ impl Prefix {
         ensures exact { (prefix : PrefixBits) (count : ℕ)
             → BeginsWithPrefix family octets.now prefix count → result ≡ Ok (prefix, count) }
         ensures too_long { (result ≡ Err PrefixFault.TooLong) ↔ IsTooLong family octets.now }
-        ensures short { (result ≡ Err PrefixFault.Short) ↔ IsShort family octets.now }
+        ensures short { (result ≡ Err PrefixFault.Short) ↔ EndsInPrefix family octets.now }
     {
         let Some(&length) = octets.first() else {
             return Err(PrefixFault::Short);
@@ -158,7 +165,7 @@ impl Prefix {
     }
 
     /// Appends the octets that spell the prefix, with zeros for the bits after it. It is `Err` only
-    /// where memory is refused, and then `out` is as before.
+    /// where there was too little room and memory for more was refused, and then `out` is as before.
     pub fn write<A: Allocator>(&self, out: &mut Vec<u8, A>) -> Result<(), AllocError>
         ensures ok { OnOk result (out.new.items ≡ out.old.items ++ prefix_octets self.now) }
         ensures err { OnErr result (out.new.items ≡ out.old.items) }
@@ -168,7 +175,7 @@ impl Prefix {
             (vec_len out.new ≡ vec_len out.old + length (prefix_octets self.now)) }
         ensures capacity { vec_capacity out.old ≤ vec_capacity out.new }
     {
-        let mut octets = [0; 17];
+        let mut octets = [0; 17]; // length 1, address 16
         octets[0] = self.length;
         octets[1..].copy_from_slice(&self.octets);
         out.extend_from_slice(&octets[..1 + octet_count(self.length)])
@@ -223,7 +230,7 @@ fn octet_count(bits: u8) -> usize
 fn leading_octets(octets: &[u8], bits: u8) -> [u8; 16]
     requires enough { bits ≤ 8 * length octets.now }
     requires fits { bits ≤ 128 }
-    ensures octets { result ≡ octets_of 16 (take bits (bits_of octets.now)) }
+    ensures octets { result ≡ octets_of 16 (take bits (bits_of_octets octets.now)) }
     ensures kept { (family : Family) → bits ≤ bit_count family → IsKept family bits result }
 {
     let whole = usize::from(bits / 8);
@@ -237,7 +244,7 @@ fn leading_octets(octets: &[u8], bits: u8) -> [u8; 16]
 
 /// The octets of an address, and then zeros.
 fn octets_of_address(address: Address) -> [u8; 16]
-    ensures { take (bit_count (family_of address)) (bits_of result) ≡ address_bits address }
+    ensures { take (bit_count (family_of address)) (bits_of_octets result) ≡ address_bits address }
 {
     let mut octets = [0; 16];
     match address {

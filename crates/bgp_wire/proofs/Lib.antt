@@ -8,3 +8,4 @@ pub mod WholeFrame
 pub mod WrittenMessage
 pub mod WholeMessages
 pub mod EachOctet
+pub mod HeaderAndBody

@@ -109,7 +109,8 @@ impl HeaderFaults {
     }
 
     /// Whether a NOTIFICATION with this subcode of Message Header Error and these data names a
-    /// fault of the set: with subcode 1 the data are free, with 2 and 3 they are the field's octets.
+    /// fault of the set: with subcode 1 the data are free, with 2 and 3 they are the field's
+    /// octets.
     pub fn contains(&self, subcode: u8, detail: &[u8]) -> bool
         ensures { IsTrue result ↔ Names self.now subcode detail.now }
     {

@@ -6,6 +6,7 @@ ghost use Rattle.bgp_wire.specs.declared.header.MessageType.{MessageType};
 ghost use Rattle.bgp_wire.specs.declared.header.HeaderFaults.{HeaderFaults};
 ghost use Rattle.bgp_wire.specs.Header.{IsBadLength, IsBadType};
 ghost use Rattle.bgp_wire.specs.Message.{IsMessage, IsKeepalive, body_of, message_octets};
+ghost use Rattle.bgp_wire.specs.Octets.{AreOctets};
 ghost use Rattle.bgp_wire.specs.Verdict.{type_code, AreEachFault, AreFaults};
 ghost use Rattle.bgp_wire.specs.Framing.{IsFrame, IsFraming};
 
@@ -36,6 +37,13 @@ pub fn whole_messages_are_frames()
     ensures back { (limit : Limit) (octets : List ℕ) → IsFrame limit octets
         → (kind : MessageType) × IsMessage (type_code kind) octets
         × (¬ IsBadLength limit (type_code kind) (length octets)) }
+{}
+
+/// A whole message is its header, as it is written of its type and its count of octets, and its
+/// body.
+pub fn each_message_is_its_header_and_body()
+    ensures { (kind : ℕ) (octets : List ℕ) → AreOctets octets → IsMessage kind octets
+        → octets ≡ message_octets kind (body_of octets) }
 {}
 
 /// A header has one set of faults: two that have each of its faults by itself are equal, and they

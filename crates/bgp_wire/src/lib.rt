@@ -28,7 +28,8 @@ pub use header::{
     put_header,
 };
 pub use laws::{
-    each_header_has_one_set_of_faults, each_stream_has_one_framing, whole_messages_are_frames,
+    each_header_has_one_set_of_faults, each_message_is_its_header_and_body,
+    each_stream_has_one_framing, whole_messages_are_frames,
 };
 pub use message::message_body;
 pub use octets::{put, put_u8, put_u16, put_u32, put_u64};
