@@ -5,3 +5,10 @@ pub mod Fronts
 pub mod Lengths
 pub mod Written
 pub mod WrittenField
+pub mod GoodRows
+pub mod PathBack
+pub mod GoodPath
+pub mod FirstOfType
+pub mod FirstNoted
+pub mod NumbersRead
+pub mod PathRead

@@ -9,11 +9,11 @@ use Rattle.byteorder.specs.Endian.{big_bytes}
 use Rattle.byteorder.specs.Numbers.{big_number-reads_back}
 use Rattle.bgp_attr.specs.declared.field.Tail.{Tail}
 use Rattle.bgp_attr.specs.declared.field.Tail.TheVariants.{ShortHeader, Overrun}
-use Rattle.bgp_attr.specs.Field.{Attribute, IsAttribute, IsAttributeField, IsTail, spelled, is_extended, header_len, value_len}
+use Rattle.bgp_attr.specs.Field.{Attribute, IsAttribute, IsAttributeField, IsTail, attribute_octets, is_extended, header_len, value_len}
 use Rattle.bgp_attr.specs.Split.{attribute_len, first_attribute, attributes_of, rest_of, tail_at, split_of}
 use Rattle.bgp_attr.proofs.Steps.{header_some, attributes_step, attributes_stop, rest_step, rest_stop}
 
--- ---- an attribute that is spelled is read
+-- ---- an attribute that is attribute_octets is read
 
 pub record Reads (octets : List ℕ) (a : Attribute) (rest : List ℕ) : Type 0 where
   pub whole : attribute_len octets ≤ length octets
@@ -28,25 +28,25 @@ reads_by a rest octets h header value back len flags kind =
     let others : drop (attribute_len octets) octets ≡ rest = rw (header, value, ← drop-drop (length a.value) h octets, back) (drop-append_seam a.value rest) in
     record { whole = whole; first = first; others = others }
 
-long_reads : (a : Attribute) (rest : List ℕ) → is_extended a.flags ≡ true → length a.value < 65536 → Reads (spelled a ++ rest) a rest
+long_reads : (a : Attribute) (rest : List ℕ) → is_extended a.flags ≡ true → length a.value < 65536 → Reads (attribute_octets a ++ rest) a rest
 unfolding header_len value_len
 long_reads a rest e fits =
     let octets = a.flags ∷ a.kind ∷ big_bytes 2 (length a.value) ++ a.value ++ rest in
-    let same : spelled a ++ rest ≡ octets = rw e refl in
+    let same : attribute_octets a ++ rest ≡ octets = rw e refl in
     let header : header_len octets ≡ 4 = rw e refl in
     let value : value_len octets ≡ length a.value = rw e (big_number-reads_back 2 (length a.value) (a.value ++ rest) fits) in
     rw same (reads_by a rest octets 4 header value refl (omega arith) refl refl)
 
-short_reads : (a : Attribute) (rest : List ℕ) → is_extended a.flags ≡ false → length a.value < 256 → Reads (spelled a ++ rest) a rest
+short_reads : (a : Attribute) (rest : List ℕ) → is_extended a.flags ≡ false → length a.value < 256 → Reads (attribute_octets a ++ rest) a rest
 unfolding header_len value_len
 short_reads a rest e fits =
     let octets = a.flags ∷ a.kind ∷ big_bytes 1 (length a.value) ++ a.value ++ rest in
-    let same : spelled a ++ rest ≡ octets = rw e refl in
+    let same : attribute_octets a ++ rest ≡ octets = rw e refl in
     let header : header_len octets ≡ 3 = rw e refl in
     let value : value_len octets ≡ length a.value = rw e (big_number-reads_back 1 (length a.value) (a.value ++ rest) fits) in
     rw same (reads_by a rest octets 3 header value refl (omega arith) refl refl)
 
-pub reads : (a : Attribute) (rest : List ℕ) → IsAttribute a → Reads (spelled a ++ rest) a rest
+pub reads : (a : Attribute) (rest : List ℕ) → IsAttribute a → Reads (attribute_octets a ++ rest) a rest
 reads a rest fits = elim (cases_Bool (is_extended a.flags)) [
   | inl e ↦ long_reads a rest e (rw e at fits)
   | inr e ↦ short_reads a rest e (rw e at fits)
@@ -68,15 +68,15 @@ tail_is rest (Some (Overrun kind)) h = rw (ne_eqb (length rest) 0 (λ e. absurd 
 -- ---- both ways
 
 pub read_back : (attributes : List Attribute) (rest : List ℕ) (tail : Option Tail) → All IsAttribute attributes → IsTail rest tail
-    → (attributes_of (flat_map spelled attributes ++ rest) ≡ attributes) × (rest_of (flat_map spelled attributes ++ rest) ≡ rest)
+    → (attributes_of (flat_map attribute_octets attributes ++ rest) ≡ attributes) × (rest_of (flat_map attribute_octets attributes ++ rest) ≡ rest)
 read_back [] rest tail each last = (attributes_stop rest (tail_short rest tail last), rest_stop rest (tail_short rest tail last))
 read_back (a ∷ others) rest tail each last =
-    let after = flat_map spelled others ++ rest in
+    let after = flat_map attribute_octets others ++ rest in
     let more = read_back others rest tail (All-tail IsAttribute a others each) last in
     let front = reads a after (All-head IsAttribute a others each) in
-    let joined : flat_map spelled (a ∷ others) ++ rest ≡ spelled a ++ after = append_assoc (spelled a) (flat_map spelled others) rest in
-    let attributes : attributes_of (spelled a ++ after) ≡ a ∷ others = rw (attributes_step (spelled a ++ after) front.whole, front.first, front.others, more.0) refl in
-    let left : rest_of (spelled a ++ after) ≡ rest = rw (rest_step (spelled a ++ after) front.whole, front.others) more.1 in
+    let joined : flat_map attribute_octets (a ∷ others) ++ rest ≡ attribute_octets a ++ after = append_assoc (attribute_octets a) (flat_map attribute_octets others) rest in
+    let attributes : attributes_of (attribute_octets a ++ after) ≡ a ∷ others = rw (attributes_step (attribute_octets a ++ after) front.whole, front.first, front.others, more.0) refl in
+    let left : rest_of (attribute_octets a ++ after) ≡ rest = rw (rest_step (attribute_octets a ++ after) front.whole, front.others) more.1 in
     rw joined (attributes, left)
 
 -- ---- what is read spells the field
@@ -87,9 +87,9 @@ IsOctets octets = (i : ℕ) → get_or octets i 0 < 256
 IsOctets-drop : (n : ℕ) (octets : List ℕ) → IsOctets octets → IsOctets (drop n octets)
 IsOctets-drop n octets h i = rw get_or-drop (h (n + i))
 
--- the attribute at the front spells its octets, and has a length that can be spelled
+-- the attribute at the front spells its octets, and has a length that can be attribute_octets
 pub record Spells (octets : List ℕ) : Type 0 where
-  pub again : spelled (first_attribute octets) ++ drop (attribute_len octets) octets ≡ octets
+  pub again : attribute_octets (first_attribute octets) ++ drop (attribute_len octets) octets ≡ octets
   pub fits : IsAttribute (first_attribute octets)
 
 short_spells : (f k l : ℕ) (rest : List ℕ) → is_extended f ≡ false → l < 256 → l ≤ length rest → Spells (f ∷ k ∷ l ∷ rest)
@@ -156,10 +156,10 @@ goes_on : (field : List ℕ) → IsOctets field → attribute_len field ≤ leng
 goes_on field octet whole more =
     let after = drop (attribute_len field) field in
     let first = spells field octet whole in
-    let joined : field ≡ flat_map spelled (first_attribute field ∷ attributes_of after) ++ more.rest =
+    let joined : field ≡ flat_map attribute_octets (first_attribute field ∷ attributes_of after) ++ more.rest =
     sym first.again
-    ∙ ap (λ (t : List ℕ). spelled (first_attribute field) ++ t) more.whole
-    ∙ sym (append_assoc (spelled (first_attribute field)) (flat_map spelled (attributes_of after)) more.rest) in
+    ∙ ap (λ (t : List ℕ). attribute_octets (first_attribute field) ++ t) more.whole
+    ∙ sym (append_assoc (attribute_octets (first_attribute field)) (flat_map attribute_octets (attributes_of after)) more.rest) in
     rw (attributes_step field whole, rest_step field whole)
     record { rest = more.rest; whole = joined; each = All-cons IsAttribute (first_attribute field) (attributes_of after) first.fits more.each; last = more.last }
 

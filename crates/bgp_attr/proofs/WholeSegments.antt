@@ -97,3 +97,19 @@ tells most width (s ∷ segments) each =
     let e = has_from most width octets record { least = first.least; greatest = first.greatest; some = first.some; whole = omega (arith, first.whole, length-append s.numbers rest) } in
     let after : drop (2 + width * s.count) octets ≡ rest = sym (drop-drop (width * s.count) 2 octets) ∙ ap (λ (k : ℕ). drop k (s.numbers ++ rest)) (sym first.whole) ∙ drop-append_seam s.numbers rest in
     segments_step most width octets e ∙ ap (are_segments most width) after ∙ tells most width segments (All-tail (IsSegment most width) s segments each)
+
+-- ---- more types
+
+wider_each : (least most width : ℕ) → least ≤ most → (segments : List WireSegment) → All (IsSegment least width) segments → All (IsSegment most width) segments
+wider_each least most width le [] each = All-nil (IsSegment most width)
+wider_each least most width le (s ∷ segments) each =
+    let first = All-head (IsSegment least width) s segments each in
+    All-cons (IsSegment most width) s segments record { least = first.least; greatest = omega (arith, first.greatest); some = first.some; whole = first.whole }
+    (wider_each least most width le segments (All-tail (IsSegment least width) s segments each))
+
+-- segments of some types are segments of more types
+pub wider : (least most width : ℕ) (value : List ℕ) → least ≤ most → are_segments least width value ≡ true → are_segments most width value ≡ true
+unfolding are_segments
+wider least most width value le e =
+    let h = told (length value) least width value e in
+    rw h.1 (tells most width h.0 (wider_each least most width le h.0 h.2))

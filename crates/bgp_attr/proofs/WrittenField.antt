@@ -7,7 +7,7 @@ use Rattle.std.proofs.lemmas.List.Elements.{All-nil, All-cons}
 use Rattle.bgp_attr.specs.declared.classes.Side.{Side}
 use Rattle.bgp_attr.specs.declared.types.AttrType.{AttrType}
 use Rattle.bgp_attr.specs.declared.types.AttrType.TheVariants as types
-use Rattle.bgp_attr.specs.Field.{IsAttribute, IsAttributeField, is_extended, spelled}
+use Rattle.bgp_attr.specs.Field.{IsAttribute, IsAttributeField, is_extended, attribute_octets}
 use Rattle.bgp_path.specs.Path.{PathValue}
 use Rattle.bgp_attr.specs.Types.{all_types, type_bits}
 use Rattle.bgp_attr.specs.Writing.{value_in, attribute_with, attribute_in, path_attributes, IsWritable}
@@ -35,7 +35,7 @@ has_room types.ExtendedCommunities = (refl, refl)
 has_room types.As4Path = (refl, refl)
 has_room types.As4Aggregator = (refl, refl)
 
-is_attribute : (t : AttrType) (value : List ℕ) → length value ≤ 65535 → IsAttribute (attribute_with t value)
+pub is_attribute : (t : AttrType) (value : List ℕ) → length value ≤ 65535 → IsAttribute (attribute_with t value)
 is_attribute t value short = elim (cases_lt 255 (length value)) [
   | inl long ↦ rw (lt-ltb 255 (length value) long, (has_room t).0) (omega arith)
   | inr fits ↦ rw (le-ltb 255 (length value) fits, (has_room t).1) (omega arith)
@@ -47,14 +47,14 @@ each_by side p t ts None e short others = rw e others
 each_by side p t ts (Some octets) e short others =
     rw e (All-cons IsAttribute (attribute_with t octets) (filter_map (attribute_in side p) ts) (is_attribute t octets short) others)
 
-each : (side : Side) (p : PathValue) → IsWritable side p → (ts : List AttrType) → All IsAttribute (filter_map (attribute_in side p) ts)
+pub each : (side : Side) (p : PathValue) → IsWritable side p → (ts : List AttrType) → All IsAttribute (filter_map (attribute_in side p) ts)
 each side p writable [] = All-nil IsAttribute
 each side p writable (t ∷ ts) = each_by side p t ts (value_in side p t) refl (writable t) (each side p writable ts)
 
-pub is_a_field : (side : Side) (p : PathValue) → IsWritable side p → IsAttributeField (flat_map spelled (path_attributes side p)) (path_attributes side p) None
+pub is_a_field : (side : Side) (p : PathValue) → IsWritable side p → IsAttributeField (flat_map attribute_octets (path_attributes side p)) (path_attributes side p) None
 is_a_field side p writable = record {
   rest = [];
-  whole = sym (append-nil (flat_map spelled (path_attributes side p)));
+  whole = sym (append-nil (flat_map attribute_octets (path_attributes side p)));
   each = each side p writable all_types;
   last = refl;
 }

@@ -26,13 +26,14 @@ is_extended flags = bit_and flags 16 == 16
 abbrev pub length_octets : ℕ → ℕ
 length_octets flags = if is_extended flags then 2 else 1
 
--- the length can be spelled
+-- its length octets can say how long it is
 abbrev pub IsAttribute : Attribute → Type 0
 IsAttribute a = length a.value < 256 ^ length_octets a.flags
 
 -- the octets of an attribute: flags, type, length and value
-abbrev pub spelled : Attribute → List ℕ
-spelled a = a.flags ∷ a.kind ∷ big_bytes (length_octets a.flags) (length a.value) ++ a.value
+abbrev pub attribute_octets : Attribute → List ℕ
+attribute_octets a =
+    a.flags ∷ a.kind ∷ big_bytes (length_octets a.flags) (length a.value) ++ a.value
 
 -- the octets of a header that begins so: flags, type and length
 unfoldable pub header_len : List ℕ → ℕ
@@ -55,7 +56,7 @@ IsTail rest (Some (Overrun kind)) =
 pub record IsAttributeField
     (field : List ℕ) (attributes : List Attribute) (tail : Option Tail) : Type 0 where
   pub rest : List ℕ
-  pub whole : field ≡ flat_map spelled attributes ++ rest
+  pub whole : field ≡ flat_map attribute_octets attributes ++ rest
   pub each : All IsAttribute attributes
   pub last : IsTail rest tail
 

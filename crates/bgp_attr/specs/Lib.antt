@@ -4,3 +4,8 @@ pub mod Types
 pub mod Segments
 pub mod Class
 pub mod Writing
+pub mod First
+pub mod Numbers
+pub mod PathIn
+pub mod PathFrom
+pub mod ReadBack

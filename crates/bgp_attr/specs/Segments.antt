@@ -1,8 +1,13 @@
 -- The value of an AS_PATH or AS4_PATH attribute (RFC 4271, 4.3 b; RFC 6793, 3): path segments,
 -- each a type, a count and as many AS numbers.
 use Rattle.std.specs.Prelude.{◌≡◌, ◌≤◌, ◌↔◌, ℕ, zero, suc, ◌+◌, ◌*◌, Bool, ◌&&◌, ◌||◌, ◌==◌, nat_le}
+use Rattle.std.specs.Prelude.{if◌then◌else◌}
 use Rattle.std.specs.Prelude.{List, ◌∷◌, length, drop, slice_index, All, IsTrue}
 use Rattle.std.specs.List.{flat_map}
+
+-- how many octets an AS number takes
+abbrev pub number_width : Bool → ℕ
+number_width as4 = if as4 then 4 else 2
 
 -- a path segment on the wire: its type, its count and the octets of its AS numbers
 pub record WireSegment : Type 0 where

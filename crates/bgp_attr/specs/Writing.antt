@@ -17,10 +17,10 @@ use Rattle.bgp_path.specs.declared.path.Origin.TheVariants.{Igp, Egp, Incomplete
 use Rattle.bgp_attr.specs.declared.types.AttrType.{AttrType}
 use Rattle.bgp_attr.specs.declared.types.AttrType.TheVariants as types
 use Rattle.bgp_path.specs.AsPath.{PathSegment}
-use Rattle.bgp_attr.specs.Field.{Attribute, IsAttributeField, length_octets, spelled}
+use Rattle.bgp_attr.specs.Field.{Attribute, IsAttributeField, length_octets, attribute_octets}
 use Rattle.bgp_path.specs.Path.{PathValue}
 use Rattle.bgp_attr.specs.Segments.{WireSegment, segment_octets}
-use Rattle.bgp_attr.specs.Types.{all_types, number_of, type_bits}
+use Rattle.bgp_attr.specs.Types.{all_types, type_number, type_bits}
 
 -- the number needs four octets
 abbrev pub is_large : ℕ → Bool
@@ -106,13 +106,13 @@ flags_for t n =
 abbrev pub attribute_with : AttrType → List ℕ → Attribute
 attribute_with t value = record {
   flags = flags_for t (length value);
-  kind = number_of t;
+  kind = type_number t;
   value = value;
 }
 
 -- its header: flags, type and length
-abbrev pub header_of : AttrType → ℕ → List ℕ
-header_of t n = flags_for t n ∷ number_of t ∷ big_bytes (length_octets (flags_for t n)) n
+abbrev pub attribute_header : AttrType → ℕ → List ℕ
+attribute_header t n = flags_for t n ∷ type_number t ∷ big_bytes (length_octets (flags_for t n)) n
 
 abbrev pub attribute_in : Side → PathValue → AttrType → Option Attribute
 attribute_in side p t = option_map (attribute_with t) (value_in side p t)
@@ -141,4 +141,4 @@ KeepsFront old new = take (length old) new ≡ old
 abbrev pub WritesAField : Type 0
 WritesAField =
     (side : Side) (p : PathValue) → IsWritable side p
-    → IsAttributeField (flat_map spelled (path_attributes side p)) (path_attributes side p) None
+    → IsAttributeField (flat_map attribute_octets (path_attributes side p)) (path_attributes side p) None

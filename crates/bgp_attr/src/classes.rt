@@ -2,14 +2,15 @@
 
 ghost use Rattle.std.specs.Prelude.{◌≡◌, ◌==◌, ◌&&◌, ◌<◌, if◌then◌else◌};
 ghost use Rattle.bgp_attr.specs.Field.{attribute_of};
-ghost use Rattle.bgp_attr.specs.Types.{number_of};
-ghost use Rattle.bgp_attr.specs.Class.{is_origin, are_items, is_as4_path, flag_rows, value_rows};
+ghost use Rattle.bgp_attr.specs.Class.{is_origin, are_items, is_as4_path, value_rows};
 ghost use Rattle.bgp_attr.specs.Class.{strongest, stronger, class_of, as_width};
 ghost use Rattle.bgp_attr.specs.declared.classes.AttrVerdict.TheVariants.{Good};
 
-use crate::field::{Attr, OPTIONAL};
+use crate::field::Attr;
+use crate::flags::OPTIONAL;
 use crate::segments::{AS_CONFED_SET, AS_SEQUENCE, are_segments};
-use crate::types::{AttrType, OPTIONAL_TRANSITIVE};
+use crate::types::AttrType;
+use AttrVerdict::{Discard, Good, Reset, Withdraw};
 
 /// What of the session's state decides how an attribute is read.
 #[derive(Clone, Copy, Debug, PartialEq, Eq)]
@@ -46,21 +47,23 @@ pub enum AttrVerdict {
 /// The class of an attribute: of the rows that hold in the table of classes the strongest, Good
 /// where none does.
 ///
-/// Types 14 and 15 (MP_REACH_NLRI and MP_UNREACH_NLRI) have no row there, and are Good here: what
-/// their faults ask for depends on the families in use and on their prefixes too, and whoever
-/// reads the UPDATE judges them (RFC 7606, 5.3, 7.11 and 7.12).
-pub fn class(side: Side, attr: &Attr<'_>) -> AttrVerdict
-    ensures { result ≡ class_of side (attribute_of attr.now) }
+/// It is none for MP_REACH_NLRI and MP_UNREACH_NLRI: what their faults ask for depends on the
+/// families in use and on their prefixes too, and whoever reads the UPDATE judges them (RFC 7606,
+/// 5.3, 7.11 and 7.12).
+pub fn class(side: Side, attr: &Attr<'_>) -> Option<AttrVerdict>
+    ensures class { result ≡ class_of side (attribute_of attr.now) }
 {
     let Some(attr_type) = AttrType::of(attr.kind) else {
-        // A well-known attribute that isn't recognised (RFC 4271, 6.3).
-        return good_if(attr.flags & OPTIONAL == OPTIONAL, AttrVerdict::Reset);
+        // An attribute that isn't recognised has to be optional (RFC 4271, 6.3).
+        return Some(good_if(attr.flags & OPTIONAL == OPTIONAL, Reset));
     };
+    if attr_type.is_multiprotocol() {
+        return None;
+    }
+    // The bits are in conflict with the type (RFC 7606, 3 c).
+    let by_bits = good_if(attr.has_bits_of(attr_type), Withdraw);
     // The strongest of the faults decides (RFC 7606, 3 h).
-    stronger(
-        flags_class(attr_type, attr.flags),
-        value_class(side, attr_type, attr.value),
-    )
+    Some(stronger(by_bits, value_class(side, attr_type, attr.value)))
 }
 
 /// Of two classes the one that asks for more.
@@ -74,28 +77,13 @@ fn stronger(one: AttrVerdict, other: AttrVerdict) -> AttrVerdict
 fn good_if(holds: bool, otherwise: AttrVerdict) -> AttrVerdict
     ensures { result ≡ (if holds then Good else otherwise) }
 {
-    if holds { AttrVerdict::Good } else { otherwise }
-}
-
-/// The class by the Optional and Transitive bits.
-fn flags_class(attr_type: AttrType, flags: u8) -> AttrVerdict
-    ensures { result ≡ strongest (flag_rows flags (number_of attr_type)) }
-{
-    match attr_type {
-        AttrType::MpReachNlri | AttrType::MpUnreachNlri => AttrVerdict::Good,
-        // The bits are in conflict with the type (RFC 7606, 3 c).
-        _ => good_if(
-            flags & OPTIONAL_TRANSITIVE == attr_type.row().bits,
-            AttrVerdict::Withdraw,
-        ),
-    }
+    if holds { Good } else { otherwise }
 }
 
 /// The class by the value.
 fn value_class(side: Side, attr_type: AttrType, value: &[u8]) -> AttrVerdict
-    ensures { result ≡ strongest (value_rows side (number_of attr_type) value.now) }
+    ensures value { result ≡ strongest (value_rows side attr_type value.now) }
 {
-    use AttrVerdict::{Discard, Good, Withdraw};
     match attr_type {
         // RFC 7606, 7.1
         AttrType::Origin => good_if(is_origin(value), Withdraw),
@@ -103,22 +91,12 @@ fn value_class(side: Side, attr_type: AttrType, value: &[u8]) -> AttrVerdict
         AttrType::AsPath => good_if(are_segments(AS_SEQUENCE, side.as_width(), value), Withdraw),
         // RFC 7606, 7.3 and 7.4
         AttrType::NextHop | AttrType::MultiExitDisc => good_if(value.len() == 4, Withdraw),
-        // RFC 7606, 7.5 and 7.9
-        AttrType::LocalPref | AttrType::OriginatorId => {
-            if side.internal {
-                good_if(value.len() == 4, Withdraw)
-            } else {
-                Discard
-            }
+        // RFC 7606, 7.5, 7.9 and 7.10: an external peer's are discarded
+        AttrType::LocalPref | AttrType::OriginatorId | AttrType::ClusterList if !side.internal => {
+            Discard
         }
-        // RFC 7606, 7.10
-        AttrType::ClusterList => {
-            if side.internal {
-                good_if(are_items(4, value), Withdraw)
-            } else {
-                Discard
-            }
-        }
+        AttrType::LocalPref | AttrType::OriginatorId => good_if(value.len() == 4, Withdraw),
+        AttrType::ClusterList => good_if(are_items(4, value), Withdraw),
         // RFC 7606, 7.6
         AttrType::AtomicAggregate => good_if(value.is_empty(), Discard),
         // RFC 7606, 7.7
@@ -130,7 +108,7 @@ fn value_class(side: Side, attr_type: AttrType, value: &[u8]) -> AttrVerdict
         // RFC 6793, 4.1 and 6
         AttrType::As4Path => good_if(!side.as4 && is_as4_path(value), Discard),
         AttrType::As4Aggregator => good_if(!side.as4 && value.len() == 8, Discard),
-        // Judged beside the families in use.
+        // These have no class of their own.
         AttrType::MpReachNlri | AttrType::MpUnreachNlri => Good,
     }
 }

@@ -5,15 +5,10 @@ ghost use Rattle.std.specs.Prelude.{bit_and, IfSome, IfNone};
 ghost use Rattle.bgp_attr.specs.Field.{attribute_of, header_len, value_len};
 ghost use Rattle.bgp_attr.specs.Split.{attribute_len, first_attribute, rest_of, tail_at};
 
+use crate::flags::{EXTENDED_LENGTH, OPTIONAL_TRANSITIVE};
+use crate::types::AttrType;
 use byteorder::{BigEndian, ByteOrder};
 use std::marker::Model;
-
-/// The Optional bit of the Attribute Flags.
-pub(crate) const OPTIONAL: u8 = 128;
-/// The Transitive bit.
-pub(crate) const TRANSITIVE: u8 = 64;
-/// The Extended Length bit: the length has two octets.
-pub(crate) const EXTENDED_LENGTH: u8 = 16;
 
 /// One path attribute, borrowed from the field in which it stands. On the wire it is
 ///
@@ -28,6 +23,17 @@ pub struct Attr<'a> {
     pub kind: u8,
     /// The value, without the length before it.
     pub value: &'a [u8],
+}
+
+impl<'a> Attr<'a> {
+    ghost use Rattle.bgp_attr.specs.Types.{has_bits_of};
+
+    /// Whether its Optional and Transitive bits are those of the type (RFC 7606, 3 c).
+    pub fn has_bits_of(&self, attr_type: AttrType) -> bool
+        ensures { result ≡ has_bits_of self.now.flags attr_type }
+    {
+        self.flags & OPTIONAL_TRANSITIVE == attr_type.row().bits
+    }
 }
 
 /// What is left of an attribute field after its last whole attribute, where that isn't nothing.

@@ -4,9 +4,10 @@
 //! ```text
 //! for attr in Attrs::new(field) {
 //!     match class(side, &attr) {
-//!         AttrVerdict::Good => keep(attr),
-//!         AttrVerdict::Discard => {}
-//!         AttrVerdict::Withdraw | AttrVerdict::Reset => return Err(attr.kind),
+//!         Some(AttrVerdict::Good) => keep(attr),
+//!         Some(AttrVerdict::Discard) => {}
+//!         Some(AttrVerdict::Withdraw | AttrVerdict::Reset) => return Err(attr.kind),
+//!         None => {} // MP_REACH_NLRI and MP_UNREACH_NLRI
 //!     }
 //! }
 //! ```
@@ -14,17 +15,26 @@
 
 mod classes;
 mod field;
+mod first;
+mod flags;
 mod laws;
+mod measuring;
+mod numbers;
 mod octets;
+mod reading;
 mod segments;
 mod types;
 mod writing;
 
 pub use classes::{AttrVerdict, Side, class};
 pub use field::{Attr, Attrs, Tail};
-pub use laws::{one_split, segments_are_told, writes_a_field};
+pub use first::{FirstAttrs, first_of};
+pub use flags::{EXTENDED_LENGTH, OPTIONAL, TRANSITIVE};
+pub use laws::{one_split, reads_back, segments_are_told, writes_a_field};
+pub use measuring::{is_for_peer, path_len};
+pub use reading::read_path;
 pub use types::{AttrType, TypeRow};
-pub use writing::{is_writable, write_path};
+pub use writing::{is_writable, put_attribute_header, write_path};
 
 #[cfg(test)]
 mod tests;

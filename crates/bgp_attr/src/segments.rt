@@ -1,19 +1,23 @@
 //! The value of an AS_PATH or AS4_PATH attribute (RFC 4271, 4.3 b; RFC 6793, 3): path segments,
 //! each a type, a count and as many AS numbers of two or four octets.
 
-ghost use Rattle.std.specs.Prelude.{◌≡◌, ℕ, ◌≤◌, ◌++◌, true, false, length, drop};
-ghost use Rattle.std.specs.Prelude.{IfSome, IfNone, OnOk, OnErr};
-ghost use Rattle.std.specs.List.{flat_map, list_any};
-ghost use Rattle.bgp_attr.specs.Segments.{are_segments, has_segment, segment_len, segment_octets};
+ghost use Rattle.std.specs.Prelude.{◌≡◌, ℕ, ◌≤◌, ◌++◌, [], true, false, length, drop};
+ghost use Rattle.std.specs.Prelude.{IfSome, IfNone, IfOk, OnOk, OnErr};
+ghost use Rattle.std.specs.List.{cons_option, flat_map, list_any};
+ghost use Rattle.bgp_attr.specs.Numbers.{items_in};
+ghost use Rattle.bgp_attr.specs.PathIn.{path_in, path_segment, segment_at, segment_kind};
+ghost use Rattle.bgp_attr.specs.Segments.{are_segments, has_segment, number_width, segment_len};
+ghost use Rattle.bgp_attr.specs.Segments.{segment_octets};
 ghost use Rattle.bgp_attr.specs.Writing.{as_octets, as_path_octets, has_large, is_large};
 ghost use Rattle.bgp_attr.specs.Writing.{wire_segment, KeepsFront};
 
+use crate::numbers::{read_u16s, read_u32s};
 use crate::octets::{put_u16, put_u32};
-use bgp_path::Segment;
+use bgp_path::{AsPath, Segment, SegmentKind};
 use std::alloc::{AllocError, Allocator};
 
 /// AS_TRANS, which stands for an AS number that needs four octets (RFC 6793, 3 and 9).
-const AS_TRANS: u16 = 23456;
+pub(crate) const AS_TRANS: u16 = 23456;
 
 /// AS_SEQUENCE, the last of the segment types in an AS_PATH.
 pub(crate) const AS_SEQUENCE: u8 = 2;
@@ -55,6 +59,91 @@ pub(crate) fn are_segments(most: u8, width: usize, value: &[u8]) -> bool
         rest = after;
     }
     true
+}
+
+/// The kind of a segment type: none for those of a confederation.
+fn kind_of(segment_type: u8) -> Option<SegmentKind>
+    ensures { result ≡ segment_kind segment_type }
+{
+    match segment_type {
+        1 => Some(SegmentKind::Set),
+        2 => Some(SegmentKind::Sequence),
+        _ => None,
+    }
+}
+
+/// The octets of the first segment's numbers, and what follows them.
+fn split_segment(as4: bool, octets: &[u8]) -> (&[u8], &[u8])
+    requires { has_segment 4 (number_width as4) octets.now ≡ true }
+    ensures numbers { result.0.now ≡ (segment_at (number_width as4) octets.entry.now).numbers }
+    ensures rest { result.1.now
+        ≡ drop (segment_len (number_width as4) octets.entry.now) octets.entry.now }
+{
+    let len = number_len(as4) * usize::from(octets[1]);
+    octets.split_at(2).1.split_at(len)
+}
+
+/// AS numbers of two octets each, or of four.
+fn read_as_numbers<A: Allocator>(
+    alloc: A,
+    as4: bool,
+    octets: &[u8],
+) -> Result<Vec<u32, A>, AllocError>
+    ensures { IfOk result (λ numbers. numbers.items ≡ items_in (number_width as4) octets.now) }
+{
+    if as4 {
+        return read_u32s(alloc, octets);
+    }
+    read_u16s(alloc, octets)
+}
+
+/// The first segment: none where it is one of a confederation.
+fn read_segment<A: Allocator + Copy>(
+    alloc: A,
+    as4: bool,
+    octets: &[u8],
+) -> Result<Option<Segment<A>>, AllocError>
+    requires { has_segment 4 (number_width as4) octets.now ≡ true }
+    ensures { IfOk result (λ segment. segment
+        ≡ path_segment (number_width as4) (segment_at (number_width as4) octets.now)) }
+{
+    let Some(kind) = kind_of(octets[0]) else {
+        return Ok(None);
+    };
+    let numbers = read_as_numbers(alloc, as4, split_segment(as4, octets).0)?;
+    Ok(Segment::new(kind, numbers))
+}
+
+/// Appends a segment, where there is one.
+fn push_segment<A: Allocator>(
+    path: &mut AsPath<A>,
+    segment: Option<Segment<A>>,
+) -> Result<(), AllocError>
+    ensures { OnOk result (path.new ≡ path.old ++ cons_option segment []) }
+{
+    match segment {
+        Some(segment) => path.push(segment),
+        None => Ok(()),
+    }
+}
+
+/// The path that the value of AS_PATH, or of AS4_PATH, holds; segments of a confederation are left
+/// out (RFC 6793, 6).
+pub(crate) fn read_as_path<A: Allocator + Copy>(
+    alloc: A,
+    as4: bool,
+    value: &[u8],
+) -> Result<AsPath<A>, AllocError>
+    requires { are_segments 4 (number_width as4) value.now ≡ true }
+    ensures path { IfOk result (λ path. path ≡ path_in (number_width as4) value.now) }
+{
+    let mut path = AsPath::new(alloc);
+    let mut rest = value;
+    while !rest.is_empty() {
+        push_segment(&mut path, read_segment(alloc, as4, rest)?)?;
+        rest = split_segment(as4, rest).1;
+    }
+    Ok(path)
 }
 
 /// Appends the value of AS_PATH or AS4_PATH. After a refusal a part of it stands there.
@@ -139,8 +228,9 @@ fn wire_len<A: Allocator>(as4: bool, segment: &Segment<A>) -> usize
 }
 
 /// How many octets an AS number takes.
-fn number_len(as4: bool) -> usize
+pub(crate) fn number_len(as4: bool) -> usize
     ensures each { (n : ℕ) → length (as_octets as4 n) ≡ result }
+    ensures width { result ≡ number_width as4 }
     ensures bound { result ≤ 4 }
 {
     if as4 { 4 } else { 2 }

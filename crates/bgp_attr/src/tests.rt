@@ -4,6 +4,7 @@
 mod classing;
 mod fields;
 mod memory;
+mod reading;
 mod writing;
 
 use crate::*;
@@ -81,4 +82,38 @@ fn as_path<A: Allocator + Copy>(
         path.push(segment(alloc, *kind, numbers)?)?;
     }
     Ok(path)
+}
+
+/// The least path: IGP, these segments, a next hop of four octets.
+fn plain<A: Allocator + Copy>(
+    alloc: A,
+    path: &[(SegmentKind, &[u32])],
+) -> Result<PathParts<A>, AllocError> {
+    Ok(PathParts {
+        origin: Origin::Igp,
+        as_path: as_path(alloc, path)?,
+        next_hop: NextHop::V4(0xc000_0202),
+        multi_exit_disc: None,
+        local_pref: None,
+        atomic_aggregate: false,
+        aggregator: None,
+        communities: Items::new(alloc),
+        originator_id: None,
+        cluster_list: Items::new(alloc),
+        extended_communities: Items::new(alloc),
+    })
+}
+
+/// What GoBGP announced, as a path.
+fn announced<A: Allocator + Copy>(alloc: A) -> Result<PathParts<A>, AllocError> {
+    let mut parts = plain(alloc, &[(SegmentKind::Sequence, &[65002])])?;
+    parts.origin = Origin::Incomplete;
+    parts.multi_exit_disc = Some(7);
+    parts.aggregator = Some(Aggregator {
+        as_number: 65002,
+        address: 0xc000_0202,
+    });
+    parts.communities = Items::from(Vec::from_slice(alloc, &[0xfdea_0064, 0xffff_ff01])?);
+    parts.extended_communities = Items::from(Vec::from_slice(alloc, &[0x0002_fdea_0000_0005])?);
+    Ok(parts)
 }

@@ -1,12 +1,9 @@
 //! The attribute table: the path attribute types that this project knows.
 
-ghost use Rattle.std.specs.Prelude.{◌≡◌, ◌==◌, Some, IfSome, IfNone, IsNone, find};
-ghost use Rattle.bgp_attr.specs.Types.{bits_of, name_of, number_of, type_bits};
+ghost use Rattle.std.specs.Prelude.{◌≡◌};
+ghost use Rattle.bgp_attr.specs.Types.{is_multiprotocol, type_bits, type_name, type_number, type_of};
 
-use crate::field::{OPTIONAL, TRANSITIVE};
-
-/// The Optional and the Transitive bit.
-pub(crate) const OPTIONAL_TRANSITIVE: u8 = OPTIONAL | TRANSITIVE;
+use crate::flags::{OPTIONAL, OPTIONAL_TRANSITIVE, TRANSITIVE};
 
 /// A path attribute type that the table has.
 #[derive(Clone, Copy, Debug, PartialEq, Eq)]
@@ -85,8 +82,8 @@ impl AttrType {
 
     /// The table: the row of this type.
     pub fn row(self) -> TypeRow
-        ensures number { result.number ≡ number_of self }
-        ensures name { result.name.now ≡ name_of self }
+        ensures number { result.number ≡ type_number self }
+        ensures name { result.name.now ≡ type_name self }
         ensures bits { result.bits ≡ type_bits self }
     {
         match self {
@@ -110,16 +107,32 @@ impl AttrType {
 
     /// The type with this number: none where the table has none.
     pub fn of(number: u8) -> Option<AttrType>
-        ensures some { IfSome result (λ t. number_of t ≡ number) }
-        ensures none { IfNone result (IsNone (bits_of number)) }
+        ensures of { result ≡ type_of number }
     {
-        first_of(&Self::ALL, number)
+        Some(match number {
+            1 => Self::Origin,
+            2 => Self::AsPath,
+            3 => Self::NextHop,
+            4 => Self::MultiExitDisc,
+            5 => Self::LocalPref,
+            6 => Self::AtomicAggregate,
+            7 => Self::Aggregator,
+            8 => Self::Communities,
+            9 => Self::OriginatorId,
+            10 => Self::ClusterList,
+            14 => Self::MpReachNlri,
+            15 => Self::MpUnreachNlri,
+            16 => Self::ExtendedCommunities,
+            17 => Self::As4Path,
+            18 => Self::As4Aggregator,
+            _ => return None,
+        })
     }
-}
 
-/// The first of these types with this number.
-fn first_of(types: &[AttrType], number: u8) -> Option<AttrType>
-    ensures { result ≡ find (λ t. number == number_of t) types.now }
-{
-    types.iter().copied().find(|t| number == t.row().number)
+    /// Whether it is MP_REACH_NLRI or MP_UNREACH_NLRI, which carry prefixes.
+    pub fn is_multiprotocol(self) -> bool
+        ensures { result ≡ is_multiprotocol self }
+    {
+        matches!(self, Self::MpReachNlri | Self::MpUnreachNlri)
+    }
 }

@@ -5,16 +5,16 @@ ghost use Rattle.std.specs.Prelude.{if◌then◌else◌, true, length, option_ma
 ghost use Rattle.std.specs.Prelude.{MatchOption, OnOk, OnErr};
 ghost use Rattle.std.specs.List.{flat_map, filter_map};
 ghost use Rattle.std.specs.Option.{option_map_or};
-ghost use Rattle.bgp_attr.specs.Field.{spelled};
+ghost use Rattle.bgp_attr.specs.Field.{attribute_octets};
 ghost use Rattle.bgp_attr.specs.Writing.{as_path_octets, has_large, is_large, aggregator_octets};
 ghost use Rattle.bgp_attr.specs.Writing.{as4_aggregator_octets, items_octets, value_in};
-ghost use Rattle.bgp_attr.specs.Writing.{next_hop_octets, header_of, attribute_in, path_attributes};
+ghost use Rattle.bgp_attr.specs.Writing.{next_hop_octets, attribute_header, attribute_in, path_attributes};
 ghost use Rattle.bgp_attr.specs.Writing.{HasShortValue, IsWritable, KeepsFront, Appends};
 ghost use Rattle.bgp_path.specs.Path.{value_of};
 ghost use Rattle.bgp_path.specs.declared.path.Aggregator.{Aggregator};
 
 use crate::classes::Side;
-use crate::field::EXTENDED_LENGTH;
+use crate::flags::EXTENDED_LENGTH;
 use crate::octets::{put_optional, put_u16, put_u32, put_u32s, put_u64s};
 use crate::segments::{as_path_len, has_large, is_large, put_as_number, put_as_path};
 use crate::types::AttrType;
@@ -37,7 +37,7 @@ pub fn write_path<A: Allocator, B: Allocator>(
 ) -> Result<(), AllocError>
     requires { IsWritable side path.now }
     ensures ok { OnOk result (out.new.items ≡ out.old.items
-        ++ flat_map spelled (path_attributes side path.now)) }
+        ++ flat_map attribute_octets (path_attributes side path.now)) }
     ensures err { OnErr result (out.new.items ≡ out.old.items) }
 {
     let start = out.len();
@@ -84,7 +84,7 @@ fn put_attributes<A: Allocator, B: Allocator>(
 ) -> Result<(), AllocError>
     requires { IsWritable side (value_of path.now) }
     ensures ok { OnOk result (Appends out.old.items out.new.items
-        (flat_map spelled (filter_map (attribute_in side (value_of path.now)) types.now))) }
+        (flat_map attribute_octets (filter_map (attribute_in side (value_of path.now)) types.now))) }
     ensures front { KeepsFront out.old.items out.new.items }
 {
     for attr_type in types {
@@ -103,23 +103,24 @@ fn put_attribute<A: Allocator, B: Allocator>(
 ) -> Result<(), AllocError>
     requires { IsWritable side (value_of path.now) }
     ensures ok { OnOk result (Appends out.old.items out.new.items
-        (option_map_or spelled (attribute_in side (value_of path.now) attr_type) [])) }
+        (option_map_or attribute_octets (attribute_in side (value_of path.now) attr_type) [])) }
     ensures front { KeepsFront out.old.items out.new.items }
 {
     let Some(len) = value_len(side, path, attr_type) else {
         return Ok(());
     };
-    put_header(out, attr_type, len as u16)?;
+    put_attribute_header(out, attr_type, len as u16)?;
     put_value(out, side, path, attr_type)
 }
 
-/// Appends the header of an attribute of this type, whose value has `len` octets.
-fn put_header<A: Allocator>(
+/// Appends the header of an attribute of this type, whose value has `len` octets: flags, type and
+/// length. After a refusal a part of it stands there.
+pub fn put_attribute_header<A: Allocator>(
     out: &mut Vec<u8, A>,
     attr_type: AttrType,
     len: u16,
 ) -> Result<(), AllocError>
-    ensures ok { OnOk result (out.new.items ≡ out.old.items ++ header_of attr_type len) }
+    ensures ok { OnOk result (out.new.items ≡ out.old.items ++ attribute_header attr_type len) }
     ensures front { KeepsFront out.old.items out.new.items }
 {
     let row = attr_type.row();
@@ -192,7 +193,11 @@ fn put_next_hop<A: Allocator>(out: &mut Vec<u8, A>, next_hop: NextHop) -> Result
 
 /// How many octets the value of an attribute of this type has: none where the path isn't written
 /// with one.
-fn value_len<A: Allocator>(side: Side, path: &PathParts<A>, attr_type: AttrType) -> Option<u128>
+pub(crate) fn value_len<A: Allocator>(
+    side: Side,
+    path: &PathParts<A>,
+    attr_type: AttrType,
+) -> Option<u128>
     ensures { result ≡ option_map length (value_in side (value_of path.now) attr_type) }
 {
     match attr_type {

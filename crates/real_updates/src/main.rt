@@ -43,21 +43,14 @@ impl Totals {
     /// One more attribute.
     fn add(&mut self, attr: &Attr<'_>) {
         self.attributes = self.attributes.saturating_add(1);
-        if is_multiprotocol(attr) {
-            self.multiprotocol = self.multiprotocol.saturating_add(1);
-        }
-        if AttrType::of(attr.kind).is_none() {
-            self.unknown = self.unknown.saturating_add(1);
+        match AttrType::of(attr.kind) {
+            None => self.unknown = self.unknown.saturating_add(1),
+            Some(known) if known.is_multiprotocol() => {
+                self.multiprotocol = self.multiprotocol.saturating_add(1);
+            }
+            Some(_) => {}
         }
     }
-}
-
-/// Whether it is MP_REACH_NLRI or MP_UNREACH_NLRI, which are classed beside the families in use.
-fn is_multiprotocol(attr: &Attr<'_>) -> bool {
-    matches!(
-        AttrType::of(attr.kind),
-        Some(AttrType::MpReachNlri | AttrType::MpUnreachNlri)
-    )
 }
 
 /// Prints each line of the table that is not so, and then what was compared. Answers whether all
@@ -131,13 +124,13 @@ fn text(alloc: Global, attr: &Attr<'_>) -> Result<String, AllocError> {
     format!(in alloc; "{}.{}:{value}", attr.flags, attr.kind)
 }
 
-/// Whether its class is Good, where the class of one attribute is all that there is to its faults.
+/// Whether its class is Good, or it has none of its own.
 fn is_good(side: Side, attr: &Attr<'_>) -> bool {
-    is_multiprotocol(attr) || class(side, attr) == AttrVerdict::Good
+    matches!(class(side, attr), None | Some(AttrVerdict::Good))
 }
 
-/// Prints how many attributes of each class the file has, for AS numbers of four octets. Answers
-/// whether nothing is left after them.
+/// Prints how many attributes of each class the file has, for AS numbers of four octets, those
+/// without a class aside. Answers whether nothing is left after them.
 fn count<R: Files + Print + AllocGlobal>(rt: &R, name: &str) -> io::Result<bool> {
     let field = fs::read(rt, name)?;
     let side = Side {
@@ -147,10 +140,11 @@ fn count<R: Files + Print + AllocGlobal>(rt: &R, name: &str) -> io::Result<bool>
     let mut counts = [0u64; 4];
     for attr in Attrs::new(&field) {
         let place = match class(side, &attr) {
-            AttrVerdict::Good => 0,
-            AttrVerdict::Discard => 1,
-            AttrVerdict::Withdraw => 2,
-            AttrVerdict::Reset => 3,
+            None => continue,
+            Some(AttrVerdict::Good) => 0,
+            Some(AttrVerdict::Discard) => 1,
+            Some(AttrVerdict::Withdraw) => 2,
+            Some(AttrVerdict::Reset) => 3,
         };
         counts[place] = counts[place].saturating_add(1);
     }

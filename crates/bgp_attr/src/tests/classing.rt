@@ -11,7 +11,7 @@ const INTERNAL: Side = Side {
 /// The first attribute of these octets is of this class.
 fn is_of_class(rt: &impl Abort, side: Side, octets: &[u8], verdict: AttrVerdict) {
     let attr = Attrs::new(octets).next().expect(rt, "no whole attribute");
-    assert_eq!(rt; class(side, &attr), verdict, "{octets:?}");
+    assert_eq!(rt; class(side, &attr), Some(verdict), "{octets:?}");
 }
 
 fn are_good(rt: &impl Abort, side: Side, rows: &[&[u8]]) {
@@ -293,26 +293,27 @@ fn as4_attributes_are_for_two_octet_sessions(rt: HostRuntime) {
 
 #[test]
 fn mp_attributes_are_judged_elsewhere(rt: HostRuntime) {
-    are_good(
-        &rt,
-        WIDE,
-        &[&[0x40, 14, 0], &[0xc0, 15, 1, 0], &[0x80, 15, 3, 0, 2, 1]],
-    );
+    let rows: [&[u8]; 3] = [&[0x40, 14, 0], &[0xc0, 15, 1, 0], &[0x80, 15, 3, 0, 2, 1]];
+    for octets in rows {
+        let attr = Attrs::new(octets).next().expect(&rt, "no whole attribute");
+        assert_eq!(rt; class(WIDE, &attr), None, "{octets:?}");
+    }
+}
+
+/// Each attribute of a real field is Good, or has no class of its own.
+fn are_all_good(rt: &impl Abort, side: Side, field: &[u8]) {
+    for attr in Attrs::new(field) {
+        let good = match attr.kind {
+            14 | 15 => None,
+            _ => Some(AttrVerdict::Good),
+        };
+        assert_eq!(rt; class(side, &attr), good, "type {}", attr.kind);
+    }
 }
 
 #[test]
 fn real_attributes_are_good(rt: HostRuntime) {
-    for attr in Attrs::new(TWO_OCTET_FIELD) {
-        assert_eq!(rt;
-            class(NARROW, &attr),
-            AttrVerdict::Good,
-            "type {}",
-            attr.kind
-        );
-    }
-    for field in [FOUR_OCTET_FIELD, IPV6_FIELD] {
-        for attr in Attrs::new(field) {
-            assert_eq!(rt; class(WIDE, &attr), AttrVerdict::Good, "type {}", attr.kind);
-        }
-    }
+    are_all_good(&rt, NARROW, TWO_OCTET_FIELD);
+    are_all_good(&rt, WIDE, FOUR_OCTET_FIELD);
+    are_all_good(&rt, WIDE, IPV6_FIELD);
 }

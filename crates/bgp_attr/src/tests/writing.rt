@@ -5,23 +5,6 @@ use super::*;
 use std::alloc::Global;
 use std::process::Abort;
 
-/// The least path: IGP, these segments, a next hop of four octets.
-fn plain(alloc: Global, path: &[(SegmentKind, &[u32])]) -> Result<PathParts, AllocError> {
-    Ok(PathParts {
-        origin: Origin::Igp,
-        as_path: as_path(alloc, path)?,
-        next_hop: NextHop::V4(0xc000_0202),
-        multi_exit_disc: None,
-        local_pref: None,
-        atomic_aggregate: false,
-        aggregator: None,
-        communities: Items::new(alloc),
-        originator_id: None,
-        cluster_list: Items::new(alloc),
-        extended_communities: Items::new(alloc),
-    })
-}
-
 /// What is written for these parts.
 fn written(rt: &impl Abort, alloc: Global, side: Side, parts: PathParts) -> Result<Vec<u8>, Fail> {
     let path = Path::new(alloc, parts)?;
@@ -82,20 +65,6 @@ fn a_path_without_segments_has_an_as_path_too(rt: HostRuntime) -> Result<(), Fai
         octets.as_slice()
     );
     Ok(())
-}
-
-/// What GoBGP announced, as a path.
-fn announced(alloc: Global) -> Result<PathParts, AllocError> {
-    let mut parts = plain(alloc, &[(Sequence, &[65002])])?;
-    parts.origin = Origin::Incomplete;
-    parts.multi_exit_disc = Some(7);
-    parts.aggregator = Some(Aggregator {
-        as_number: 65002,
-        address: 0xc000_0202,
-    });
-    parts.communities = Items::from(vec![in alloc; 0xfdea_0064, 0xffff_ff01]?);
-    parts.extended_communities = Items::from(vec![in alloc; 0x0002_fdea_0000_0005]?);
-    Ok(parts)
 }
 
 #[test]
@@ -174,5 +143,35 @@ fn a_value_has_at_most_65535_octets(rt: HostRuntime) -> Result<(), Fail> {
         let path = Path::new(rt.alloc(), with_communities(rt.alloc(), count)?)?;
         assert_eq!(rt; is_writable(WIDE, &path), holds);
     }
+    Ok(())
+}
+
+#[test]
+fn a_path_is_measured_before_it_is_written(rt: HostRuntime) -> Result<(), Fail> {
+    let path = Path::new(rt.alloc(), plain(rt.alloc(), &[(Sequence, &[65002])])?)?;
+    // ORIGIN 4, AS_PATH 9 and NEXT_HOP 7 octets
+    for (most, len) in [(20, Some(20)), (65535, Some(20)), (19, None), (0, None)] {
+        assert_eq!(rt; path_len(WIDE, &path, most), len);
+    }
+    Ok(())
+}
+
+#[test]
+fn preference_and_reflection_are_for_an_internal_peer(rt: HostRuntime) -> Result<(), Fail> {
+    let alloc = rt.alloc();
+    let internal = Side {
+        as4: true,
+        internal: true,
+    };
+    let mut all = [plain(alloc, &[])?, plain(alloc, &[])?, plain(alloc, &[])?];
+    all[0].local_pref = Some(100);
+    all[1].originator_id = Some(1);
+    all[2].cluster_list = Items::from(vec![in alloc; 1]?);
+    for parts in all {
+        let path = Path::new(alloc, parts)?;
+        assert!(rt; !is_for_peer(WIDE, &path));
+        assert!(rt; is_for_peer(internal, &path));
+    }
+    assert!(rt; is_for_peer(WIDE, &Path::new(alloc, announced(alloc)?)?));
     Ok(())
 }

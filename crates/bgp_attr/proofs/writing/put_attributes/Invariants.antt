@@ -1,6 +1,6 @@
 use Rattle.std.proofs.Common.{take}
 use Rattle.std.specs.List.{flat_map, filter_map}
-use Rattle.bgp_attr.specs.Field.{spelled}
+use Rattle.bgp_attr.specs.Field.{attribute_octets}
 use Rattle.bgp_path.specs.Path.{value_of}
 use Rattle.bgp_attr.specs.Writing.{attribute_in, Appends}
 use Rattle.bgp_attr.proofs.writing.put_attributes.Given as goal
@@ -8,4 +8,4 @@ use Rattle.bgp_attr.proofs.writing.put_attributes.Given as goal
 abbrev pub invariant-loop-attr_type : goal.invariant-loop-attr_type
 invariant-loop-attr_type g l =
     Appends l.fn.out.items l.out.items
-    (flat_map spelled (filter_map (attribute_in l.side (value_of l.path)) (take l.attr_type-index l.types)))
+    (flat_map attribute_octets (filter_map (attribute_in l.side (value_of l.path)) (take l.attr_type-index l.types)))
