@@ -3,7 +3,7 @@
 use bgp_tool::{Status, decode_raw};
 use mrt::{FromRead, FromWrite};
 use std::fs::OpenFile;
-use std::io::{BufWriter, Read, Write};
+use std::io::Read;
 use std::rt::Files;
 use std::{fs, io};
 
@@ -30,17 +30,9 @@ fn open<R: Files>(rt: &R, file: &str) -> io::Result<R::File> {
     Ok(opened)
 }
 
-/// Decodes what the reader gives to standard output. Output that can't be written is a device's
-/// failure, whatever the stream was.
+/// Decodes what the reader gives to standard output.
 fn decode_from<R: Print + AllocGlobal, I: Read + Drop>(rt: &R, reader: I) -> u8 {
-    let Ok(writer) = BufWriter::new(rt.alloc(), io::writer(rt)) else {
-        return Status::Memory.code();
-    };
     let mut source = FromRead::new(reader);
-    let mut sink = FromWrite::new(writer);
-    let status = decode_raw(rt.alloc(), &mut source, &mut sink);
-    match sink.into_inner().flush() {
-        Ok(()) => status,
-        Err(_) => Status::Device.code(),
-    }
+    let mut sink = FromWrite::new(io::writer(rt));
+    decode_raw(rt.alloc(), &mut source, &mut sink)
 }

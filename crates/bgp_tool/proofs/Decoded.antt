@@ -4,10 +4,12 @@ use Rattle.bgp_wire.specs.declared.header.Limit.TheVariants.{Plain}
 use Rattle.bgp_wire.specs.Header.{header_of}
 use Rattle.bgp_wire.specs.Framing.{IsShort, IsFaulty, joined}
 use Rattle.bgp_wire.proofs.EachFraming.{each_faults, each_framing}
+use Rattle.bgp_tool.specs.declared.decoding.End.{End}
+use Rattle.bgp_tool.specs.declared.decoding.End.TheVariants as ends
 use Rattle.bgp_tool.specs.Text.{rest_line, fault_line}
 use Rattle.bgp_tool.specs.Decoding.{lines_of, IsLastLine, IsDecoded, IsSoFar, IsBeginning}
-use Rattle.bgp_tool.specs.Ending.{AreLines, IsBegun}
-use Rattle.bgp_tool.proofs.Lines.{no_lines, more_lines, begun_between}
+use Rattle.bgp_tool.specs.Ending.{AreLines, HasText}
+use Rattle.bgp_tool.proofs.LinesOfFrames.{no_lines, more_lines}
 use Rattle.bgp_tool.proofs.EachMessage.{each_say}
 
 -- where the last frame ends
@@ -52,38 +54,22 @@ last_line offset rest (inr faulty) =
     let faults = each_faults Plain (header_of rest) in
     (fault_line offset faults.0, 3, inr (inr (faulty, refl, (faults.0, faults.1, refl))))
 
--- a text that is begun is a beginning of the whole
-pub beginning : (stream text : List ℕ) → IsBegun (length stream) stream text → IsBeginning stream text
-beginning stream text begun = elim begun.is_last [
-  | inl none ↦
-      let behind = each_framing Plain begun.rest in
-      let said = each_say behind.0 behind.2.each in
-      let lines = lines_of said.0 in
-      let others : AreLines begun.rest behind.1 lines =
-      record { frames = behind.0; split = behind.2.whole; each = behind.2.each; messages = said.0; said = said.1; text = refl }
-      in
-      let all = more_lines stream begun.rest behind.1 begun.lines lines begun.are_lines others in
-      let last = last_line (length stream - length behind.1) behind.1 behind.2.last in
-      let front : begun.lines ≡ text ++ begun.more =
-      sym (append-nil begun.lines) ∙ ap (λ (xs : List ℕ). begun.lines ++ xs) (sym none) ∙ begun.begins
-      in (
-        (begun.lines ++ lines) ++ last.0,
-        last.1,
-        decoded stream behind.1 (begun.lines ++ lines) last.0 last.1 all last.2,
-        (
-          begun.more ++ (lines ++ last.0),
-          append_assoc begun.lines (lines) last.0
-              ∙ ap (λ (xs : List ℕ). xs ++ (lines ++ last.0)) front
-              ∙ append_assoc text begun.more (lines ++ last.0),
-        ),
-      )
-  | inr some ↦ (
-    begun.lines ++ begun.last,
-    some.0,
-    decoded stream begun.rest begun.lines begun.last some.0 begun.are_lines some.1,
-    (begun.more, begun.begins),
-  )
-]
+-- the lines of frames at the front are a beginning
+pub beginning : (stream rest lines : List ℕ) → AreLines stream rest lines → IsBeginning stream lines
+beginning stream rest lines are_lines =
+    let behind = each_framing Plain rest in
+    let said = each_say behind.0 behind.2.each in
+    let more = lines_of said.0 in
+    let others : AreLines rest behind.1 more =
+    record { frames = behind.0; split = behind.2.whole; each = behind.2.each; messages = said.0; said = said.1; text = refl }
+    in
+    let all = more_lines stream rest behind.1 lines more are_lines others in
+    let last = last_line (length stream - length behind.1) behind.1 behind.2.last in (
+      (lines ++ more) ++ last.0,
+      last.1,
+      decoded stream behind.1 (lines ++ more) last.0 last.1 all last.2,
+      (more ++ last.0, append_assoc lines more last.0),
+    )
 
 -- the lines so far, where nothing but an incomplete frame is behind them
 pub so_far : (stream rest lines : List ℕ) → AreLines stream rest lines → IsShort Plain rest → IsSoFar stream lines
@@ -100,5 +86,45 @@ so_far stream rest lines are_lines short = record {
 -- each stream has a text
 pub each_text : (stream : List ℕ) → (text : List ℕ) × (status : ℕ) × IsDecoded stream text status
 each_text stream =
-    let whole = beginning stream [] (begun_between (length stream) stream stream [] (no_lines stream)) in
+    let whole = beginning stream stream [] (no_lines stream) in
     (whole.0, whole.1, whole.2)
+
+-- a whole text is a beginning of itself
+all_of_it : (given text : List ℕ) (status : ℕ) → IsDecoded given text status → IsBeginning given text
+all_of_it given text status is = (text, status, is, ([], sym (append-nil text)))
+
+-- the lines so far are a beginning
+front_of_it : (given text : List ℕ) → IsSoFar given text → IsBeginning given text
+front_of_it given text so_far =
+    let lines : AreLines given so_far.rest text =
+    record {
+      frames = so_far.frames;
+      split = so_far.framing.whole;
+      each = so_far.framing.each;
+      messages = so_far.messages;
+      said = so_far.said;
+      text = so_far.text;
+    }
+    in
+    beginning given so_far.rest text lines
+
+-- however a decoding ends, the text is a beginning
+pub begins : (given text : List ℕ) (end : End) → HasText given text end → IsBeginning given text
+begins given text ends.BetweenMessages has = all_of_it given text 0 has
+begins given text ends.InsideMessage has = all_of_it given text 2 has
+begins given text ends.AtFault has = all_of_it given text 3 has
+begins given text ends.SourceFailed has = front_of_it given text has
+begins given text ends.OutOfMemory has = has
+begins given text ends.SinkFailed has = has
+
+-- and so is what the sink took of it
+pub taken_begins : (given text taken left : List ℕ) → text ≡ taken ++ left → IsBeginning given text → IsBeginning given taken
+taken_begins given text taken left whole begun = (
+  begun.0,
+  begun.1,
+  begun.2,
+  (
+    left ++ begun.3.0,
+    begun.3.1 ∙ ap (λ (xs : List ℕ). xs ++ begun.3.0) whole ∙ append_assoc taken left begun.3.0,
+  ),
+)

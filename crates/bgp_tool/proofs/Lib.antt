@@ -1,6 +1,8 @@
 pub mod EachMessage
-pub mod Lines
-pub mod Cut
+pub mod LinesOfFrames
+pub mod Pieces
+pub mod HexDigits
 pub mod Decoded
 pub mod Reached
+pub mod Raw
 pub mod OneText

@@ -1,5 +1,7 @@
 pub mod Message
 pub mod Text
 pub mod Status
+pub mod Outlet
+pub mod Lines
 pub mod Decoding
 pub mod Ending

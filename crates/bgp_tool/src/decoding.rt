@@ -1,17 +1,17 @@
 //! `bgp decode` of a raw stream: the octets of one direction of a connection (RFC 4271, 4).
 
-ghost use Rattle.std.specs.Prelude.{◌≡◌, ◌<◌, ◌≤◌, ◌^◌, ◌+◌, ◌-◌, ◌⊎◌, ℕ, List, IfOk, IsTrue};
-ghost use Rattle.std.specs.Prelude.{length, string_bytes, false};
+ghost use Rattle.std.specs.Prelude.{◌≡◌, ◌<◌, ◌≤◌, ◌^◌, ◌+◌, ◌-◌, ◌⊎◌, IsTrue, length, false};
 ghost use Rattle.bgp_wire.specs.declared.header.Limit.TheVariants.{Plain};
-ghost use Rattle.bgp_tool.specs.Ending.{Puts, PutsFrames, PutsRest, Reads, Feeds};
 ghost use Rattle.bgp_tool.specs.Decoding.{CountsFailures, Decodes};
-ghost use Rattle.bgp_tool.specs.Ending.{Reaches, IsAtEnd, source_failures, sink_failures};
+ghost use Rattle.bgp_tool.specs.Ending.{PutsFrames, PutsRest, HandsOver};
+ghost use Rattle.bgp_tool.specs.Ending.{Reaches, IsAtEnd, source_failures};
 
+use crate::lines::Lines;
 use crate::status::Status;
 use crate::text::messages;
 use bgp_wire::{Frames, Limit, Next};
-use mrt::{Sink, Source, write_all};
-use std::alloc::{AllocError, Allocator};
+use mrt::{Sink, Source};
+use std::alloc::Allocator;
 
 /// How a decoding ended.
 #[derive(Clone, Copy, Debug, PartialEq, Eq)]
@@ -47,21 +47,6 @@ impl End {
     }
 }
 
-/// Writes a line, if there was memory to make it.
-fn put<W: Sink, A: Allocator>(sink: &mut W, line: Result<String<A>, AllocError>) -> Result<(), End>
-    requires { W.failures sink.old < u64.MAX }
-    ensures { (text : List ℕ) → IfOk line (λ made. string_bytes made ≡ text)
-        → Puts W.takes W.failures sink.old sink.new text result }
-{
-    match line {
-        Ok(line) => match write_all(sink, line.as_bytes()) {
-            Ok(()) => Ok(()),
-            Err(_) => Err(End::SinkFailed),
-        },
-        Err(_) => Err(End::OutOfMemory),
-    }
-}
-
 /// The offset in the stream at which the held octets begin, the last ones of those given.
 fn offset_of_held(given: u64, held: usize) -> u64
     requires { held ≤ given }
@@ -70,99 +55,88 @@ fn offset_of_held(given: u64, held: usize) -> u64
     given - held as u64
 }
 
-/// Writes the line of each whole frame that is held, and of a header with faults behind them.
-/// So many octets were given in all.
+/// Writes the line of each whole frame that is held, and of a header with faults behind them;
+/// answers whether there is one. So many octets were given in all.
 fn put_frames<W: Sink, A: Allocator + Copy>(
-    alloc: A,
     frames: &mut Frames<A>,
-    sink: &mut W,
+    lines: &mut Lines<'_, W>,
     given: u64,
-) -> Result<(), End>
-    requires sink { W.failures sink.old < u64.MAX }
+) -> bool
     requires limit { frames.old.limit ≡ Plain }
     requires open { frames.old.is_closed ≡ false }
     requires given { length frames.old.octets ≤ given }
-    ensures { PutsFrames W.takes W.failures sink.old sink.new given frames.old frames.new result }
+    ensures { PutsFrames lines.old lines.new given frames.old frames.new result }
 {
     loop {
         match frames.next() {
-            Next::Frame(kind, frame) => put(sink, messages::message(alloc, kind, frame))?,
-            Next::More => return Ok(()),
+            Next::Frame(kind, frame) => messages::put_message(lines, kind, frame),
+            Next::More => return false,
             Next::Fault(faults, _) => {
                 let offset = offset_of_held(given, frames.len());
-                put(sink, messages::fault(alloc, offset, faults))?;
-                return Err(End::AtFault);
+                messages::put_fault(lines, offset, faults);
+                return true;
             }
         }
     }
 }
 
 /// Tells how many octets stand behind the last frame where the stream ends, if any do.
-fn put_rest<W: Sink, A: Allocator>(alloc: A, sink: &mut W, count: usize) -> End
-    requires { W.failures sink.old < u64.MAX }
-    ensures { PutsRest W.takes W.failures sink.old sink.new count result }
+fn put_rest<W: Sink>(lines: &mut Lines<'_, W>, count: usize) -> End
+    ensures { PutsRest lines.old lines.new count result }
 {
     if count == 0 {
         return End::BetweenMessages;
     }
-    match put(sink, messages::rest(alloc, count)) {
-        Ok(()) => End::InsideMessage,
-        Err(end) => end,
-    }
+    messages::put_rest(lines, count);
+    End::InsideMessage
 }
 
-/// Reads octets to the front of a block, and answers how many: none where the stream ends.
-fn read<R: Source>(source: &mut R, block: &mut [u8]) -> Result<usize, End>
-    requires { R.failures source.old < u64.MAX }
-    ensures { Reads R.gives R.failures R.has_ended source.old source.new block.new result }
+/// Hands over what is left of the text, and answers how the decoding ends then.
+fn hand_over<W: Sink>(lines: &mut Lines<'_, W>, end: End) -> End
+    ensures { HandsOver lines.old lines.new end result }
 {
-    match source.read(block) {
-        Ok(count) => Ok(count),
-        Err(_) => Err(End::SourceFailed),
-    }
-}
-
-/// Takes a piece of the stream, and answers how many octets are given with it in all.
-fn feed<A: Allocator + Copy>(frames: &mut Frames<A>, piece: &[u8], given: u64) -> Result<u64, End>
-    requires { given + length piece.now ≤ u64.MAX }
-    ensures { Feeds given piece.now frames.old frames.new result }
-{
-    match frames.feed(piece) {
-        Ok(()) => Ok(given + piece.len() as u64),
-        Err(_) => Err(End::OutOfMemory),
+    match lines.hand_over() {
+        Ok(()) => end,
+        Err(_) => End::SinkFailed,
     }
 }
 
 /// How many octets are read at once, at the most.
-const BLOCK: usize = 8192;
+const BLOCK: usize = 1 << 16;
 
 /// Decodes a stream to its end, to its first fault, or until something is refused.
-fn decode<R: Source, W: Sink, A: Allocator + Copy>(alloc: A, source: &mut R, sink: &mut W) -> End
-    requires source { R.failures source.old < u64.MAX }
-    requires sink { W.failures sink.old < u64.MAX }
-    ensures reaches { Reaches R.gives W.takes source.old source.new sink.old sink.new result }
+fn decode<R: Source, W: Sink, A: Allocator + Copy>(
+    alloc: A,
+    source: &mut R,
+    lines: &mut Lines<'_, W>,
+) -> End
+    requires { R.failures source.old < u64.MAX }
+    ensures reaches { Reaches R.gives source.old source.new lines.old lines.new result }
     ensures source_count { R.failures source.new ≡ source_failures (R.failures source.old) result }
-    ensures sink_count { W.failures sink.new ≡ sink_failures (W.failures sink.old) result }
     ensures ended { IsAtEnd result → IsTrue (R.has_ended source.new) }
 {
     let mut frames = Frames::new(alloc, Limit::Plain);
     let mut block = [0; BLOCK];
     let mut given = 0u64;
-    loop {
-        let count = match read(source, &mut block) {
+    'reads: loop {
+        match lines.hand_over() {
+            Ok(()) => {}
+            Err(_) => return End::SinkFailed,
+        }
+        let count = match source.read(&mut block) {
             Ok(count) => count,
-            Err(end) => return end,
+            Err(_) => return End::SourceFailed,
         };
         if count == 0 {
-            return put_rest(alloc, sink, frames.len());
+            let end = put_rest(lines, frames.len());
+            return hand_over(lines, end);
         }
-        given = match feed(&mut frames, &block[..count], given) {
-            Ok(total) => total,
-            Err(end) => return end,
-        };
-        match put_frames(alloc, &mut frames, sink, given) {
-            Ok(()) => {}
-            Err(end) => return end,
+        match frames.feed(&block[..count]) {
+            Ok(()) => given += count as u64,
+            Err(_) => return End::OutOfMemory,
+        }
+        if put_frames(&mut frames, lines, given) {
+            return hand_over(lines, End::AtFault);
         }
     }
 }
@@ -192,5 +166,9 @@ pub fn decode_raw<R: Source, W: Sink, A: Allocator + Copy>(
     ensures ended { ((result ≡ 0) ⊎ (result ≡ 2)) → IsTrue (R.has_ended source.new) }
     ensures statuses { result ≤ 5 }
 {
-    decode(alloc, source, sink).status().code()
+    let mut lines = Lines::new(sink);
+    let end = decode(alloc, source, &mut lines);
+    // No effect: it ends the loan of the sink.
+    lines.into_sink();
+    end.status().code()
 }

@@ -9,6 +9,8 @@
 
 mod decoding;
 mod laws;
+mod lines;
+mod outlet;
 mod status;
 #[cfg(test)]
 mod tests;

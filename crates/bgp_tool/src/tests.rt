@@ -275,7 +275,7 @@ fn a_refused_growth_leaves_a_beginning_of_the_text(rt: HostRuntime) -> Result<()
 
 #[test]
 fn memory_does_not_grow_with_the_stream(rt: HostRuntime) -> Result<(), Fail> {
-    let heap = LocalHeap::new(rt.alloc(), 1 << 17)?;
+    let heap = LocalHeap::new(rt.alloc(), 1 << 19)?;
     let mut octets = Vec::new(rt.alloc());
     for _ in 0..10_000 {
         octets.extend_from_slice(&ANNOUNCES_10)?;

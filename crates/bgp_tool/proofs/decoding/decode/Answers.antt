@@ -1,10 +1,14 @@
-use Rattle.std.proofs.Common.{◌≡◌, ◌∙◌, ◌+◌, ◌++◌, [], List, ℕ, length, take, false, inl, refl, sym, ap, subst, arith, length-append}
+use Rattle.std.proofs.Common.{◌≡◌, ◌∙◌, ◌+◌, ◌++◌, [], List, ℕ, length, take, false, inl, refl, sym, ap, subst, arith, length-append, append-nil, append_assoc, ◌-◌}
+use Rattle.std.proofs.lemmas.List.{length-take-le}
 use Rattle.bgp_wire.specs.declared.header.Limit.TheVariants.{Plain}
 use Rattle.bgp_wire.specs.Held.{Held, after_feed}
+use Rattle.bgp_tool.specs.declared.decoding.End.TheVariants as ends
+use Rattle.bgp_tool.specs.Decoding.{IsLastLine, IsDecoded}
 use Rattle.bgp_tool.specs.Ending.{AreLines}
-use Rattle.bgp_tool.proofs.Lines.{no_lines, lines_fed, more_lines}
-use Rattle.bgp_tool.proofs.Cut.{took_more}
-use Rattle.bgp_tool.proofs.Reached.{read_failed, stream_ended, piece_refused, frames_cut}
+use Rattle.bgp_tool.proofs.LinesOfFrames.{no_lines, lines_fed, more_lines}
+use Rattle.bgp_tool.proofs.Decoded.{decoded, beginning, so_far}
+use Rattle.bgp_tool.proofs.Pieces.{Joins, nothing_yet, and_then, and_nothing}
+use Rattle.bgp_tool.proofs.Reached.{finished, ended}
 use Rattle.bgp_tool.proofs.decoding.decode.Goals as goal
 
 -- octets that are held, where no fault was answered
@@ -17,77 +21,14 @@ fed_by : (held : Held) (piece : List ℕ) → held ≡ record { limit = Plain; o
 fed_by held piece state = ap (λ (h : Held). after_feed h piece) state
 
 -- the total counts the piece too
-total_of : (stream piece : List ℕ) (given total : ℕ) → given ≡ length stream → total ≡ given + length piece
-    → total ≡ length (stream ++ piece)
-total_of stream piece given total before more = omega (arith, length-append stream piece)
-
-pub returns-in-Err-clause-reaches : goal.returns-in-Err-clause-reaches
-returns-in-Err-clause-reaches g c =
-    let so_far = c.loop-count.invariant.so_far in
-    read_failed g.R.Source.gives g.W.Sink.takes g.W.Sink.failures g.met.R.Source.joined g.met.W.Sink.joined
-    c.args.source.now c.loop-count.source c.read.new.source c.args.sink.now c.loop-count.sink c.loop-count.sink
-    so_far.0 c.loop-count.frames.octets so_far.1 so_far.2 so_far.4 so_far.5 c.loop-count.invariant.short
-    g.R.Source.failures g.R.Source.has_ended c.read.new.block c.in-Err.end c.in-Err.ensures
-
--- the count that is told is of what is held
-pub returns-then-count-eq0-clause-reaches : goal.returns-then-count-eq0-clause-reaches
-returns-then-count-eq0-clause-reaches g c =
-    let so_far = c.loop-count.invariant.so_far in
-    let nothing = rw c.if-count-eq0.true at c.in-Ok.ensures.1 in
-    stream_ended g.R.Source.gives g.W.Sink.takes g.W.Sink.failures g.met.R.Source.joined g.met.W.Sink.joined
-    c.args.source.now c.loop-count.source c.read.new.source c.args.sink.now c.loop-count.sink c.put_rest.new.sink
-    so_far.0 c.loop-count.frames.octets so_far.1 so_far.2 so_far.4 so_far.5 c.loop-count.invariant.short nothing
-    _ (omega arith) c.put_rest.result c.put_rest.ensures
-
-pub returns-in-Err-feed-clause-reaches : goal.returns-in-Err-feed-clause-reaches
-returns-in-Err-feed-clause-reaches g c =
-    let so_far = c.loop-count.invariant.so_far in
-    let piece = take c.in-Ok.count c.read.new.block in
-    piece_refused g.R.Source.gives g.W.Sink.takes g.W.Sink.failures g.met.R.Source.joined g.met.W.Sink.joined
-    c.args.source.now c.loop-count.source c.read.new.source c.args.sink.now c.loop-count.sink c.loop-count.sink
-    so_far.0 c.loop-count.frames.octets so_far.1 so_far.2 so_far.4 so_far.5 piece c.in-Ok.ensures.1
-    c.loop-count.given c.loop-count.frames c.feed.new.frames c.in-Err-feed.end c.in-Err-feed.ensures
-
-pub loop-count-preserved : goal.loop-count-preserved
-loop-count-preserved g c =
-    let so_far = c.loop-count.invariant.so_far in
-    let piece = take c.in-Ok.count c.read.new.block in
-    let held = c.in-Ok-feed.ensures.0 ∙ fed_by c.loop-count.frames piece c.loop-count.invariant.state in
-    let puts = c.in-Ok-put_frames.ensures in
-    let left = c.put_frames.new.frames.octets in
-    let new_lines = subst (λ (o : List ℕ). AreLines o left puts.0) (ap (λ (h : Held). h.octets) held) puts.1 in
-    record {
-      state = puts.3 ∙ ap (λ (h : Held). record h { octets = left }) held;
-      short = puts.2;
-      failures = c.in-Ok.ensures.2 ∙ c.loop-count.invariant.failures;
-      so_far = (
-        so_far.0 ++ piece,
-        so_far.1 ++ puts.0,
-        g.met.R.Source.joined c.args.source.now c.loop-count.source c.read.new.source so_far.0 piece so_far.2 c.in-Ok.ensures.1,
-        total_of so_far.0 piece c.loop-count.given c.in-Ok-feed.total so_far.3 c.in-Ok-feed.ensures.1,
-        more_lines (so_far.0 ++ piece) (c.loop-count.frames.octets ++ piece) left so_far.1 puts.0
-            (lines_fed so_far.0 c.loop-count.frames.octets so_far.1 piece so_far.4) new_lines,
-        took_more g.W.Sink.takes g.W.Sink.failures g.met.W.Sink.joined c.args.sink.now c.loop-count.sink c.put_frames.new.sink
-            so_far.1 puts.0 so_far.5 puts.4,
-      );
-    }
-
-pub returns-in-Err-put_frames-clause-reaches : goal.returns-in-Err-put_frames-clause-reaches
-returns-in-Err-put_frames-clause-reaches g c =
-    let so_far = c.loop-count.invariant.so_far in
-    let piece = take c.in-Ok.count c.read.new.block in
-    let held = c.in-Ok-feed.ensures.0 ∙ fed_by c.loop-count.frames piece c.loop-count.invariant.state in
-    let octets = ap (λ (h : Held). h.octets) held in
-    let count = total_of so_far.0 piece c.loop-count.given c.in-Ok-feed.total so_far.3 c.in-Ok-feed.ensures.1 in
-    frames_cut g.R.Source.gives g.W.Sink.takes g.W.Sink.failures g.met.R.Source.joined g.met.W.Sink.joined
-    c.args.source.now c.loop-count.source c.read.new.source c.args.sink.now c.loop-count.sink c.put_frames.new.sink
-    so_far.0 c.loop-count.frames.octets so_far.1 so_far.2 so_far.4 so_far.5 piece c.in-Ok-feed.total
-    c.feed.new.frames c.put_frames.new.frames c.in-Ok.ensures.1 count octets c.in-Err-put_frames.end c.in-Err-put_frames.ensures
+total_of : (stream piece : List ℕ) (given count : ℕ) → given ≡ length stream → length piece ≡ count
+    → given + count ≡ length (stream ++ piece)
+total_of stream piece given count before more = omega (arith, length-append stream piece)
 
 -- before the first read nothing is given and nothing written
-pub loop-count-init : goal.loop-count-init
+pub reads-init : goal.reads-init
 unfolding nothing_but
-loop-count-init g c =
+reads-init g c =
     let octets : c.new-frames.result.octets ≡ [] = ap (λ (h : Held). h.octets) c.new-frames.ensures in
     record {
       state = c.new-frames.ensures ∙ ap (λ (o : List ℕ). nothing_but o) (sym octets);
@@ -99,6 +40,113 @@ loop-count-init g c =
         g.met.R.Source.nothing c.args.source.now,
         refl,
         subst (λ (o : List ℕ). AreLines [] o []) (sym octets) (no_lines []),
-        (g.met.W.Sink.nothing c.args.sink.now, refl),
+        nothing_yet g.W.Sink g.met.W.Sink.nothing c.args.lines.now.outlet c.args.lines.now.held.items,
+      );
+    }
+
+-- the sink failed
+pub returns-in-Err-clause-reaches : goal.returns-in-Err-clause-reaches
+returns-in-Err-clause-reaches g c =
+    let law : Joins g.W.Sink = record { joined = g.met.W.Sink.joined } in
+    let now = c.reads.invariant.so_far in
+    record {
+      given = now.0;
+      text = now.1;
+      gave = now.2;
+      wrote = and_nothing law now.5 c.in-Err.ensures.writes;
+      has_text = beginning now.0 c.reads.frames.octets now.1 now.4;
+      handed_over = c.in-Err.ensures.none;
+      told = c.in-Err.ensures.err;
+    }
+
+-- the source failed
+pub returns-in-Err-read-clause-reaches : goal.returns-in-Err-read-clause-reaches
+returns-in-Err-read-clause-reaches g c =
+    let law : Joins g.W.Sink = record { joined = g.met.W.Sink.joined } in
+    let now = c.reads.invariant.so_far in
+    record {
+      given = now.0;
+      text = now.1;
+      gave = rw append-nil at (g.met.R.Source.joined c.args.source.now c.reads.source c.read.new.self now.0 [] now.2 c.in-Err-read.ensures.err);
+      wrote = and_nothing law now.5 c.in-Ok.ensures.writes;
+      has_text = so_far now.0 c.reads.frames.octets now.1 now.4 c.reads.invariant.short;
+      handed_over = c.in-Ok.ensures.none;
+      told = c.in-Ok.ensures.ok;
+    }
+
+-- the stream ended
+pub returns-then-count-eq0-clause-reaches : goal.returns-then-count-eq0-clause-reaches
+returns-then-count-eq0-clause-reaches g c =
+    let law : Joins g.W.Sink = record { joined = g.met.W.Sink.joined } in
+    let now = c.reads.invariant.so_far in
+    let nothing = rw c.if-count-eq0.true at c.in-Ok-read.ensures.ok in
+    let gave = rw append-nil at (g.met.R.Source.joined c.args.source.now c.reads.source c.read.new.self now.0 [] now.2 nothing) in
+    ended law g.R.Source.gives c.args.source.now c.read.new.self c.args.lines.now c.hand_over.new.self c.put_rest-end.new.lines
+    c.hand_over-then-count-eq0.new.lines now.0 c.reads.frames.octets now.1 gave now.4 c.reads.invariant.short
+    (and_nothing law now.5 c.in-Ok.ensures.writes) _ c.len.ensures c.put_rest-end.result c.hand_over-then-count-eq0.result
+    c.put_rest-end.ensures c.hand_over-then-count-eq0.ensures
+
+-- memory was refused
+pub returns-in-Err-feed-clause-reaches : goal.returns-in-Err-feed-clause-reaches
+returns-in-Err-feed-clause-reaches g c =
+    let law : Joins g.W.Sink = record { joined = g.met.W.Sink.joined } in
+    let now = c.reads.invariant.so_far in
+    let piece = take c.in-Ok-read.count c.read.new.buffer in
+    record {
+      given = now.0 ++ piece;
+      text = now.1;
+      gave = g.met.R.Source.joined c.args.source.now c.reads.source c.read.new.self now.0 piece now.2 c.in-Ok-read.ensures.ok;
+      wrote = and_nothing law now.5 c.in-Ok.ensures.writes;
+      has_text = beginning (now.0 ++ piece) (c.reads.frames.octets ++ piece) now.1 (lines_fed now.0 c.reads.frames.octets now.1 piece now.4);
+      handed_over = c.in-Ok.ensures.none;
+      told = c.in-Ok.ensures.ok;
+    }
+
+-- a header with faults came
+pub returns-then-put_frames-clause-reaches : goal.returns-then-put_frames-clause-reaches
+returns-then-put_frames-clause-reaches g c =
+    let law : Joins g.W.Sink = record { joined = g.met.W.Sink.joined } in
+    let now = c.reads.invariant.so_far in
+    let held = c.reads.frames.octets in
+    let piece = take c.in-Ok-read.count c.read.new.buffer in
+    let stream = now.0 ++ piece in
+    let fed = c.in-Ok-feed.ensures.ok ∙ fed_by c.reads.frames piece c.reads.invariant.state in
+    let octets = ap (λ (h : Held). h.octets) fed in
+    let count = total_of now.0 piece c.reads.given c.in-Ok-read.count now.3 (length-take-le c.in-Ok-read.count c.read.new.buffer c.in-Ok-read.ensures.bound) in
+    let puts = c.if-put_frames.ensures in
+    let rest = puts.0 in
+    let new_lines = subst (λ (o : List ℕ). AreLines o rest puts.1) octets puts.3 in
+    let all = more_lines stream (held ++ piece) rest now.1 puts.1 (lines_fed now.0 held now.1 piece now.4) new_lines in
+    let last = subst (λ (n : ℕ). IsLastLine (n - length rest) rest puts.2 3) count puts.4 in
+    finished law g.R.Source.gives c.args.source.now c.read.new.self c.args.lines.now c.put_frames.new.lines
+    c.hand_over-then-put_frames.new.lines stream (now.1 ++ (puts.1 ++ puts.2)) ends.AtFault c.hand_over-then-put_frames.result
+    (g.met.R.Source.joined c.args.source.now c.reads.source c.read.new.self now.0 piece now.2 c.in-Ok-read.ensures.ok)
+    (and_then law (and_nothing law now.5 c.in-Ok.ensures.writes) puts.5)
+    (subst (λ (text : List ℕ). IsDecoded stream text 3) (append_assoc now.1 puts.1 puts.2)
+    (decoded stream rest (now.1 ++ puts.1) puts.2 3 all last))
+    refl c.hand_over-then-put_frames.ensures
+
+pub reads-preserved : goal.reads-preserved
+reads-preserved g c =
+    let law : Joins g.W.Sink = record { joined = g.met.W.Sink.joined } in
+    let now = c.reads.invariant.so_far in
+    let held = c.reads.frames.octets in
+    let piece = take c.in-Ok-read.count c.read.new.buffer in
+    let fed = c.in-Ok-feed.ensures.ok ∙ fed_by c.reads.frames piece c.reads.invariant.state in
+    let octets = ap (λ (h : Held). h.octets) fed in
+    let puts = c.if-put_frames.ensures in
+    let left = c.put_frames.new.frames.octets in
+    let new_lines = subst (λ (o : List ℕ). AreLines o left puts.0) octets puts.1 in
+    record {
+      state = puts.3 ∙ ap (λ (h : Held). record h { octets = left }) fed;
+      short = puts.2;
+      failures = c.in-Ok-read.ensures.failures ∙ c.reads.invariant.failures;
+      so_far = (
+        now.0 ++ piece,
+        now.1 ++ puts.0,
+        g.met.R.Source.joined c.args.source.now c.reads.source c.read.new.self now.0 piece now.2 c.in-Ok-read.ensures.ok,
+        total_of now.0 piece c.reads.given c.in-Ok-read.count now.3 (length-take-le c.in-Ok-read.count c.read.new.buffer c.in-Ok-read.ensures.bound),
+        more_lines (now.0 ++ piece) (held ++ piece) left now.1 puts.0 (lines_fed now.0 held now.1 piece now.4) new_lines,
+        and_then law (and_nothing law now.5 c.in-Ok.ensures.writes) puts.4,
       );
     }

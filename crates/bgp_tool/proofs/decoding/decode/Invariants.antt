@@ -1,19 +1,20 @@
 use Rattle.std.proofs.Common.{◌≡◌, ◌-◌, ◌^◌, ℕ, List, length, false}
 use Rattle.bgp_wire.specs.declared.header.Limit.TheVariants.{Plain}
 use Rattle.bgp_wire.specs.Framing.{IsShort}
-use Rattle.bgp_tool.specs.Ending.{AreLines, Takes}
+use Rattle.bgp_tool.specs.Lines.{Writes}
+use Rattle.bgp_tool.specs.Ending.{AreLines}
 use Rattle.bgp_tool.proofs.decoding.decode.Given as goal
 
--- what was given so far, and the lines of its frames, which are written
-abbrev pub invariant-loop-count : goal.invariant-loop-count
-invariant-loop-count g l =
+-- what was given so far, and the lines of its frames, which are put
+abbrev pub invariant-reads : goal.invariant-reads
+invariant-reads g l =
     record {
       state : l.frames ≡ record { limit = Plain; octets = l.frames.octets; is_closed = false };
       short : IsShort Plain l.frames.octets;
       failures : g.R.Source.failures l.source ≡ g.R.Source.failures l.fn.source;
       so_far : (stream text : List ℕ) × g.R.Source.gives l.fn.source l.source stream × (l.given ≡ length stream)
-          × AreLines stream l.frames.octets text × Takes g.W.Sink.takes g.W.Sink.failures l.fn.sink l.sink text;
+          × AreLines stream l.frames.octets text × Writes l.fn.lines l.lines text;
     }
 
-abbrev pub decreases-loop-count : goal.decreases-loop-count
-decreases-loop-count g l = 2 ^ 63 - g.R.Source.given_count l.source
+abbrev pub decreases-reads : goal.decreases-reads
+decreases-reads g l = 2 ^ 63 - g.R.Source.given_count l.source

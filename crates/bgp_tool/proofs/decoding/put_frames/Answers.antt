@@ -1,19 +1,16 @@
-use Rattle.std.proofs.Common.{◌≡◌, ◌∙◌, ◌++◌, ◌-◌, [], List, ℕ, Result, Ok, Err, length, drop, refl, sym, ap, subst, inr, arith}
-use Rattle.std.specs.Result.{IsErr, IsErrAnd}
-use Rattle.std.proofs.lemmas.Bool.{false≢true}
+use Rattle.std.proofs.Common.{◌≡◌, ◌∙◌, ◌++◌, ◌-◌, [], List, ℕ, length, drop, refl, sym, ap, subst, inr, arith}
 use Rattle.bgp_wire.specs.declared.header.Limit.{Limit}
 use Rattle.bgp_wire.specs.declared.header.Limit.TheVariants.{Plain}
 use Rattle.bgp_wire.specs.Header.{header_of}
 use Rattle.bgp_wire.specs.Verdict.{AreFaults}
 use Rattle.bgp_wire.specs.Framing.{IsFrame, IsShort, IsFaulty}
 use Rattle.bgp_wire.specs.Held.{Held}
-use Rattle.bgp_tool.specs.declared.decoding.End.{End}
 use Rattle.bgp_tool.specs.Text.{line_of, fault_line}
 use Rattle.bgp_tool.specs.Decoding.{IsLastLine}
 use Rattle.bgp_tool.specs.Ending.{AreLines}
-use Rattle.bgp_tool.proofs.Lines.{no_lines, one_line_more}
+use Rattle.bgp_tool.proofs.LinesOfFrames.{no_lines, one_line_more}
 use Rattle.bgp_tool.proofs.EachMessage.{each_message}
-use Rattle.bgp_tool.proofs.Cut.{took_more, cut_line, cut_last}
+use Rattle.bgp_tool.proofs.Pieces.{Joins, nothing_yet, and_then}
 use Rattle.bgp_tool.proofs.decoding.put_frames.Goals as goal
 
 -- octets that are taken away leave the rest of the state
@@ -39,13 +36,27 @@ fault_is_last offset limit rest header faults plain faulty front are = inr (inr 
   ),
 ))
 
--- `?` hands on an end as it is
-handed_on : (result : Result (Unit {0}) End) (end : End) → IsErr result × IsErrAnd result (λ (e : End). e ≡ end) → result ≡ Err end
-handed_on (Ok done) end h = absurd (false≢true h.0)
-handed_on (Err e) end h = ap Err h.1
+-- before the first frame nothing is written
+pub loop-kind-init : goal.loop-kind-init
+loop-kind-init g c =
+    record {
+      state = refl;
+      written = (
+        [],
+        no_lines c.args.frames.now.octets,
+        nothing_yet g.W.Sink g.met.W.Sink.nothing c.args.lines.now.outlet c.args.lines.now.held.items,
+      );
+    }
+
+-- each frame says something
+pub put_message-requires-clause-says : goal.put_message-requires-clause-says
+put_message-requires-clause-says g c =
+    let limit = limit_is c.args.frames.now c.loop-kind.frames c.loop-kind.invariant.state c.requires.limit in
+    each_message c.in-Frame.frame.now (subst (λ (l : Limit). IsFrame l c.in-Frame.frame.now) limit c.in-Frame.ensures.first.0)
 
 pub loop-kind-preserved : goal.loop-kind-preserved
 loop-kind-preserved g c =
+    let law : Joins g.W.Sink = record { joined = g.met.W.Sink.joined } in
     let now = rw c.in-Frame.is at c.next.follows.holds-at-none in
     let state = c.loop-kind.invariant.state in
     let so_far = c.loop-kind.invariant.written in
@@ -54,32 +65,15 @@ loop-kind-preserved g c =
     let limit = limit_is c.args.frames.now c.loop-kind.frames state c.requires.limit in
     let whole = subst (λ (l : Limit). IsFrame l frame) limit c.in-Frame.ensures.first.0 in
     let said = each_message frame whole in
-    let puts = c.in_ok-put-in-Frame.ensures (line_of said.0) (c.message.ensures said.0 said.1) in
     let lines = one_line_more c.args.frames.now.octets c.loop-kind.frames.octets behind so_far.0 frame said.0 so_far.1 whole c.in-Frame.ensures.first.2 said.1 in
     record {
       state = kept c.args.frames.now c.loop-kind.frames c.next.follows.lender-at-none behind state now;
       written = (
         so_far.0 ++ line_of said.0,
         subst (λ (o : List ℕ). AreLines c.args.frames.now.octets o (so_far.0 ++ line_of said.0)) (sym (ap (λ (v : Held). v.octets) now)) lines,
-        took_more g.W.Sink.takes g.W.Sink.failures g.met.W.Sink.joined c.args.sink.now c.loop-kind.sink c.put.new.sink
-            so_far.0 (line_of said.0) so_far.2 puts,
+        and_then law so_far.2 (c.put_message.ensures said.0 said.1),
       );
     }
-
-pub returns-in_err-put-in-Frame : goal.returns-in_err-put-in-Frame
-returns-in_err-put-in-Frame g c =
-    let state = c.loop-kind.invariant.state in
-    let so_far = c.loop-kind.invariant.written in
-    let frame = c.in-Frame.frame.now in
-    let limit = limit_is c.args.frames.now c.loop-kind.frames state c.requires.limit in
-    let whole = subst (λ (l : Limit). IsFrame l frame) limit c.in-Frame.ensures.first.0 in
-    let said = each_message frame whole in
-    let end = c.in_err-put-in-Frame.field-0.0 in
-    let puts = c.in_err-put-in-Frame.ensures (line_of said.0) (c.message.ensures said.0 said.1) in
-    rw (handed_on c.from_residual.result end c.from_residual.ensures)
-    (cut_line g.W.Sink.takes g.W.Sink.failures g.met.W.Sink.joined c.args.sink.now c.loop-kind.sink c.put.new.sink c.args.given
-    c.args.frames.now c.next.follows.lender-at-none c.loop-kind.frames.octets so_far.0 frame (drop (length frame) c.loop-kind.frames.octets)
-    said.0 so_far.2 so_far.1 whole c.in-Frame.ensures.first.2 said.1 end puts)
 
 pub returns-in-More : goal.returns-in-More
 returns-in-More g c =
@@ -98,6 +92,7 @@ returns-in-More g c =
 
 pub returns-in-Fault : goal.returns-in-Fault
 returns-in-Fault g c =
+    let law : Joins g.W.Sink = record { joined = g.met.W.Sink.joined } in
     let now = rw c.in-Fault.is at c.next.follows.holds-at-none in
     let so_far = c.loop-kind.invariant.written in
     let rest = c.loop-kind.frames.octets in
@@ -109,48 +104,11 @@ returns-in-Fault g c =
     let front = c.in-Fault.ensures.first in
     let is_last = subst (λ (n : ℕ). IsLastLine n rest last 3) offset
     (fault_is_last c.offset_of_held-offset.result _ rest c.in-Fault.field-1.now c.in-Fault.faults limit front.0 front.1 front.2)
-    in
-    let puts = c.in_ok-put-in-Fault.ensures last c.fault.ensures in (
+    in (
       rest,
       so_far.0,
       last,
       so_far.1,
       is_last,
-      took_more g.W.Sink.takes g.W.Sink.failures g.met.W.Sink.joined c.args.sink.now c.loop-kind.sink c.put-in-Fault.new.sink
-          so_far.0 last so_far.2 puts,
+      and_then law so_far.2 c.put_fault.ensures,
     )
-
-pub returns-in_err-put-in-Fault : goal.returns-in_err-put-in-Fault
-returns-in_err-put-in-Fault g c =
-    let now = rw c.in-Fault.is at c.next.follows.holds-at-none in
-    let so_far = c.loop-kind.invariant.written in
-    let rest = c.loop-kind.frames.octets in
-    let given = c.args.given in
-    let held = rw now at c.len.ensures in
-    let offset : c.offset_of_held-offset.result ≡ given - length rest = omega arith in
-    let last = fault_line c.offset_of_held-offset.result c.in-Fault.faults in
-    let limit = limit_is c.args.frames.now c.loop-kind.frames c.loop-kind.invariant.state c.requires.limit in
-    let front = c.in-Fault.ensures.first in
-    let is_last = subst (λ (n : ℕ). IsLastLine n rest last 3) offset
-    (fault_is_last c.offset_of_held-offset.result _ rest c.in-Fault.field-1.now c.in-Fault.faults limit front.0 front.1 front.2)
-    in
-    let end = c.in_err-put-in-Fault.field-0.0 in
-    let puts = c.in_err-put-in-Fault.ensures last c.fault.ensures in
-    rw (handed_on c.from_residual-in_err-put-in-Fault.result end c.from_residual-in_err-put-in-Fault.ensures)
-    (cut_last g.W.Sink.takes g.W.Sink.failures g.met.W.Sink.joined c.args.sink.now c.loop-kind.sink c.put-in-Fault.new.sink given
-    c.args.frames.now c.next.follows.lender-at-none rest so_far.0 last 3 so_far.2 so_far.1 is_last end puts)
-
--- each frame says something
-pub message-requires : goal.message-requires
-message-requires g c =
-    let limit = limit_is c.args.frames.now c.loop-kind.frames c.loop-kind.invariant.state c.requires.limit in
-    let whole = subst (λ (l : Limit). IsFrame l c.in-Frame.frame.now) limit c.in-Frame.ensures.first.0 in
-    record { kind = c.in-Frame.ensures.first.1; says = each_message c.in-Frame.frame.now whole }
-
--- before the first frame nothing is written
-pub loop-kind-init : goal.loop-kind-init
-loop-kind-init g c =
-    record {
-      state = refl;
-      written = ([], no_lines c.args.frames.now.octets, (g.met.W.Sink.nothing c.args.sink.now, refl));
-    }

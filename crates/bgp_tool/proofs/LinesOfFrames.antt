@@ -1,5 +1,5 @@
 -- The lines of frames that come one after another.
-use Rattle.std.proofs.Common.{◌≡◌, ◌∙◌, ◌++◌, ◌∷◌, ◌-◌, [], ℕ, List, length, refl, sym, ap, inl, inr, append_assoc, append-nil}
+use Rattle.std.proofs.Common.{◌≡◌, ◌∙◌, ◌++◌, ◌∷◌, [], ℕ, List, refl, sym, ap, append_assoc}
 use Rattle.std.proofs.lemmas.List.{flat_map_more}
 use Rattle.std.proofs.lemmas.List.Elements.{All-nil, All-push, All-append}
 use Rattle.std.proofs.lemmas.Grind.{flat_map-append}
@@ -7,8 +7,8 @@ use Rattle.bgp_wire.specs.declared.header.Limit.TheVariants.{Plain}
 use Rattle.bgp_wire.specs.Framing.{IsFrame, joined}
 use Rattle.bgp_tool.specs.Message.{Message, Says, Say}
 use Rattle.bgp_tool.specs.Text.{line_of}
-use Rattle.bgp_tool.specs.Decoding.{lines_of, IsLastLine}
-use Rattle.bgp_tool.specs.Ending.{AreLines, IsBegun}
+use Rattle.bgp_tool.specs.Decoding.{lines_of}
+use Rattle.bgp_tool.specs.Ending.{AreLines}
 
 -- what frames say, and more frames
 pub say_more : (frames others : List (List ℕ)) (messages more : List Message) → Say frames messages → Say others more
@@ -64,58 +64,4 @@ lines_fed octets rest lines piece so_far = record {
   messages = so_far.messages;
   said = so_far.said;
   text = so_far.text;
-}
-
--- whole lines are a beginning
-pub begun_between : (given : ℕ) (octets rest lines : List ℕ) → AreLines octets rest lines → IsBegun given octets lines
-begun_between given octets rest lines are_lines = record {
-  rest = rest;
-  lines = lines;
-  are_lines = are_lines;
-  last = [];
-  is_last = inl refl;
-  more = [];
-  begins = refl;
-}
-
--- and so are whole lines with a part of the next frame's
-pub begun_inside : (given : ℕ) (octets rest behind lines frame part left : List ℕ) (message : Message) → AreLines octets rest lines
-    → IsFrame Plain frame → rest ≡ frame ++ behind → Says frame message → line_of message ≡ part ++ left
-    → IsBegun given octets (lines ++ part)
-begun_inside given octets rest behind lines frame part left message so_far whole is says line = record {
-  rest = behind;
-  lines = lines ++ line_of message;
-  are_lines = one_line_more octets rest behind lines frame message so_far whole is says;
-  last = [];
-  is_last = inl refl;
-  more = left;
-  begins = append-nil (lines ++ line_of message) ∙ ap (λ (xs : List ℕ). lines ++ xs) line ∙ sym (append_assoc lines part left);
-}
-
--- or with a part of the last line
-pub begun_at_last : (given : ℕ) (octets rest lines last part left : List ℕ) (status : ℕ) → AreLines octets rest lines
-    → IsLastLine (given - length rest) rest last status → last ≡ part ++ left → IsBegun given octets (lines ++ part)
-begun_at_last given octets rest lines last part left status so_far is_last line = record {
-  rest = rest;
-  lines = lines;
-  are_lines = so_far;
-  last = last;
-  is_last = inr (status, is_last);
-  more = left;
-  begins = ap (λ (xs : List ℕ). lines ++ xs) line ∙ sym (append_assoc lines part left);
-}
-
--- what is a beginning of the lines of what is left, behind the lines of what is gone, is one of all of them
-pub begun_behind : (given : ℕ) (octets rest lines text : List ℕ) → AreLines octets rest lines
-    → IsBegun given rest text → IsBegun given octets (lines ++ text)
-begun_behind given octets rest lines text so_far begun = record {
-  rest = begun.rest;
-  lines = lines ++ begun.lines;
-  are_lines = more_lines octets rest begun.rest lines begun.lines so_far begun.are_lines;
-  last = begun.last;
-  is_last = begun.is_last;
-  more = begun.more;
-  begins =
-      append_assoc lines begun.lines begun.last ∙ ap (λ (xs : List ℕ). lines ++ xs) begun.begins
-      ∙ sym (append_assoc lines text begun.more);
 }
