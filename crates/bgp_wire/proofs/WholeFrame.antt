@@ -1,7 +1,7 @@
 -- What holds of a frame: it is a whole message of its type, as long as that type needs.
-use Rattle.std.proofs.Common.{◌≡◌, ◌↔◌, ◌∙◌, ◌==◌, ◌⊎◌, ◌<◌, ◌≤◌, ◌∷◌, [], false, IsTrue, ℕ, List, length, refl, sym, ap, subst, inl, inr, arith}
+use Rattle.std.proofs.Common.{◌≡◌, ◌↔◌, ◌∙◌, ◌⊎◌, ◌<◌, ◌≤◌, ◌∷◌, [], Bool, false, IsTrue, ℕ, List, length, refl, sym, ap, subst, inl, inr, arith}
 use Rattle.std.proofs.lemmas.List.{length-drop}
-use Rattle.std.proofs.lemmas.Bool.{cases_lt, cases_eq, eq-eqb, eqb-true}
+use Rattle.std.proofs.lemmas.Bool.{cases_lt, cases_eq}
 use Rattle.byteorder.specs.Endian.{big_bytes}
 use Rattle.bgp_wire.specs.declared.header.Limit.{Limit}
 use Rattle.bgp_wire.specs.Header.{header_of, length_of, type_of, least_length, IsSound}
@@ -76,13 +76,14 @@ no_frame limit octets header e faulty =
     (λ t. absurd (cc), λ whole. absurd (faulty (subst (λ (h : List ℕ). IsSound limit h) (sym e) whole.sound)))
 
 -- octets behind a sound header are a frame exactly where they are as many as it says
-pub frame_by_count : (limit : Limit) (octets header : List ℕ) (count n : ℕ) → header ≡ header_of octets → 19 ≤ length octets
-    → IsSound limit header → count ≡ length_of header → n ≡ count → (IsTrue (length octets == n) ↔ IsFrame limit octets)
-frame_by_count limit octets header count n e long sound is same = (
+pub frame_by_count : (limit : Limit) (octets header : List ℕ) (count : ℕ) (are_so_many : Bool) → header ≡ header_of octets → 19 ≤ length octets
+    → IsSound limit header → count ≡ length_of header → (IsTrue are_so_many ↔ (length octets ≡ count))
+    → (IsTrue are_so_many ↔ IsFrame limit octets)
+frame_by_count limit octets header count are_so_many e long sound is told = (
   λ t. record {
     header = long;
     sound = subst (λ (h : List ℕ). IsSound limit h) e sound;
-    whole = eqb-true (length octets) n t ∙ same ∙ is ∙ ap length_of e;
+    whole = told.0 t ∙ is ∙ ap length_of e;
   },
-  λ whole. eq-eqb (length octets) n (whole.whole ∙ sym (same ∙ is ∙ ap length_of e)),
+  λ whole. told.1 (whole.whole ∙ sym (is ∙ ap length_of e)),
 )

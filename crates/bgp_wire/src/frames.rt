@@ -165,6 +165,13 @@ pub fn is_frame(limit: Limit, octets: &[u8]) -> bool
     };
     match check_header(header, limit) {
         HeaderVerdict::Faulty(_) => false,
-        HeaderVerdict::Whole(length, _) => octets.len() == usize::from(length),
+        HeaderVerdict::Whole(length, _) => are_so_many(octets, length),
     }
+}
+
+/// Whether the octets are as many as a Length says.
+fn are_so_many(octets: &[u8], count: u16) -> bool
+    ensures { IsTrue result ↔ (length octets.now ≡ count) }
+{
+    octets.len() == usize::from(count)
 }

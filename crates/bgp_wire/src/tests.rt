@@ -164,6 +164,73 @@ fn a_fault_is_answered_for_good(rt: HostRuntime) -> Result<(), Fail> {
 }
 
 #[test]
+fn a_fault_is_named_by_its_subcode_and_the_field(rt: HostRuntime) {
+    // The header of RFC 4271, 6.1, with a bad Length, and one of a type that isn't known.
+    let bad_length = HeaderFaults {
+        marker: false,
+        length: Some(18),
+        kind: None,
+    };
+    assert!(rt; bad_length.contains(2, &[0x00, 0x12]));
+    assert!(rt; !bad_length.contains(2, &[]));
+    assert!(rt; !bad_length.contains(2, &[0x00, 0x13]));
+    assert!(rt; !bad_length.contains(1, &[]));
+    assert!(rt; !bad_length.contains(3, &[0x12]));
+    let bad_type = HeaderFaults {
+        marker: true,
+        length: None,
+        kind: Some(9),
+    };
+    assert!(rt; bad_type.contains(3, &[9]));
+    assert!(rt; !bad_type.contains(3, &[0, 9]));
+    // Where the marker is at fault, no data are asked for.
+    assert!(rt; bad_type.contains(1, &[]));
+    assert!(rt; bad_type.contains(1, &[1, 2]));
+    assert!(rt; !bad_type.contains(0, &[]));
+}
+
+#[test]
+fn a_frame_is_just_one_message_without_a_header_fault(rt: HostRuntime) {
+    for (_, message) in STREAM {
+        assert!(rt; is_frame(Limit::Plain, message));
+        assert!(rt; !is_frame(Limit::Plain, message.split_at(18).0));
+        assert!(rt; header_at(message) == message.first_chunk());
+    }
+    assert!(rt; !is_frame(Limit::Plain, &KEEPALIVE_OF_18));
+    assert!(rt; header_at(&KEEPALIVE[..18]).is_none());
+}
+
+#[test]
+fn what_is_put_stands_highest_octet_first(rt: HostRuntime) -> Result<(), Fail> {
+    let mut out = Vec::with_capacity(rt.alloc(), 64)?;
+    put_header(&mut out, MessageType::Keepalive, 19);
+    assert!(rt; out.as_slice() == KEEPALIVE.as_slice());
+    out.clear();
+    put_u8(&mut out, 1);
+    put_u16(&mut out, 0x0203);
+    put_u32(&mut out, 0x0405_0607);
+    put_u64(&mut out, 0x0809_0a0b_0c0d_0e0f);
+    put(&mut out, &[16, 17]);
+    let wanted = [1, 2, 3, 4, 5, 6, 7, 8, 9, 10, 11, 12, 13, 14, 15, 16, 17];
+    assert!(rt; out.as_slice() == wanted.as_slice());
+    Ok(())
+}
+
+#[test]
+fn as_trans_stands_for_what_needs_four_octets(rt: HostRuntime) {
+    // RFC 6793, 9: AS 23456 is AS_TRANS.
+    for (number, needs, two) in [
+        (0, false, 0),
+        (65535, false, 65535),
+        (65536, true, 23456),
+        (u32::MAX, true, 23456),
+    ] {
+        assert_eq!(rt; needs_four_octets(number), needs);
+        assert_eq!(rt; two_octet_as(number), two);
+    }
+}
+
+#[test]
 fn a_body_is_that_of_a_whole_message_of_the_type(rt: HostRuntime) {
     let body = message_body(MessageType::Notification, &ADMINISTRATIVE_SHUTDOWN);
     assert_eq!(rt; body, Some([6, 2].as_slice()));
@@ -200,54 +267,88 @@ fn ample_memory(rt: HostRuntime) -> Result<(), Fail> {
     Ok(())
 }
 
-/// Feeds a KEEPALIVE and an UPDATE to a splitter on a heap that may be too small, and copies it.
-/// Answers whether a growth was refused; where one was, all is as before.
-fn feeds_or_keeps(rt: &impl Abort, heap: &LocalHeap) -> bool {
+/// How many octets [`longest_messages`] has.
+const PIECE_LEN: usize = 65536;
+
+/// UPDATEs of the greatest Length, 16 of them, in one piece. Their bodies are zeros.
+fn longest_messages<A: Allocator>(alloc: A) -> Result<Vec<u8, A>, AllocError> {
+    let mut octets = Vec::new(alloc);
+    for _ in 0..16 {
+        octets.extend_from_slice(&header(4096, 2))?;
+        octets.extend_from_slice(&[0; 4077])?;
+    }
+    Ok(octets)
+}
+
+#[test]
+fn a_piece_of_65536_octets_is_16_of_the_longest_messages(rt: HostRuntime) -> Result<(), Fail> {
+    let piece = longest_messages(rt.alloc())?;
+    assert_eq!(rt; piece.len(), PIECE_LEN);
+    let mut frames = Frames::new(rt.alloc(), Limit::Plain);
+    frames.feed(&piece)?;
+    assert_eq!(rt; frames.len(), PIECE_LEN);
+    for message in piece.chunks(4096) {
+        assert_eq!(rt; frames.next(), Next::Frame(MessageType::Update, message));
+    }
+    assert_eq!(rt; frames.next(), Next::More);
+    assert_eq!(rt; frames.len(), 0);
+    Ok(())
+}
+
+/// At which call a splitter's growth was refused.
+#[derive(Clone, Copy, Debug, PartialEq, Eq)]
+enum Refused {
+    FirstPiece,
+    SecondPiece,
+    Copy,
+    Nothing,
+}
+
+/// Feeds a KEEPALIVE and then a large piece to a splitter on a heap that may be too small, and
+/// copies it. Where a growth is refused, all is as before.
+fn feeds_or_keeps(rt: &impl Abort, heap: &LocalHeap, piece: &[u8]) -> Refused {
     let mut frames = Frames::new(heap, Limit::Plain);
     if frames.feed(&KEEPALIVE).is_err() {
         assert_eq!(rt; frames.len(), 0);
         assert_eq!(rt; frames.next(), Next::More);
-        return true;
+        return Refused::FirstPiece;
     }
-    if frames.feed(&ANNOUNCES_10).is_err() {
+    let keepalive = Next::Frame(MessageType::Keepalive, &KEEPALIVE);
+    if frames.feed(piece).is_err() {
         assert_eq!(rt; frames.len(), KEEPALIVE.len());
-        assert_eq!(rt;
-            frames.next(),
-            Next::Frame(MessageType::Keepalive, &KEEPALIVE)
-        );
-        return true;
+        assert_eq!(rt; frames.next(), keepalive);
+        assert_eq!(rt; frames.next(), Next::More);
+        return Refused::SecondPiece;
     }
     let refused = match frames.copy() {
         Ok(mut copy) => {
-            assert_eq!(rt;
-                copy.next(),
-                Next::Frame(MessageType::Keepalive, &KEEPALIVE)
-            );
-            false
+            assert_eq!(rt; copy.next(), keepalive);
+            assert_eq!(rt; copy.len(), PIECE_LEN);
+            Refused::Nothing
         }
-        Err(_) => true,
+        Err(_) => Refused::Copy,
     };
-    assert_eq!(rt;
-        frames.next(),
-        Next::Frame(MessageType::Keepalive, &KEEPALIVE)
-    );
-    assert_eq!(rt;
-        frames.next(),
-        Next::Frame(MessageType::Update, &ANNOUNCES_10)
-    );
+    assert_eq!(rt; frames.next(), keepalive);
+    assert_eq!(rt; frames.len(), PIECE_LEN);
     refused
 }
 
 #[test]
 fn a_refused_growth_leaves_what_was_held(rt: HostRuntime) -> Result<(), Fail> {
-    let mut refusals = 0u32;
-    for size in (64usize..1 << 20).step_by(16) {
-        let heap = LocalHeap::new(rt.alloc(), size)?;
-        if !feeds_or_keeps(&rt, &heap) {
-            assert!(rt; 0 < refusals);
-            return Ok(());
+    let piece = longest_messages(rt.alloc())?;
+    let mut met = [false; 3];
+    for step in 1usize..200 {
+        // From 16 octets on, each heap larger than the one before.
+        let heap = LocalHeap::new(rt.alloc(), 16 * step * step)?;
+        match feeds_or_keeps(&rt, &heap, &piece) {
+            Refused::FirstPiece => met[0] = true,
+            Refused::SecondPiece => met[1] = true,
+            Refused::Copy => met[2] = true,
+            Refused::Nothing => {
+                assert_eq!(rt; met, [true; 3], "at each call a growth was refused");
+                return Ok(());
+            }
         }
-        refusals = refusals.saturating_add(1);
     }
     Err(Fail::from("no heap was large enough"))
 }

@@ -64,6 +64,32 @@ pub const OPEN_B_HOLD_0: [u8; 49] = [
     0x41, 0x04, 0x00, 0x00, 0xfd, 0xea, // four-octet AS number: 65002
 ];
 
+/// The OPEN of AS 65002, 192.0.2.2, without parameters.
+pub const OPEN_WITHOUT_PARAMETERS: [u8; 29] = [
+    255, 255, 255, 255, 255, 255, 255, 255, 255, 255, 255, 255, 255, 255, 255, 255, // marker
+    0x00, 0x1d, // Length: 29
+    0x01, // Type: OPEN
+    0x04, // version 4
+    0xfd, 0xea, // My Autonomous System: 65002
+    0x00, 0x5a, // Hold Time: 90
+    0xc0, 0x00, 0x02, 0x02, // BGP Identifier: 192.0.2.2
+    0x00, // Optional Parameters Length: 0
+];
+
+/// The OPEN of AS 65002, 192.0.2.2, with one capability, which has no value (RFC 2918, 2).
+pub const OPEN_WITH_ROUTE_REFRESH: [u8; 33] = [
+    255, 255, 255, 255, 255, 255, 255, 255, 255, 255, 255, 255, 255, 255, 255, 255, // marker
+    0x00, 0x21, // Length: 33
+    0x01, // Type: OPEN
+    0x04, // version 4
+    0xfd, 0xea, // My Autonomous System: 65002
+    0x00, 0x5a, // Hold Time: 90
+    0xc0, 0x00, 0x02, 0x02, // BGP Identifier: 192.0.2.2
+    0x04, // Optional Parameters Length: 4
+    0x02, 0x02, // Capabilities, 2 octets
+    0x02, 0x00, // route refresh, no value
+];
+
 /// A NOTIFICATION of an expired hold timer.
 pub const HOLD_TIMER_EXPIRED: [u8; 21] = [
     255, 255, 255, 255, 255, 255, 255, 255, 255, 255, 255, 255, 255, 255, 255, 255, // marker

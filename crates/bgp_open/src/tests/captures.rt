@@ -3,6 +3,7 @@
 
 use super::*;
 use crate::{Link, is_own_open, negotiate, open_faults, read_open};
+use bgp_wire::vectors::{OPEN_A, OPEN_B};
 use std::test::Fail;
 
 /// BIRD 2.0.12, with its defaults, as AS 65001 (session bird-frr, and session refresh).
@@ -242,36 +243,10 @@ pub(crate) const OPENBGPD_B: [u8; 55] = [
 ];
 
 /// OpenBGPD 7.7 as AS 65001, over IPv6 (session transport6).
-pub(crate) const OPENBGPD_OVER_IPV6: [u8; 49] = [
-    255, 255, 255, 255, 255, 255, 255, 255, 255, 255, 255, 255, 255, 255, 255, 255, // marker
-    0x00, 0x31, // Length: 49
-    0x01, // Type: OPEN
-    0x04, // version 4
-    0xfd, 0xe9, // My Autonomous System: 65001
-    0x00, 0x5a, // Hold Time: 90
-    0xc0, 0x00, 0x02, 0x01, // BGP Identifier: 192.0.2.1
-    0x14, // Optional Parameters Length: 20
-    0x02, 0x12, // Capabilities, 18 octets
-    0x01, 0x04, 0x00, 0x01, 0x00, 0x01, // multiprotocol: IPv4 unicast
-    0x01, 0x04, 0x00, 0x02, 0x00, 0x01, // multiprotocol: IPv6 unicast
-    0x41, 0x04, 0x00, 0x00, 0xfd, 0xe9, // four-octet AS number: 65001
-];
+pub(crate) const OPENBGPD_OVER_IPV6: [u8; 49] = OPEN_A;
 
 /// BIRD 2.0.12 as AS 65002, over IPv6 (session transport6).
-pub(crate) const BIRD_OVER_IPV6: [u8; 49] = [
-    255, 255, 255, 255, 255, 255, 255, 255, 255, 255, 255, 255, 255, 255, 255, 255, // marker
-    0x00, 0x31, // Length: 49
-    0x01, // Type: OPEN
-    0x04, // version 4
-    0xfd, 0xea, // My Autonomous System: 65002
-    0x00, 0x5a, // Hold Time: 90
-    0xc0, 0x00, 0x02, 0x02, // BGP Identifier: 192.0.2.2
-    0x14, // Optional Parameters Length: 20
-    0x02, 0x12, // Capabilities, 18 octets
-    0x01, 0x04, 0x00, 0x01, 0x00, 0x01, // multiprotocol: IPv4 unicast
-    0x01, 0x04, 0x00, 0x02, 0x00, 0x01, // multiprotocol: IPv6 unicast
-    0x41, 0x04, 0x00, 0x00, 0xfd, 0xea, // four-octet AS number: 65002
-];
+pub(crate) const BIRD_OVER_IPV6: [u8; 49] = OPEN_B;
 
 /// One end of a session.
 #[derive(Clone, Copy)]

@@ -335,3 +335,38 @@ fn equal_faults_have_equal_fields(rt: HostRuntime) -> Result<(), Fail> {
     }
     Ok(())
 }
+
+#[test]
+fn a_union_has_the_subcodes_of_both_sets(rt: HostRuntime) {
+    let of_version = OpenSubcodes {
+        version: true,
+        ..OpenSubcodes::NONE
+    };
+    let others = OpenSubcodes {
+        unspecific: true,
+        peer_as: true,
+        identifier: true,
+        parameter: true,
+        hold: true,
+        capability: true,
+        ..OpenSubcodes::NONE
+    };
+    assert_subcodes(
+        &rt,
+        &OpenSubcodes::NONE.union(of_version),
+        &[1],
+        "with none",
+    );
+    assert_subcodes(
+        &rt,
+        &others.union(others),
+        &[0, 2, 3, 4, 6, 7],
+        "with itself",
+    );
+    assert_subcodes(
+        &rt,
+        &others.union(of_version),
+        &[0, 1, 2, 3, 4, 6, 7],
+        "all",
+    );
+}

@@ -2,7 +2,10 @@
 
 use super::*;
 use crate::{OpenFault, read_notification, read_open};
-use bgp_wire::vectors::{ADMINISTRATIVE_SHUTDOWN, BAD_LENGTH_18, KEEPALIVE, OPEN_A, OPEN_B};
+use bgp_wire::vectors::{
+    ADMINISTRATIVE_SHUTDOWN, BAD_LENGTH_18, KEEPALIVE, OPEN_A, OPEN_B, OPEN_WITH_ROUTE_REFRESH,
+    OPEN_WITHOUT_PARAMETERS,
+};
 use std::test::Fail;
 
 /// A multiprotocol capability's value: AFI 1, reserved, SAFI 1.
@@ -16,32 +19,6 @@ const AS_65001: [u8; 4] = [0x00, 0x00, 0xfd, 0xe9];
 
 /// A four-octet AS number.
 const AS_65002: [u8; 4] = [0x00, 0x00, 0xfd, 0xea];
-
-/// An OPEN without parameters.
-const OPEN_WITHOUT_PARAMETERS: [u8; 29] = [
-    255, 255, 255, 255, 255, 255, 255, 255, 255, 255, 255, 255, 255, 255, 255, 255, // marker
-    0x00, 0x1d, // Length: 29
-    0x01, // Type: OPEN
-    0x04, // version 4
-    0xfd, 0xea, // My Autonomous System: 65002
-    0x00, 0x5a, // Hold Time: 90
-    0xc0, 0x00, 0x02, 0x02, // BGP Identifier: 192.0.2.2
-    0x00, // Optional Parameters Length: 0
-];
-
-/// An OPEN with one capability, which has no value.
-const OPEN_WITH_ROUTE_REFRESH: [u8; 33] = [
-    255, 255, 255, 255, 255, 255, 255, 255, 255, 255, 255, 255, 255, 255, 255, 255, // marker
-    0x00, 0x21, // Length: 33
-    0x01, // Type: OPEN
-    0x04, // version 4
-    0xfd, 0xea, // My Autonomous System: 65002
-    0x00, 0x5a, // Hold Time: 90
-    0xc0, 0x00, 0x02, 0x02, // BGP Identifier: 192.0.2.2
-    0x04, // Optional Parameters Length: 4
-    0x02, 0x02, // Capabilities, 2 octets
-    0x02, 0x00, // route refresh, no value
-];
 
 /// An OPEN whose three parameters are of type 2, and the second empty.
 const OPEN_WITH_THREE_PARAMETERS: [u8; 45] = [

@@ -2,8 +2,8 @@
 
 use super::*;
 use crate::{
-    Capability, Notification, NotificationWriteFault, OpenWriteFault, is_own_open,
-    write_notification, write_open,
+    Capability, Notification, NotificationWriteFault, OpenFault, OpenWriteFault, is_own_open,
+    read_notification, read_open, write_notification, write_open,
 };
 use bgp_wire::vectors::{ADMINISTRATIVE_SHUTDOWN, BAD_LENGTH_18, OPEN_A};
 use linked_list_allocator::LocalHeap;
@@ -112,40 +112,154 @@ fn a_notification_has_at_most_4075_octets_of_data(rt: HostRuntime) -> Result<(),
     };
     write_notification(&largest, &mut out)?;
     assert_eq!(rt; out.len(), 21 + 4096);
+    let (_, message) = out.split_at(21);
+    assert!(rt; read_notification(message) == Some(largest));
     Ok(())
 }
 
-/// Writes both messages behind two octets into a heap of this size, and tells whether memory was
-/// refused to one of them. After a refusal the vector is as before.
-fn is_refused(rt: &impl Abort, alloc: Global, size: usize) -> Result<bool, AllocError> {
-    let heap = LocalHeap::new(alloc, size)?;
-    let Ok(mut out) = Vec::from_slice(&heap, &[1, 2]) else {
-        return Ok(true);
+/// The capability that fills the one parameter of an OPEN: 253 octets of it are capabilities.
+const LONGEST: [Capability<'static>; 1] = [Capability {
+    code: 9,
+    value: &[7; 251],
+}];
+
+#[test]
+fn an_open_of_253_octets_of_capabilities_is_written_and_read(rt: HostRuntime) -> Result<(), Fail> {
+    let mut out = Vec::new(rt.alloc());
+    write_open(65002, 90, 0xc000_0202, &LONGEST, &mut out)?;
+    assert_eq!(rt; out.len(), 284);
+    let (front, value) = out.split_at(33);
+    let wanted = [
+        255, 255, 255, 255, 255, 255, 255, 255, 255, 255, 255, 255, 255, 255, 255, 255, // marker
+        0x01, 0x1c, // Length: 284
+        0x01, // Type: OPEN
+        0x04, // version 4
+        0xfd, 0xea, // My Autonomous System: 65002
+        0x00, 0x5a, // Hold Time: 90
+        0xc0, 0x00, 0x02, 0x02, // BGP Identifier: 192.0.2.2
+        0xff, // Optional Parameters Length: 255
+        0x02, 0xfd, // Capabilities, 253 octets
+        0x09, 0xfb, // capability 9, 251 octets
+    ];
+    assert!(rt; front == wanted.as_slice());
+    assert!(rt; value == [7; 251].as_slice());
+    let open = read_open(&out)?;
+    let mut capabilities = open.caps();
+    assert!(rt; capabilities.next() == Some(LONGEST[0]));
+    assert!(rt; capabilities.next().is_none());
+    Ok(())
+}
+
+/// What came of a message that was written behind two octets into a small heap.
+#[derive(Clone, Copy, PartialEq, Eq)]
+enum Written {
+    /// Not even the two octets had room.
+    Nowhere,
+    /// Memory was refused, and the vector is as before.
+    Refused,
+    Whole,
+}
+
+fn written_open(rt: &impl Abort, heap: &LocalHeap) -> Written {
+    let Ok(mut out) = Vec::from_slice(heap, &[1, 2]) else {
+        return Written::Nowhere;
     };
-    if let Err(fault) = write_open_a(&mut out) {
-        assert_eq!(rt; fault, OpenWriteFault::Memory);
-        assert!(rt; out.as_slice() == [1, 2].as_slice());
-        return Ok(true);
+    match write_open(65001, 90, 0xc000_0201, &LONGEST, &mut out) {
+        Err(fault) => {
+            assert_eq!(rt; fault, OpenWriteFault::Memory);
+            assert!(rt; out.as_slice() == [1, 2].as_slice());
+            Written::Refused
+        }
+        Ok(()) => {
+            assert_eq!(rt; out.len(), 2 + 284);
+            Written::Whole
+        }
     }
-    assert_eq!(rt; out.len(), 51);
-    if let Err(fault) = write_notification(&BAD_LENGTH, &mut out) {
-        assert_eq!(rt; fault, NotificationWriteFault::Memory);
-        assert_eq!(rt; out.len(), 51);
-        assert!(rt; out.split_at(2).1 == OPEN_A.as_slice());
-        return Ok(true);
+}
+
+fn written_notification(rt: &impl Abort, heap: &LocalHeap) -> Written {
+    let Ok(mut out) = Vec::from_slice(heap, &[1, 2]) else {
+        return Written::Nowhere;
+    };
+    let largest = Notification {
+        code: 6,
+        subcode: 2,
+        detail: &[7; 4075],
+    };
+    match write_notification(&largest, &mut out) {
+        Err(fault) => {
+            assert_eq!(rt; fault, NotificationWriteFault::Memory);
+            assert!(rt; out.as_slice() == [1, 2].as_slice());
+            Written::Refused
+        }
+        Ok(()) => {
+            assert_eq!(rt; out.len(), 2 + 4096);
+            Written::Whole
+        }
     }
-    Ok(false)
 }
 
 #[test]
-fn refused_memory_leaves_the_vector(rt: HostRuntime) -> Result<(), Fail> {
-    for step in 0..64 {
-        if !is_refused(&rt, rt.alloc(), 16 * step)? {
-            assert!(rt; step > 2, "refused {step} times");
-            return Ok(());
+fn an_open_that_is_refused_memory_leaves_the_vector(rt: HostRuntime) -> Result<(), Fail> {
+    let mut was_refused = false;
+    for step in 1usize..64 {
+        let heap = LocalHeap::new(rt.alloc(), 16 * step)?;
+        match written_open(&rt, &heap) {
+            Written::Nowhere => {}
+            Written::Refused => was_refused = true,
+            Written::Whole => {
+                assert!(rt; was_refused, "memory was refused");
+                return Ok(());
+            }
         }
     }
-    assert!(rt; false, "always refused");
+    Err(Fail::from("no heap was large enough"))
+}
+
+#[test]
+fn a_notification_that_is_refused_memory_leaves_the_vector(rt: HostRuntime) -> Result<(), Fail> {
+    let mut was_refused = false;
+    for step in 1usize..512 {
+        let heap = LocalHeap::new(rt.alloc(), 16 * step)?;
+        match written_notification(&rt, &heap) {
+            Written::Nowhere => {}
+            Written::Refused => was_refused = true,
+            Written::Whole => {
+                assert!(rt; was_refused, "memory was refused");
+                return Ok(());
+            }
+        }
+    }
+    Err(Fail::from("no heap was large enough"))
+}
+
+#[test]
+fn faults_are_told_in_words(rt: HostRuntime) -> Result<(), Fail> {
+    for (fault, text) in [
+        (OpenFault::Malformed, "malformed OPEN message"),
+        (OpenFault::Version, "unsupported version number"),
+        (OpenFault::Parameter, "unsupported optional parameter"),
+    ] {
+        assert_eq!(rt; format!(in rt.alloc(); "{fault}")?.as_str(), text);
+    }
+    for (fault, text) in [
+        (
+            OpenWriteFault::TooMany,
+            "too many capabilities for an OPEN message",
+        ),
+        (OpenWriteFault::Memory, "out of memory"),
+    ] {
+        assert_eq!(rt; format!(in rt.alloc(); "{fault}")?.as_str(), text);
+    }
+    for (fault, text) in [
+        (
+            NotificationWriteFault::TooLarge,
+            "the data of the NOTIFICATION are too large",
+        ),
+        (NotificationWriteFault::Memory, "out of memory"),
+    ] {
+        assert_eq!(rt; format!(in rt.alloc(); "{fault}")?.as_str(), text);
+    }
     Ok(())
 }
 

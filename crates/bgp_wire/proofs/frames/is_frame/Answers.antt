@@ -9,4 +9,4 @@ returns-in-Faulty c =
 pub returns-in-Whole : goal.returns-in-Whole
 returns-in-Whole c =
     frame_by_count c.args.limit c.args.octets.now c.in-Some.header.now _ _ c.in-Some.ensures.some (c.in-Some.ensures.whole.0 refl)
-    c.in-Whole.ensures.verdict.0 c.in-Whole.ensures.verdict.1 c.from.ensures
+    c.in-Whole.ensures.verdict.0 c.in-Whole.ensures.verdict.1 c.are_so_many.ensures
