@@ -1,0 +1,12 @@
+pub mod CleanWords
+pub mod EmptyUpdate
+pub mod Exits
+pub mod Joined
+pub mod Marks
+pub mod MpValues
+pub mod OneOutcome
+pub mod OneSplit
+pub mod PrefixLists
+pub mod Routes
+pub mod Seen
+pub mod Words

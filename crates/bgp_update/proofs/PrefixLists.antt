@@ -1,0 +1,196 @@
+-- A list of prefixes walked from its front, and that the walk reads what the relation says.
+use Rattle.std.proofs.Common.{◌≡◌, ◌↔◌, ℕ, zero, suc, ◌+◌, ◌/◌, ◌≤◌, Bool, true, false, List, [], ◌∷◌, ◌++◌, length, drop, get_or, Option, None, Some, option_map, is_some, IsTrue, refl, sym, ap, subst, ◌∙◌, arith, inl, inr, eqb, append_assoc, append-nil}
+use Rattle.std.proofs.lemmas.Bool.{cases_Bool, and_parts, leb-true, le-leb, eqb-true, ne_eqb, eq-eqb}
+use Rattle.std.proofs.lemmas.List.{length-drop, nil_from_length}
+use Rattle.bgp_prefix.specs.declared.family.Family.{Family}
+use Rattle.bgp_prefix.specs.Address.{bit_count}
+use Rattle.bgp_prefix.specs.Prefix.{PrefixBits, BeginsWithPrefix}
+use Rattle.bgp_prefix.proofs.OneSpelling.{tells, one_spelling}
+use Rattle.bgp_prefix.proofs.PrefixParts.{begins}
+use Rattle.bgp_update.specs.Listed.{listed}
+use Rattle.bgp_update.specs.Prefixes.{ArePrefixes, prefix_len, has_prefix, first_prefix, prefixes_in, prefixes_of, ReadsPrefixes}
+
+plus_one : (k : ℕ) → suc k ≡ 1 + k
+plus_one k = omega arith
+
+pub record Fits (family : Family) (octets : List ℕ) : Type 0 where
+  pub some : 1 ≤ prefix_len octets
+  pub bits : get_or octets 0 0 ≤ bit_count family
+  pub whole : prefix_len octets ≤ length octets
+
+pub fits : (family : Family) (octets : List ℕ) → has_prefix family octets ≡ true → Fits family octets
+unfolding has_prefix prefix_len
+fits family octets e =
+    let parts = and_parts _ _ e in
+    record { some = omega arith; bits = leb-true _ _ parts.0; whole = leb-true _ _ parts.1 }
+
+-- the octets begin with the prefix that stands there
+pub front : (family : Family) (octets : List ℕ) → has_prefix family octets ≡ true
+    → BeginsWithPrefix family octets (first_prefix family octets) (prefix_len octets)
+unfolding prefix_len first_prefix
+front family [] e = let f = fits family [] e in absurd (omega (arith, f.some, f.whole))
+front family (count ∷ field) e =
+    let f = fits family (count ∷ field) e in
+    let bits = f.bits in
+    let whole = f.whole in
+    subst (BeginsWithPrefix family (count ∷ field) (first_prefix family (count ∷ field))) (plus_one ((count + 7) / 8))
+    (begins family count field bits (omega arith))
+
+-- no other does
+pub record Only (family : Family) (octets : List ℕ) (p : PrefixBits) (n : ℕ) : Type 0 where
+  pub has : has_prefix family octets ≡ true
+  pub first : first_prefix family octets ≡ p
+  pub len : prefix_len octets ≡ n
+
+stands : (family : Family) (octets : List ℕ) (p : PrefixBits) (n : ℕ) → BeginsWithPrefix family octets p n → has_prefix family octets ≡ true
+unfolding has_prefix prefix_len
+stands family octets p n b =
+    let t = tells family octets p n b in
+    let long = t.as_long in
+    let many = t.many in
+    let within = b.within in
+    let is : length p.bits ≤ bit_count family = rw (← b.of_family) b.spelling.is_prefix in
+    rw (le-leb (get_or octets 0 0) (bit_count family) (omega arith), le-leb (1 + (get_or octets 0 0 + 7) / 8) (length octets) (omega arith)) refl
+
+pub only : (family : Family) (octets : List ℕ) (p : PrefixBits) (n : ℕ) → BeginsWithPrefix family octets p n → Only family octets p n
+only family octets p n b =
+    let has = stands family octets p n b in
+    let same = one_spelling family octets _ _ _ _ (front family octets has) b in
+    record { has = has; first = same.0; len = same.1 }
+
+-- ---- the walk
+
+less : (n : ℕ) (family : Family) (octets : List ℕ) → has_prefix family octets ≡ true → length octets ≤ suc n → length (drop (prefix_len octets) octets) ≤ n
+less n family octets e h = let f = fits family octets e in omega (arith, f.some, f.whole, length-drop (prefix_len octets) octets)
+
+same_in : (n m : ℕ) (family : Family) (octets : List ℕ) → length octets ≤ n → length octets ≤ m → prefixes_in n family octets ≡ prefixes_in m family octets
+same_in zero zero family octets h k = refl
+same_in zero (suc m) family octets h k = rw (eq-eqb (length octets) 0 (omega arith)) refl
+same_in (suc n) zero family octets h k = rw (eq-eqb (length octets) 0 (omega arith)) refl
+same_in (suc n) (suc m) family octets h k = elim (cases_Bool (has_prefix family octets)) [
+  | inl e ↦
+      let same = same_in n m family (drop (prefix_len octets) octets) (less n family octets e h) (less m family octets e k) in
+      rw (e, same) refl
+  | inr e ↦ rw e refl
+]
+
+abbrev pub after_first : Family → List ℕ → Option (List PrefixBits) → Option (List PrefixBits)
+after_first family octets rest = option_map (λ prefixes. first_prefix family octets ∷ prefixes) rest
+
+pub prefixes_end : (family : Family) (octets : List ℕ) → true ≡ eqb (length octets) 0 → prefixes_of family octets ≡ Some []
+unfolding prefixes_of
+prefixes_end family octets e = rw (nil_from_length octets (eqb-true _ _ (sym e))) refl
+
+pub prefixes_step : (family : Family) (octets : List ℕ) → has_prefix family octets ≡ true
+    → prefixes_of family octets ≡ after_first family octets (prefixes_of family (drop (prefix_len octets) octets))
+unfolding prefixes_of
+prefixes_step family octets e =
+    let f = fits family octets e in
+    let rest = drop (prefix_len octets) octets in
+    let one : prefixes_in (suc (length octets)) family octets ≡ after_first family octets (prefixes_in (length octets) family rest) =
+    rw (ne_eqb (length octets) 0 (λ z. absurd (omega (arith, f.some, f.whole))), e) refl in
+    same_in (length octets) (suc (length octets)) family octets (omega arith) (omega arith)
+    ∙ one
+    ∙ ap (after_first family octets) (same_in (length octets) (length rest) family rest (omega (arith, length-drop (prefix_len octets) octets)) (omega arith))
+
+pub prefixes_stop : (family : Family) (octets : List ℕ) → false ≡ eqb (length octets) 0 → has_prefix family octets ≡ false → prefixes_of family octets ≡ None
+unfolding prefixes_of
+prefixes_stop family octets some e =
+    let one : prefixes_in (suc (length octets)) family octets ≡ None = rw (← some, e) refl in
+    same_in (length octets) (suc (length octets)) family octets (omega arith) (omega arith) ∙ one
+
+-- ---- the function is the relation
+
+to : (family : Family) (octets : List ℕ) (ps : List PrefixBits) → ArePrefixes family octets ps → prefixes_of family octets ≡ Some ps
+to family octets [] e = prefixes_end family octets (rw e refl)
+to family octets (p ∷ ps) (n, b, rest) =
+    let o = only family octets p n b in
+    prefixes_step family octets o.has ∙ rw (o.first, o.len, to family (drop n octets) ps rest) refl
+
+record Split (first : PrefixBits) (inner : Option (List PrefixBits)) (ps : List PrefixBits) : Type 0 where
+  rest : List PrefixBits
+  is : inner ≡ Some rest
+  all : first ∷ rest ≡ ps
+
+split : (first : PrefixBits) (inner : Option (List PrefixBits)) (ps : List PrefixBits) → option_map (λ prefixes. first ∷ prefixes) inner ≡ Some ps → Split first inner ps
+split first None ps e = absurd cc
+split first (Some rest) ps e = record { rest = rest; is = refl; all = cc }
+
+from : (n : ℕ) (family : Family) (octets : List ℕ) (ps : List PrefixBits) → prefixes_in n family octets ≡ Some ps → ArePrefixes family octets ps
+from zero family octets ps e = elim (cases_Bool (eqb (length octets) 0)) [
+  | inl z ↦
+      let none : [] ≡ ps = let s = rw z at e in cc in
+      subst (ArePrefixes family octets) none (nil_from_length octets (eqb-true _ _ z))
+  | inr z ↦ let s = rw z at e in absurd cc
+]
+from (suc n) family octets ps e = elim (cases_Bool (eqb (length octets) 0)) [
+  | inl z ↦
+      let none : [] ≡ ps = let s = rw z at e in cc in
+      subst (ArePrefixes family octets) none (nil_from_length octets (eqb-true _ _ z))
+  | inr z ↦ elim (cases_Bool (has_prefix family octets)) [
+    | inl h ↦
+        let s = split (first_prefix family octets) (prefixes_in n family (drop (prefix_len octets) octets)) ps (rw (z, h) at e) in
+        subst (ArePrefixes family octets) s.all (prefix_len octets, front family octets h, from n family (drop (prefix_len octets) octets) s.rest s.is)
+    | inr h ↦ let s = rw (z, h) at e in absurd cc
+  ]
+]
+
+pub reads_prefixes : ReadsPrefixes
+unfolding prefixes_of
+reads_prefixes family octets ps = (to family octets ps, from (length octets) family octets ps)
+
+-- ---- a count and an append, one prefix at a time
+
+pub counted : (family : Family) (octets after : List ℕ) (count : ℕ) (all : Option ℕ) → has_prefix family octets ≡ true → after ≡ drop (prefix_len octets) octets
+    → option_map (λ n. count + n) (option_map length (prefixes_of family octets)) ≡ all
+    → option_map (λ n. (count + 1) + n) (option_map length (prefixes_of family after)) ≡ all
+counted family octets after count all e gone before = rw gone (go (prefixes_of family (drop (prefix_len octets) octets)) (rw (prefixes_step family octets e) at before))
+  where
+    go : (rest : Option (List PrefixBits)) → option_map (λ n. count + n) (option_map length (after_first family octets rest)) ≡ all
+        → option_map (λ n. (count + 1) + n) (option_map length rest) ≡ all
+    go None h = h
+    go (Some ps) h = let more : (count + 1) + length ps ≡ count + suc (length ps) = omega arith in ap Some more ∙ h
+
+pub all_counted : (family : Family) (octets : List ℕ) (count : ℕ) (all : Option ℕ) → true ≡ eqb (length octets) 0
+    → option_map (λ n. count + n) (option_map length (prefixes_of family octets)) ≡ all → Some count ≡ all
+all_counted family octets count all e before = let done = rw (prefixes_end family octets e) at before in let more : count ≡ count + 0 = omega arith in ap Some more ∙ done
+
+pub none_counted : (family : Family) (octets : List ℕ) (count : ℕ) (all : Option ℕ) → false ≡ eqb (length octets) 0 → has_prefix family octets ≡ false
+    → option_map (λ n. count + n) (option_map length (prefixes_of family octets)) ≡ all → None ≡ all
+none_counted family octets count all some e before = rw (prefixes_stop family octets some e) at before
+
+none_some : false ≡ true → ⊥
+none_some e = absurd cc
+
+pub record Goes (family : Family) (octets : List ℕ) (out all : List PrefixBits) : Type 0 where
+  pub whole : is_some (prefixes_of family octets) ≡ true
+  pub so_far : out ++ listed (prefixes_of family octets) ≡ all
+
+pub goes : (family : Family) (octets after : List ℕ) (p : PrefixBits) (n : ℕ) (old new all : List PrefixBits) → BeginsWithPrefix family octets p n
+    → after ≡ drop n octets → new ≡ old ++ p ∷ [] → Goes family octets old all → Goes family after new all
+goes family octets after p n old new all b gone push before =
+    let o = only family octets p n b in
+    let step = prefixes_step family octets o.has in
+    go (prefixes_of family after) refl (step ∙ rw (o.first, o.len, gone) refl)
+  where
+    go : (rest : Option (List PrefixBits)) → prefixes_of family after ≡ rest → prefixes_of family octets ≡ option_map (λ prefixes. p ∷ prefixes) rest → Goes family after new all
+    go None is e = absurd (none_some (rw e at before.whole))
+    go (Some ps) is e =
+        let whole : old ++ p ∷ ps ≡ all = rw e at before.so_far in
+        record { whole = rw is refl; so_far = rw (is, push, append_assoc) whole }
+
+pub all_pushed : (family : Family) (octets : List ℕ) (out all : List PrefixBits) → ((p : PrefixBits) (n : ℕ) → ¬ BeginsWithPrefix family octets p n) → Goes family octets out all → out ≡ all
+all_pushed family octets out all none before = elim (cases_Bool (has_prefix family octets)) [
+  | inl h ↦ absurd (none _ _ (front family octets h))
+  | inr h ↦ elim (cases_Bool (eqb (length octets) 0)) [
+    | inl z ↦ let end : out ++ [] ≡ all = rw (prefixes_end family octets (sym z)) at before.so_far in sym (append-nil out) ∙ end
+    | inr z ↦ absurd (none_some (rw (prefixes_stop family octets (sym z) h) at before.whole))
+  ]
+]
+
+-- a field of no prefixes is empty
+pub no_prefixes : (family : Family) (octets : List ℕ) (b : Bool) → b ≡ eqb (length octets) 0 → IsTrue b ↔ (prefixes_of family octets ≡ Some [])
+no_prefixes family octets b e = (
+  λ is. prefixes_end family octets (sym is ∙ e),
+  λ none. let nothing : octets ≡ [] = (reads_prefixes family octets []).1 none in e ∙ rw nothing refl,
+)

@@ -1,0 +1,82 @@
+-- The values of MP_REACH_NLRI and MP_UNREACH_NLRI (RFC 4760, 3 and 4).
+use Rattle.std.specs.Prelude.{◌≡◌, ◌↔◌, ◌++◌, ℕ, ◌+◌, ◌==◌, not, nat_lt, List, ◌∷◌}
+use Rattle.std.specs.Prelude.{if◌then◌else◌, length, take, drop, slice_index, Option, None, Some}
+use Rattle.std.specs.Option.{option_map}
+use Rattle.byteorder.specs.Endian.{big_number}
+use Rattle.bgp_prefix.specs.declared.family.Family.{Family}
+use Rattle.bgp_prefix.specs.declared.family.Family.TheVariants as families
+use Rattle.bgp_prefix.specs.Prefix.{PrefixBits}
+use Rattle.bgp_path.specs.declared.path.NextHop.{NextHop}
+use Rattle.bgp_path.specs.declared.path.NextHop.TheVariants as hops
+use Rattle.bgp_update.specs.Prefixes.{ArePrefixes, prefixes_of}
+
+-- the family of an AFI and a SAFI: unicast is SAFI 1 (RFC 4760, 6)
+abbrev pub family_with : ℕ → ℕ → Option Family
+family_with afi safi =
+    if not (safi == 1) then None
+    else (if afi == 1 then Some families.V4 else (if afi == 2 then Some families.V6 else None))
+
+-- the family that a value of at least 3 octets names: AFI 2, SAFI 1
+abbrev pub family_in : List ℕ → Option Family
+family_in value = family_with (big_number 2 value) (slice_index value 2)
+
+-- the next hop of so many octets: 4 for IPv4, 16 or 32 for IPv6 (RFC 4760, 3; RFC 2545, 3)
+abbrev pub next_hop_in : Family → List ℕ → Option NextHop
+next_hop_in families.V4 octets =
+    if length octets == 4 then Some (hops.V4 (big_number 4 octets)) else None
+next_hop_in families.V6 octets =
+    if length octets == 16 then Some (hops.V6 (big_number 16 octets))
+    else (if length octets == 32
+    then Some (hops.V6WithLinkLocal (big_number 16 octets) (big_number 16 (drop 16 octets)))
+    else None)
+
+-- what an MP attribute of a family holds; MP_UNREACH_NLRI has no next hop
+pub record Contents : Type 0 where
+  pub next_hop : Option NextHop
+  pub prefixes : List PrefixBits
+
+-- behind AFI and SAFI, the value of MP_REACH_NLRI is the length of the next hop and the next hop, a
+-- reserved octet, which means nothing, and the prefixes
+pub record IsReachValue (family : Family) (value : List ℕ) (contents : Contents) : Type 0 where
+  pub hop : List ℕ
+  pub address : NextHop
+  pub reserved : ℕ
+  pub nlri : List ℕ
+  pub spelled : drop 3 value ≡ length hop ∷ (hop ++ reserved ∷ nlri)
+  pub is_hop : next_hop_in family hop ≡ Some address
+  pub next_hop : contents.next_hop ≡ Some address
+  pub prefixes : ArePrefixes family nlri contents.prefixes
+
+-- behind AFI and SAFI, that of MP_UNREACH_NLRI is prefixes
+pub record IsUnreachValue (family : Family) (value : List ℕ) (contents : Contents) : Type 0 where
+  pub next_hop : contents.next_hop ≡ None
+  pub prefixes : ArePrefixes family (drop 3 value) contents.prefixes
+
+abbrev pub with_hop : Option NextHop → Option (List PrefixBits) → Option Contents
+with_hop None prefixes = None
+with_hop (Some hop) None = None
+with_hop (Some hop) (Some prefixes) =
+    Some (record { next_hop = Some hop; prefixes = prefixes })
+
+-- the contents of MP_REACH_NLRI: none where they are wrong, since the value is too short for its
+-- fields, or the next hop's length isn't one of the family, or the prefixes are incorrect (RFC
+-- 7606, 5.3 and 7.11)
+abbrev pub reach_contents : Family → List ℕ → Option Contents
+reach_contents family value =
+    if nat_lt (length value) (5 + slice_index value 3)
+    then None
+    else with_hop (next_hop_in family (take (slice_index value 3) (drop 4 value)))
+    (prefixes_of family (drop (5 + slice_index value 3) value))
+
+-- those of MP_UNREACH_NLRI: none where the prefixes are incorrect (RFC 7606, 5.3 and 7.12)
+abbrev pub unreach_contents : Family → List ℕ → Option Contents
+unreach_contents family value =
+    option_map (λ prefixes. record { next_hop = None; prefixes = prefixes })
+    (prefixes_of family (drop 3 value))
+
+-- the functions read what the relations say
+pub record ReadsMpValues : Type 0 where
+  pub reach : (family : Family) (value : List ℕ) (contents : Contents)
+      → IsReachValue family value contents ↔ (reach_contents family value ≡ Some contents)
+  pub unreach : (family : Family) (value : List ℕ) (contents : Contents)
+      → IsUnreachValue family value contents ↔ (unreach_contents family value ≡ Some contents)

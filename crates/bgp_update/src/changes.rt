@@ -1,0 +1,219 @@
+//! What an UPDATE changes where it is applied (RFC 4271, 3.1; RFC 7606, 2).
+
+ghost use Rattle.std.specs.Prelude.{◌≡◌, ◌++◌, IfOk, OnOk, List};
+ghost use Rattle.std.specs.List.{flat_map};
+ghost use Rattle.bgp_attr.specs.declared.types.AttrType.TheVariants as types;
+ghost use Rattle.bgp_attr.specs.Field.{Attribute};
+ghost use Rattle.bgp_attr.specs.First.{first_at, first_by_type, value_by_type};
+ghost use Rattle.bgp_attr.specs.PathFrom.{next_hop_from, path_from};
+ghost use Rattle.bgp_update.specs.Allowed.{changes_value, group_routes, put_routes};
+ghost use Rattle.bgp_update.specs.Changes.{
+  AreChanges,
+  announcements,
+  base_prefixes,
+  hop_or,
+  mp_hop,
+  mp_prefixes,
+  prefixes_among,
+  routes_with,
+  withdrawals,
+};
+ghost use Rattle.bgp_prefix.specs.declared.family.Family.TheVariants.{V4};
+ghost use Rattle.bgp_update.specs.Found.{side_of};
+ghost use Rattle.bgp_update.specs.Listed.{listed};
+ghost use Rattle.bgp_update.specs.MpShown.{state_of};
+ghost use Rattle.bgp_update.specs.Prefixes.{prefixes_of};
+ghost use Rattle.bgp_update.specs.Surveyed.{found_by};
+
+use crate::link_side::side;
+use crate::mp::MpState;
+use crate::outcomes::{Changes, Put};
+use crate::prefixes::push_prefixes;
+use crate::survey::Survey;
+use bgp_attr::{AttrType, FirstAttrs, Side, read_path};
+use bgp_open::Link;
+use bgp_path::NextHop;
+use bgp_prefix::{Family, Prefix};
+use byteorder::{BigEndian, ByteOrder};
+use std::alloc::{AllocError, Allocator};
+
+/// The changes of an UPDATE that came to this.
+pub(crate) fn changes_of<A: Allocator + Copy>(
+    alloc: A,
+    link: &Link,
+    found: &Survey<'_>,
+) -> Result<Changes<A>, AllocError>
+    ensures { IfOk result (λ changes. (attributes : List Attribute)
+        → first_at found.now.first ≡ first_by_type attributes
+        → AreChanges (found_by found.now) (withdrawals link.now (found_by found.now))
+        (announcements link.now (found_by found.now) attributes) (changes_value changes)) }
+{
+    let mut remove = Vec::new(alloc);
+    push_withdrawn(&mut remove, link, found)?;
+    let mut put = Vec::new(alloc);
+    if found.has_withdraw_fault() {
+        // What would be announced is removed: "treat-as-withdraw" (RFC 7606, 2).
+        push_announced(&mut remove, link, found)?;
+        return Ok(Changes { remove, put });
+    }
+    push_base_routes(&mut put, alloc, link, found)?;
+    push_mp_routes(&mut put, alloc, link, found)?;
+    Ok(Changes { remove, put })
+}
+
+/// Appends the prefixes that are withdrawn.
+fn push_withdrawn<A: Allocator>(
+    out: &mut Vec<Prefix, A>,
+    link: &Link,
+    found: &Survey<'_>,
+) -> Result<(), AllocError>
+    ensures { OnOk result (out.new.items
+        ≡ out.old.items ++ withdrawals link.now (found_by found.now)) }
+{
+    push_base_prefixes(out, link, found.withdrawn)?;
+    push_mp_prefixes(out, &found.unreach.state)
+}
+
+/// Appends the prefixes that are announced.
+fn push_announced<A: Allocator>(
+    out: &mut Vec<Prefix, A>,
+    link: &Link,
+    found: &Survey<'_>,
+) -> Result<(), AllocError>
+    ensures { OnOk result ((attributes : List Attribute) → out.new.items ≡ out.old.items
+        ++ prefixes_among (announcements link.now (found_by found.now) attributes)) }
+{
+    push_base_prefixes(out, link, found.nlri)?;
+    push_mp_prefixes(out, &found.reach.state)
+}
+
+/// Appends the prefixes of a Withdrawn Routes or NLRI field, where IPv4 is in use.
+fn push_base_prefixes<A: Allocator>(
+    out: &mut Vec<Prefix, A>,
+    link: &Link,
+    field: &[u8],
+) -> Result<(), AllocError>
+    ensures { OnOk result (out.new.items
+        ≡ out.old.items ++ base_prefixes link.now (prefixes_of V4 field.now)) }
+{
+    if !link.families.contains(Family::V4) {
+        return Ok(());
+    }
+    push_prefixes(out, Family::V4, field)
+}
+
+/// Appends those of an MP attribute of a family in use, where its contents are right.
+fn push_mp_prefixes<A: Allocator>(
+    out: &mut Vec<Prefix, A>,
+    state: &MpState<'_>,
+) -> Result<(), AllocError>
+    ensures { OnOk result (out.new.items ≡ out.old.items ++ mp_prefixes (state_of state.now)) }
+{
+    match state {
+        MpState::Sound(family, contents) => push_prefixes(out, *family, contents.prefixes),
+        _ => Ok(()),
+    }
+}
+
+/// Appends the routes of the NLRI field, with NEXT_HOP.
+fn push_base_routes<A: Allocator + Copy>(
+    put: &mut Vec<Put<A>, A>,
+    alloc: A,
+    link: &Link,
+    found: &Survey<'_>,
+) -> Result<(), AllocError>
+    ensures { OnOk result (flat_map put_routes put.new.items ≡ flat_map put_routes put.old.items
+        ++ routes_with (path_from (side_of link.now)
+        (value_by_type (side_of link.now) (first_at found.now.first))
+        (next_hop_from (value_by_type (side_of link.now) (first_at found.now.first) types.NextHop)))
+        (base_prefixes link.now (prefixes_of V4 found.now.nlri.now))) }
+{
+    if !link.families.contains(Family::V4) {
+        return Ok(());
+    }
+    let side = side(link);
+    let next_hop = base_hop(side, &found.first);
+    let group = read_group(alloc, side, &found.first, next_hop, Family::V4, found.nlri)?;
+    push_group(put, group)
+}
+
+/// Appends those of MP_REACH_NLRI, with its own next hop.
+fn push_mp_routes<A: Allocator + Copy>(
+    put: &mut Vec<Put<A>, A>,
+    alloc: A,
+    link: &Link,
+    found: &Survey<'_>,
+) -> Result<(), AllocError>
+    ensures { OnOk result (flat_map put_routes put.new.items ≡ flat_map put_routes put.old.items
+        ++ routes_with (path_from (side_of link.now)
+        (value_by_type (side_of link.now) (first_at found.now.first))
+        (mp_hop (state_of found.now.reach.state)))
+        (mp_prefixes (state_of found.now.reach.state))) }
+{
+    let MpState::Sound(family, contents) = found.reach.state else {
+        return Ok(());
+    };
+    let next_hop = hop_or_none(contents.next_hop);
+    let group = read_group(
+        alloc,
+        side(link),
+        &found.first,
+        next_hop,
+        family,
+        contents.prefixes,
+    )?;
+    push_group(put, group)
+}
+
+/// The next hop that NEXT_HOP names.
+fn base_hop(side: Side, first: &FirstAttrs<'_>) -> NextHop
+    ensures { result ≡ next_hop_from (value_by_type side (first_at first.now) types.NextHop) }
+{
+    match first.good(side, AttrType::NextHop) {
+        Some(attr) => NextHop::V4(BigEndian::read_u32(attr.value)),
+        None => hop_or_none(None),
+    }
+}
+
+/// The next hop, where there is one; where there is none, no route has it.
+fn hop_or_none(next_hop: Option<NextHop>) -> NextHop
+    ensures { result ≡ hop_or next_hop }
+{
+    next_hop.unwrap_or(NextHop::V4(0))
+}
+
+/// The routes of a field of prefixes: none where it has no prefix, so that no path is read then.
+fn read_group<A: Allocator + Copy>(
+    alloc: A,
+    side: Side,
+    first: &FirstAttrs<'_>,
+    next_hop: NextHop,
+    family: Family,
+    field: &[u8],
+) -> Result<Option<Put<A>>, AllocError>
+    ensures { IfOk result (λ group. group_routes group
+        ≡ routes_with (path_from side (value_by_type side (first_at first.now)) next_hop)
+        (listed (prefixes_of family field.now))) }
+{
+    let mut prefixes = Vec::new(alloc);
+    push_prefixes(&mut prefixes, family, field)?;
+    if prefixes.is_empty() {
+        return Ok(None);
+    }
+    let path = read_path(alloc, side, first, next_hop)?;
+    Ok(Some(Put { path, prefixes }))
+}
+
+/// Appends a group, where there is one.
+fn push_group<A: Allocator>(
+    put: &mut Vec<Put<A>, A>,
+    group: Option<Put<A>>,
+) -> Result<(), AllocError>
+    ensures { OnOk result (flat_map put_routes put.new.items
+        ≡ flat_map put_routes put.old.items ++ group_routes group) }
+{
+    if let Some(group) = group {
+        put.push(group)?;
+    }
+    Ok(())
+}

@@ -1,0 +1,124 @@
+//! Clean UPDATEs, which a speaker may send.
+
+ghost use Rattle.std.specs.Prelude.{◌≡◌, ◌≢◌, ◌↔◌, ◌⊎◌, [], ℕ, Some, IsTrue};
+ghost use Rattle.bgp_open.specs.Families.{contains};
+ghost use Rattle.bgp_prefix.specs.declared.family.Family.{Family};
+ghost use Rattle.bgp_prefix.specs.declared.family.Family.TheVariants.{V4};
+ghost use Rattle.bgp_update.specs.Clean.{
+  IsClean,
+  IsCleanBy,
+  IsAppliedAlone,
+  WastesNoAttribute,
+  IsOfFamiliesInUse,
+};
+ghost use Rattle.bgp_update.specs.Disabled.{IsCertain, IsOptional};
+ghost use Rattle.bgp_update.specs.Mp.{Unused};
+ghost use Rattle.bgp_update.specs.MpShown.{state_of};
+ghost use Rattle.bgp_update.specs.ResetFaults.{IsResetSubcode, IsMereSubcode};
+ghost use Rattle.bgp_update.specs.Surveyed.{found_by};
+
+use crate::fields::split_update;
+use crate::mp::MpState;
+use crate::survey::{Survey, survey_of};
+use bgp_open::Link;
+use bgp_prefix::Family;
+
+/// Whether the octets are a whole UPDATE that is clean: it leaves a peer nothing to forgive. It
+/// takes no memory.
+pub fn is_clean(link: &Link, octets: &[u8]) -> bool
+    ensures clean { IsTrue result ↔ IsClean link.now octets.now }
+{
+    let Some(fields) = split_update(octets) else {
+        return false;
+    };
+    survey_of(link, &fields).is_clean(link)
+}
+
+impl Survey<'_> {
+    /// Whether an UPDATE that comes to this is clean.
+    fn is_clean(&self, link: &Link) -> bool
+        ensures { IsTrue result ↔ IsCleanBy link.now (found_by self.now) }
+    {
+        if !self.is_applied_alone() {
+            return false;
+        }
+        if !self.wastes_no_attribute() {
+            return false;
+        }
+        self.is_of_families_in_use(link)
+    }
+
+    /// The only outcome is Apply, with nothing disabled or withdrawn for a fault.
+    fn is_applied_alone(&self) -> bool
+        ensures { IsTrue result ↔ IsAppliedAlone (found_by self.now) }
+    {
+        if !self.allows_no_reset() {
+            return false;
+        }
+        if !self.disables_nothing() {
+            return false;
+        }
+        !self.has_withdraw_fault()
+    }
+
+    /// Rules "discarded attribute" and "repeated attribute": neither holds.
+    fn wastes_no_attribute(&self) -> bool
+        ensures { IsTrue result ↔ WastesNoAttribute (found_by self.now) }
+    {
+        !self.pass.classes.discard && !self.pass.types.has_repeats
+    }
+
+    /// Rule "family not in use": it doesn't hold.
+    fn is_of_families_in_use(&self, link: &Link) -> bool
+        ensures { IsTrue result ↔ IsOfFamiliesInUse link.now (found_by self.now) }
+    {
+        if !self.has_base_in_use(link) {
+            return false;
+        }
+        if self.reach.state.is_of_unused_family() {
+            return false;
+        }
+        !self.unreach.state.is_of_unused_family()
+    }
+
+    /// No fault allows a reset.
+    fn allows_no_reset(&self) -> bool
+        ensures { IsTrue result ↔ ((n : ℕ)
+            → ¬ (IsResetSubcode (found_by self.now) n ⊎ IsMereSubcode (found_by self.now) n)) }
+    {
+        self.reset_subcodes().union(self.mere_subcodes()).is_empty()
+    }
+
+    /// No family may be disabled.
+    fn disables_nothing(&self) -> bool
+        ensures { IsTrue result ↔ ((family : Family)
+            → ¬ (IsCertain (found_by self.now) family ⊎ IsOptional (found_by self.now) family)) }
+    {
+        !self.may_disable(Family::V4) & !self.may_disable(Family::V6)
+    }
+
+    /// An Apply disables the family, or may.
+    fn may_disable(&self, family: Family) -> bool
+        ensures { IsTrue result
+            ↔ (IsCertain (found_by self.now) family ⊎ IsOptional (found_by self.now) family) }
+    {
+        self.is_certain(family) || self.is_optional(family)
+    }
+
+    /// Each prefix of the base fields is of a family in use.
+    fn has_base_in_use(&self, link: &Link) -> bool
+        ensures { IsTrue result ↔ (IsTrue (contains link.now.families V4)
+            ⊎ (((found_by self.now).withdrawn ≡ Some []) × ((found_by self.now).nlri ≡ Some []))) }
+    {
+        link.families.contains(Family::V4) || (self.has_empty_withdrawn() && self.has_empty_nlri())
+    }
+}
+
+impl MpState<'_> {
+    /// Rule "family not in use": it is IPv4 or IPv6 unicast, and not in use.
+    fn is_of_unused_family(&self) -> bool
+        ensures { (¬ IsTrue result) ↔ ((family : Family) → state_of self.now ≢ Unused family) }
+    {
+        matches!(self, MpState::Unused(_))
+    }
+}

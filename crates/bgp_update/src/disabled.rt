@@ -1,0 +1,49 @@
+//! The families that are disabled where an UPDATE is applied (RFC 4760, 7; RFC 7606, 5.3 and 7.11).
+
+ghost use Rattle.std.specs.Prelude.{◌↔◌, IsTrue};
+ghost use Rattle.bgp_open.specs.Families.{contains};
+ghost use Rattle.bgp_prefix.specs.declared.family.Family.{Family};
+ghost use Rattle.bgp_update.specs.Disabled.{IsCertain, IsOptional};
+ghost use Rattle.bgp_update.specs.Surveyed.{found_by};
+
+use crate::survey::Survey;
+use bgp_open::Families;
+use bgp_prefix::Family;
+
+impl Survey<'_> {
+    /// Whether each Apply disables the family.
+    pub(crate) fn is_certain(&self, family: Family) -> bool
+        ensures { IsTrue result ↔ IsCertain (found_by self.now) family }
+    {
+        self.reach.state.is_broken_of(family) || self.unreach.state.is_broken_of(family)
+    }
+
+    /// Whether an Apply may disable it.
+    pub(crate) fn is_optional(&self, family: Family) -> bool
+        ensures { IsTrue result ↔ IsOptional (found_by self.now) family }
+    {
+        self.reach.is_doubtful(family) || self.unreach.is_doubtful(family)
+    }
+
+    /// The families that each Apply disables.
+    pub(crate) fn certain_families(&self) -> Families
+        ensures { (family : Family)
+            → IsTrue (contains result family) ↔ IsCertain (found_by self.now) family }
+    {
+        Families {
+            v4: self.is_certain(Family::V4),
+            v6: self.is_certain(Family::V6),
+        }
+    }
+
+    /// The families that an Apply may disable.
+    pub(crate) fn optional_families(&self) -> Families
+        ensures { (family : Family)
+            → IsTrue (contains result family) ↔ IsOptional (found_by self.now) family }
+    {
+        Families {
+            v4: self.is_optional(Family::V4),
+            v6: self.is_optional(Family::V6),
+        }
+    }
+}

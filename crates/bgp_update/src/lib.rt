@@ -1,0 +1,38 @@
+//! What an UPDATE asks of a BGP speaker: every outcome that the standards allow (RFC 4271, 4.3 and
+//! 6.3; RFC 4760; RFC 7606).
+//!
+//! ```text
+//! let outcomes = read_update(alloc, &link, octets)?;
+//! if let Some(changes) = &outcomes.changes {
+//!     apply(changes);
+//! } else {
+//!     reset_with(outcomes.reset.least());
+//! }
+//! ```
+#![tactic(auto)]
+
+mod changes;
+mod clean;
+mod disabled;
+mod fields;
+mod laws;
+mod link_side;
+mod mp;
+mod mp_faults;
+mod outcomes;
+mod pass;
+mod prefixes;
+mod reading;
+mod reset_faults;
+mod subcodes;
+mod survey;
+mod withdraw_faults;
+
+pub use clean::is_clean;
+pub use laws::{
+    clean_is_applied, empty_is_clean, fields_are_read, one_change, one_split, some_outcome,
+};
+pub use link_side::side;
+pub use outcomes::{Changes, Outcomes, Put};
+pub use reading::read_update;
+pub use subcodes::{Subcodes, subcodes_are_sets};

@@ -1,0 +1,198 @@
+//! The MP attributes of an UPDATE (RFC 4760, 3 and 4), and what is wrong with them (RFC 7606, 5.3,
+//! 7.11 and 7.12).
+//!
+//! ```text
+//! MP_REACH_NLRI    AFI 2 | SAFI 1 | next-hop length 1 | next hop | reserved 1 | NLRI
+//! MP_UNREACH_NLRI  AFI 2 | SAFI 1 | withdrawn prefixes
+//! ```
+
+ghost use Rattle.std.specs.Prelude.{◌≡◌, ◌≤◌, length, option_map, is_some, IsTrue};
+ghost use Rattle.bgp_attr.specs.Field.{attribute_of};
+ghost use Rattle.bgp_update.specs.Mp.{has_other_bits, mp_state};
+ghost use Rattle.bgp_update.specs.MpShown.{contents_of, contents_read, state_of, type_of_mp};
+ghost use Rattle.bgp_update.specs.MpValue.{family_in, next_hop_in};
+ghost use Rattle.bgp_update.specs.MpValue.{reach_contents, unreach_contents};
+ghost use Rattle.bgp_update.specs.Prefixes.{prefixes_of};
+
+use crate::prefixes::count_prefixes;
+use bgp_attr::{Attr, AttrType};
+use bgp_open::Families;
+use bgp_path::NextHop;
+use bgp_prefix::Family;
+use byteorder::{BigEndian, ByteOrder};
+
+/// The Subsequent Address Family Identifier of unicast.
+const UNICAST: u8 = 1;
+
+/// One of the two types.
+#[derive(Clone, Copy)]
+pub(crate) enum MpType {
+    /// MP_REACH_NLRI.
+    Reach,
+    /// MP_UNREACH_NLRI.
+    Unreach,
+}
+
+/// What an attribute of a family in use holds.
+#[derive(Clone, Copy)]
+pub(crate) struct MpContents<'a> {
+    /// The next hop of MP_REACH_NLRI.
+    pub(crate) next_hop: Option<NextHop>,
+    /// The octets of the prefixes.
+    pub(crate) prefixes: &'a [u8],
+}
+
+/// What state an MP attribute is in.
+#[derive(Clone, Copy)]
+pub(crate) enum MpState<'a> {
+    /// It isn't there.
+    Absent,
+    /// Its value has fewer than 3 octets.
+    Cut,
+    /// Its family is neither IPv4 nor IPv6 unicast.
+    Other,
+    /// Its family isn't in use.
+    Unused(Family),
+    /// Its family is in use, and its contents are wrong.
+    Broken(Family),
+    /// Its family is in use, and these are its contents.
+    Sound(Family, MpContents<'a>),
+}
+
+impl MpType {
+    /// The attribute type.
+    pub(crate) fn attr_type(self) -> AttrType
+        ensures { result ≡ type_of_mp self }
+    {
+        match self {
+            MpType::Reach => AttrType::MpReachNlri,
+            MpType::Unreach => AttrType::MpUnreachNlri,
+        }
+    }
+}
+
+/// The state of the first attribute of a type, where those families are in use.
+pub(crate) fn mp_state<'a>(used: Families, mp_type: MpType, attr: Option<Attr<'a>>) -> MpState<'a>
+    ensures { state_of result
+        ≡ mp_state used (contents_read mp_type) (option_map attribute_of attr.entry) }
+{
+    let Some(attr) = attr else {
+        return MpState::Absent;
+    };
+    if attr.value.len() < 3 {
+        return MpState::Cut;
+    }
+    let Some(family) = family_in(attr.value) else {
+        return MpState::Other;
+    };
+    if !used.contains(family) {
+        return MpState::Unused(family);
+    }
+    match contents(mp_type, family, attr.value) {
+        Some(contents) => MpState::Sound(family, contents),
+        None => MpState::Broken(family),
+    }
+}
+
+/// Whether its Optional and Transitive bits are in conflict with its type (RFC 7606, 3 c).
+pub(crate) fn has_other_bits(mp_type: MpType, attr: Option<Attr<'_>>) -> bool
+    ensures { result ≡ has_other_bits (type_of_mp mp_type) (option_map attribute_of attr.entry) }
+{
+    match attr {
+        Some(attr) => !attr.has_bits_of(mp_type.attr_type()),
+        None => false,
+    }
+}
+
+/// The family that AFI and SAFI name.
+fn family_in(value: &[u8]) -> Option<Family>
+    requires { 3 ≤ length value.now }
+    ensures { result ≡ family_in value.now }
+{
+    if value[2] != UNICAST {
+        return None;
+    }
+    match BigEndian::read_u16(value) {
+        1 => Some(Family::V4),
+        2 => Some(Family::V6),
+        _ => None,
+    }
+}
+
+/// The contents of an attribute of this family: none where they are wrong.
+fn contents<'a>(mp_type: MpType, family: Family, value: &'a [u8]) -> Option<MpContents<'a>>
+    requires { 3 ≤ length value.now }
+    ensures { option_map (contents_of family) result
+        ≡ contents_read mp_type family value.entry.now }
+{
+    match mp_type {
+        MpType::Reach => reach_contents(family, value),
+        MpType::Unreach => unreach_contents(family, value),
+    }
+}
+
+/// Those of MP_REACH_NLRI.
+fn reach_contents(family: Family, value: &[u8]) -> Option<MpContents<'_>>
+    ensures { option_map (contents_of family) result ≡ reach_contents family value.entry.now }
+{
+    if value.len() < 5 {
+        return None;
+    }
+    let hop_len = usize::from(value[3]);
+    let rest = value.split_at(4).1;
+    if rest.len() < hop_len + 1 {
+        return None;
+    }
+    let (hop, rest) = rest.split_at(hop_len);
+    let Some(next_hop) = next_hop_in(family, hop) else {
+        return None;
+    };
+    let prefixes = rest.split_at(1).1;
+    if !are_prefixes(family, prefixes) {
+        return None;
+    }
+    Some(MpContents {
+        next_hop: Some(next_hop),
+        prefixes,
+    })
+}
+
+/// Those of MP_UNREACH_NLRI.
+fn unreach_contents(family: Family, value: &[u8]) -> Option<MpContents<'_>>
+    requires { 3 ≤ length value.now }
+    ensures { option_map (contents_of family) result ≡ unreach_contents family value.entry.now }
+{
+    let prefixes = value.split_at(3).1;
+    if !are_prefixes(family, prefixes) {
+        return None;
+    }
+    Some(MpContents {
+        next_hop: None,
+        prefixes,
+    })
+}
+
+/// Whether a field is a list of prefixes.
+fn are_prefixes(family: Family, octets: &[u8]) -> bool
+    ensures { result ≡ is_some (prefixes_of family octets.now) }
+{
+    count_prefixes(family, octets).is_some()
+}
+
+/// The next hop that so many octets are (RFC 4760, 3; RFC 2545, 3).
+fn next_hop_in(family: Family, octets: &[u8]) -> Option<NextHop>
+    ensures { result ≡ next_hop_in family octets.now }
+{
+    match (family, octets.len()) {
+        (Family::V4, 4) => Some(NextHop::V4(BigEndian::read_u32(octets))),
+        (Family::V6, 16) => Some(NextHop::V6(BigEndian::read_u128(octets))),
+        (Family::V6, 32) => {
+            let (address, link_local) = octets.split_at(16);
+            Some(NextHop::V6WithLinkLocal(
+                BigEndian::read_u128(address),
+                BigEndian::read_u128(link_local),
+            ))
+        }
+        _ => None,
+    }
+}

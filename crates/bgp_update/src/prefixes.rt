@@ -1,0 +1,82 @@
+//! Lists of prefixes (RFC 4271, 4.3; RFC 4760, 5).
+
+ghost use Rattle.std.specs.Prelude.{◌≡◌, ◌≤◌, ◌++◌, true, false, is_some, length};
+ghost use Rattle.std.specs.Prelude.{IfSome, IfNone, OnOk};
+ghost use Rattle.std.specs.Option.{option_map};
+ghost use Rattle.bgp_update.specs.Prefixes.{has_prefix, prefix_len, prefixes_of};
+ghost use Rattle.bgp_update.specs.Listed.{listed};
+
+use bgp_prefix::{Family, Prefix};
+use std::alloc::{AllocError, Allocator};
+
+/// How many octets spell the prefix at the front: none where no prefix of the family stands there.
+#[tactic(auto, unfolding(crate::specs::Prefixes::has_prefix, crate::specs::Prefixes::prefix_len))]
+fn first_len(family: Family, octets: &[u8]) -> Option<usize>
+    ensures some { IfSome result (λ len. has_prefix family octets.now ≡ true) }
+    ensures len { IfSome result (λ len. len ≡ prefix_len octets.now) }
+    ensures bounds { IfSome result (λ len. (1 ≤ len) × (len ≤ length octets.now)) }
+    ensures none { IfNone result (has_prefix family octets.now ≡ false) }
+{
+    let Some(&bits) = octets.first() else {
+        return None;
+    };
+    if bits > family.bits() {
+        return None;
+    }
+    let len = 1 + usize::from(bits).div_ceil(8);
+    if len > octets.len() {
+        return None;
+    }
+    Some(len)
+}
+
+/// How many prefixes a field has: none where it is incorrect, since a length is above that of an
+/// address, or the last prefix runs over (RFC 7606, 5.3).
+pub(crate) fn count_prefixes(family: Family, octets: &[u8]) -> Option<usize>
+    ensures { result ≡ option_map length (prefixes_of family octets.now) }
+{
+    let mut rest = octets;
+    let mut count = 0;
+    while !rest.is_empty() {
+        let Some(len) = first_len(family, rest) else {
+            return None;
+        };
+        rest = rest.split_at(len).1;
+        count += 1;
+    }
+    Some(count)
+}
+
+/// Appends the prefixes of a field, and none where it is incorrect.
+pub(crate) fn push_prefixes<A: Allocator>(
+    out: &mut Vec<Prefix, A>,
+    family: Family,
+    octets: &[u8],
+) -> Result<(), AllocError>
+    ensures { OnOk result (out.new.items
+        ≡ out.old.items ++ listed (prefixes_of family octets.now)) }
+{
+    let Some(count) = count_prefixes(family, octets) else {
+        return Ok(());
+    };
+    out.reserve(count)?;
+    push_each(out, family, octets)
+}
+
+/// Appends the prefixes of a field that is correct.
+fn push_each<A: Allocator>(
+    out: &mut Vec<Prefix, A>,
+    family: Family,
+    octets: &[u8],
+) -> Result<(), AllocError>
+    requires { is_some (prefixes_of family octets.now) ≡ true }
+    ensures { OnOk result (out.new.items
+        ≡ out.old.items ++ listed (prefixes_of family octets.now)) }
+{
+    let mut rest = octets;
+    while let Ok((prefix, count)) = Prefix::read(family, rest) {
+        out.push(prefix)?;
+        rest = rest.split_at(count).1;
+    }
+    Ok(())
+}

@@ -1,0 +1,64 @@
+//! Reading an UPDATE.
+
+ghost use Rattle.std.specs.Prelude.{◌≡◌, ◌↔◌, None, IfOk, IsOk};
+ghost use Rattle.bgp_update.specs.Allowed.{Allows};
+ghost use Rattle.bgp_update.specs.Outcome.{Outcome, IsOutcome, IsOnlyReset};
+
+use crate::changes::changes_of;
+use crate::fields::split_update;
+use crate::outcomes::Outcomes;
+use crate::subcodes::Subcodes;
+use crate::survey::survey_of;
+use bgp_open::{Families, Link};
+use std::alloc::{AllocError, Allocator};
+
+/// Every outcome that is allowed of an UPDATE that came over this link. Octets that are no whole
+/// UPDATE have the one of bad lengths: a reset as Malformed Attribute List.
+///
+/// The attributes are walked over and none is copied. Where the session has to be reset no memory
+/// is taken.
+pub fn read_update<A: Allocator + Copy>(
+    alloc: A,
+    link: &Link,
+    octets: &[u8],
+) -> Result<Outcomes<A>, AllocError>
+    ensures exact { IfOk result (λ outcomes. (x : Outcome)
+        → Allows outcomes x ↔ IsOutcome link.now octets.now x) }
+
+    // It doesn't answer that memory was refused where the only outcome is a reset.
+    ensures memory { IsOnlyReset link.now octets.now → IsOk result }
+{
+    let Some(fields) = split_update(octets) else {
+        return Ok(only_reset(Subcodes::MALFORMED_ATTRIBUTE_LIST)); // Rule "bad lengths".
+    };
+    let found = survey_of(link, &fields);
+    let resets = found.reset_subcodes();
+    let mere = found.mere_subcodes();
+    if !resets.is_empty() {
+        return Ok(only_reset(resets.union(mere)));
+    }
+    let changes = changes_of(alloc, link, &found)?;
+    Ok(Outcomes {
+        changes: Some(changes),
+        certain: found.certain_families(),
+        optional: found.optional_families(),
+        reset: mere,
+    })
+}
+
+/// The session has to be reset, with one of these subcodes.
+fn only_reset<A: Allocator>(reset: Subcodes) -> Outcomes<A>
+    ensures changes { result.changes ≡ None }
+    ensures reset { result.reset ≡ reset }
+{
+    let none = Families {
+        v4: false,
+        v6: false,
+    };
+    Outcomes {
+        changes: None,
+        certain: none,
+        optional: none,
+        reset,
+    }
+}

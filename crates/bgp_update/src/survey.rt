@@ -1,0 +1,101 @@
+//! What an UPDATE comes to, before it is decided what to do about it.
+
+ghost use Rattle.std.specs.Prelude.{◌≡◌};
+ghost use Rattle.bgp_attr.specs.First.{first_at, first_by_type, has_repeats};
+ghost use Rattle.bgp_attr.specs.Split.{attributes_of};
+ghost use Rattle.bgp_update.specs.Fields.{sections_of};
+ghost use Rattle.bgp_update.specs.Found.{found, is_repeated, mp_found};
+ghost use Rattle.bgp_update.specs.MpShown.{contents_read, type_of_mp};
+ghost use Rattle.bgp_update.specs.Surveyed.{found_by, mp_found_by};
+
+use crate::fields::Fields;
+use crate::link_side::side;
+use crate::mp::{MpState, MpType, has_other_bits, mp_state};
+use crate::pass::{Pass, is_repeated, pass_over};
+use bgp_attr::{Attrs, FirstAttrs, Tail};
+use bgp_open::Link;
+
+/// An MP attribute, by its first occurrence.
+#[derive(Clone, Copy)]
+pub(crate) struct MpSurvey<'a> {
+    pub(crate) state: MpState<'a>,
+    /// Its bits are in conflict with its type.
+    pub(crate) other_bits: bool,
+    /// Its type stands more than once.
+    pub(crate) is_repeated: bool,
+}
+
+/// The facts that the rules speak of, and the attributes. It borrows all octets, and takes no
+/// memory.
+#[derive(Drop)]
+pub(crate) struct Survey<'a> {
+    /// The Withdrawn Routes field.
+    pub(crate) withdrawn: &'a [u8],
+    /// The NLRI field.
+    pub(crate) nlri: &'a [u8],
+    /// MP_REACH_NLRI.
+    pub(crate) reach: MpSurvey<'a>,
+    /// MP_UNREACH_NLRI.
+    pub(crate) unreach: MpSurvey<'a>,
+    /// The attributes, walked over once.
+    pub(crate) pass: Pass,
+    /// What stands behind the last whole attribute.
+    pub(crate) tail: Option<Tail>,
+    /// The first attribute of each type.
+    pub(crate) first: FirstAttrs<'a>,
+}
+
+/// Surveys an UPDATE.
+pub(crate) fn survey_of<'a>(link: &Link, fields: &Fields<'a>) -> Survey<'a>
+    ensures found { found_by result ≡ found link.now (sections_of fields.now) }
+    ensures first { first_at result.first
+        ≡ first_by_type (attributes_of (sections_of fields.now).attributes) }
+{
+    let field = fields.attributes;
+    let pass = pass_over(side(link), field);
+    let first = FirstAttrs::new(field);
+    Survey {
+        withdrawn: fields.withdrawn,
+        nlri: fields.nlri,
+        reach: mp_survey(link, MpType::Reach, field, &first, pass.types.has_repeats),
+        unreach: mp_survey(link, MpType::Unreach, field, &first, pass.types.has_repeats),
+        pass,
+        tail: Attrs::new(field).tail(),
+        first,
+    }
+}
+
+/// Surveys an MP attribute.
+fn mp_survey<'a>(
+    link: &Link,
+    mp_type: MpType,
+    field: &'a [u8],
+    first: &FirstAttrs<'a>,
+    repeats: bool,
+) -> MpSurvey<'a>
+    requires repeats { repeats ≡ has_repeats (attributes_of field.now) }
+    requires first { first_at first.now ≡ first_by_type (attributes_of field.now) }
+    ensures { mp_found_by result
+        ≡ mp_found link.now (contents_read mp_type) (type_of_mp mp_type)
+        (attributes_of field.entry.now) }
+{
+    let attr_type = mp_type.attr_type();
+    let attr = first.get(attr_type);
+    MpSurvey {
+        state: mp_state(link.families, mp_type, attr),
+        other_bits: has_other_bits(mp_type, attr),
+        is_repeated: repeats_in(field, attr_type.row().number, repeats),
+    }
+}
+
+/// Whether a type stands more than once, which it can only where some type does.
+#[tactic(auto, using(crate::proofs::Seen::single))]
+fn repeats_in(field: &[u8], kind: u8, repeats: bool) -> bool
+    requires { repeats ≡ has_repeats (attributes_of field.now) }
+    ensures { result ≡ is_repeated kind (attributes_of field.now) }
+{
+    if !repeats {
+        return false;
+    }
+    is_repeated(field, kind)
+}
