@@ -22,7 +22,9 @@ use Rattle.bgp_attr.specs.Class.{class_by, class_of, strongest, value_rows, are_
 use Rattle.bgp_path.specs.Path.{PathValue}
 use Rattle.bgp_attr.specs.Segments.{IsSegment, segment_octets, are_segments}
 use Rattle.bgp_attr.specs.Types.{type_bits, has_bits_of, is_multiprotocol}
-use Rattle.bgp_attr.specs.Writing.{is_large, as_octets, wire_segment, as_path_octets, has_large, origin_number, next_hop_octets, aggregator_octets, as4_aggregator_octets, items_octets, value_in, flags_for, attribute_with}
+use Rattle.bgp_wire.specs.AsNumber.{needs_four_octets}
+use Rattle.bgp_attr.specs.Values.{as_octets, wire_segment, as_path_octets, aggregator_octets, items_octets}
+use Rattle.bgp_attr.specs.Writing.{has_large, origin_number, next_hop_octets, as4_aggregator_octets, value_in, flags_for, attribute_with}
 use Rattle.bgp_path.specs.Fit.{IsFit}
 use Rattle.bgp_attr.specs.ReadBack.{IsForPeer}
 use Rattle.bgp_attr.proofs.GoodRows.{type_back}
@@ -119,7 +121,7 @@ aggregator_good false internal a = refl
 as4_aggregator_good : (as4 internal : Bool) (a : Option Aggregator) → IfSome (as4_aggregator_octets as4 a) (IsGoodValue (record { as4 = as4; internal = internal }) types.As4Aggregator)
 as4_aggregator_good as4 internal None = tt
 as4_aggregator_good true internal (Some a) = tt
-as4_aggregator_good false internal (Some a) = elim (cases_Bool (is_large a.as_number)) [
+as4_aggregator_good false internal (Some a) = elim (cases_Bool (needs_four_octets a.as_number)) [
   | inl e ↦ rw e refl
   | inr e ↦ rw e tt
 ]

@@ -5,7 +5,7 @@ use Rattle.std.specs.List.{flat_map}
 use Rattle.std.proofs.lemmas.Bool.{cases_Bool}
 use Rattle.byteorder.specs.Endian.{big_bytes}
 use Rattle.byteorder.specs.Numbers.{length-bytes_high_first}
-use Rattle.bgp_attr.specs.Writing.{items_octets}
+use Rattle.bgp_attr.specs.Values.{items_octets}
 
 pub flat_len : (f : ℕ → List ℕ) (k : ℕ) → ((n : ℕ) → length (f n) ≡ k) → (numbers : List ℕ) → length (flat_map f numbers) ≡ k * length numbers
 flat_len f k each [] = omega arith

@@ -1,7 +1,7 @@
 pub mod Steps
 pub mod OneField
 pub mod WholeSegments
-pub mod Fronts
+pub mod Filled
 pub mod Lengths
 pub mod Written
 pub mod WrittenField

@@ -17,7 +17,9 @@ use Rattle.bgp_attr.specs.declared.classes.Side.{Side}
 use Rattle.bgp_path.specs.AsPath.{PathSegment, IsPathSegment, weight_of, weight, count_of, leading_part, merge_of}
 use Rattle.bgp_path.specs.Path.{PathValue}
 use Rattle.bgp_attr.specs.Segments.{WireSegment, IsSegment, segment_octets}
-use Rattle.bgp_attr.specs.Writing.{is_large, as_octets, segment_type, wire_segment, as_path_octets, has_large, origin_number, aggregator_octets, as4_aggregator_octets, items_octets, value_in}
+use Rattle.bgp_wire.specs.AsNumber.{needs_four_octets}
+use Rattle.bgp_attr.specs.Values.{as_octets, segment_type, wire_segment, as_path_octets, aggregator_octets, items_octets}
+use Rattle.bgp_attr.specs.Writing.{has_large, origin_number, as4_aggregator_octets, value_in}
 use Rattle.bgp_attr.specs.Numbers.{numbers_in, items_from}
 use Rattle.bgp_attr.specs.PathIn.{segments_in, ReadsSegments, path_segment, path_in}
 use Rattle.bgp_attr.specs.PathFrom.{aggregator_in, is_as4_old, merged_aggregator, merged_path, origin_from, path_from}
@@ -139,23 +141,23 @@ or_none : (x y : Bool) → (x || y) ≡ false → (x ≡ false) × (y ≡ false)
 or_none true y e = absurd cc
 or_none false y e = (refl, e)
 
-small_octets : (numbers : List ℕ) → list_any is_large numbers ≡ false → flat_map (as_octets false) numbers ≡ flat_map (big_bytes 2) numbers
+small_octets : (numbers : List ℕ) → list_any needs_four_octets numbers ≡ false → flat_map (as_octets false) numbers ≡ flat_map (big_bytes 2) numbers
 small_octets [] e = refl
 small_octets (n ∷ numbers) e =
-    let h = or_none (is_large n) (list_any is_large numbers) e in
+    let h = or_none (needs_four_octets n) (list_any needs_four_octets numbers) e in
     rw (h.0, small_octets numbers h.1) refl
 
-small_fit : (numbers : List ℕ) → list_any is_large numbers ≡ false → All (λ n. n < 256 ^ 2) numbers
+small_fit : (numbers : List ℕ) → list_any needs_four_octets numbers ≡ false → All (λ n. n < 256 ^ 2) numbers
 small_fit [] e = All-nil (λ n. n < 256 ^ 2)
 small_fit (n ∷ numbers) e =
-    let h = or_none (is_large n) (list_any is_large numbers) e in
+    let h = or_none (needs_four_octets n) (list_any needs_four_octets numbers) e in
     let least = ltb-false 65535 n h.0 in
     All-cons (λ m. m < 256 ^ 2) n numbers (omega arith) (small_fit numbers h.1)
 
 own_2 : (path : List PathSegment) → has_large path ≡ false → All (λ s. numbers_in (length s.numbers) 2 (flat_map (as_octets false) s.numbers) ≡ s.numbers) path
 own_2 [] e = All-nil (λ (s : PathSegment). numbers_in (length s.numbers) 2 (flat_map (as_octets false) s.numbers) ≡ s.numbers)
 own_2 (s ∷ path) e =
-    let h = or_none (list_any is_large s.numbers) (has_large path) e in
+    let h = or_none (list_any needs_four_octets s.numbers) (has_large path) e in
     All-cons (λ (t : PathSegment). numbers_in (length t.numbers) 2 (flat_map (as_octets false) t.numbers) ≡ t.numbers) s path
     (ap (numbers_in (length s.numbers) 2) (small_octets s.numbers h.0) ∙ numbers_alone 2 s.numbers (small_fit s.numbers h.0)) (own_2 path h.1)
 
@@ -200,7 +202,7 @@ aggregator_4 : (a : Aggregator) → IsFitAggregator a → aggregator_in 4 (aggre
 aggregator_4 a fits =
     rw (big_number-reads_back 4 a.as_number (big_bytes 4 a.address) fits.0, big_number-reads_back 4 a.address [] fits.1) refl
 
-aggregator_2 : (a : Aggregator) → is_large a.as_number ≡ false → IsFitAggregator a → aggregator_in 2 (aggregator_octets false a) ≡ a
+aggregator_2 : (a : Aggregator) → needs_four_octets a.as_number ≡ false → IsFitAggregator a → aggregator_in 2 (aggregator_octets false a) ≡ a
 aggregator_2 a e fits =
     let least = ltb-false 65535 a.as_number e in
     rw (e, big_number-reads_back 2 a.as_number (big_bytes 4 a.address) (omega arith), big_number-reads_back 4 a.address [] fits.1) refl
@@ -227,9 +229,9 @@ aggregator_back : (as4 : Bool) (a : Option Aggregator) → IfSome a IsFitAggrega
 aggregator_back true None fits = record { fresh = refl; same = refl }
 aggregator_back false None fits = record { fresh = refl; same = refl }
 aggregator_back true (Some a) fits = record { fresh = refl; same = ap Some (aggregator_4 a fits) }
-aggregator_back false (Some a) fits = elim (cases_Bool (is_large a.as_number)) [
+aggregator_back false (Some a) fits = elim (cases_Bool (needs_four_octets a.as_number)) [
   | inl e ↦ record { fresh = rw e refl; same = rw e (ap Some (aggregator_4 a fits)) }
-  | inr e ↦ record { fresh = rw e refl; same = small_same a (is_large a.as_number) e (aggregator_2 a e fits) }
+  | inr e ↦ record { fresh = rw e refl; same = small_same a (needs_four_octets a.as_number) e (aggregator_2 a e fits) }
 ]
 
 -- ---- the whole path

@@ -1,74 +1,62 @@
 -- Attributes written one after the other.
-use Rattle.std.proofs.Common.{◌≡◌, ℕ, ◌+◌, ◌<◌, ◌≤◌, drop, List, [], ◌∷◌, ◌++◌, length, take, get_or, All, Option, None, Some, IfSome, option_map, refl, sym, ap, ◌∙◌, append_assoc, arith}
+use Rattle.std.proofs.Common.{◌≡◌, ℕ, ◌≤◌, List, [], ◌∷◌, ◌++◌, length, All, Option, None, Some, IfSome, option_map, refl, sym, ap, ◌∙◌, append_assoc, arith, inl, inr, ◌*◌}
 use Rattle.std.specs.List.{flat_map, filter_map}
 use Rattle.std.specs.Option.{option_map_or}
-use Rattle.std.proofs.lemmas.List.{take_more, append-nil, length-append, take-append-drop}
-use Rattle.std.proofs.lemmas.List.Elements.{filter_map-append}
-use Rattle.std.proofs.lemmas.Grind.{flat_map-append}
+use Rattle.std.proofs.lemmas.List.{length-append}
 use Rattle.bgp_attr.specs.declared.types.AttrType.{AttrType}
 use Rattle.bgp_attr.specs.declared.types.AttrType.TheVariants as types
-use Rattle.bgp_attr.specs.Field.{Attribute, attribute_octets}
-use Rattle.bgp_attr.specs.Writing.{attribute_with, attribute_header, Appends}
+use Rattle.bgp_attr.specs.Field.{Attribute, attribute_octets, is_extended, length_octets}
+use Rattle.byteorder.specs.Endian.{big_bytes}
+use Rattle.byteorder.specs.Numbers.{length-bytes_high_first}
+use Rattle.std.proofs.lemmas.Bool.{cases_Bool}
+use Rattle.bgp_attr.specs.Writing.{IsWritable, attribute_with, attribute_header, attribute_in, flags_for, path_octets, type_octets, value_in}
 use Rattle.bgp_attr.specs.Types.{all_types}
+use Rattle.bgp_path.specs.Path.{PathValue}
+use Rattle.bgp_attr.specs.declared.classes.Side.{Side}
+
+-- the attributes of types as octets, type by type
+type_by : (side : Side) (p : PathValue) (t : AttrType) (ts : List AttrType) (a : Option Attribute) → attribute_in side p t ≡ a
+    → flat_map attribute_octets (filter_map (attribute_in side p) (t ∷ ts)) ≡ type_octets side p t ++ flat_map attribute_octets (filter_map (attribute_in side p) ts)
+type_by side p t ts None e = rw e refl
+type_by side p t ts (Some a) e = rw e refl
+
+pub types_are : (side : Side) (p : PathValue) (ts : List AttrType) → flat_map (type_octets side p) ts ≡ flat_map attribute_octets (filter_map (attribute_in side p) ts)
+types_are side p [] = refl
+types_are side p (t ∷ ts) =
+    ap (λ (os : List ℕ). type_octets side p t ++ os) (types_are side p ts) ∙ sym (type_by side p t ts (attribute_in side p t) refl)
+
+pub octets_of_parts : (side : Side) (v p : PathValue) → v ≡ p → flat_map (type_octets side v) all_types ≡ path_octets side p
+octets_of_parts side v p same = types_are side v all_types ∙ ap (path_octets side) same
+
+-- the attribute of a type whose value has at most 65535 octets
+few_length_octets : (flags : ℕ) → length_octets flags ≤ 2
+few_length_octets flags = elim (cases_Bool (is_extended flags)) [
+  | inl e ↦ rw e (omega arith)
+  | inr e ↦ rw e (omega arith)
+]
+
+one_short : (side : Side) (p : PathValue) (t : AttrType) (v : Option (List ℕ)) → value_in side p t ≡ v → IfSome v (λ octets. length octets ≤ 65535) → length (type_octets side p t) ≤ 65539
+one_short side p t None e short = rw e (omega arith)
+one_short side p t (Some octets) e short =
+    let flags = flags_for t (length octets) in
+    let count = big_bytes (length_octets flags) (length octets) in
+    rw e (omega (arith, length-append count octets, length-bytes_high_first (length_octets flags) (length octets), few_length_octets flags))
+
+all_short : (side : Side) (p : PathValue) → IsWritable side p → (ts : List AttrType) → length (flat_map (type_octets side p) ts) ≤ 65539 * length ts
+all_short side p writable [] = omega arith
+all_short side p writable (t ∷ ts) =
+    omega (arith, one_short side p t (value_in side p t) refl (writable t), all_short side p writable ts, length-append (type_octets side p t) (flat_map (type_octets side p) ts))
+
+pub longest : (side : Side) (p : PathValue) → IsWritable side p → length (path_octets side p) ≤ 983085
+longest side p writable = omega (arith, all_short side p writable all_types, ap length (types_are side p all_types))
 
 -- a header and then a value are an attribute
-pub one_put : (t : AttrType) (value : Option (List ℕ)) (len : ℕ) (old mid new : List ℕ) → Some len ≡ option_map length value → mid ≡ old ++ attribute_header t len
-    → IfSome value (Appends mid new) → Appends old new (option_map_or attribute_octets (option_map (attribute_with t) value) [])
-one_put t None len old mid new e h put = absurd cc
-one_put t (Some octets) len old mid new e h put =
-    let same : len ≡ length octets = cc in
-    put ∙ ap (λ (m : List ℕ). m ++ octets) (h ∙ ap (λ (n : ℕ). old ++ attribute_header t n) same) ∙ append_assoc old (attribute_header t (length octets)) octets
-
--- the attributes of one more type: one, or none
-flat_map-one_by : (of : AttrType → Option Attribute) (t : AttrType) (a : Option Attribute) → of t ≡ a → flat_map attribute_octets (filter_map of (t ∷ [])) ≡ option_map_or attribute_octets (of t) []
-flat_map-one_by of t None e = rw e refl
-flat_map-one_by of t (Some a) e = rw e (append-nil (attribute_octets a))
-
-flat_map-one : (of : AttrType → Option Attribute) (t : AttrType) → flat_map attribute_octets (filter_map of (t ∷ [])) ≡ option_map_or attribute_octets (of t) []
-flat_map-one of t = flat_map-one_by of t (of t) refl
-
-pub more_put : (of : AttrType → Option Attribute) (ts : List AttrType) (i : ℕ) (d : AttrType) (old mid new : List ℕ) → i < length ts
-    → Appends old mid (flat_map attribute_octets (filter_map of (take i ts))) → Appends mid new (option_map_or attribute_octets (of (get_or ts i d)) [])
-    → Appends old new (flat_map attribute_octets (filter_map of (take (i + 1) ts)))
-more_put of ts i d old mid new lt before put =
-    let t = get_or ts i d in
-    let front = flat_map attribute_octets (filter_map of (take i ts)) in
-    let all : flat_map attribute_octets (filter_map of (take (i + 1) ts)) ≡ front ++ option_map_or attribute_octets (of t) [] =
-    ap (λ (xs : List AttrType). flat_map attribute_octets (filter_map of xs)) (take_more ts i d lt)
-    ∙ ap (flat_map attribute_octets) (filter_map-append of (take i ts) (t ∷ []))
-    ∙ flat_map-append attribute_octets (filter_map of (take i ts)) (filter_map of (t ∷ []))
-    ∙ ap (λ (xs : List ℕ). front ++ xs) (flat_map-one of t) in
-    put ∙ ap (λ (m : List ℕ). m ++ option_map_or attribute_octets (of t) []) before
-    ∙ append_assoc old front (option_map_or attribute_octets (of t) [])
-    ∙ ap (λ (xs : List ℕ). old ++ xs) (sym all)
-
--- the same as lengths
-pub one_longer : (of : AttrType → Option Attribute) (ts : List AttrType) (i : ℕ) (d : AttrType) → i < length ts
-    → length (flat_map attribute_octets (filter_map of (take (i + 1) ts))) ≡ length (flat_map attribute_octets (filter_map of (take i ts))) + length (option_map_or attribute_octets (of (get_or ts i d)) [])
-one_longer of ts i d lt =
-    let front = flat_map attribute_octets (filter_map of (take i ts)) in
-    let one = option_map_or attribute_octets (of (get_or ts i d)) [] in
-    omega (arith, ap length (more_put of ts i d [] front (front ++ one) lt refl refl), length-append front one)
-
-pub within : (of : AttrType → Option Attribute) (ts : List AttrType) (k : ℕ) → length (flat_map attribute_octets (filter_map of (take k ts))) ≤ length (flat_map attribute_octets (filter_map of ts))
-within of ts k =
-    let front = flat_map attribute_octets (filter_map of (take k ts)) in
-    let back = flat_map attribute_octets (filter_map of (drop k ts)) in
-    let all : flat_map attribute_octets (filter_map of ts) ≡ front ++ back =
-    ap (λ (xs : List AttrType). flat_map attribute_octets (filter_map of xs)) (sym (take-append-drop k ts))
-    ∙ ap (flat_map attribute_octets) (filter_map-append of (take k ts) (drop k ts))
-    ∙ flat_map-append attribute_octets (filter_map of (take k ts)) (filter_map of (drop k ts)) in
-    omega (arith, ap length all, length-append front back)
-
-pub more_room : (of : AttrType → Option Attribute) (ts : List AttrType) (i : ℕ) (d : AttrType) (left new room : ℕ) → i < length ts
-    → left + length (flat_map attribute_octets (filter_map of (take i ts))) ≡ room → new + length (option_map_or attribute_octets (of (get_or ts i d)) []) ≡ left
-    → new + length (flat_map attribute_octets (filter_map of (take (i + 1) ts))) ≡ room
-more_room of ts i d left new room lt before one = omega (arith, one_longer of ts i d lt)
-
-pub no_room : (of : AttrType → Option Attribute) (ts : List AttrType) (i : ℕ) (d : AttrType) (left room : ℕ) → i < length ts
-    → left + length (flat_map attribute_octets (filter_map of (take i ts))) ≡ room → left < length (option_map_or attribute_octets (of (get_or ts i d)) [])
-    → room < length (flat_map attribute_octets (filter_map of ts))
-no_room of ts i d left room lt before one = omega (arith, one_longer of ts i d lt, within of ts (i + 1))
+pub one_put : (t : AttrType) (value : Option (List ℕ)) (octets old mid new : List ℕ) → Some octets ≡ value → mid ≡ old ++ attribute_header t (length octets) → new ≡ mid ++ octets
+    → new ≡ old ++ option_map_or attribute_octets (option_map (attribute_with t) value) []
+one_put t None octets old mid new e h put = absurd cc
+one_put t (Some value) octets old mid new e h put =
+    let same : octets ≡ value = cc in
+    rw (← same) (put ∙ ap (λ (m : List ℕ). m ++ octets) h ∙ append_assoc old (attribute_header t (length octets)) octets)
 
 -- what holds of each type of the list holds of each type
 pub every : (P : AttrType → Type 0) → All P all_types → (t : AttrType) → P t

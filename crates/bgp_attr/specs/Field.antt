@@ -35,7 +35,7 @@ abbrev pub attribute_octets : Attribute → List ℕ
 attribute_octets a =
     a.flags ∷ a.kind ∷ big_bytes (length_octets a.flags) (length a.value) ++ a.value
 
--- the octets of a header that begins so: flags, type and length
+-- how many octets a header takes that begins so: flags, type and length
 unfoldable pub header_len : List ℕ → ℕ
 header_len octets = 2 + length_octets (slice_index octets 0)
 

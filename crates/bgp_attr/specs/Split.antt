@@ -7,7 +7,8 @@ use Rattle.bgp_attr.specs.declared.field.Tail.{Tail}
 use Rattle.bgp_attr.specs.declared.field.Tail.TheVariants.{ShortHeader, Overrun}
 use Rattle.bgp_attr.specs.Field.{Attribute, attribute_of, IsAttributeField, header_len, value_len}
 
--- the octets of the first attribute, if they are all there
+-- how many octets an attribute takes that begins so; where its header isn't whole, more than there
+-- are
 abbrev pub attribute_len : List ℕ → ℕ
 attribute_len octets = header_len octets + value_len octets
 

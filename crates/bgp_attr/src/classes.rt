@@ -25,7 +25,7 @@ pub struct Side {
 impl Side {
     /// How many octets an AS number takes.
     pub fn as_width(self) -> usize
-        ensures { result ≡ as_width self }
+        ensures width { result ≡ as_width self }
     {
         if self.as4 { 4 } else { 2 }
     }

@@ -30,7 +30,7 @@ impl<'a> Attr<'a> {
 
     /// Whether its Optional and Transitive bits are those of the type (RFC 7606, 3 c).
     pub fn has_bits_of(&self, attr_type: AttrType) -> bool
-        ensures { result ≡ has_bits_of self.now.flags attr_type }
+        ensures bits { result ≡ has_bits_of self.now.flags attr_type }
     {
         self.flags & OPTIONAL_TRANSITIVE == attr_type.row().bits
     }
@@ -149,7 +149,7 @@ impl<'a> Attrs<'a> {
     /// What stands after the last attribute and is none: `None` where the attributes fill the
     /// field.
     pub fn tail(&self) -> Option<Tail>
-        ensures { result ≡ self.now.tail }
+        ensures tail { result ≡ self.now.tail }
     {
         tail_at(after_attributes(self.rest))
     }

@@ -18,12 +18,12 @@ mod field;
 mod first;
 mod flags;
 mod laws;
-mod measuring;
 mod numbers;
-mod octets;
+mod peer;
 mod reading;
 mod segments;
 mod types;
+mod values;
 mod writing;
 
 pub use classes::{AttrVerdict, Side, class};
@@ -31,10 +31,10 @@ pub use field::{Attr, Attrs, Tail};
 pub use first::{FirstAttrs, first_of};
 pub use flags::{EXTENDED_LENGTH, OPTIONAL, TRANSITIVE};
 pub use laws::{one_split, reads_back, segments_are_told, writes_a_field};
-pub use measuring::{is_for_peer, path_len};
+pub use peer::is_for_peer;
 pub use reading::read_path;
 pub use types::{AttrType, TypeRow};
-pub use writing::{is_writable, put_attribute_header, write_path};
+pub use writing::{is_writable, path_len, put_attribute_header, put_path, write_path};
 
 #[cfg(test)]
 mod tests;

@@ -18,9 +18,10 @@ ghost use Rattle.bgp_attr.specs.Segments.{are_segments, number_width};
 use crate::classes::Side;
 use crate::first::FirstAttrs;
 use crate::numbers::{read_u32s, read_u64s};
-use crate::segments::{AS_TRANS, number_len, read_as_path};
+use crate::segments::{number_len, read_as_path};
 use crate::types::AttrType;
 use bgp_path::{Aggregator, AsPath, Items, NextHop, Origin, Path, PathParts, merge};
+use bgp_wire::AS_TRANS;
 use byteorder::{BigEndian, ByteOrder};
 use std::alloc::{AllocError, Allocator};
 

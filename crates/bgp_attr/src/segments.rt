@@ -1,23 +1,31 @@
-//! The value of an AS_PATH or AS4_PATH attribute (RFC 4271, 4.3 b; RFC 6793, 3): path segments,
-//! each a type, a count and as many AS numbers of two or four octets.
+//! The value of an AS_PATH or AS4_PATH attribute (RFC 4271, 4.3 b; RFC 6793, 3): path segments.
+//!
+//! ```text
+//!  0      1       2                                       2 + width * count
+//! +------+-------+-------------+-------------+-- .. -----+
+//! | type | count | AS number 1 | AS number 2 |           |
+//! +------+-------+-------------+-------------+-- .. -----+
+//!
+//! type    1 AS_SET, 2 AS_SEQUENCE; in AS4_PATH also 3 AS_CONFED_SEQUENCE, 4 AS_CONFED_SET
+//! count   how many AS numbers follow, 1 to 255
+//! number  of `width` octets: 2, or 4 in AS4_PATH and where both sides sent the capability
+//! ```
 
-ghost use Rattle.std.specs.Prelude.{◌≡◌, ℕ, ◌≤◌, ◌++◌, [], true, false, length, drop};
-ghost use Rattle.std.specs.Prelude.{IfSome, IfNone, IfOk, OnOk, OnErr};
+ghost use Rattle.std.specs.Prelude.{◌≡◌, ℕ, ◌+◌, ◌*◌, ◌^◌, ◌≤◌, ◌++◌, [], true, false, length, drop};
+ghost use Rattle.std.specs.Prelude.{IfSome, IfNone, IfOk, OnOk, vec_len, vec_capacity};
 ghost use Rattle.std.specs.List.{cons_option, flat_map, list_any};
 ghost use Rattle.bgp_attr.specs.Numbers.{items_in};
 ghost use Rattle.bgp_attr.specs.PathIn.{path_in, path_segment, segment_at, segment_kind};
 ghost use Rattle.bgp_attr.specs.Segments.{are_segments, has_segment, number_width, segment_len};
 ghost use Rattle.bgp_attr.specs.Segments.{segment_octets};
-ghost use Rattle.bgp_attr.specs.Writing.{as_octets, as_path_octets, has_large, is_large};
-ghost use Rattle.bgp_attr.specs.Writing.{wire_segment, KeepsFront};
+ghost use Rattle.bgp_wire.specs.AsNumber.{needs_four_octets};
+ghost use Rattle.bgp_attr.specs.Values.{as_octets, as_path_octets, wire_segment};
+ghost use Rattle.bgp_attr.specs.Writing.{has_large};
 
 use crate::numbers::{read_u16s, read_u32s};
-use crate::octets::{put_u16, put_u32};
 use bgp_path::{AsPath, Segment, SegmentKind};
+use bgp_wire::{needs_four_octets, put_u8, put_u16, put_u32, two_octet_as};
 use std::alloc::{AllocError, Allocator};
-
-/// AS_TRANS, which stands for an AS number that needs four octets (RFC 6793, 3 and 9).
-pub(crate) const AS_TRANS: u16 = 23456;
 
 /// AS_SEQUENCE, the last of the segment types in an AS_PATH.
 pub(crate) const AS_SEQUENCE: u8 = 2;
@@ -146,71 +154,71 @@ pub(crate) fn read_as_path<A: Allocator + Copy>(
     Ok(path)
 }
 
-/// Appends the value of AS_PATH or AS4_PATH. After a refusal a part of it stands there.
+/// Appends the value of AS_PATH or AS4_PATH.
 pub(crate) fn put_as_path<A: Allocator, B: Allocator>(
     out: &mut Vec<u8, A>,
     as4: bool,
     segments: &[Segment<B>],
-) -> Result<(), AllocError>
-    ensures ok { OnOk result (out.new.items ≡ out.old.items ++ as_path_octets as4 segments.now) }
-    ensures front { KeepsFront out.old.items out.new.items }
+)
+    requires { vec_len out.old + length (as_path_octets as4 segments.now) ≤ vec_capacity out.old }
+    ensures items { out.new.items ≡ out.old.items ++ as_path_octets as4 segments.now }
+    ensures len { vec_len out.new ≡ vec_len out.old + length (as_path_octets as4 segments.now) }
+    ensures capacity { vec_capacity out.old ≤ vec_capacity out.new }
 {
     for segment in segments {
-        put_segment(out, as4, segment)?;
+        put_segment(out, as4, segment);
     }
-    Ok(())
 }
 
-/// Appends a path segment. After a refusal a part of it stands there.
-fn put_segment<A: Allocator, B: Allocator>(
-    out: &mut Vec<u8, A>,
-    as4: bool,
-    segment: &Segment<B>,
-) -> Result<(), AllocError>
-    ensures ok { OnOk result (out.new.items ≡ out.old.items
-        ++ segment_octets (wire_segment as4 segment.now)) }
-    ensures front { KeepsFront out.old.items out.new.items }
+/// Appends a path segment.
+fn put_segment<A: Allocator, B: Allocator>(out: &mut Vec<u8, A>, as4: bool, segment: &Segment<B>)
+    requires { vec_len out.old + length (segment_octets (wire_segment as4 segment.now))
+        ≤ vec_capacity out.old }
+    ensures items { out.new.items
+        ≡ out.old.items ++ segment_octets (wire_segment as4 segment.now) }
+    ensures len { vec_len out.new
+        ≡ vec_len out.old + length (segment_octets (wire_segment as4 segment.now)) }
+    ensures capacity { vec_capacity out.old ≤ vec_capacity out.new }
 {
     let numbers = segment.numbers();
-    out.extend_from_slice(&[segment.kind() as u8, numbers.len() as u8])?;
-    put_as_numbers(out, as4, numbers)
+    put_u8(out, segment.kind() as u8);
+    put_u8(out, numbers.len() as u8);
+    put_as_numbers(out, as4, numbers);
 }
 
-/// Appends AS numbers. After a refusal some of them stand there.
-fn put_as_numbers<A: Allocator>(
-    out: &mut Vec<u8, A>,
-    as4: bool,
-    numbers: &[u32],
-) -> Result<(), AllocError>
-    ensures ok { OnOk result (out.new.items ≡ out.old.items
-        ++ flat_map (as_octets as4) numbers.now) }
-    ensures front { KeepsFront out.old.items out.new.items }
+/// Appends AS numbers.
+fn put_as_numbers<A: Allocator>(out: &mut Vec<u8, A>, as4: bool, numbers: &[u32])
+    requires { vec_len out.old + length (flat_map (as_octets as4) numbers.now)
+        ≤ vec_capacity out.old }
+    ensures items { out.new.items ≡ out.old.items ++ flat_map (as_octets as4) numbers.now }
+    ensures len { vec_len out.new
+        ≡ vec_len out.old + length (flat_map (as_octets as4) numbers.now) }
+    ensures capacity { vec_capacity out.old ≤ vec_capacity out.new }
 {
     for number in numbers {
-        put_as_number(out, as4, *number)?;
+        put_as_number(out, as4, *number);
     }
-    Ok(())
 }
 
 /// Appends an AS number in four octets, or in two.
-pub(crate) fn put_as_number<A: Allocator>(
-    out: &mut Vec<u8, A>,
-    as4: bool,
-    number: u32,
-) -> Result<(), AllocError>
-    ensures ok { OnOk result (out.new.items ≡ out.old.items ++ as_octets as4 number) }
-    ensures err { OnErr result (out.new.items ≡ out.old.items) }
+pub(crate) fn put_as_number<A: Allocator>(out: &mut Vec<u8, A>, as4: bool, number: u32)
+    requires { vec_len out.old + length (as_octets as4 number) ≤ vec_capacity out.old }
+    ensures items { out.new.items ≡ out.old.items ++ as_octets as4 number }
+    ensures len { vec_len out.new ≡ vec_len out.old + length (as_octets as4 number) }
+    ensures capacity { vec_capacity out.old ≤ vec_capacity out.new }
 {
     if as4 {
-        return put_u32(out, number);
+        put_u32(out, number);
+    } else {
+        // AS_TRANS stands for a number that two octets can't hold (RFC 6793, 4.2.2).
+        put_u16(out, two_octet_as(number));
     }
-    // AS_TRANS stands for a number that two octets can't hold (RFC 6793, 4.2.2).
-    put_u16(out, u16::try_from(number).unwrap_or(AS_TRANS))
 }
 
 /// How many octets the value of AS_PATH or AS4_PATH has.
 pub(crate) fn as_path_len<A: Allocator>(as4: bool, segments: &[Segment<A>]) -> u128
-    ensures { result ≡ length (as_path_octets as4 segments.now) }
+    ensures len { result ≡ length (as_path_octets as4 segments.now) }
+    ensures bound { result ≤ 1022 * 2 ^ 64 }
 {
     let mut len = 0;
     for segment in segments {
@@ -245,14 +253,10 @@ pub(crate) fn has_large<A: Allocator>(segments: &[Segment<A>]) -> bool
 
 /// Whether some AS number of the segment needs four octets.
 fn segment_has_large<A: Allocator>(segment: &Segment<A>) -> bool
-    ensures { result ≡ list_any is_large segment.now.numbers }
+    ensures { result ≡ list_any needs_four_octets segment.now.numbers }
 {
-    segment.numbers().iter().any(|number| is_large(*number))
-}
-
-/// Whether the AS number needs four octets.
-pub(crate) fn is_large(number: u32) -> bool
-    ensures { result ≡ is_large number }
-{
-    number > 65535
+    segment
+        .numbers()
+        .iter()
+        .any(|number| needs_four_octets(*number))
 }

@@ -131,7 +131,7 @@ impl AttrType {
 
     /// Whether it is MP_REACH_NLRI or MP_UNREACH_NLRI, which carry prefixes.
     pub fn is_multiprotocol(self) -> bool
-        ensures { result ≡ is_multiprotocol self }
+        ensures multiprotocol { result ≡ is_multiprotocol self }
     {
         matches!(self, Self::MpReachNlri | Self::MpUnreachNlri)
     }

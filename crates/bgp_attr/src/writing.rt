@@ -1,24 +1,24 @@
-//! Writing a route's path attributes (RFC 4271, 5; RFC 6793, 4.2.2).
+//! Writing a route's path attributes (RFC 4271, 5; RFC 6793, 4.2.2): measured, then room made for
+//! all of them, then written.
 
-ghost use Rattle.std.specs.Prelude.{◌≡◌, ◌++◌, [], ◌↔◌, ◌&&◌, IsTrue, All, not};
-ghost use Rattle.std.specs.Prelude.{if◌then◌else◌, true, length, option_map, Some, None, IfSome};
-ghost use Rattle.std.specs.Prelude.{MatchOption, OnOk, OnErr};
-ghost use Rattle.std.specs.List.{flat_map, filter_map};
-ghost use Rattle.std.specs.Option.{option_map_or};
-ghost use Rattle.bgp_attr.specs.Field.{attribute_octets};
-ghost use Rattle.bgp_attr.specs.Writing.{as_path_octets, has_large, is_large, aggregator_octets};
-ghost use Rattle.bgp_attr.specs.Writing.{as4_aggregator_octets, items_octets, value_in};
-ghost use Rattle.bgp_attr.specs.Writing.{next_hop_octets, attribute_header, attribute_in, path_attributes};
-ghost use Rattle.bgp_attr.specs.Writing.{HasShortValue, IsWritable, KeepsFront, Appends};
+ghost use Rattle.std.specs.Prelude.{◌≡◌, ◌≤◌, ◌<◌, ◌+◌, ◌*◌, ◌^◌, ◌↔◌, ◌++◌, IsTrue, All};
+ghost use Rattle.std.specs.Prelude.{IfSome, IfNone, OnOk, OnErr, length, option_map};
+ghost use Rattle.std.specs.Prelude.{vec_len, vec_capacity};
+ghost use Rattle.std.specs.List.{flat_map};
 ghost use Rattle.bgp_path.specs.Path.{value_of};
-ghost use Rattle.bgp_path.specs.declared.path.Aggregator.{Aggregator};
+ghost use Rattle.bgp_attr.specs.Values.{aggregator_octets, items_octets, value_octets};
+ghost use Rattle.byteorder.specs.Endian.{big_bytes};
+ghost use Rattle.bgp_attr.specs.Writing.{as4_aggregator_octets, as4_path_octets, attribute_header};
+ghost use Rattle.bgp_attr.specs.Writing.{next_hop_octets, path_octets, type_octets, value_in};
+ghost use Rattle.bgp_attr.specs.Writing.{HasShortValue, IsWritable};
 
 use crate::classes::Side;
 use crate::flags::EXTENDED_LENGTH;
-use crate::octets::{put_optional, put_u16, put_u32, put_u32s, put_u64s};
-use crate::segments::{as_path_len, has_large, is_large, put_as_number, put_as_path};
+use crate::segments::has_large;
 use crate::types::AttrType;
+use crate::values::AttrValue;
 use bgp_path::{Aggregator, NextHop, Path, PathParts, Segment};
+use bgp_wire::{needs_four_octets, put_u8, put_u16};
 use std::alloc::{AllocError, Allocator};
 
 /// The most octets that a value can have: its length has at most two octets (RFC 4271, 4.3).
@@ -29,28 +29,58 @@ const LONGEST_VALUE: u128 = 65535;
 /// Where AS numbers have two octets, AS_TRANS stands for a larger one, and AS4_PATH and
 /// AS4_AGGREGATOR say it (RFC 6793, 4.2.2). Whether the peer is internal makes no difference.
 ///
-/// It is `Err` only where memory is refused, and then `out` is as before.
+/// It is `Err` only where there was too little room and memory is refused, and then `out` is as
+/// before.
 pub fn write_path<A: Allocator, B: Allocator>(
     side: Side,
     path: &Path<B>,
     out: &mut Vec<u8, A>,
 ) -> Result<(), AllocError>
     requires { IsWritable side path.now }
-    ensures ok { OnOk result (out.new.items ≡ out.old.items
-        ++ flat_map attribute_octets (path_attributes side path.now)) }
+    ensures ok { OnOk result (out.new.items ≡ out.old.items ++ path_octets side path.now) }
     ensures err { OnErr result (out.new.items ≡ out.old.items) }
+    ensures memory { OnErr result
+        (vec_capacity out.old < vec_len out.old + length (path_octets side path.now)) }
 {
-    let start = out.len();
-    let written = put_attributes(out, side, path.parts(), &AttrType::ALL);
-    if written.is_err() {
-        out.truncate(start);
+    out.reserve(octet_len(side, path) as usize)?;
+    put_path(out, side, path);
+    Ok(())
+}
+
+/// Appends what `write_path` does, where there is room for it.
+pub fn put_path<A: Allocator, B: Allocator>(out: &mut Vec<u8, A>, side: Side, path: &Path<B>)
+    requires writable { IsWritable side path.now }
+    requires room { vec_len out.old + length (path_octets side path.now) ≤ vec_capacity out.old }
+    ensures items { out.new.items ≡ out.old.items ++ path_octets side path.now }
+    ensures len { vec_len out.new ≡ vec_len out.old + length (path_octets side path.now) }
+    ensures capacity { vec_capacity out.old ≤ vec_capacity out.new }
+{
+    put_attributes(out, side, path.parts(), &AttrType::ALL);
+}
+
+/// How many octets `write_path` would append, if at most `most`.
+pub fn path_len<A: Allocator>(side: Side, path: &Path<A>, most: u16) -> Option<u16>
+    ensures some { IfSome result (λ len. len ≡ length (path_octets side path.now)) }
+    ensures fits { IfSome result (λ len. len ≤ most) }
+    ensures none { IfNone result (most < length (path_octets side path.now)) }
+{
+    let len = octet_len(side, path);
+    if len > u128::from(most) {
+        return None;
     }
-    written
+    Some(len as u16)
+}
+
+/// How many octets `write_path` would append.
+fn octet_len<A: Allocator>(side: Side, path: &Path<A>) -> u128
+    ensures len { result ≡ length (path_octets side path.now) }
+{
+    attributes_len(side, path.parts(), &AttrType::ALL)
 }
 
 /// Whether each value that `write_path` would write has at most 65535 octets: its condition.
 pub fn is_writable<A: Allocator>(side: Side, path: &Path<A>) -> bool
-    ensures { IsTrue result ↔ IsWritable side path.now }
+    ensures writable { IsTrue result ↔ IsWritable side path.now }
 {
     are_short(side, path.parts(), &AttrType::ALL)
 }
@@ -68,195 +98,208 @@ fn are_short<A: Allocator>(side: Side, path: &PathParts<A>, types: &[AttrType]) 
 fn has_short_value<A: Allocator>(side: Side, path: &PathParts<A>, attr_type: AttrType) -> bool
     ensures { IsTrue result ↔ HasShortValue side (value_of path.now) attr_type }
 {
-    match value_len(side, path, attr_type) {
-        Some(len) => len <= LONGEST_VALUE,
+    match value_of_type(side, path, attr_type) {
+        Some(value) => value.len() <= LONGEST_VALUE,
         None => true,
     }
 }
 
-/// Appends the attributes of these types that the path has. After a refusal some of them stand
-/// there.
+/// How many octets the attributes of these types have.
+fn attributes_len<A: Allocator>(side: Side, path: &PathParts<A>, types: &[AttrType]) -> u128
+    requires few { length types.now ≤ 15 }
+    ensures len { result ≡ length (flat_map (type_octets side (value_of path.now)) types.now) }
+{
+    let mut len = 0;
+    for attr_type in types {
+        len += attribute_len(side, path, *attr_type);
+    }
+    len
+}
+
+/// How many octets the attribute of this type has: its header and its value.
+fn attribute_len<A: Allocator>(side: Side, path: &PathParts<A>, attr_type: AttrType) -> u128
+    ensures len { result ≡ length (type_octets side (value_of path.now) attr_type) }
+    ensures bound { result ≤ 1022 * 2 ^ 64 + 4 }
+{
+    let Some(value) = value_of_type(side, path, attr_type) else {
+        return 0;
+    };
+    let len = value.len();
+    // flags 1, type 1, length 1, or 2 with Extended Length
+    if len > 255 { len + 4 } else { len + 3 }
+}
+
+/// Appends the attributes of these types that the path has.
 fn put_attributes<A: Allocator, B: Allocator>(
     out: &mut Vec<u8, A>,
     side: Side,
     path: &PathParts<B>,
     types: &[AttrType],
-) -> Result<(), AllocError>
-    requires { IsWritable side (value_of path.now) }
-    ensures ok { OnOk result (Appends out.old.items out.new.items
-        (flat_map attribute_octets (filter_map (attribute_in side (value_of path.now)) types.now))) }
-    ensures front { KeepsFront out.old.items out.new.items }
+)
+    requires writable { IsWritable side (value_of path.now) }
+    requires room { vec_len out.old
+        + length (flat_map (type_octets side (value_of path.now)) types.now)
+        ≤ vec_capacity out.old }
+    ensures items { out.new.items
+        ≡ out.old.items ++ flat_map (type_octets side (value_of path.now)) types.now }
+    ensures len { vec_len out.new ≡ vec_len out.old
+        + length (flat_map (type_octets side (value_of path.now)) types.now) }
+    ensures capacity { vec_capacity out.old ≤ vec_capacity out.new }
 {
     for attr_type in types {
-        put_attribute(out, side, path, *attr_type)?;
+        put_attribute(out, side, path, *attr_type);
     }
-    Ok(())
 }
 
-/// Appends the attribute of this type, where the path has one. After a refusal a part of it stands
-/// there.
+/// Appends the attribute of this type, where the path has one.
 fn put_attribute<A: Allocator, B: Allocator>(
     out: &mut Vec<u8, A>,
     side: Side,
     path: &PathParts<B>,
     attr_type: AttrType,
-) -> Result<(), AllocError>
-    requires { IsWritable side (value_of path.now) }
-    ensures ok { OnOk result (Appends out.old.items out.new.items
-        (option_map_or attribute_octets (attribute_in side (value_of path.now) attr_type) [])) }
-    ensures front { KeepsFront out.old.items out.new.items }
+)
+    requires writable { IsWritable side (value_of path.now) }
+    requires room { vec_len out.old + length (type_octets side (value_of path.now) attr_type)
+        ≤ vec_capacity out.old }
+    ensures items { out.new.items
+        ≡ out.old.items ++ type_octets side (value_of path.now) attr_type }
+    ensures len { vec_len out.new
+        ≡ vec_len out.old + length (type_octets side (value_of path.now) attr_type) }
+    ensures capacity { vec_capacity out.old ≤ vec_capacity out.new }
 {
-    let Some(len) = value_len(side, path, attr_type) else {
-        return Ok(());
+    let Some(value) = value_of_type(side, path, attr_type) else {
+        return;
     };
-    put_attribute_header(out, attr_type, len as u16)?;
-    put_value(out, side, path, attr_type)
+    put_attribute_header(out, attr_type, value.len() as u16);
+    value.put(out);
 }
 
 /// Appends the header of an attribute of this type, whose value has `len` octets: flags, type and
-/// length. After a refusal a part of it stands there.
-pub fn put_attribute_header<A: Allocator>(
-    out: &mut Vec<u8, A>,
-    attr_type: AttrType,
-    len: u16,
-) -> Result<(), AllocError>
-    ensures ok { OnOk result (out.new.items ≡ out.old.items ++ attribute_header attr_type len) }
-    ensures front { KeepsFront out.old.items out.new.items }
+/// length (RFC 4271, 4.3).
+pub fn put_attribute_header<A: Allocator>(out: &mut Vec<u8, A>, attr_type: AttrType, len: u16)
+    requires room { vec_len out.old + length (attribute_header attr_type len)
+        ≤ vec_capacity out.old }
+    ensures items { out.new.items ≡ out.old.items ++ attribute_header attr_type len }
+    ensures len { vec_len out.new
+        ≡ vec_len out.old + length (attribute_header attr_type len) }
+    ensures capacity { vec_capacity out.old ≤ vec_capacity out.new }
 {
     let row = attr_type.row();
     // Extended Length only where the value has more than 255 octets (RFC 4271, 4.3).
     if len > 255 {
-        out.extend_from_slice(&[row.bits | EXTENDED_LENGTH, row.number])?;
-        return put_u16(out, len);
-    }
-    out.extend_from_slice(&[row.bits, row.number, len as u8])
-}
-
-/// Appends the value of an attribute of this type, where the path is written with one. After a
-/// refusal a part of it stands there.
-fn put_value<A: Allocator, B: Allocator>(
-    out: &mut Vec<u8, A>,
-    side: Side,
-    path: &PathParts<B>,
-    attr_type: AttrType,
-) -> Result<(), AllocError>
-    ensures ok { OnOk result (IfSome (value_in side (value_of path.now) attr_type)
-        (Appends out.old.items out.new.items)) }
-    ensures front { KeepsFront out.old.items out.new.items }
-{
-    match attr_type {
-        AttrType::Origin => out.extend_from_slice(&[path.origin as u8]),
-        AttrType::AsPath => put_as_path(out, side.as4, path.as_path.segments()),
-        AttrType::NextHop => put_next_hop(out, path.next_hop),
-        AttrType::MultiExitDisc => put_optional(out, path.multi_exit_disc),
-        AttrType::LocalPref => put_optional(out, path.local_pref),
-        AttrType::Aggregator => put_aggregator(out, side.as4, path.aggregator),
-        AttrType::Communities => put_u32s(out, path.communities.as_slice()),
-        AttrType::OriginatorId => put_optional(out, path.originator_id),
-        AttrType::ClusterList => put_u32s(out, path.cluster_list.as_slice()),
-        AttrType::ExtendedCommunities => put_u64s(out, path.extended_communities.as_slice()),
-        AttrType::As4Path => put_as_path(out, true, path.as_path.segments()),
-        AttrType::As4Aggregator => put_aggregator(out, true, path.aggregator),
-        AttrType::AtomicAggregate | AttrType::MpReachNlri | AttrType::MpUnreachNlri => Ok(()),
+        put_u8(out, row.bits | EXTENDED_LENGTH);
+        put_u8(out, row.number);
+        put_u16(out, len);
+    } else {
+        put_u8(out, row.bits);
+        put_u8(out, row.number);
+        put_u8(out, len as u8);
     }
 }
 
-/// Appends the value of AGGREGATOR or AS4_AGGREGATOR, where there is one. After a refusal a part of
-/// it stands there.
-fn put_aggregator<A: Allocator>(
-    out: &mut Vec<u8, A>,
-    as4: bool,
-    aggregator: Option<Aggregator>,
-) -> Result<(), AllocError>
-    ensures ok { OnOk result (MatchOption aggregator (out.new.items ≡ out.old.items)
-        (λ a. Appends out.old.items out.new.items (aggregator_octets as4 a))) }
-    ensures front { KeepsFront out.old.items out.new.items }
-{
-    let Some(aggregator) = aggregator else {
-        return Ok(());
-    };
-    put_as_number(out, as4, aggregator.as_number)?;
-    put_u32(out, aggregator.address)
-}
-
-/// Appends the value of NEXT_HOP, where the next hop has four octets (RFC 4760, 3).
-fn put_next_hop<A: Allocator>(out: &mut Vec<u8, A>, next_hop: NextHop) -> Result<(), AllocError>
-    ensures ok { OnOk result (MatchOption (next_hop_octets next_hop)
-        (out.new.items ≡ out.old.items) (Appends out.old.items out.new.items)) }
-    ensures front { KeepsFront out.old.items out.new.items }
-{
-    match next_hop {
-        NextHop::V4(address) => put_u32(out, address),
-        NextHop::V6(_) | NextHop::V6WithLinkLocal(..) => Ok(()),
-    }
-}
-
-/// How many octets the value of an attribute of this type has: none where the path isn't written
-/// with one.
-pub(crate) fn value_len<A: Allocator>(
+/// The value of an attribute of this type: none where the path isn't written with one.
+fn value_of_type<A: Allocator>(
     side: Side,
     path: &PathParts<A>,
     attr_type: AttrType,
-) -> Option<u128>
-    ensures { result ≡ option_map length (value_in side (value_of path.now) attr_type) }
+) -> Option<AttrValue<'_, A>>
+    ensures value { option_map value_octets result
+        ≡ value_in side (value_of path.now) attr_type }
 {
+    // Each arm returns by itself, since some of them lend and others don't.
     match attr_type {
-        AttrType::Origin => Some(1),
-        AttrType::AsPath => Some(as_path_len(side.as4, path.as_path.segments())),
-        AttrType::NextHop => matches!(path.next_hop, NextHop::V4(_)).then_some(4),
-        AttrType::MultiExitDisc => path.multi_exit_disc.map(|_| 4),
-        AttrType::LocalPref => path.local_pref.map(|_| 4),
-        AttrType::AtomicAggregate => path.atomic_aggregate.then_some(0),
-        AttrType::Aggregator => path.aggregator.map(|_| aggregator_len(side.as4)),
-        AttrType::Communities => u32s_len(path.communities.as_slice()),
-        AttrType::OriginatorId => path.originator_id.map(|_| 4),
-        AttrType::ClusterList => u32s_len(path.cluster_list.as_slice()),
-        AttrType::ExtendedCommunities => u64s_len(path.extended_communities.as_slice()),
-        AttrType::As4Path => as4_path_len(side, path.as_path.segments()),
-        AttrType::As4Aggregator => as4_aggregator(side, path.aggregator).map(|_| 8),
+        AttrType::Origin => return Some(AttrValue::Octet(path.origin as u8)),
+        AttrType::AsPath => return Some(AttrValue::Segments(side.as4, path.as_path.segments())),
+        AttrType::NextHop => return next_hop_value(path.next_hop),
+        AttrType::MultiExitDisc => return number_value(path.multi_exit_disc),
+        AttrType::LocalPref => return number_value(path.local_pref),
+        AttrType::AtomicAggregate => return path.atomic_aggregate.then_some(AttrValue::Empty),
+        AttrType::Aggregator => return aggregator_value(side, path.aggregator),
+        AttrType::Communities => return items_value(path.communities.as_slice()),
+        AttrType::OriginatorId => return number_value(path.originator_id),
+        AttrType::ClusterList => return items_value(path.cluster_list.as_slice()),
+        AttrType::ExtendedCommunities => {
+            return long_items_value(path.extended_communities.as_slice());
+        }
+        AttrType::As4Path => return as4_path_value(side, path.as_path.segments()),
+        AttrType::As4Aggregator => return as4_aggregator_value(side, path.aggregator),
         // These carry prefixes too, and are written with them.
-        AttrType::MpReachNlri | AttrType::MpUnreachNlri => None,
+        AttrType::MpReachNlri | AttrType::MpUnreachNlri => return None,
     }
 }
 
-/// How many octets the value of AGGREGATOR has.
-fn aggregator_len(as4: bool) -> u128
-    ensures { (a : Aggregator) → result ≡ length (aggregator_octets as4 a) }
+/// The value of a number of four octets, where there is one.
+fn number_value<'a, A: Allocator>(number: Option<u32>) -> Option<AttrValue<'a, A>>
+    ensures value { option_map value_octets result ≡ option_map (big_bytes 4) number }
 {
-    if as4 { 8 } else { 6 }
+    Some(AttrValue::Number(number?))
 }
 
-/// How many octets a list of numbers of four octets has: none where it is empty.
-fn u32s_len(numbers: &[u32]) -> Option<u128>
-    ensures { result ≡ option_map length (items_octets 4 numbers.now) }
+/// The value of AGGREGATOR, where there is one.
+fn aggregator_value<'a, A: Allocator>(
+    side: Side,
+    aggregator: Option<Aggregator>,
+) -> Option<AttrValue<'a, A>>
+    ensures value { option_map value_octets result
+        ≡ option_map (aggregator_octets side.as4) aggregator }
 {
-    (!numbers.is_empty()).then_some(4 * numbers.len() as u128)
+    Some(AttrValue::Aggregator(side.as4, aggregator?))
 }
 
-/// How many octets a list of numbers of eight octets has: none where it is empty.
-fn u64s_len(numbers: &[u64]) -> Option<u128>
-    ensures { result ≡ option_map length (items_octets 8 numbers.now) }
+/// The value of NEXT_HOP, where the next hop has four octets (RFC 4760, 3).
+fn next_hop_value<'a, A: Allocator>(next_hop: NextHop) -> Option<AttrValue<'a, A>>
+    ensures value { option_map value_octets result ≡ next_hop_octets next_hop }
 {
-    (!numbers.is_empty()).then_some(8 * numbers.len() as u128)
+    match next_hop {
+        NextHop::V4(address) => Some(AttrValue::Number(address)),
+        NextHop::V6(_) | NextHop::V6WithLinkLocal(..) => None,
+    }
 }
 
-/// How many octets AS4_PATH has: it is written where AS numbers have two octets and one of the
-/// path's needs four (RFC 6793, 4.2.2).
-fn as4_path_len<A: Allocator>(side: Side, segments: &[Segment<A>]) -> Option<u128>
-    ensures { result ≡ (if not side.as4 && has_large segments.now
-        then Some (length (as_path_octets true segments.now)) else None) }
+/// The value of a list of numbers of four octets: none where it is empty.
+fn items_value<A: Allocator>(numbers: &[u32]) -> Option<AttrValue<'_, A>>
+    ensures value { option_map value_octets result ≡ items_octets 4 numbers.now }
 {
-    if side.as4 || !has_large(segments) {
+    if numbers.is_empty() {
         return None;
     }
-    Some(as_path_len(true, segments))
+    Some(AttrValue::Numbers(numbers))
 }
 
-/// The aggregator of AS4_AGGREGATOR: it is written where AS numbers have two octets and the
+/// The value of a list of numbers of eight octets: none where it is empty.
+fn long_items_value<A: Allocator>(numbers: &[u64]) -> Option<AttrValue<'_, A>>
+    ensures value { option_map value_octets result ≡ items_octets 8 numbers.now }
+{
+    if numbers.is_empty() {
+        return None;
+    }
+    Some(AttrValue::LongNumbers(numbers))
+}
+
+/// The value of AS4_PATH: it is written where AS numbers have two octets and one of the path's
+/// needs four (RFC 6793, 4.2.2).
+fn as4_path_value<A: Allocator>(side: Side, segments: &[Segment<A>]) -> Option<AttrValue<'_, A>>
+    ensures value { option_map value_octets result ≡ as4_path_octets side.as4 segments.now }
+{
+    if !side.as4 && has_large(segments) {
+        return Some(AttrValue::Segments(true, segments));
+    }
+    None
+}
+
+/// The value of AS4_AGGREGATOR: it is written where AS numbers have two octets and the
 /// aggregator's needs four (RFC 6793, 4.2.2).
-fn as4_aggregator(side: Side, aggregator: Option<Aggregator>) -> Option<Aggregator>
-    ensures { option_map (aggregator_octets true) result
+fn as4_aggregator_value<'a, A: Allocator>(
+    side: Side,
+    aggregator: Option<Aggregator>,
+) -> Option<AttrValue<'a, A>>
+    ensures value { option_map value_octets result
         ≡ as4_aggregator_octets side.as4 aggregator }
 {
-    aggregator.filter(|aggregator| !side.as4 && is_large(aggregator.as_number))
+    match aggregator {
+        Some(aggregator) if !side.as4 && needs_four_octets(aggregator.as_number) => {
+            Some(AttrValue::Aggregator(true, aggregator))
+        }
+        _ => None,
+    }
 }

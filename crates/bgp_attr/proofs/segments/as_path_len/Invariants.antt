@@ -1,5 +1,5 @@
 use Rattle.std.proofs.Common.{◌≡◌, ◌≤◌, ◌*◌, length, take}
-use Rattle.bgp_attr.specs.Writing.{as_path_octets}
+use Rattle.bgp_attr.specs.Values.{as_path_octets}
 use Rattle.bgp_attr.proofs.segments.as_path_len.Given as goal
 
 abbrev pub invariant-loop-segment : goal.invariant-loop-segment

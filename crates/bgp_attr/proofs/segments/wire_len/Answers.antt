@@ -1,5 +1,5 @@
 use Rattle.std.proofs.Common.{arith}
-use Rattle.bgp_attr.specs.Writing.{as_octets}
+use Rattle.bgp_attr.specs.Values.{as_octets}
 use Rattle.bgp_attr.proofs.Lengths.{flat_len}
 use Rattle.bgp_attr.proofs.segments.wire_len.Goals as goal
 

@@ -7,7 +7,9 @@ use Rattle.bgp_attr.proofs.writing.is_writable.Goals as goal
 
 pub returns : goal.returns
 returns g c =
-    let short = λ (v : PathValue). All (HasShortValue c.args.side v) all_types in (
-      λ e. every (HasShortValue c.args.side c.args.path.now) (subst short c.parts.ensures.value (c.are_short.ensures.0 e)),
-      λ each. c.are_short.ensures.1 (subst short (sym c.parts.ensures.value) (λ k d lt. each (get_or all_types k d))),
-    )
+    let short = λ (v : PathValue). All (HasShortValue c.args.side v) all_types in record {
+      writable = (
+        λ e. every (HasShortValue c.args.side c.args.path.now) (subst short c.parts.ensures.value (c.are_short.ensures.0 e)),
+        λ each. c.are_short.ensures.1 (subst short (sym c.parts.ensures.value) (λ k d lt. each (get_or all_types k d))),
+      );
+    }

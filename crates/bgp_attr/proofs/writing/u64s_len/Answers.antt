@@ -1,6 +1,0 @@
-use Rattle.std.proofs.Common.{◌∙◌}
-use Rattle.bgp_attr.proofs.Lengths.{items_len}
-use Rattle.bgp_attr.proofs.writing.u64s_len.Goals as goal
-
-pub returns : goal.returns
-returns c = c.then_some.ensures ∙ rw c.is_empty.ensures (items_len 8 c.args.numbers.now)
