@@ -6,3 +6,7 @@ pub mod Decoded
 pub mod Reached
 pub mod Raw
 pub mod OneText
+pub mod Joined
+pub mod ZeroRuns
+pub mod ListTexts
+pub mod WholeTexts

@@ -1,5 +1,6 @@
 pub mod Message
 pub mod Text
+pub mod RouteText
 pub mod Status
 pub mod Outlet
 pub mod Lines

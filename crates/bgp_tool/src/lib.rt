@@ -19,3 +19,4 @@ mod text;
 pub use decoding::decode_raw;
 pub use laws::each_stream_has_one_text;
 pub use status::Status;
+pub use text::routes::write_route;

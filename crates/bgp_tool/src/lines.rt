@@ -128,8 +128,8 @@ impl<W: Sink> Lines<'_, W> {
         }
     }
 
-    // Appends octets in hexadecimal, so many at a time.
-    fn put_digits(&mut self, octets: &[u8])
+    /// Appends octets in hexadecimal, so many at a time.
+    pub(crate) fn put_digits(&mut self, octets: &[u8])
         ensures { Writes self.old self.new (encode_lower octets.now) }
     {
         let mut rest = octets;

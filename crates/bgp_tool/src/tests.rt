@@ -1,5 +1,7 @@
 //! Streams whose lines were worked out by hand, devices that fail in mid-stream, refused memory.
 
+mod routes;
+
 use super::*;
 use bgp_wire::vectors::{
     ADMINISTRATIVE_SHUTDOWN, ANNOUNCES_10, BAD_LENGTH_18, KEEPALIVE, KEEPALIVE_OF_18, OPEN_B,

@@ -1,3 +1,5 @@
 //! The lines that the program prints.
 
+pub(crate) mod addresses;
 pub(crate) mod messages;
+pub(crate) mod routes;
