@@ -21,7 +21,9 @@ type_of header = slice_index header 18
 unfoldable pub header_octets : ℕ → ℕ → List ℕ
 header_octets kind count = replicate 16 255 ++ (big_bytes 2 count ++ kind ∷ [])
 
--- the least Length of a message of a type: that of its fixed fields (4.2 to 4.5)
+-- The least Length of a message of a type: that of its fixed fields (4.2 to 4.5), behind a header
+-- of 19 octets. OPEN: version 1, AS 2, hold time 2, identifier 4, length of parameters 1; UPDATE:
+-- length of withdrawn routes 2, of path attributes 2; NOTIFICATION: code 1, subcode 1.
 abbrev pub least_length : ℕ → ℕ
 least_length kind =
     if kind == 1 then 29 else if kind == 2 then 23 else if kind == 3 then 21 else 19
