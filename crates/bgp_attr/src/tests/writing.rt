@@ -175,3 +175,34 @@ fn preference_and_reflection_are_for_an_internal_peer(rt: HostRuntime) -> Result
     assert!(rt; is_for_peer(WIDE, &Path::new(alloc, announced(alloc)?)?));
     Ok(())
 }
+
+#[test]
+fn a_path_is_put_where_there_is_room(rt: HostRuntime) -> Result<(), Fail> {
+    let path = Path::new(rt.alloc(), plain(rt.alloc(), &[(Sequence, &[65002])])?)?;
+    let mut out = vec![in rt.alloc(); 9u8]?;
+    assert!(rt; is_writable(WIDE, &path));
+    let len = path_len(WIDE, &path, 65535).ok_or("too long")?;
+    out.reserve(usize::from(len))?;
+    put_path(&mut out, WIDE, &path);
+    assert_eq!(rt; out.len(), 21);
+    assert_eq!(rt; out.get(..5), Some([9, 0x40, 1, 1, 0].as_slice()));
+    assert_eq!(rt; out.get(14..), Some([0x40, 3, 4, 192, 0, 2, 2].as_slice()));
+    Ok(())
+}
+
+#[test]
+fn a_header_says_a_length_of_one_octet_or_two(rt: HostRuntime) -> Result<(), Fail> {
+    let rows: [(u16, &[u8]); 4] = [
+        (0, &[0x80, 14, 0]),
+        (255, &[0x80, 14, 255]),
+        (256, &[0x90, 14, 1, 0]),
+        (65535, &[0x90, 14, 255, 255]),
+    ];
+    for (len, octets) in rows {
+        let mut out = Vec::new(rt.alloc());
+        out.reserve(4)?;
+        put_attribute_header(&mut out, AttrType::MpReachNlri, len);
+        assert_eq!(rt; out.as_slice(), octets);
+    }
+    Ok(())
+}
