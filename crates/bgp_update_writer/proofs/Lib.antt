@@ -1,0 +1,6 @@
+pub mod WrittenSections
+pub mod WrittenPrefixes
+pub mod PlainUpdate
+pub mod WrittenUpdate
+pub mod Measured
+pub mod Filled

@@ -1,0 +1,5 @@
+pub mod Update
+pub mod Written
+pub mod Refusals
+pub mod Applied
+pub mod Lengths
