@@ -36,3 +36,6 @@ pub use link_side::side;
 pub use outcomes::{Changes, Outcomes, Put};
 pub use reading::read_update;
 pub use subcodes::{Subcodes, subcodes_are_sets};
+
+#[cfg(test)]
+mod tests;
