@@ -1,7 +1,8 @@
 #!/usr/bin/env bash
-# How fast `bgp decode` reads a stream, as a ratio to `md5sum` over the same octets, and how much
-# memory it needs for a short stream and for a long one. Wants bash, coreutils and the program that
-# `rt run` built in crates/bgp/out/bgp. Prints figures; it is no test.
+# How fast `bgp decode` reads streams, beside `md5sum` and `cat` over the same octets: a mix of
+# messages that are mostly UPDATEs, OPENs alone and KEEPALIVEs alone; and how much memory it needs
+# for a short stream and for a long one. Wants bash, coreutils and the program that `rt run` built in
+# crates/bgp/out/bgp. Prints figures; it is no test.
 set -euo pipefail
 
 here=$(cd "$(dirname "$0")" && pwd)
@@ -53,10 +54,16 @@ unit() {
     notification
 }
 
-printf "$(unit)" > "$work/short"
-cp "$work/short" "$work/long"
-grow "$work/short" 2000000
-grow "$work/long" 200000000
+# A stream of at least so many octets, of copies of what it is to repeat.
+stream() {
+    printf "$3" > "$work/$1"
+    grow "$work/$1" "$2"
+}
+
+stream short 2000000 "$(unit)"
+stream updates 200000000 "$(unit)"
+stream opens 200000000 "$(open)"
+stream keepalives 200000000 "$(keepalive)"
 
 # The greatest resident memory of a decoding in KiB, looked at once all octets are handed over and
 # before the stream ends.
@@ -73,9 +80,13 @@ peak() {
     rm "$work/pipe"
 }
 
-decode=$(best "$bgp" decode "$work/long")
-md5=$(best md5sum "$work/long")
-echo "stream: $(stat -c %s "$work/long") octets, cores: $(nproc)"
-echo "decode: $decode ms, md5sum: $md5 ms, ratio: $((decode * 100 / md5))/100"
+echo "cores: $(nproc)"
+for name in updates opens keepalives; do
+    decode=$(best "$bgp" decode "$work/$name")
+    md5=$(best md5sum "$work/$name")
+    cat=$(best cat "$work/$name")
+    echo "$name: $(stat -c %s "$work/$name") octets, decode: $decode ms, md5sum: $md5 ms," \
+        "cat: $cat ms, decode to md5sum: $((decode * 100 / md5))/100"
+done
 echo "peak memory: $(peak "$work/short") KiB at $(stat -c %s "$work/short") octets," \
-    "$(peak "$work/long") KiB at $(stat -c %s "$work/long") octets"
+    "$(peak "$work/updates") KiB at $(stat -c %s "$work/updates") octets"

@@ -51,16 +51,24 @@ impl<'a, W: Sink> Lines<'a, W> {
     }
 
     /// Appends a piece to the text.
+    #[inline(always)]
     pub(crate) fn put(&mut self, piece: &[u8])
         ensures { Writes self.old self.new piece.now }
     {
         match self.held.try_extend_from_slice(piece) {
             Ok(()) => {}
-            Err(_) => {
-                self.pass_on();
-                self.outlet.give(piece);
-            }
+            Err(_) => self.spill(piece),
         }
+    }
+
+    // Hands over what is held, and then a piece for which there was no room.
+    #[cold]
+    #[inline(never)]
+    fn spill(&mut self, piece: &[u8])
+        ensures { Writes self.old self.new piece.now }
+    {
+        self.pass_on();
+        self.outlet.give(piece);
     }
 
     // Hands over what is held.

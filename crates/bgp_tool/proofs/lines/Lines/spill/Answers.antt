@@ -1,13 +1,12 @@
 use Rattle.std.proofs.Common.{List, ℕ, sym, subst}
 use Rattle.bgp_tool.specs.Outlet.{Passes}
 use Rattle.bgp_tool.proofs.Pieces.{Joins, and_then}
-use Rattle.bgp_tool.proofs.lines.Lines.put.Goals as goal
+use Rattle.bgp_tool.proofs.lines.Lines.spill.Goals as goal
 
-pub returns-in-Err : goal.returns-in-Err
-returns-in-Err g c =
+pub returns : goal.returns
+returns g c =
     let law : Joins g.W.Sink = record { joined = g.met.W.Sink.joined } in
     let gave = subst (λ (held : List ℕ). Passes c.pass_on.new.self.outlet c.give.new.self held c.args.piece.now held)
-    (sym c.pass_on.ensures.none) c.give.ensures
+        (sym c.pass_on.ensures.none) c.give.ensures
     in
-    let same = c.in-Err.ensures.err in
-    rw (← same) (and_then law c.pass_on.ensures.writes gave)
+    and_then law c.pass_on.ensures.writes gave
