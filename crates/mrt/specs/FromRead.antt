@@ -1,16 +1,19 @@
 -- A source made of a reader: what it holds, and what it gives.
-use Rattle.std.specs.Prelude.{◌≡◌, ℕ, ◌+◌, List, [], ◌++◌, length, Option, Bool, false, IsTrue}
+use Rattle.std.specs.Prelude.{◌≡◌, ℕ, ◌+◌, List, [], ◌++◌, length, Option, None, Bool, false}
+use Rattle.std.specs.Prelude.{IsTrue}
+use Rattle.std.specs.declared.io.ErrorKind.{ErrorKind}
 use Rattle.std.specs.Io.KnownBytes.{Consumes, IsAtEnd}
 use Rattle.mrt.specs.OverCalls.{counts_nothing, counts_joined, consumes_nothing, consumes_joined}
 use Rattle.mrt.specs.declared.source.FromRead.{FromRead}
 
--- what it holds: the reader, how many octets it has given, how often it failed, and whether the
--- last read with room told the end
+-- what it holds: the reader, how many octets it has given, how often it failed, whether the last
+-- read with room told the end, and the kind of the error by which it failed last
 pub record ReaderState (R : Type 0) : Type 0 where
   pub reader : R
   pub given : ℕ
   pub failures : ℕ
   pub has_ended : Bool
+  pub last_error : Option ErrorKind
 
 abbrev pub reader_state : {R : Type 0} → FromRead R → ReaderState R
 reader_state source = record {
@@ -18,15 +21,26 @@ reader_state source = record {
   given = source.given;
   failures = source.failures;
   has_ended = source.has_ended;
+  last_error = source.last_error;
 }
 
 -- one that has given nothing yet
 abbrev pub fresh_reader : {R : Type 0} → R → ReaderState R
-fresh_reader reader = record { reader = reader; given = 0; failures = 0; has_ended = false }
+fresh_reader reader = record {
+  reader = reader;
+  given = 0;
+  failures = 0;
+  has_ended = false;
+  last_error = None;
+}
 
--- one that failed once more
-abbrev pub failed_reader : {R : Type 0} → ReaderState R → ReaderState R
-failed_reader state = record state { failures = state.failures + 1; has_ended = false }
+-- one that failed once more, by an error of the reader if there was one
+abbrev pub failed_reader : {R : Type 0} → ReaderState R → Option ErrorKind → ReaderState R
+failed_reader state error = record state {
+  failures = state.failures + 1;
+  has_ended = false;
+  last_error = error;
+}
 
 -- it has told the end only where the reader has nothing left, as far as the reader tells that
 abbrev pub EndsRightly : {R : Type 0} → (R → Option (List ℕ)) → ReaderState R → Type 0

@@ -1,12 +1,12 @@
 //! What takes octets: a file, a socket, a text in memory.
 
-ghost use Rattle.std.specs.Prelude.{◌≡◌, ℕ, ◌<◌, ◌≤◌, List, [], ◌++◌, length, take};
-ghost use Rattle.std.specs.Prelude.{IfOk, OnOk, OnErr};
+ghost use Rattle.std.specs.Prelude.{◌≡◌, ℕ, ◌<◌, ◌≤◌, ◌+◌, ◌-◌, ◌^◌, min};
+ghost use Rattle.std.specs.Prelude.{List, [], ◌++◌, length, take, IsSome, IfOk, OnOk, OnErr};
 ghost use Rattle.mrt.specs.Failures.{failures_after};
 ghost use Rattle.mrt.specs.Sink.{TakesBeginning};
 
 use crate::failure::Failed;
-use std::io::Write;
+use std::io::{ErrorKind, Write};
 
 /// What takes octets, and counts how often it failed.
 ///
@@ -68,7 +68,9 @@ pub fn write_all<S: Sink>(sink: &mut S, octets: &[u8]) -> Result<(), Failed>
 #[derive(Drop)]
 pub struct FromWrite<W> {
     writer: W,
+    taken: u64,
     failures: u64,
+    last_error: Option<ErrorKind>,
 }
 
 impl<W: Write> FromWrite<W> {
@@ -80,8 +82,25 @@ impl<W: Write> FromWrite<W> {
     {
         FromWrite {
             writer,
+            taken: 0,
             failures: 0,
+            last_error: None,
         }
+    }
+
+    /// How many octets it has taken, 2 to the 64th, less one, at the most.
+    pub fn taken(&self) -> u64
+        ensures { result ≡ (writer_state self.now).taken }
+    {
+        self.taken
+    }
+
+    /// The kind of the error by which the last failure came: `WriteZero` where the writer took
+    /// nothing, and `None` before the first.
+    pub fn last_error(&self) -> Option<ErrorKind>
+        ensures { result ≡ (writer_state self.now).last_error }
+    {
+        self.last_error
     }
 
     /// The writer, as the last write left it: not flushed.
@@ -91,12 +110,13 @@ impl<W: Write> FromWrite<W> {
         self.writer
     }
 
-    // Counts a failure.
-    fn fail(&mut self) -> Failed
+    // Counts a failure by such an error.
+    fn fail(&mut self, error: ErrorKind) -> Failed
         requires { (writer_state self.old).failures < u64.MAX }
-        ensures { writer_state self.new ≡ failed_writer (writer_state self.old) }
+        ensures { writer_state self.new ≡ failed_writer (writer_state self.old) error }
     {
         self.failures += 1;
+        self.last_error = Some(error);
         Failed
     }
 }
@@ -114,11 +134,31 @@ impl<W: Write> Sink for FromWrite<W> {
     ghost joined = { λ a b c.
         appends_joined (W.contents a.writer) (W.contents b.writer) (W.contents c.writer) };
 
-    fn write(&mut self, octets: &[u8]) -> Result<usize, Failed> {
+    fn write(&mut self, octets: &[u8]) -> Result<usize, Failed>
+        requires { (writer_state self.old).failures < u64.MAX }
+        ensures bound { IfOk result (λ count. count ≤ length octets.now) }
+        ensures some { IfOk result (λ count. 0 < length octets.now → 0 < count) }
+        ensures ok { IfOk result (λ count. Takes W.contents
+            (writer_state self.old) (writer_state self.new) (take count octets.now)) }
+        ensures err { OnErr result
+            (Takes W.contents (writer_state self.old) (writer_state self.new) []) }
+        ensures failures { (writer_state self.new).failures
+            ≡ failures_after (writer_state self.old).failures result }
+
+        // It counts what it took, and keeps the error by which it failed.
+        ensures taken { IfOk result (λ count. (writer_state self.new).taken
+            ≡ min ((writer_state self.old).taken + count) (2 ^ 64 - 1)) }
+        ensures untaken { OnErr result
+            ((writer_state self.new).taken ≡ (writer_state self.old).taken) }
+        ensures last_error { OnErr result (IsSome (writer_state self.new).last_error) }
+    {
         match self.writer.write(octets) {
-            Ok(0) if !octets.is_empty() => Err(self.fail()),
-            Ok(count) => Ok(count),
-            Err(_) => Err(self.fail()),
+            Ok(0) if !octets.is_empty() => Err(self.fail(ErrorKind::WriteZero)),
+            Ok(count) => {
+                self.taken = self.taken.saturating_add(count as u64);
+                Ok(count)
+            }
+            Err(error) => Err(self.fail(error.kind())),
         }
     }
 

@@ -1,12 +1,12 @@
 //! What gives octets: a file, a socket, octets in memory.
 
 ghost use Rattle.std.specs.Prelude.{◌≡◌, ℕ, ◌+◌, ◌-◌, ◌^◌, ◌<◌, ◌≤◌, min, List, [], ◌++◌, length};
-ghost use Rattle.std.specs.Prelude.{Bool, take, IsErr, IfOk, OnErr};
+ghost use Rattle.std.specs.Prelude.{Bool, take, IsErr, IsOk, IfOk, OnErr};
 ghost use Rattle.mrt.specs.Failures.{failures_after};
 ghost use Rattle.mrt.specs.Source.{ended_after};
 
 use crate::failure::Failed;
-use std::io::Read;
+use std::io::{ErrorKind, Read};
 
 /// What gives octets, and counts how often it failed.
 ///
@@ -72,6 +72,7 @@ pub struct FromRead<R> {
     given: u64,
     failures: u64,
     has_ended: bool,
+    last_error: Option<ErrorKind>,
     ghost below: { given < 2 ^ 63 },
 }
 
@@ -87,6 +88,7 @@ impl<R: Read> FromRead<R> {
             given: 0,
             failures: 0,
             has_ended: false,
+            last_error: None,
         }
     }
 
@@ -95,6 +97,14 @@ impl<R: Read> FromRead<R> {
         ensures { result ≡ (reader_state self.now).given }
     {
         self.given
+    }
+
+    /// The kind of the error by which the last failure came: `None` before the first, and where the
+    /// reader wasn't asked.
+    pub fn last_error(&self) -> Option<ErrorKind>
+        ensures { result ≡ (reader_state self.now).last_error }
+    {
+        self.last_error
     }
 
     /// The reader, as the last read left it.
@@ -112,13 +122,14 @@ impl<R: Read> FromRead<R> {
         wanted.min(left as usize)
     }
 
-    // Counts a failure.
-    fn fail(&mut self) -> Failed
+    // Counts a failure, by an error of the reader if there was one.
+    fn fail(&mut self, error: Option<ErrorKind>) -> Failed
         requires { (reader_state self.old).failures < u64.MAX }
-        ensures { reader_state self.new ≡ failed_reader (reader_state self.old) }
+        ensures { reader_state self.new ≡ failed_reader (reader_state self.old) error }
     {
         self.failures += 1;
         self.has_ended = false;
+        self.last_error = error;
         Failed
     }
 }
@@ -158,13 +169,15 @@ impl<R: Read> Source for FromRead<R> {
         // It fails where the count of octets given would reach 2 to the 63rd.
         ensures full { (reader_state self.old).given ≡ 2 ^ 63 - 1 →
             0 < length buffer.new → IsErr result }
+        ensures last_error { IsOk result →
+            (reader_state self.new).last_error ≡ (reader_state self.old).last_error }
     {
         if buffer.is_empty() {
             return Ok(0);
         }
         let room = self.room(buffer.len());
         if room == 0 {
-            return Err(self.fail());
+            return Err(self.fail(None));
         }
         match self.reader.read(&mut buffer[..room]) {
             Ok(count) => {
@@ -172,7 +185,7 @@ impl<R: Read> Source for FromRead<R> {
                 self.has_ended = count == 0;
                 Ok(count)
             }
-            Err(_) => Err(self.fail()),
+            Err(error) => Err(self.fail(Some(error.kind()))),
         }
     }
 

@@ -134,6 +134,7 @@ fn each_error_of_a_reader_is_one_failure(rt: HostRuntime) -> Result<(), Fail> {
             assert_eq!(rt; answers.as_slice(), &wanted[..5], "at {calls_before}");
             assert_eq!(rt; octets.as_slice(), b"abc".as_slice());
             assert_eq!(rt; source.failures(), 1);
+            assert_eq!(rt; source.last_error(), Some(error));
             assert_eq!(rt; source.given(), 3);
         }
     }
@@ -154,10 +155,13 @@ fn a_vector_takes_all_that_is_written(rt: HostRuntime) -> Result<(), Fail> {
 fn an_error_and_a_write_that_takes_nothing_are_each_one_failure(
     rt: HostRuntime,
 ) -> Result<(), Fail> {
-    for fault in [
-        WriterFault::Error(ErrorKind::Other),
-        WriterFault::Error(ErrorKind::Interrupted),
-        WriterFault::TakesNothing,
+    for (fault, error) in [
+        (WriterFault::Error(ErrorKind::Other), ErrorKind::Other),
+        (
+            WriterFault::Error(ErrorKind::Interrupted),
+            ErrorKind::Interrupted,
+        ),
+        (WriterFault::TakesNothing, ErrorKind::WriteZero),
     ] {
         let mut sink = FromWrite::new(FaultyWriter {
             octets: Vec::new(rt.alloc()),
@@ -167,6 +171,8 @@ fn an_error_and_a_write_that_takes_nothing_are_each_one_failure(
         let answers = answers_to(rt.alloc(), &mut sink, 3)?;
         assert_eq!(rt; answers.as_slice(), [Ok(2), Err(Failed), Ok(2)].as_slice());
         assert_eq!(rt; sink.failures(), 1);
+        assert_eq!(rt; sink.last_error(), Some(error));
+        assert_eq!(rt; sink.taken(), 4);
         assert_eq!(rt; sink.into_inner().octets.as_slice(), b"abab".as_slice());
     }
     Ok(())
