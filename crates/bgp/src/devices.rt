@@ -1,24 +1,22 @@
-//! Files and standard streams as sources and sinks of `bgp_tool`'s calls.
+//! Files and standard streams as readers and writers of `bgp_tool`'s calls.
 
-use bgp_tool::{Status, decode_raw};
-use mrt::{FromRead, FromWrite};
+use bgp_tool::{Outcome, decode_opened};
+use mrt::FromWrite;
 use std::fs::OpenFile;
-use std::io::Read;
+use std::io::ErrorKind;
 use std::rt::Files;
 use std::{fs, io};
 
 /// Runs `decode` on a file, or on standard input for `-`, and answers the exit status.
 pub fn decode<R: Files + Input + Print + Eprint + AllocGlobal>(rt: &R, file: &str) -> u8 {
-    if file == "-" {
-        return decode_from(rt, rt.reader());
-    }
-    match open(rt, file) {
-        Ok(reader) => decode_from(rt, reader),
-        Err(error) => {
-            let _ = eprintln!(rt; "bgp: {file}: {error}");
-            Status::Device.code()
-        }
-    }
+    let mut sink = FromWrite::new(io::writer(rt));
+    let outcome = if file == "-" {
+        decode_opened(rt.alloc(), file, Ok(rt.reader()), &mut sink)
+    } else {
+        decode_opened(rt.alloc(), file, open(rt, file), &mut sink)
+    };
+    tell(rt, &outcome);
+    outcome.status
 }
 
 /// Opens a file to read, and refuses a folder, which can be opened and not read.
@@ -30,9 +28,16 @@ fn open<R: Files>(rt: &R, file: &str) -> io::Result<R::File> {
     Ok(opened)
 }
 
-/// Decodes what the reader gives to standard output.
-fn decode_from<R: Print + AllocGlobal, I: Read + Drop>(rt: &R, reader: I) -> u8 {
-    let mut source = FromRead::new(reader);
-    let mut sink = FromWrite::new(io::writer(rt));
-    decode_raw(rt.alloc(), &mut source, &mut sink)
+/// Tells what there is to tell of a command's end.
+fn tell<R: Eprint>(rt: &R, outcome: &Outcome<'_>) {
+    if let Some(note) = outcome.note {
+        let _ = eprintln!(rt; "bgp: {note}");
+    }
+}
+
+/// Tells why standard output can't be written, unless a pipe was closed.
+pub fn tell_unwritten<R: Eprint>(rt: &R, error: &io::Error) {
+    if error.kind() != ErrorKind::BrokenPipe {
+        let _ = eprintln!(rt; "bgp: standard output: {error}");
+    }
 }

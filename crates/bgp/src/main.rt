@@ -1,13 +1,11 @@
-//! The program `bgp`: words, one call of `bgp_tool`, an exit status.
+//! The program `bgp`: words, one call of `bgp_tool`, an exit status, and a sentence for what went
+//! wrong.
 #![tactic(auto)]
 
-mod command_line;
 mod devices;
 
-use bgp_tool::Status;
+use bgp_tool::{Command, Status, command_line, words_status};
 use clap::Error;
-use clap::error::ErrorKind;
-use command_line::Command;
 use std::process::ExitCode;
 use std::rt::{Env, Files};
 use std::{env, io};
@@ -23,7 +21,7 @@ fn run<R: Files + Env + Input + Print + Eprint + AllocGlobal>(rt: &R) -> u8 {
         Ok(words) => words,
         Err(error) => return unread(rt, &error).code(),
     };
-    match command_line::parse(rt.alloc(), words.as_slice()) {
+    match command_line(rt.alloc(), words.as_slice()) {
         Ok(Command::Decode { file }) => devices::decode(rt, file),
         Err(error) => told(rt, &error).code(),
     }
@@ -41,23 +39,25 @@ fn words<R: Env + AllocGlobal>(rt: &R) -> io::Result<Vec<String>> {
 /// Tells why the words can't be read: memory was refused, or one of them isn't text.
 fn unread<R: Eprint>(rt: &R, error: &io::Error) -> Status {
     if error.kind() == io::ErrorKind::OutOfMemory {
+        let _ = eprintln!(rt; "bgp: memory was refused for the command line");
         return Status::Memory;
     }
-    let _ = eprintln!(rt; "error: a word of the command line isn't UTF-8 text");
+    let _ = eprintln!(rt; "bgp: a word of the command line isn't UTF-8 text");
     Status::Usage
 }
 
 /// Prints help, the version or a usage fault, each where it belongs.
 fn told<R: Print + Eprint>(rt: &R, error: &Error) -> Status {
-    if error.kind() == ErrorKind::OutOfMemory {
-        return Status::Memory;
+    let status = words_status(error);
+    if status != Status::Done {
+        let _ = eprint!(rt; "bgp: {error}");
+        return status;
     }
-    let printed = error.print(rt);
-    if error.use_stderr() {
-        Status::Usage
-    } else if printed.is_ok() {
-        Status::Done
-    } else {
-        Status::Device
+    match print!(rt; "{error}") {
+        Ok(()) => status,
+        Err(error) => {
+            devices::tell_unwritten(rt, &error);
+            Status::Device
+        }
     }
 }

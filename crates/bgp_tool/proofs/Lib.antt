@@ -5,6 +5,7 @@ pub mod HexDigits
 pub mod Decoded
 pub mod Reached
 pub mod Raw
+pub mod WholeStream
 pub mod OneText
 pub mod Joined
 pub mod ZeroRuns

@@ -6,3 +6,4 @@ pub mod Outlet
 pub mod Lines
 pub mod Decoding
 pub mod Ending
+pub mod Opened

@@ -8,15 +8,25 @@
 #![tactic(auto)]
 
 mod decoding;
+mod front;
+mod headline;
 mod laws;
 mod lines;
+mod note;
+mod opened;
 mod outlet;
 mod status;
 #[cfg(test)]
 mod tests;
 mod text;
+mod words;
 
 pub use decoding::decode_raw;
+pub use front::Form;
+pub use headline::text_and_status;
 pub use laws::each_stream_has_one_text;
+pub use note::Note;
+pub use opened::{Outcome, decode_opened};
 pub use status::Status;
 pub use text::routes::write_route;
+pub use words::{Command, command_line, words_status};

@@ -1,5 +1,7 @@
 //! Streams whose lines were worked out by hand, devices that fail in mid-stream, refused memory.
 
+mod commands;
+mod great;
 mod routes;
 
 use super::*;

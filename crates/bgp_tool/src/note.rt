@@ -1,0 +1,103 @@
+//! What the program tells on standard error.
+
+use crate::front::Form;
+use std::fmt;
+use std::io::ErrorKind;
+
+/// What there is to tell of a command's end, besides its exit status: one sentence.
+#[derive(Clone, Copy, Debug, PartialEq, Eq)]
+pub enum Note<'a> {
+    /// The file can't be opened.
+    Unopened {
+        /// Its name.
+        file: &'a str,
+        /// Why.
+        error: ErrorKind,
+    },
+    /// A read of the file failed.
+    Unread {
+        /// Its name, or `-` for standard input.
+        file: &'a str,
+        /// How many of its octets were read before.
+        octet: u64,
+        /// Why: `None` where the file is too long to be counted.
+        error: Option<ErrorKind>,
+    },
+    /// A write of the output failed.
+    Unwritten {
+        /// How many octets were written before.
+        octet: u64,
+        /// Why: `None` where the writer didn't tell.
+        error: Option<ErrorKind>,
+    },
+    /// Memory was refused.
+    OutOfMemory {
+        /// The file that was read, or `-` for standard input.
+        file: &'a str,
+        /// How many of its octets were read.
+        octet: u64,
+    },
+    /// The file is no raw stream.
+    NoStream {
+        /// Its name, or `-` for standard input.
+        file: &'a str,
+        /// What it is.
+        form: Form,
+    },
+}
+
+/// A file's name as it is told.
+fn told(file: &str) -> &str {
+    if file == "-" { "standard input" } else { file }
+}
+
+impl fmt::Display for Note<'_> {
+    fn fmt<W: fmt::Write>(&self, f: &mut fmt::Formatter<W>) -> fmt::Result {
+        match *self {
+            Note::Unopened { file, error } => {
+                let file = told(file);
+                write!(f, "{file}: {error}")
+            }
+            Note::Unread { file, octet, error } => {
+                let file = told(file);
+                match error {
+                    Some(error) => write!(f, "{file}: read failed at octet {octet}: {error}"),
+                    None => write!(f, "{file}: too long, read up to octet {octet}"),
+                }
+            }
+            Note::Unwritten { octet, error } => match error {
+                Some(error) => {
+                    write!(f, "standard output: write failed at octet {octet}: {error}")
+                }
+                None => write!(f, "standard output: write failed at octet {octet}"),
+            },
+            Note::OutOfMemory { file, octet } => {
+                let file = told(file);
+                write!(f, "{file}: memory was refused at octet {octet}")
+            }
+            Note::NoStream { file, form } => {
+                let file = told(file);
+                write!(f, "{file} {form}")
+            }
+        }
+    }
+}
+
+impl fmt::Display for Form {
+    fn fmt<W: fmt::Write>(&self, f: &mut fmt::Formatter<W>) -> fmt::Result {
+        f.write_str(match self {
+            Form::Pcap | Form::Pcapng => {
+                "is a packet capture: cut the octets of one direction of a connection from it, as \
+                 Wireshark's \"Follow TCP Stream\" does, and save them raw"
+            }
+            Form::Mrt => {
+                "seems to be a capture of MRT records, which this program doesn't read: give it \
+                 the raw octets of one direction of a connection"
+            }
+            Form::Text => {
+                "seems to be text: give the raw octets of one direction of a connection, and not \
+                 their hexadecimal digits"
+            }
+        })
+    }
+}

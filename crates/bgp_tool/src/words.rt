@@ -1,0 +1,94 @@
+//! The words of the command line, as a command.
+
+ghost use Rattle.std.specs.Prelude.{◌≡◌, ◌≢◌, ◌⊎◌};
+ghost use Rattle.clap.specs.Values.{kind_of};
+
+use crate::status::Status;
+use clap::error::ErrorKind;
+use clap::{Arg, Error};
+use std::alloc::Global;
+use std::convert::AsStr;
+
+/// What the user wants done.
+#[derive(Clone, Copy, Debug, PartialEq, Eq)]
+pub enum Command<'a> {
+    /// Print a raw stream, one line a message.
+    Decode {
+        /// The file's path, or `-` for standard input.
+        file: &'a str,
+    },
+}
+
+/// What `--help` tells behind the commands.
+const STATUSES: &str = "\
+Exit status:
+  0   all octets were whole messages; or help or the version was asked for
+  2   the stream ends inside a message
+  3   the stream stops being BGP
+  4   memory was refused
+  5   a file can't be opened or read, or output can't be written
+  64  the command line is none that the program knows
+
+The manual is README.md, at the top of the repository.";
+
+/// What `decode --help` tells behind the words that it takes.
+const LINES: &str = "\
+One line a message:
+  open as 65002 hold 90 id 192.0.2.2 caps 1:00010001 65:0000fdea
+                        AS number, hold time, BGP identifier, capabilities CODE:HEX
+  open malformed 1      an OPEN whose form is wrong: 1 its version, 4 a parameter that is no
+                        capability, 0 a length or a parameter that doesn't fit
+  update octets 45      the count of an UPDATE's octets
+  notification 6/2 -    error code, subcode, data in hexadecimal
+  keepalive
+and last, where there is something to tell:
+  rest 10               the stream ends 10 octets into a message
+  fault at 19 1/2       the header at octet 19 is wrong: 1/1 its marker, 1/2 its length, 1/3 its type
+A dash stands for nothing.
+
+Exit status: 0 all octets were whole messages, 2 the stream ends inside a message, 3 it stops being
+BGP, 4 memory was refused, 5 a file or the output failed, 64 the words are wrong.
+
+The manual is README.md, at the top of the repository.";
+
+/// The command that the words spell, the program's own name first. An `Err` is a usage fault, or a
+/// request for help or the version; [`words_status`] tells which.
+pub fn command_line<'a, S: AsStr>(alloc: Global, words: &'a [S]) -> Result<Command<'a>, Error> {
+    let file = Arg::new(alloc, "FILE")
+        .required(true)
+        .help("The file to read; - is standard input");
+    let decode = clap::Command::new(alloc, "decode")
+        .about("Prints the BGP messages of a raw stream, one a line")
+        .after_help(LINES)
+        .arg(file)?;
+    let mut program = clap::Command::new(alloc, "bgp")
+        .version("0.1.0")
+        .about("Reads BGP-4 messages and tells what they are")
+        .after_help(STATUSES)
+        .subcommand_required(true)
+        .subcommand(decode)?;
+    let usage = program.error(ErrorKind::MissingSubcommand, "no command was given")?;
+    let matches = program.try_get_matches_from(words)?;
+    match matches.subcommand() {
+        Some(("decode", decode)) => match decode.get_str("FILE") {
+            Some(file) => Ok(Command::Decode { file }),
+            None => Err(usage),
+        },
+        _ => Err(usage),
+    }
+}
+
+/// The status of words that are no command: 0 where help or the version was asked for.
+pub fn words_status(error: &Error) -> Status
+    ensures asked { (kind_of error.now ≡ ErrorKind.DisplayHelp) ⊎ (kind_of error.now ≡ ErrorKind.DisplayVersion)
+        → result ≡ Status.Done }
+    ensures memory { kind_of error.now ≡ ErrorKind.OutOfMemory → result ≡ Status.Memory }
+    ensures usage { kind_of error.now ≢ ErrorKind.DisplayHelp → kind_of error.now ≢ ErrorKind.DisplayVersion
+        → kind_of error.now ≢ ErrorKind.OutOfMemory → result ≡ Status.Usage }
+{
+    match error.kind() {
+        ErrorKind::DisplayHelp | ErrorKind::DisplayVersion => Status::Done,
+        ErrorKind::OutOfMemory => Status::Memory,
+        _ => Status::Usage,
+    }
+}
