@@ -9,3 +9,14 @@ pub mod MemSource
 pub mod MemGives
 pub mod MemSink
 pub mod MemTakes
+pub mod Layout
+pub mod Fault
+pub mod Rules
+pub mod Capture
+pub mod Found
+pub mod Passing
+pub mod Reading
+pub mod Reader
+pub mod Progress
+pub mod Written
+pub mod CaptureLaws

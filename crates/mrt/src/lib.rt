@@ -13,15 +13,30 @@
 #![tactic(auto)]
 
 mod failure;
+mod fault;
+mod filling;
+mod judging;
+mod laws;
+mod layout;
 mod mem_sink;
 mod mem_source;
+mod progress;
+mod reader;
+mod reading;
+mod record;
 mod sink;
 mod source;
 #[cfg(test)]
 mod tests;
+mod writer;
 
 pub use failure::Failed;
+pub use fault::{CaptureFault, FaultKind};
+pub use laws::{each_capture_has_one_reading, each_record_is_allowed, written_records_are_read};
 pub use mem_sink::{MemSink, SinkUpset};
 pub use mem_source::{MemSource, SourceUpset};
+pub use reader::Reader;
+pub use record::{Endpoints, Record};
 pub use sink::{FromWrite, Sink, write_all};
 pub use source::{FromRead, Source};
+pub use writer::{WriteFault, is_writable, write_record};

@@ -1,5 +1,9 @@
 //! What no clause says: devices that fail in mid-stream, each upset once, refused memory.
 
+mod captures;
+mod refusals;
+mod written;
+
 use super::*;
 use linked_list_allocator::LocalHeap;
 use std::alloc::{AllocError, Allocator, Global};

@@ -1,0 +1,228 @@
+-- How far a reader is behind some pieces, and behind one more.
+use Rattle.std.proofs.Common.{◌≡◌, ◌∙◌, ℕ, Bool, ◌+◌, List, [], ◌∷◌, ◌++◌, length, drop, refl, sym, ap, subst, arith, inl, inr, append-nil, length-append, Option, None, Some, IsTrue, ◌⊎◌}
+use Rattle.std.proofs.lemmas.Grind.{flat_map-append}
+use Rattle.bgp_prefix.specs.Shown.{ShownRecord, second_of}
+use Rattle.bgp_prefix.specs.declared.session.Session.{Session}
+use Rattle.mrt.specs.declared.record.Endpoints.{Endpoints}
+use Rattle.mrt.specs.declared.fault.FaultKind.{FaultKind}
+use Rattle.mrt.specs.declared.fault.FaultKind.TheVariants as kinds
+use Rattle.mrt.specs.declared.judging.Found.{Found}
+use Rattle.mrt.specs.declared.judging.Shows.{Shows}
+use Rattle.mrt.specs.declared.judging.Shows.TheVariants as shows
+use Rattle.mrt.specs.Layout.{content_in, header_of, body_of}
+use Rattle.mrt.specs.Rules.{Rule, FirstSays, Judgement, judgement_of, Refused}
+use Rattle.mrt.specs.Rules as r
+use Rattle.mrt.specs.Capture.{Piece, Other, OtherEnds, Shown, octets_of, IsPiece, ArePieces, last_after, last_of, joined, shown_by, records_of, first_other, ends_of, shown_of}
+use Rattle.mrt.specs.Found.{shown_as}
+use Rattle.mrt.specs.Reading.{IsFoundIn, IsRefused}
+use Rattle.mrt.specs.Reader.{ReaderState, after_pieces, at_end, at_fault, at_record, device_count, Ends, Fails}
+use Rattle.mrt.specs.Progress.{after_skipped, after_other, after_record, first_seen, fault_at, shown_from, Finds}
+
+-- ---- one piece more
+
+pub joined_more : (pieces : List Piece) (piece : Piece) → joined (pieces ++ piece ∷ []) ≡ joined pieces ++ octets_of piece
+joined_more pieces piece =
+    flat_map-append octets_of pieces (piece ∷ []) ∙ ap (λ (o : List ℕ). joined pieces ++ o) (append-nil (octets_of piece))
+
+pub records_more : (pieces : List Piece) (piece : Piece) → records_of (pieces ++ piece ∷ []) ≡ records_of pieces ++ shown_by piece
+records_more pieces piece =
+    flat_map-append shown_by pieces (piece ∷ []) ∙ ap (λ (o : List ShownRecord). records_of pieces ++ o) (append-nil (shown_by piece))
+
+pub last_more : (last : Option ℕ) (pieces : List Piece) (piece : Piece) → last_of last (pieces ++ piece ∷ []) ≡ last_after (last_of last pieces) piece
+last_more last [] piece = refl
+last_more last (first ∷ pieces) piece = last_more (last_after last first) pieces piece
+
+pub pieces_more : (session : Session) (last : Option ℕ) (pieces : List Piece) (piece : Piece) → ArePieces session last pieces
+    → IsPiece session (last_of last pieces) piece → ArePieces session last (pieces ++ piece ∷ [])
+pieces_more session last [] piece are is = (is, tt)
+pieces_more session last (first ∷ pieces) piece are is = (are.0, pieces_more session (last_after last first) pieces piece are.1 is)
+
+-- the first of the addresses, if there were some before
+first_other_of : (ends : Option Endpoints) (octets : List ℕ) → first_other ends (Other octets ∷ []) ≡ ends
+first_other_of None octets = refl
+first_other_of (Some e) octets = refl
+
+first_other_shown : (ends : Option Endpoints) (octets : List ℕ) → first_other ends (Shown octets ∷ []) ≡ ends
+first_other_shown None octets = refl
+first_other_shown (Some e) octets = refl
+
+first_other_seen : (ends : Option Endpoints) (octets : List ℕ) → first_other ends (OtherEnds octets ∷ []) ≡ first_seen ends (ends_of octets)
+first_other_seen None octets = refl
+first_other_seen (Some e) octets = refl
+
+pub other_more : (ends : Option Endpoints) (pieces : List Piece) (piece : Piece)
+    → first_other ends (pieces ++ piece ∷ []) ≡ first_other (first_other ends pieces) (piece ∷ [])
+other_more (Some e) pieces piece = refl
+other_more None [] piece = refl
+other_more None (Other o ∷ pieces) piece = other_more None pieces piece
+other_more None (OtherEnds o ∷ pieces) piece = refl
+other_more None (Shown o ∷ pieces) piece = other_more None pieces piece
+
+-- the state behind it
+count_more : (from : ReaderState) (pieces : List Piece) (piece : Piece) (count : ℕ) → length (octets_of piece) ≡ count
+    → (after_pieces from pieces).passed + count ≡ (after_pieces from (pieces ++ piece ∷ [])).passed
+count_more from pieces piece count len =
+    let many = ap length (joined_more pieces piece) ∙ length-append (joined pieces) (octets_of piece) in omega arith
+
+skipped_state : (from : ReaderState) (pieces : List Piece) (octets : List ℕ) (count : ℕ) → length octets ≡ count
+    → after_skipped (after_pieces from pieces) count ≡ after_pieces from (pieces ++ Other octets ∷ [])
+skipped_state from pieces octets count len =
+    let passed = count_more from pieces (Other octets) count len in
+    let last = sym (last_more from.last pieces (Other octets)) in
+    let other = sym (other_more from.other pieces (Other octets) ∙ first_other_of (first_other from.other pieces) octets) in
+    λ i. record { passed = passed i; last = last i; place = from.place; is_ended = from.is_ended; fault = from.fault; other = other i }
+
+other_state : (from : ReaderState) (pieces : List Piece) (octets : List ℕ) (ends : Endpoints) (count : ℕ) → length octets ≡ count → ends ≡ ends_of octets
+    → after_other (after_pieces from pieces) ends count ≡ after_pieces from (pieces ++ OtherEnds octets ∷ [])
+other_state from pieces octets ends count len same =
+    let passed = count_more from pieces (OtherEnds octets) count len in
+    let last = sym (last_more from.last pieces (OtherEnds octets)) in
+    let other =
+    ap (λ (e : Endpoints). first_seen (first_other from.other pieces) e) same
+    ∙ sym (other_more from.other pieces (OtherEnds octets) ∙ first_other_seen (first_other from.other pieces) octets) in
+    λ i. record { passed = passed i; last = last i; place = from.place; is_ended = from.is_ended; fault = from.fault; other = other i }
+
+record_state : (from : ReaderState) (pieces : List Piece) (octets : List ℕ) (second count : ℕ) → length octets ≡ count → second ≡ second_of (shown_of octets)
+    → after_record (after_pieces from pieces) second count ≡ at_record (after_pieces from pieces) (after_pieces from (pieces ++ Shown octets ∷ []))
+record_state from pieces octets second count len same =
+    let passed = count_more from pieces (Shown octets) count len in
+    let last = ap (λ (s : ℕ). let o : Option ℕ = Some s in o) same ∙ sym (last_more from.last pieces (Shown octets)) in
+    let other = sym (other_more from.other pieces (Shown octets) ∙ first_other_shown (first_other from.other pieces) octets) in
+    λ i. record { passed = passed i; last = last i; place = (after_pieces from pieces).passed; is_ended = from.is_ended; fault = from.fault; other = other i }
+
+-- ---- what was found
+
+second_as : (second : ℕ) (shows : Shows) (content : List ℕ) → second_of (shown_as second shows content) ≡ second
+second_as second shows.Received content = refl
+second_as second shows.Sent content = refl
+second_as second (shows.Changed old new) content = refl
+
+found_second : (octets buffer : List ℕ) (found : Found) → IsFoundIn octets buffer found → found.second ≡ second_of (shown_of octets)
+found_second octets buffer found is =
+    sym (second_as found.second found.shows (content_in (header_of octets) (body_of octets))) ∙ ap second_of is.shown
+
+found_shown : (octets buffer : List ℕ) (found : Found) → IsFoundIn octets buffer found → shown_of octets ≡ shown_from found buffer
+found_shown octets buffer found is =
+    sym is.shown
+    ∙ ap (λ (n : ℕ). shown_as found.second found.shows (drop n (body_of octets))) (sym is.content_at)
+    ∙ ap (λ (b : List ℕ). shown_as found.second found.shows (drop found.content_at b)) (sym is.body)
+
+-- ---- a device is no fault of the octets
+
+first_rule : (Holds : Rule → Type 0) (rules : List Rule) (judgement : Judgement) → FirstSays Holds rules judgement → (rule : Rule) × (judgement ≡ judgement_of rule)
+first_rule Holds [] judgement h = absurd h
+first_rule Holds (rule ∷ later) judgement (inl h) = (rule, h.1)
+first_rule Holds (rule ∷ later) judgement (inr h) = first_rule Holds later judgement h.1
+
+no_device : (rule : Rule) (kind : FaultKind) → Refused kind ≡ judgement_of rule → device_count kind ≡ 0
+no_device r.Nothing kind e = absurd (cc)
+no_device r.CutHeader kind e = let k : kind ≡ kinds.Truncated = cc in rw k refl
+no_device r.OtherTypeCut kind e = let k : kind ≡ kinds.Truncated = cc in rw k refl
+no_device r.OtherType kind e = absurd (cc)
+no_device r.LongBody kind e = let k : kind ≡ kinds.TooLong = cc in rw k refl
+no_device r.CutBody kind e = let k : kind ≡ kinds.Truncated = cc in rw k refl
+no_device r.OtherSubtype kind e = absurd (cc)
+no_device r.NoFields kind e = let k : kind ≡ kinds.Body = cc in rw k refl
+no_device r.OtherSession kind e = absurd (cc)
+no_device r.WithAddPath kind e = let k : kind ≡ kinds.AddPath = cc in rw k refl
+no_device r.NoStates kind e = let k : kind ≡ kinds.Body = cc in rw k refl
+no_device r.BadStates kind e = let k : kind ≡ kinds.BadState = cc in rw k refl
+no_device r.CutMessage kind e = let k : kind ≡ kinds.NotAMessage = cc in rw k refl
+no_device r.Refresh kind e = let k : kind ≡ kinds.RouteRefresh = cc in rw k refl
+no_device r.OtherLength kind e = let k : kind ≡ kinds.NotAMessage = cc in rw k refl
+no_device r.Back kind e = let k : kind ≡ kinds.TimeBack = cc in rw k refl
+no_device r.Allowed kind e = absurd (cc)
+
+pub refused_is_no_device : (session : Session) (last : Option ℕ) (octets : List ℕ) (ended : Bool) (kind : FaultKind)
+    → IsRefused session last octets ended kind → device_count kind ≡ 0
+refused_is_no_device session last octets ended kind refused =
+    let rule = first_rule (r.Holds session last (r.place_of (octets ++ []))) r.rules (Refused kind) (refused [] (λ e. refl)) in no_device rule.0 kind rule.1
+
+-- ---- a reader on its way
+
+module _ {S : Type 0} (gives : S → S → List ℕ → Type 0) (has_ended : S → Bool)
+    (gives_joined : (a b c : S) (xs ys : List ℕ) → gives a b xs → gives b c ys → gives a c (xs ++ ys))
+    (session : Session) (source : S) (from : ReaderState) where
+  -- from its start on it has passed skipped records alone
+  pub record Passes (now : S) (state : ReaderState) : Type 0 where
+    pub skipped : List Piece
+    pub only : records_of skipped ≡ []
+    pub pieces : ArePieces session from.last skipped
+    pub gave : gives source now (joined skipped)
+    pub is : state ≡ after_pieces from skipped
+
+  last_is : (state : ReaderState) (pieces : List Piece) → state ≡ after_pieces from pieces → state.last ≡ last_of from.last pieces
+  last_is state pieces is = ap (λ (s : ReaderState). s.last) is
+
+  more_given : (now next : S) (pieces : List Piece) (piece : Piece) → gives source now (joined pieces) → gives now next (octets_of piece)
+      → gives source next (joined (pieces ++ piece ∷ []))
+  more_given now next pieces piece gave given =
+      subst (λ (o : List ℕ). gives source next o) (sym (joined_more pieces piece)) (gives_joined source now next (joined pieces) (octets_of piece) gave given)
+
+  pub skips : (now next : S) (state after : ReaderState) (octets : List ℕ) (count : ℕ) → Passes now state → gives now next octets
+      → IsPiece session state.last (Other octets) → length octets ≡ count → after ≡ after_skipped state count → Passes next after
+  skips now next state after octets count so_far given piece len is = record {
+    skipped = so_far.skipped ++ Other octets ∷ [];
+    only = records_more so_far.skipped (Other octets) ∙ append-nil (records_of so_far.skipped) ∙ so_far.only;
+    pieces = pieces_more session from.last so_far.skipped (Other octets) so_far.pieces (subst (λ (l : Option ℕ). IsPiece session l (Other octets)) (last_is state so_far.skipped so_far.is) piece);
+    gave = more_given now next so_far.skipped (Other octets) so_far.gave given;
+    is = is ∙ ap (λ (s : ReaderState). after_skipped s count) so_far.is ∙ skipped_state from so_far.skipped octets count len;
+  }
+
+  pub skips_other : (now next : S) (state after : ReaderState) (octets : List ℕ) (ends : Endpoints) (count : ℕ) → Passes now state → gives now next octets
+      → IsPiece session state.last (OtherEnds octets) → ends ≡ ends_of octets → length octets ≡ count → after ≡ after_other state ends count → Passes next after
+  skips_other now next state after octets ends count so_far given piece same len is = record {
+    skipped = so_far.skipped ++ OtherEnds octets ∷ [];
+    only = records_more so_far.skipped (OtherEnds octets) ∙ append-nil (records_of so_far.skipped) ∙ so_far.only;
+    pieces = pieces_more session from.last so_far.skipped (OtherEnds octets) so_far.pieces (subst (λ (l : Option ℕ). IsPiece session l (OtherEnds octets)) (last_is state so_far.skipped so_far.is) piece);
+    gave = more_given now next so_far.skipped (OtherEnds octets) so_far.gave given;
+    is = is ∙ ap (λ (s : ReaderState). after_other s ends count) so_far.is ∙ other_state from so_far.skipped octets ends count len same;
+  }
+
+  pub ends_there : (now next : S) (state after : ReaderState) (octets : List ℕ) → Passes now state → gives now next octets → octets ≡ []
+      → IsTrue (has_ended next) → after ≡ at_end state → Ends gives has_ended session source next from after
+  ends_there now next state after octets so_far given none ended is = record {
+    skipped = so_far.skipped;
+    only = so_far.only;
+    pieces = so_far.pieces;
+    exactly = subst (λ (o : List ℕ). gives source next o) (ap (λ (o : List ℕ). joined so_far.skipped ++ o) none ∙ append-nil (joined so_far.skipped))
+        (gives_joined source now next (joined so_far.skipped) octets so_far.gave given);
+    ended = ended;
+    stands = is ∙ ap at_end so_far.is;
+  }
+
+  pub finds_there : (now next : S) (state after : ReaderState) (octets buffer : List ℕ) (found : Found) (count : ℕ) → Passes now state → gives now next octets
+      → IsPiece session state.last (Shown octets) → IsFoundIn octets buffer found → count ≡ 12 + found.count
+      → after ≡ after_record state found.second count → Finds gives has_ended session source next from after buffer found
+  finds_there now next state after octets buffer found count so_far given piece there len is = record {
+    answers = record {
+      skipped = so_far.skipped;
+      octets = octets;
+      only = so_far.only;
+      pieces = pieces_more session from.last so_far.skipped (Shown octets) so_far.pieces (subst (λ (l : Option ℕ). IsPiece session l (Shown octets)) (last_is state so_far.skipped so_far.is) piece);
+      shown = found_shown octets buffer found there;
+      exactly = more_given now next so_far.skipped (Shown octets) so_far.gave given;
+      stands =
+          is ∙ ap (λ (s : ReaderState). after_record s found.second count) so_far.is
+          ∙ record_state from so_far.skipped octets found.second count (there.count ∙ sym len) (found_second octets buffer found there);
+    };
+    within = there.within;
+    fits = there.fits;
+  }
+
+  pub fails_there : (now next : S) (state after : ReaderState) (rest : List ℕ) (kind : FaultKind) → Passes now state → gives now next rest
+      → (IsRefused session state.last rest (has_ended next) kind ⊎ (kind ≡ kinds.Device) ⊎ ((kind ≡ kinds.Memory) × (next ≡ source)))
+      → after ≡ at_fault state (fault_at state kind) → Fails gives has_ended session source next from after (fault_at state kind)
+  fails_there now next state after rest kind so_far given why is = record {
+    skipped = so_far.skipped;
+    rest = rest;
+    only = so_far.only;
+    pieces = so_far.pieces;
+    taken = gives_joined source now next (joined so_far.skipped) rest so_far.gave given;
+    why = elim why [
+      | inl refused ↦ inl (subst (λ (l : Option ℕ). IsRefused session l rest (has_ended next) kind) (last_is state so_far.skipped so_far.is) refused)
+      | inr others ↦ inr others
+    ];
+    offset = ap (λ (s : ReaderState). s.passed) so_far.is;
+    stands = is ∙ ap (λ (s : ReaderState). at_fault s (fault_at state kind)) so_far.is;
+  }

@@ -1,0 +1,12 @@
+pub mod Filled
+pub mod Taken
+pub mod Exits
+pub mod Places
+pub mod Advancing
+pub mod Refusing
+pub mod OneReading
+pub mod WrittenBody
+pub mod WrittenRecord
+pub mod Parts
+pub mod AllowedRecord
+pub mod Chains

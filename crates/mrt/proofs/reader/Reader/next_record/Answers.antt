@@ -1,0 +1,40 @@
+use Rattle.std.proofs.Common.{◌≡◌, ◌∙◌, ℕ, Bool, true, false, ◌+◌, ◌≤◌, refl, sym, ap, subst, arith, None, is_some, if◌then◌else◌}
+use Rattle.mrt.specs.declared.fault.CaptureFault.{CaptureFault}
+use Rattle.mrt.specs.declared.fault.FaultKind.TheVariants as kinds
+use Rattle.mrt.specs.Progress.{state_of, fault_at}
+use Rattle.mrt.specs.Reader.{ReaderState, at_fault, device_count}
+use Rattle.mrt.proofs.Refusing.{open_next, no_memory}
+use Rattle.mrt.proofs.reader.Reader.next_record.Goals as goal
+
+no_failure : (count : ℕ) (fault : Bool) (found : CaptureFault) (state : ReaderState) → found ≡ fault_at state kinds.Memory
+    → count ≡ count + (if fault then 0 else device_count found.kind)
+no_failure count fault found state is =
+    let kind = ap (λ (f : CaptureFault). device_count f.kind) is in
+    elim fault as (λ (b : Bool). count ≡ count + (if b then 0 else device_count found.kind)) [
+      | true ↦ omega arith
+      | false ↦ omega arith
+    ]
+
+pub returns-then-is_err : goal.returns-then-is_err
+returns-then-is_err g c =
+    let v : state_of c.self.inside.progress ≡ c.args.self.now = c.self.view_is in
+    let none : c.args.self.now.fault ≡ None = ap (λ (s : ReaderState). s.fault) (sym v) ∙ c.in_default.is in
+    let not_ended : c.args.self.now.is_ended ≡ false = ap (λ (s : ReaderState). s.is_ended) (sym v) ∙ c.if-self.false in
+    let fault : c.refuse.result ≡ fault_at c.args.self.now kinds.Memory = c.refuse.ensures.fault ∙ ap (λ (s : ReaderState). fault_at s kinds.Memory) v in
+    let state : state_of c.refuse.new.self ≡ at_fault c.args.self.now c.refuse.result =
+    c.refuse.ensures.state ∙ ap (λ (s : ReaderState). at_fault s c.refuse.result) v in
+    let passed : c.refuse.new.self.passed ≡ c.args.self.now.passed = ap (λ (s : ReaderState). s.passed) state in (
+      (
+        refl,
+        λ _. tt,
+        (
+          open_next _ _ _ _ _ _ _ _ none not_ended
+              (no_memory _ _ _ c.args.source.now c.args.self.now _ c.refuse.result (g.met.S.Source.nothing c.args.source.now) fault state),
+          subst (λ (n : ℕ). n ≤ g.S.Source.given_count c.args.source.now) (sym passed) c.requires.one_source,
+        ),
+      ),
+      record {
+        after_borrow = tt;
+        failures = no_failure (g.S.Source.failures c.args.source.now) (is_some c.args.self.now.fault) c.refuse.result c.args.self.now fault;
+      },
+    )

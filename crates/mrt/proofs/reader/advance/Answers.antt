@@ -1,0 +1,50 @@
+use Rattle.std.proofs.Common.{◌+◌, ap, refl, arith, inl}
+use Rattle.mrt.specs.Reader.{ReaderState, device_count}
+use Rattle.mrt.specs.declared.fault.CaptureFault.{CaptureFault}
+use Rattle.mrt.proofs.Advancing.{skips, skips_other, ends_there, finds_there, fails_there, refused_is_no_device}
+use Rattle.mrt.proofs.reader.advance.Goals as goal
+
+pub returns-in-Ok-End-clause-next : goal.returns-in-Ok-End-clause-next
+returns-in-Ok-End-clause-next g c =
+    let (octets, given, is) = rw c.in-Ok-End.field-0-is at c.in-Ok-End.ensures.ok in
+    ends_there _ _ g.met.S.Source.joined _ _ _ _ _ _ _ octets c.loop-progress.invariant.passes given is.0 is.1 c.end.ensures
+
+pub loop-progress-preserved-in-Ok-Skipped : goal.loop-progress-preserved-in-Ok-Skipped
+loop-progress-preserved-in-Ok-Skipped g c =
+    let (octets, given, is) = rw c.in-Ok-Skipped.field-0-is at c.in-Ok-Skipped.ensures.ok in
+    let counted = g.met.S.Source.counted _ _ octets given in
+    let passed = ap (λ (s : ReaderState). s.passed) c.skip.ensures in record {
+      room = cc;
+      passes = skips _ _ g.met.S.Source.joined _ _ _ _ _ _ _ octets c.in-Ok-Skipped.count c.loop-progress.invariant.passes given is.0 is.1 c.skip.ensures;
+      one_source = omega (arith, is.1);
+      calm = cc (c.in-Ok-Skipped.ensures.failures);
+    }
+
+pub loop-progress-preserved : goal.loop-progress-preserved
+loop-progress-preserved g c =
+    let (octets, given, is) = rw c.in-Ok-SkippedSession.field-0-is at c.in-Ok-SkippedSession.ensures.ok in
+    let counted = g.met.S.Source.counted _ _ octets given in
+    let passed = ap (λ (s : ReaderState). s.passed) c.skip_session.ensures in record {
+      room = cc;
+      passes = skips_other _ _ g.met.S.Source.joined _ _ _ _ _ _ _ octets c.in-Ok-SkippedSession.ends c.in-Ok-SkippedSession.count c.loop-progress.invariant.passes given is.0 is.1 is.2 c.skip_session.ensures;
+      one_source = omega (arith, is.2);
+      calm = cc (c.in-Ok-SkippedSession.ensures.failures);
+    }
+
+pub returns-in-Ok-Refused-clause-next : goal.returns-in-Ok-Refused-clause-next
+returns-in-Ok-Refused-clause-next g c =
+    let (octets, given, is) = rw c.in-Ok-Refused.field-0-is at c.in-Ok-Refused.ensures.ok in
+    rw c.refuse.ensures.fault (fails_there _ _ g.met.S.Source.joined _ _ _ _ _ _ _ octets c.in-Ok-Refused.kind c.loop-progress.invariant.passes given (inl is)
+    (rw c.refuse.ensures.fault at c.refuse.ensures.state))
+
+pub returns-in-Ok-Refused-clause-failures : goal.returns-in-Ok-Refused-clause-failures
+returns-in-Ok-Refused-clause-failures g c =
+    let (octets, given, is) = rw c.in-Ok-Refused.field-0-is at c.in-Ok-Refused.ensures.ok in
+    let none = refused_is_no_device _ _ octets _ _ is in
+    let kind = ap (λ (f : CaptureFault). device_count f.kind) c.refuse.ensures.fault in
+    let calm = c.in-Ok-Refused.ensures.failures in omega (arith, c.loop-progress.invariant.calm)
+
+pub returns-in-Ok-OfSession-clause-next : goal.returns-in-Ok-OfSession-clause-next
+returns-in-Ok-OfSession-clause-next g c =
+    let (octets, given, is) = rw c.in-Ok-OfSession.field-0-is at c.in-Ok-OfSession.ensures.ok in
+    finds_there _ _ g.met.S.Source.joined _ _ _ _ _ _ _ octets _ c.in-Ok-OfSession.found (12 + c.in-Ok-OfSession.found.count) c.loop-progress.invariant.passes given is.0 is.1 refl c.answer.ensures

@@ -1,0 +1,32 @@
+use Rattle.std.proofs.Common.{◌≡◌, subst, List, ℕ, ◌++◌, take, arith}
+use Rattle.std.proofs.lemmas.List.{take_all}
+use Rattle.mrt.proofs.Exits.{ok_then, err_then}
+use Rattle.mrt.proofs.reading.read_record.Goals as goal
+
+pub returns-then-not-is_bgp4mp-clause-ok : goal.returns-then-not-is_bgp4mp-clause-ok
+returns-then-not-is_bgp4mp-clause-ok g c =
+    let front = c.fill.new.buffer in
+    let all : take c.in_ok-filled.filled front ≡ front = take_all _ _ (omega (arith, c.fill.ensures.room)) in
+    let gave = subst (λ (o : List ℕ). g.S.Source.gives c.args.source.now c.fill.new.source o) all c.in_ok-filled.ensures.ok in
+    ok_then c.skip_body.result _ _ (λ read made.
+    let (body, given, is) = made in
+    (front ++ body, g.met.S.Source.joined _ _ _ _ _ gave given, is c.args.session.now c.args.last front (omega (arith, c.fill.ensures.room)) c.read_header-header.ensures))
+    c.skip_body.ensures.ok
+
+pub returns-then-not-is_bgp4mp-clause-err : goal.returns-then-not-is_bgp4mp-clause-err
+returns-then-not-is_bgp4mp-clause-err g c =
+    err_then c.skip_body.result _ _ (λ made. (_, g.met.S.Source.joined _ _ _ _ _ c.in_ok-filled.ensures.ok made.1)) c.skip_body.ensures.err
+
+pub returns-clause-ok : goal.returns-clause-ok
+returns-clause-ok g c =
+    let front = c.fill.new.buffer in
+    let all : take c.in_ok-filled.filled front ≡ front = take_all _ _ (omega (arith, c.fill.ensures.room)) in
+    let gave = subst (λ (o : List ℕ). g.S.Source.gives c.args.source.now c.fill.new.source o) all c.in_ok-filled.ensures.ok in
+    ok_then c.read_body.result _ _ (λ read made.
+    let (body, given, is) = made in
+    (front ++ body, g.met.S.Source.joined _ _ _ _ _ gave given, is front (omega (arith, c.fill.ensures.room)) c.read_header-header.ensures))
+    c.read_body.ensures.ok
+
+pub returns-clause-err : goal.returns-clause-err
+returns-clause-err g c =
+    err_then c.read_body.result _ _ (λ made. (_, g.met.S.Source.joined _ _ _ _ _ c.in_ok-filled.ensures.ok made.1)) c.read_body.ensures.err

@@ -1,0 +1,112 @@
+-- A capture of one session: records one after another, of which some are skipped and the others are
+-- the session's, and then the end or the first fault (RFC 6396, 2).
+use Rattle.std.specs.Prelude.{◌≡◌, ◌++◌, ℕ, List, [], ◌∷◌, length, Option, None, Some}
+use Rattle.std.specs.List.{flat_map}
+use Rattle.bgp_prefix.specs.Shown.{ShownRecord, second_of}
+use Rattle.bgp_prefix.specs.declared.session.Session.{Session}
+use Rattle.mrt.specs.Layout.{IsRecord, header_of, body_of, content_in, peer_in, local_in, shown_in}
+use Rattle.mrt.specs.Rules.{Judgement, End, Skipped, SkippedSession, Refused, OfSession, IsJudged}
+use Rattle.mrt.specs.declared.fault.FaultKind.{FaultKind}
+use Rattle.mrt.specs.declared.record.Endpoints.{Endpoints}
+
+-- One record's octets: skipped for its type or subtype, skipped for its addresses, or the session's.
+pub data Piece : Type 0 where
+  Other : List ℕ → Piece
+  OtherEnds : List ℕ → Piece
+  Shown : List ℕ → Piece
+
+abbrev pub octets_of : Piece → List ℕ
+octets_of (Other octets) = octets
+octets_of (OtherEnds octets) = octets
+octets_of (Shown octets) = octets
+
+abbrev pub judgement_of_piece : Piece → Judgement
+judgement_of_piece (Other octets) = Skipped
+judgement_of_piece (OtherEnds octets) = SkippedSession
+judgement_of_piece (Shown octets) = OfSession
+
+-- the addresses that a record names
+abbrev pub ends_of : List ℕ → Endpoints
+ends_of octets = record {
+  peer = peer_in (header_of octets) (body_of octets);
+  local = local_in (header_of octets) (body_of octets);
+}
+
+-- what a record of the session shows
+abbrev pub shown_of : List ℕ → ShownRecord
+shown_of octets = shown_in (header_of octets) (content_in (header_of octets) (body_of octets))
+
+-- the octets are one record, and judged so, behind a record of the second `last`
+pub record IsPiece (session : Session) (last : Option ℕ) (piece : Piece) : Type 0 where
+  pub whole : IsRecord (octets_of piece)
+  pub judged : IsJudged session last (octets_of piece) (judgement_of_piece piece)
+
+-- the second of the session's last record
+abbrev pub last_after : Option ℕ → Piece → Option ℕ
+last_after last (Other octets) = last
+last_after last (OtherEnds octets) = last
+last_after last (Shown octets) = Some (second_of (shown_of octets))
+
+abbrev pub last_of : Option ℕ → List Piece → Option ℕ
+last_of last [] = last
+last_of last (piece ∷ pieces) = last_of (last_after last piece) pieces
+
+-- pieces one after another
+abbrev pub ArePieces : Session → Option ℕ → List Piece → Type 0
+ArePieces session last [] = Unit {0}
+ArePieces session last (piece ∷ pieces) =
+    IsPiece session last piece × ArePieces session (last_after last piece) pieces
+
+-- their octets
+abbrev pub joined : List Piece → List ℕ
+joined pieces = flat_map octets_of pieces
+
+-- what they show: a record for each piece of the session
+abbrev pub shown_by : Piece → List ShownRecord
+shown_by (Other octets) = []
+shown_by (OtherEnds octets) = []
+shown_by (Shown octets) = shown_of octets ∷ []
+
+abbrev pub records_of : List Piece → List ShownRecord
+records_of pieces = flat_map shown_by pieces
+
+-- the addresses of the first that was skipped for its addresses
+abbrev pub first_other : Option Endpoints → List Piece → Option Endpoints
+first_other (Some ends) pieces = Some ends
+first_other None [] = None
+first_other None (Other octets ∷ pieces) = first_other None pieces
+first_other None (OtherEnds octets ∷ pieces) = Some (ends_of octets)
+first_other None (Shown octets ∷ pieces) = first_other None pieces
+
+-- no piece stands where a place is judged so
+abbrev pub IsStop : Judgement → Type 0
+IsStop End = Unit {0}
+IsStop Skipped = ⊥
+IsStop SkippedSession = ⊥
+IsStop (Refused kind) = Unit {0}
+IsStop OfSession = ⊥
+
+-- The octets are these pieces, and then a rest at which no piece stands: the end, where nothing is
+-- left, or a fault.
+pub record IsCaptureText (session : Session) (octets : List ℕ) (pieces : List Piece)
+    (rest : List ℕ) (judgement : Judgement) : Type 0 where
+  pub whole : octets ≡ joined pieces ++ rest
+  pub each : ArePieces session None pieces
+  pub last : IsJudged session (last_of None pieces) rest judgement
+  pub stops : IsStop judgement
+
+-- the octets spell these records
+pub record Spells (session : Session) (octets : List ℕ) (records : List ShownRecord) : Type 0 where
+  pub pieces : List Piece
+  pub text : IsCaptureText session octets pieces [] End
+  pub shown : records ≡ records_of pieces
+
+-- The octets are refused for this fault, behind these records: `offset` is that of the record at
+-- fault.
+pub record IsFirstFault (session : Session) (octets : List ℕ) (records : List ShownRecord)
+    (kind : FaultKind) (offset : ℕ) : Type 0 where
+  pub pieces : List Piece
+  pub rest : List ℕ
+  pub text : IsCaptureText session octets pieces rest (Refused kind)
+  pub shown : records ≡ records_of pieces
+  pub place : offset ≡ length (joined pieces)

@@ -1,0 +1,24 @@
+//! Laws of captures, each on a function that does nothing.
+
+ghost use Rattle.mrt.specs.CaptureLaws.{OneText, OneSpelling, OneFault, NeverBoth};
+ghost use Rattle.mrt.specs.CaptureLaws.{EachAllowed, ReadsBack};
+
+/// Octets spell one list of records of a session or have one first fault, and never both.
+pub fn each_capture_has_one_reading()
+    ensures text { OneText }
+    ensures spelling { OneSpelling }
+    ensures fault { OneFault }
+    ensures never_both { NeverBoth }
+{}
+
+/// What [`write_record`](crate::write_record) writes reads as the record, wherever a capture may
+/// have it.
+pub fn written_records_are_read()
+    ensures { ReadsBack }
+{}
+
+/// Each record of the session that a capture shows is one that a capture may have there: a change
+/// between known states, or a message that is whole where its header is sound.
+pub fn each_record_is_allowed()
+    ensures { EachAllowed }
+{}

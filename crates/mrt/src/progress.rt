@@ -1,0 +1,90 @@
+//! How far a reader of a capture is.
+
+ghost use Rattle.std.specs.Prelude.{◌≡◌, ◌<◌, ◌+◌, ◌^◌};
+ghost use Rattle.mrt.specs.Reader.{at_end, at_fault, fresh_reader};
+ghost use Rattle.mrt.specs.Progress.{state_of, after_skipped, after_other, after_record, fault_at};
+
+use crate::fault::{CaptureFault, FaultKind};
+use crate::record::Endpoints;
+use bgp_prefix::Seconds;
+
+/// How far a reader is.
+#[derive(Clone, Copy, Debug)]
+pub(crate) struct Progress {
+    /// How many octets the records have that it answered or skipped.
+    pub(crate) passed: u64,
+    /// The second of the session's last record.
+    pub(crate) last: Option<Seconds>,
+    /// Where what it last answered begins.
+    pub(crate) place: u64,
+    /// Whether it told the end.
+    pub(crate) is_ended: bool,
+    /// The fault that it found.
+    pub(crate) fault: Option<CaptureFault>,
+    /// The addresses of the first record that it skipped for its addresses.
+    pub(crate) other: Option<Endpoints>,
+}
+
+impl Progress {
+    pub(crate) fn new() -> Progress
+        ensures { state_of result ≡ fresh_reader }
+    {
+        Progress {
+            passed: 0,
+            last: None,
+            place: 0,
+            is_ended: false,
+            fault: None,
+            other: None,
+        }
+    }
+
+    /// Passes a record of so many octets.
+    pub(crate) fn skip(&mut self, count: u64)
+        requires { self.old.passed + count < 2 ^ 64 }
+        ensures { state_of self.new ≡ after_skipped (state_of self.old) count }
+    {
+        self.passed += count;
+    }
+
+    /// Passes a record of another session.
+    pub(crate) fn skip_session(&mut self, ends: Endpoints, count: u64)
+        requires { self.old.passed + count < 2 ^ 64 }
+        ensures { state_of self.new ≡ after_other (state_of self.old) ends count }
+    {
+        self.passed += count;
+        self.other = self.other.or(Some(ends));
+    }
+
+    /// Passes a record of the session, to answer it.
+    pub(crate) fn answer(&mut self, second: Seconds, count: u64)
+        requires { self.old.passed + count < 2 ^ 64 }
+        ensures { state_of self.new ≡ after_record (state_of self.old) second count }
+    {
+        self.place = self.passed;
+        self.passed += count;
+        self.last = Some(second);
+    }
+
+    /// Ends.
+    pub(crate) fn end(&mut self)
+        ensures { state_of self.new ≡ at_end (state_of self.old) }
+    {
+        self.place = self.passed;
+        self.is_ended = true;
+    }
+
+    /// Keeps a fault in the record that would be next.
+    pub(crate) fn refuse(&mut self, kind: FaultKind) -> CaptureFault
+        ensures fault { result ≡ fault_at (state_of self.old) kind }
+        ensures state { state_of self.new ≡ at_fault (state_of self.old) result }
+    {
+        let fault = CaptureFault {
+            kind,
+            offset: self.passed,
+        };
+        self.place = self.passed;
+        self.fault = Some(fault);
+        fault
+    }
+}
