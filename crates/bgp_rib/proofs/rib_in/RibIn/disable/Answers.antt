@@ -1,0 +1,27 @@
+use Rattle.std.proofs.Common.{◌∙◌, sym, subst}
+use Rattle.std.specs.Map.{keys_of}
+use Rattle.bgp_open.specs.declared.families.Families.{Families}
+use Rattle.bgp_rib.specs.Rooms.{routes_in}
+use Rattle.bgp_rib.specs.Routes.{AreOutside, routes_without, union}
+use Rattle.bgp_rib.proofs.RouteLemmas.{outside_both, seen_dropped}
+use Rattle.bgp_rib.proofs.rib_in.RibIn.disable.Goals as goal
+
+pub invariant_of-self : goal.invariant_of-self
+invariant_of-self g c =
+    let d = c.self.inside.disabled in
+    let es = routes_in c.self.inside.table.entries in (
+      c.drop_families.ensures.full,
+      subst (λ (f : Families). AreOutside f (keys_of (routes_in c.drop_families.new.table.entries))) (sym c.union-self-inside.ensures)
+          (subst (λ l. AreOutside (union d c.only-gone.result) (keys_of l)) (sym c.drop_families.ensures.routes) (outside_both d c.only-gone.result es c.self.invariant.1)),
+    )
+
+pub returns : goal.returns
+returns g c =
+    let d = c.self.inside.disabled in
+    let es = routes_in c.self.inside.table.entries in
+    let new = routes_in c.drop_families.new.table.entries in
+    record {
+      routes = (λ i. record { entries = new; disabled = c.union-self-inside.ensures i })
+          ∙ seen_dropped d c.only-gone.result es new c.drop_families.ensures.routes
+          ∙ (λ i. routes_without (c.only-gone.ensures i) (c.self.view_is i));
+    }

@@ -1,0 +1,12 @@
+use Rattle.std.proofs.Common.{◌≡◌, All, take}
+use Rattle.bgp_prefix.specs.Prefix.{PrefixBits}
+use Rattle.bgp_prefix.specs.PrefixOrder.{prefix_cmp}
+use Rattle.bgp_rib.specs.Rooms.{routes_in, HasRoom}
+use Rattle.bgp_rib.proofs.table.sweep_keys.Given as goal
+
+abbrev pub invariant-loop-route : goal.invariant-loop-route
+invariant-loop-route g l = record {
+  same : routes_in l.table.entries ≡ routes_in l.fn.table.entries;
+  rooms : (q : PrefixBits) → HasRoom prefix_cmp l.table.entries q → HasRoom prefix_cmp l.fn.table.entries q;
+  swept : All (λ e. HasRoom prefix_cmp l.table.entries e.0 → ⊥) (take l.route-index l.routes);
+}

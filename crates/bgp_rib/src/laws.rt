@@ -1,0 +1,69 @@
+//! Laws of incoming routes, with nothing to run.
+
+ghost use Rattle.std.specs.Prelude.{◌≡◌, ◌↔◌, None, IsTrue, map, if◌then◌else◌};
+ghost use Rattle.std.specs.Map.{update_all};
+ghost use Rattle.std.specs.Set.{is_member};
+ghost use Rattle.bgp_prefix.specs.Prefix.{PrefixBits};
+ghost use Rattle.bgp_prefix.specs.PrefixOrder.{prefix_eq};
+ghost use Rattle.bgp_open.specs.declared.families.Families.{Families};
+ghost use Rattle.bgp_open.specs.Families.{contains};
+ghost use Rattle.bgp_update.specs.Changes.{RouteChanges};
+ghost use Rattle.bgp_rib.specs.Routes.{
+  Routes,
+  AreRoutes,
+  path_to,
+  entry_of,
+  entries_outside,
+  union,
+  no_routes,
+  routes_after,
+  routes_without,
+};
+ghost use Rattle.bgp_rib.specs.SameRoutes.{same_routes};
+
+/// Routes are a map. After changes a prefix leads where the last route put to it does, unless its
+/// family is disabled; else nowhere, where it was removed; else where it led before. Where families
+/// are disabled theirs lead nowhere, and the others where they led.
+pub fn each_change_is_the_maps()
+    ensures changed { (changes : RouteChanges) (routes : Routes) (prefix : PrefixBits)
+        → path_to (routes_after changes routes) prefix
+        ≡ update_all prefix_eq
+        (λ p. if is_member prefix_eq changes.remove p then None else path_to routes p)
+        (entries_outside routes.disabled (map entry_of changes.put)) prefix }
+    ensures disabled { (families : Families) (routes : Routes) (prefix : PrefixBits)
+        → path_to (routes_without families routes) prefix
+        ≡ if contains families prefix.family then None else path_to routes prefix }
+{}
+
+/// Routes of which each prefix leads to the same path, and of which the same families are disabled,
+/// are one: the map and its order say all.
+pub fn equal_maps_are_one()
+    ensures { (routes others : Routes) → AreRoutes routes → AreRoutes others
+        → ((prefix : PrefixBits) → path_to routes prefix ≡ path_to others prefix)
+        → routes.disabled ≡ others.disabled → routes ≡ others }
+{}
+
+/// Whatever is done to routes, their prefixes ascend, and none is of a disabled family.
+pub fn changes_leave_routes()
+    ensures none { AreRoutes no_routes }
+    ensures changed { (changes : RouteChanges) (routes : Routes) → AreRoutes routes
+        → AreRoutes (routes_after changes routes) }
+    ensures disabled { (families : Families) (routes : Routes) → AreRoutes routes
+        → AreRoutes (routes_without families routes) }
+{}
+
+/// One table serves all sets of disabled families: to change routes of which some families are
+/// disabled, and then to disable others, gives what the full table gives after the change, seen
+/// without the families of both sets.
+pub fn disabled_families_are_left_out()
+    ensures { (changes : RouteChanges) (families others : Families) (routes : Routes)
+        → AreRoutes routes
+        → routes_without others (routes_after changes (routes_without families routes))
+        ≡ routes_without (union families others) (routes_after changes routes) }
+{}
+
+/// `==` is true exactly of equal routes with equal disabled families.
+pub fn equality_is_real()
+    ensures { (routes others : Routes)
+        → IsTrue (same_routes routes others) ↔ (routes ≡ others) }
+{}

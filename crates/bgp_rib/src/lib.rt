@@ -1,0 +1,25 @@
+//! The routes that a peer has announced (RFC 4271, 3.2: Adj-RIB-In), and what UPDATEs change of them.
+//!
+//! ```text
+//! let mut rib = RibIn::new(alloc);
+//! if let Some(changes) = &read_update(alloc, &link, octets)?.changes {
+//!     rib.apply(changes)?;
+//! }
+//! for (prefix, path) in rib.routes() { print(prefix, path); }
+//! ```
+#![tactic(auto)]
+
+mod laws;
+mod rib_in;
+mod route_iter;
+mod table;
+
+pub use laws::{
+    changes_leave_routes, disabled_families_are_left_out, each_change_is_the_maps,
+    equal_maps_are_one, equality_is_real,
+};
+pub use rib_in::RibIn;
+pub use route_iter::RouteIter;
+
+#[cfg(test)]
+mod tests;

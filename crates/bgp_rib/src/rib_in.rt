@@ -1,0 +1,225 @@
+//! The routes that a peer has announced: its Adj-RIB-In (RFC 4271, 3.2).
+
+ghost use Rattle.std.specs.Prelude.{◌≡◌, ◌++◌, length, map, flat_map, IfOk, OnOk, OnErr};
+ghost use Rattle.bgp_prefix.specs.PrefixOrder.{prefix_cmp};
+ghost use Rattle.bgp_path.specs.Path.{PathValue};
+ghost use Rattle.bgp_update.specs.Allowed.{changes_value, put_routes};
+ghost use Rattle.bgp_rib.specs.Rooms.{routes_in, HasNoRoom};
+ghost use Rattle.bgp_rib.specs.Routes.{
+  Routes,
+  AreRoutes,
+  entry_of,
+  entries_outside,
+  no_routes,
+  routes_after,
+  routes_without,
+  only,
+  union,
+};
+
+use crate::route_iter::RouteIter;
+use crate::table::{Table, change, drop_families, have_same_routes};
+use bgp_open::Families;
+use bgp_path::Path;
+use bgp_prefix::{Family, Prefix};
+use bgp_update::{Changes, Put};
+use std::alloc::{AllocError, Allocator, Global};
+use std::collections::BTreeMap;
+use std::marker::Model;
+
+/// The set without a family.
+const NO_FAMILIES: Families = Families {
+    v4: false,
+    v6: false,
+};
+
+/// The routes of a peer, at most one to a prefix, and the families that are disabled (RFC 7606, 2):
+/// those have no routes and take none.
+///
+/// A route is a prefix and a [`Path`], which is shared with the changes that it came in.
+#[derive(Drop)]
+pub struct RibIn<A: Allocator = Global> {
+    alloc: A,
+    disabled: Families,
+    table: Table<Path<A>, A>,
+}
+
+impl<A: Allocator> Model for RibIn<A> {
+    ghost use Rattle.bgp_prefix.specs.PrefixOrder.{prefix_cmp};
+    ghost use Rattle.std.specs.Map.{keys_of};
+    ghost use Rattle.bgp_rib.specs.Rooms.{routes_in, HasNoRoom};
+    ghost use Rattle.bgp_rib.specs.Routes.{Routes, AreOutside};
+
+    ghost Value = { Routes };
+
+    ghost view = { λ r. record { entries = routes_in r.table.entries; disabled = r.disabled } };
+
+    ghost invariant = { λ r. HasNoRoom prefix_cmp r.table.entries
+        × AreOutside r.disabled (keys_of (routes_in r.table.entries)) };
+}
+
+impl<A: Allocator> RibIn<A> {
+    /// No routes, and nothing disabled. It takes no memory.
+    pub fn new(alloc: A) -> RibIn<A>
+    where
+        A: Copy,
+        ensures routes { result ≡ no_routes }
+    {
+        RibIn {
+            alloc,
+            disabled: NO_FAMILIES,
+            table: BTreeMap::new(alloc),
+        }
+    }
+
+    /// Removes prefixes, and then puts routes. What the changes say of a disabled family is ignored.
+    ///
+    /// All growth comes first: refused for memory it leaves everything as it was, and called again
+    /// it does what it would have done.
+    pub fn apply(&mut self, changes: &Changes<A>) -> Result<(), AllocError>
+    where
+        A: Copy,
+        ensures ok { OnOk result (self.new ≡ routes_after (changes_value changes.now) self.old) }
+        ensures err { OnErr result (self.new ≡ self.old) }
+    {
+        let put = enabled_routes(self.alloc, self.disabled, &changes.put)?;
+        change(&mut self.table, &changes.remove, put)
+    }
+
+    /// Disables a family: its routes go, and it takes none from now on. It takes no memory.
+    pub fn disable(&mut self, family: Family)
+        ensures routes { self.new ≡ routes_without (only family) self.old }
+    {
+        let gone = only(family);
+        self.disabled = union(self.disabled, gone);
+        drop_families(&mut self.table, gone);
+    }
+
+    /// Forgets all routes, and enables every family. It takes no memory.
+    pub fn clear(&mut self)
+        ensures routes { self.new ≡ no_routes }
+    {
+        self.disabled = NO_FAMILIES;
+        self.table.clear();
+    }
+
+    /// The families that are disabled.
+    pub fn disabled(&self) -> Families
+        ensures families { result ≡ self.now.disabled }
+    {
+        self.disabled
+    }
+
+    /// How many routes there are.
+    pub fn len(&self) -> usize
+        ensures count { result ≡ length self.now.entries }
+    {
+        self.table.len()
+    }
+
+    /// The routes in the order of their prefixes: IPv4 before IPv6, then by address, then by length.
+    pub fn routes(&self) -> RouteIter<'_, A>
+        ensures rest { result ≡ self.now.entries }
+        ensures are { AreRoutes self.now }
+    {
+        RouteIter::new(&self.table, NO_FAMILIES)
+    }
+
+    /// The routes but those of some families, in the same order.
+    pub fn routes_without(&self, families: Families) -> RouteIter<'_, A>
+        ensures rest { result ≡ (routes_without families self.now).entries }
+        ensures are { AreRoutes self.now }
+    {
+        RouteIter::new(&self.table, families)
+    }
+
+    /// An equal copy, whose routes share their paths with these.
+    pub fn copy(&self) -> Result<RibIn<A>, AllocError>
+    where
+        A: Copy,
+        ensures copy { IfOk result (λ copy. copy ≡ self.now) }
+    {
+        Ok(RibIn {
+            alloc: self.alloc,
+            disabled: self.disabled,
+            table: self.table.clone()?,
+        })
+    }
+}
+
+impl<A: Allocator> PartialEq for RibIn<A> {
+    ghost use Rattle.bgp_rib.specs.SameRoutes.{same_routes, same_routes_per};
+
+    ghost eq = { same_routes };
+
+    ghost laws = { same_routes_per };
+
+    fn eq(&self, other: &RibIn<A>) -> bool {
+        self.disabled == other.disabled && have_same_routes(&self.table, &other.table)
+    }
+}
+
+impl<A: Allocator> Eq for RibIn<A> {
+    ghost use Rattle.bgp_rib.specs.SameRoutes.{same_routes_equiv};
+
+    ghost laws = { same_routes_equiv };
+}
+
+/// The family alone.
+fn only(family: Family) -> Families
+    ensures { result ≡ only family }
+{
+    match family {
+        Family::V4 => Families {
+            v4: true,
+            v6: false,
+        },
+        Family::V6 => Families {
+            v4: false,
+            v6: true,
+        },
+    }
+}
+
+/// The families in either set.
+fn union(families: Families, others: Families) -> Families
+    ensures { result ≡ union families others }
+{
+    Families {
+        v4: families.v4 || others.v4,
+        v6: families.v6 || others.v6,
+    }
+}
+
+/// The routes of the groups, but those of disabled families.
+fn enabled_routes<A: Allocator + Copy>(
+    alloc: A,
+    disabled: Families,
+    groups: &[Put<A>],
+) -> Result<Vec<(Prefix, Path<A>), A>, AllocError>
+    ensures { IfOk result (λ routes. routes.items
+        ≡ entries_outside disabled (map entry_of (flat_map put_routes groups.now))) }
+{
+    let mut routes = Vec::new(alloc);
+    for group in groups {
+        push_group(&mut routes, disabled, group)?;
+    }
+    Ok(routes)
+}
+
+/// Appends the routes of a group, but those of disabled families.
+fn push_group<A: Allocator + Copy>(
+    routes: &mut Vec<(Prefix, Path<A>), A>,
+    disabled: Families,
+    group: &Put<A>,
+) -> Result<(), AllocError>
+    ensures { OnOk result (routes.new.items
+        ≡ routes.old.items ++ entries_outside disabled (map entry_of (put_routes group.now))) }
+{
+    for prefix in &group.prefixes {
+        if !disabled.contains(prefix.family()) {
+            routes.push((*prefix, group.path.clone()?))?;
+        }
+    }
+    Ok(())
+}

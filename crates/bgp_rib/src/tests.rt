@@ -1,0 +1,99 @@
+//! What RFC 4271 and RFC 7606 ask of a peer's routes, a long row of changes beside a plain list, and
+//! refused memory.
+
+mod long_run;
+mod memory;
+mod routes;
+
+use crate::*;
+use bgp_open::Families;
+use bgp_path::{AsPath, Items, NextHop, Origin, Path, PathParts, Segment, SegmentKind};
+use bgp_prefix::{Family, Prefix, read_prefix};
+use bgp_update::{Changes, Put};
+use std::alloc::{AllocError, Allocator, Global};
+use std::process::Abort;
+use std::test::Fail;
+
+/// The set without a family.
+const NONE: Families = Families {
+    v4: false,
+    v6: false,
+};
+
+/// The prefix of a text.
+fn prefix(rt: &impl Abort, text: &str) -> Prefix {
+    read_prefix(text).expect(rt, "no prefix")
+}
+
+/// The prefixes of texts.
+fn prefixes<A: Allocator + Copy>(
+    rt: &impl Abort,
+    alloc: A,
+    texts: &[&str],
+) -> Result<Vec<Prefix, A>, AllocError> {
+    let mut prefixes = Vec::new(alloc);
+    for text in texts {
+        prefixes.push(prefix(rt, text))?;
+    }
+    Ok(prefixes)
+}
+
+/// A path that takes memory for its parts, told from others by its LOCAL_PREF.
+fn path<A: Allocator + Copy>(alloc: A, mark: u32) -> Result<Path<A>, AllocError> {
+    let numbers = Vec::from_slice(alloc, &[65002, 70000])?;
+    let mut as_path = AsPath::new(alloc);
+    as_path.push(Segment::new(SegmentKind::Sequence, numbers).ok_or(AllocError)?)?;
+    Path::new(
+        alloc,
+        PathParts {
+            origin: Origin::Igp,
+            as_path,
+            next_hop: NextHop::V4(0xc000_0202),
+            multi_exit_disc: None,
+            local_pref: Some(mark),
+            atomic_aggregate: false,
+            aggregator: None,
+            communities: Items::new(alloc),
+            originator_id: None,
+            cluster_list: Items::new(alloc),
+            extended_communities: Items::new(alloc),
+        },
+    )
+}
+
+/// The changes that remove the prefixes, and then put each group with a path of its mark.
+fn changes<A: Allocator + Copy>(
+    rt: &impl Abort,
+    alloc: A,
+    remove: &[&str],
+    groups: &[(u32, &[&str])],
+) -> Result<Changes<A>, AllocError> {
+    let mut put = Vec::new(alloc);
+    for (mark, texts) in groups {
+        put.push(Put {
+            path: path(alloc, *mark)?,
+            prefixes: prefixes(rt, alloc, texts)?,
+        })?;
+    }
+    Ok(Changes {
+        remove: prefixes(rt, alloc, remove)?,
+        put,
+    })
+}
+
+/// The mark of a path.
+fn mark<A: Allocator>(path: &Path<A>) -> u32 {
+    path.parts().local_pref.unwrap_or(0)
+}
+
+/// Whether these are just the routes, each a prefix and the mark of its path.
+fn are<A: Allocator>(rt: &impl Abort, routes: RouteIter<'_, A>, told: &[(&str, u32)]) -> bool {
+    let mut told = told.iter();
+    for (found, path) in routes {
+        match told.next() {
+            Some((text, number)) if prefix(rt, text) == *found && *number == mark(path) => {}
+            _ => return false,
+        }
+    }
+    told.next().is_none()
+}
