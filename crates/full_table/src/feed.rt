@@ -1,0 +1,178 @@
+//! The routes of a made-up peer: prefixes in no order, in groups that share a path.
+
+use bgp_path::{AsPath, Items, NextHop, Origin, Path, PathParts, Segment, SegmentKind};
+use bgp_prefix::{Address, Family, Prefix};
+use bgp_update::{Changes, Put};
+use std::alloc::{AllocError, Global};
+use std::ops::Range;
+
+/// What the peer has.
+#[derive(Clone, Copy)]
+pub struct Feed {
+    v4: u32,
+    v6: u32,
+    per_group: u32,
+}
+
+impl Feed {
+    /// So many prefixes of each family, and about so many paths.
+    pub fn new(v4: u32, v6: u32, paths: u32) -> Feed {
+        let prefixes = v4.saturating_add(v6);
+        Feed {
+            v4,
+            v6,
+            per_group: prefixes.checked_div(paths).unwrap_or(1).max(1),
+        }
+    }
+
+    /// How many prefixes it has.
+    pub fn prefixes(&self) -> u32 {
+        self.v4.saturating_add(self.v6)
+    }
+
+    /// How many groups the prefixes of IPv4 have.
+    fn v4_groups(&self) -> u32 {
+        groups(self.v4, self.per_group)
+    }
+
+    /// How many groups there are.
+    pub fn groups(&self) -> u32 {
+        self.v4_groups()
+            .saturating_add(groups(self.v6, self.per_group))
+    }
+
+    /// The family of a group, and which of its prefixes the group has.
+    fn members(&self, group: u32) -> (Family, Range<u32>) {
+        let v4_groups = self.v4_groups();
+        let (family, place, count) = if group < v4_groups {
+            (Family::V4, group, self.v4)
+        } else {
+            (Family::V6, group.saturating_sub(v4_groups), self.v6)
+        };
+        let first = place.saturating_mul(self.per_group);
+        let end = first.saturating_add(self.per_group).min(count);
+        (family, first.min(end)..end)
+    }
+
+    /// The prefixes of a group.
+    fn group(&self, alloc: Global, group: u32) -> Result<Vec<Prefix>, AllocError> {
+        let (family, members) = self.members(group);
+        let mut prefixes = Vec::new(alloc);
+        for index in members {
+            if let Some(prefix) = prefix(family, index) {
+                prefixes.push(prefix)?;
+            }
+        }
+        Ok(prefixes)
+    }
+
+    /// The group is announced.
+    pub fn announcement(
+        &self,
+        alloc: Global,
+        group: u32,
+        path: Path,
+    ) -> Result<Changes, AllocError> {
+        let prefixes = self.group(alloc, group)?;
+        let mut put = Vec::new(alloc);
+        put.push(Put { path, prefixes })?;
+        Ok(Changes {
+            remove: Vec::new(alloc),
+            put,
+        })
+    }
+
+    /// The UPDATE by which the group is announced: in its NLRI field (RFC 4271, 4.3), or for IPv6 in
+    /// MP_REACH_NLRI (RFC 4760, 3).
+    pub fn update(&self, alloc: Global, group: u32) -> Result<Vec<u8>, AllocError> {
+        let mut nlri = Vec::new(alloc);
+        for prefix in self.group(alloc, group)? {
+            prefix.write(&mut nlri)?;
+        }
+        let mut attributes = Vec::from_slice(alloc, b"\x40\x01\x01\x00\x40\x02\x12\x02\x04")?;
+        for number in [65002, 174, 3356, group] {
+            attributes.extend_from_slice(&number.to_be_bytes())?;
+        }
+        attributes.extend_from_slice(b"\xc0\x08\x08\xfd\xea\x00\x01")?;
+        attributes.extend_from_slice(&group.to_be_bytes())?;
+        if self.members(group).0 == Family::V4 {
+            attributes.extend_from_slice(b"\x40\x03\x04\xc0\x00\x02\x02")?;
+        } else {
+            attributes.extend_from_slice(b"\x90\x0e")?;
+            put_count(&mut attributes, nlri.len().saturating_add(21))?;
+            attributes.extend_from_slice(b"\x00\x02\x01\x10\x20\x01\x0d\xb8")?;
+            attributes.extend_from_slice(&[0; 13])?;
+            attributes.extend_from_slice(&nlri)?;
+            nlri.clear();
+        }
+        let mut octets = Vec::from_slice(alloc, &[0xff; 16])?;
+        let count = attributes.len().saturating_add(nlri.len());
+        put_count(&mut octets, count.saturating_add(23))?;
+        octets.extend_from_slice(b"\x02\x00\x00")?;
+        put_count(&mut octets, attributes.len())?;
+        octets.extend_from_slice(&attributes)?;
+        octets.extend_from_slice(&nlri)?;
+        Ok(octets)
+    }
+
+    /// The group is withdrawn.
+    pub fn withdrawal(&self, alloc: Global, group: u32) -> Result<Changes, AllocError> {
+        Ok(Changes {
+            remove: self.group(alloc, group)?,
+            put: Vec::new(alloc),
+        })
+    }
+}
+
+/// Appends a count as two octets, or the greatest that fits.
+fn put_count(octets: &mut Vec<u8>, count: usize) -> Result<(), AllocError> {
+    let count = u16::try_from(count).unwrap_or(u16::MAX);
+    octets.extend_from_slice(&count.to_be_bytes())
+}
+
+/// How many groups so many prefixes have.
+fn groups(prefixes: u32, per_group: u32) -> u32 {
+    prefixes
+        .checked_div(per_group)
+        .unwrap_or(0)
+        .saturating_add(1)
+}
+
+/// A path of four AS numbers and two communities, another one for each group.
+pub fn path(alloc: Global, group: u32) -> Result<Path, AllocError> {
+    let numbers = Vec::from_slice(alloc, &[65002, 174, 3356, group])?;
+    let mut as_path = AsPath::new(alloc);
+    if let Some(segment) = Segment::new(SegmentKind::Sequence, numbers) {
+        as_path.push(segment)?;
+    }
+    Path::new(
+        alloc,
+        PathParts {
+            origin: Origin::Igp,
+            as_path,
+            next_hop: NextHop::V4(0xc000_0202),
+            multi_exit_disc: None,
+            local_pref: None,
+            atomic_aggregate: false,
+            aggregator: None,
+            communities: Items::from(Vec::from_slice(alloc, &[group, 0xfdea_0001])?),
+            originator_id: None,
+            cluster_list: Items::new(alloc),
+            extended_communities: Items::new(alloc),
+        },
+    )
+}
+
+/// A prefix of 24 or 48 bits. As the indices ascend the prefixes are in no order, and no two of the
+/// first 2^24 of a family are equal: products by odd numbers and the sums by halves can be undone.
+fn prefix(family: Family, index: u32) -> Option<Prefix> {
+    let one = index.wrapping_mul(0x9e37_79b1) & 0xff_ffff;
+    let number = (one ^ (one >> 12)).wrapping_mul(0x85eb_ca6b) & 0xff_ffff;
+    match family {
+        Family::V4 => Prefix::new(Address::V4(number << 8), 24),
+        Family::V6 => Prefix::new(
+            Address::V6((0x2001 << 112) | (u128::from(number) << 80)),
+            48,
+        ),
+    }
+}

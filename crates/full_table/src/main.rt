@@ -1,0 +1,172 @@
+//! Puts routes into a table, in changes of the size of an UPDATE and in no order, takes a tenth of
+//! them away and puts them again, and lists all. In the gate it does so with a small table; given
+//! words, as by `bench/routes.sh`, with one of that size, and tells how long it took.
+#![tactic(auto)]
+
+mod feed;
+
+use bgp_open::{Config, ConfigParts, Families, Link, negotiate, read_open};
+use bgp_path::Path;
+use bgp_prefix::{Address, Prefix, Session};
+use bgp_rib::RibIn;
+use bgp_update::{Changes, read_update};
+use bgp_wire::vectors::OPEN_B;
+use feed::Feed;
+use std::process::ExitCode;
+use std::rt::{Clock, Env, Files};
+use std::time::{Duration, Instant};
+use std::{env, fs, io};
+
+fn main(rt: HostRuntime) -> ExitCode {
+    match run(&rt) {
+        Ok(true) => ExitCode::SUCCESS,
+        Ok(false) => ExitCode::FAILURE,
+        Err(error) => {
+            let _ = eprintln!(rt; "{error}");
+            ExitCode::FAILURE
+        }
+    }
+}
+
+/// Answers whether the listing had each route, in order.
+fn run<R: Files + Env + Clock + Print + AllocGlobal>(rt: &R) -> io::Result<bool> {
+    let mut words = env::args(rt)?.skip(1);
+    let mut numbers = [1000, 200, 200];
+    let mut is_measured = false;
+    for number in &mut numbers {
+        if let Some(word) = words.next() {
+            *number = word
+                .parse::<u32>()
+                .map_err(|_| io::Error::from(io::ErrorKind::InvalidInput))?;
+            is_measured = true;
+        }
+    }
+    let [v4, v6, paths] = numbers;
+    let feed = Feed::new(v4, v6, paths);
+    let shared = match words.next() {
+        None => None,
+        Some(_) => Some(feed::path(rt.alloc(), 0)?),
+    };
+    let mut table = Timed {
+        routes: RibIn::new(rt.alloc()),
+        link: link()?,
+        reading: Duration::ZERO,
+        time: Duration::ZERO,
+        shared,
+    };
+    fill(rt, &feed, &mut table)?;
+
+    let began = Instant::now(rt)?;
+    let is_listed = is_in_order(&table.routes, &feed);
+    let listed = began.elapsed(rt)?;
+    println!(rt; "{} routes in order: {is_listed}", table.routes.len())?;
+    if is_measured {
+        println!(rt;
+            "read {} ms, apply {} ms, list {} ms, {}",
+            table.reading.as_millis(),
+            table.time.as_millis(),
+            listed.as_millis(),
+            peak(rt)?
+        )?;
+    }
+    Ok(is_listed)
+}
+
+/// What the OPENs of AS 65001 and AS 65002 settle: AS numbers of four octets, and both families.
+fn link() -> io::Result<Link> {
+    let config = Config::new(ConfigParts {
+        local_as: 65001,
+        peer_as: 65002,
+        local_id: 0xc000_0201,
+        hold: 90,
+        families: Families { v4: true, v6: true },
+        as4: true,
+        delay_open: false,
+        large_hold: 240,
+        session: Session {
+            peer: Address::V4(0xc000_0202),
+            local: Address::V4(0xc000_0201),
+            refresh: false,
+        },
+    });
+    let (Some(config), Ok(open)) = (config, read_open(&OPEN_B)) else {
+        return Err(io::Error::from(io::ErrorKind::InvalidData));
+    };
+    Ok(negotiate(&config, &open))
+}
+
+/// Routes, and the time that changing them took.
+#[derive(Drop)]
+struct Timed {
+    routes: RibIn,
+    link: Link,
+    /// How long it took to read UPDATEs.
+    reading: Duration,
+    time: Duration,
+    /// The path of all routes, where they share one.
+    shared: Option<Path>,
+}
+
+impl Timed {
+    /// Puts the routes of a group.
+    fn announce<R: Clock + AllocGlobal>(
+        &mut self,
+        rt: &R,
+        feed: &Feed,
+        group: u32,
+    ) -> io::Result<()> {
+        if let Some(path) = &self.shared {
+            let path = path.clone()?;
+            return self.apply(rt, &feed.announcement(rt.alloc(), group, path)?);
+        }
+        let octets = feed.update(rt.alloc(), group)?;
+        let began = Instant::now(rt)?;
+        let outcomes = read_update(rt.alloc(), &self.link, &octets)?;
+        self.reading = self.reading.saturating_add(began.elapsed(rt)?);
+        match outcomes.changes {
+            None => Err(io::Error::from(io::ErrorKind::InvalidData)),
+            Some(changes) => self.apply(rt, &changes),
+        }
+    }
+
+    /// Applies the changes.
+    fn apply<R: Clock>(&mut self, rt: &R, changes: &Changes) -> io::Result<()> {
+        let began = Instant::now(rt)?;
+        self.routes.apply(changes)?;
+        self.time = self.time.saturating_add(began.elapsed(rt)?);
+        Ok(())
+    }
+}
+
+/// Puts all routes; and then takes each tenth group away and puts it again.
+fn fill<R: Clock + AllocGlobal>(rt: &R, feed: &Feed, table: &mut Timed) -> io::Result<()> {
+    for group in 0..feed.groups() {
+        table.announce(rt, feed, group)?;
+    }
+    for group in (0..feed.groups()).filter(|group| group % 10 == 0) {
+        table.apply(rt, &feed.withdrawal(rt.alloc(), group)?)?;
+        table.announce(rt, feed, group)?;
+    }
+    Ok(())
+}
+
+/// Whether as many routes as there are prefixes are listed, each above the one before it.
+fn is_in_order(routes: &RibIn, feed: &Feed) -> bool {
+    let mut last: Option<Prefix> = None;
+    let mut count = 0u32;
+    for (prefix, _) in routes.routes() {
+        if last.is_some_and(|last| last >= *prefix) {
+            return false;
+        }
+        last = Some(*prefix);
+        count = count.saturating_add(1);
+    }
+    count == feed.prefixes()
+}
+
+/// The line of the system that tells the greatest memory so far.
+fn peak<R: Files + AllocGlobal>(rt: &R) -> io::Result<String> {
+    let status = fs::read_to_string(rt, "/proc/self/status")?;
+    let line = status.lines().find(|line| line.starts_with("VmHWM:"));
+    Ok(String::from_str(rt.alloc(), line.unwrap_or("VmHWM:"))?)
+}
