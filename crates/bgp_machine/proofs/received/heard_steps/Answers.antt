@@ -1,0 +1,14 @@
+use Rattle.std.proofs.Common.{List, subst, sym, arith, take}
+use Rattle.std.proofs.lemmas.List.{take_more}
+use Rattle.bgp_machine.specs.declared.rows.ReceivedRow.{ReceivedRow}
+use Rattle.bgp_machine.specs.Listed.{no_changes}
+use Rattle.bgp_machine.specs.Rows.{HeardShown, ListsRows}
+use Rattle.bgp_machine.proofs.received.heard_steps.Goals as goal
+
+pub loop-row-preserved : goal.loop-row-preserved
+loop-row-preserved c = record {
+  listed = subst (λ (rs : List ReceivedRow). ListsRows (HeardShown c.args.head c.args.t c.args.octets.now c.args.message) no_changes rs c.add_heard.new.steps.items)
+      (sym (take_more c.rows_on-rows.result.now c.loop-row.row-index _ c.loop-row-test.true))
+      (c.add_heard.ensures.listed (take c.loop-row.row-index c.rows_on-rows.result.now) c.loop-row.invariant.listed);
+  room = omega arith;
+}

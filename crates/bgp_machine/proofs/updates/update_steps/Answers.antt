@@ -1,0 +1,14 @@
+use Rattle.std.proofs.Common.{List, subst, sym, arith, take}
+use Rattle.std.proofs.lemmas.List.{take_more}
+use Rattle.bgp_machine.specs.declared.rows.ReceivedRow.{ReceivedRow}
+use Rattle.bgp_machine.specs.Listed.{changes_of}
+use Rattle.bgp_machine.specs.Rows.{ListsRows, UpdateShown, update_rows}
+use Rattle.bgp_machine.proofs.updates.update_steps.Goals as goal
+
+pub loop-row-preserved : goal.loop-row-preserved
+loop-row-preserved g c = record {
+  listed = subst (λ (rs : List ReceivedRow). ListsRows (UpdateShown c.args.own c.args.timer c.args.t c.args.octets.now) (changes_of c.args.outcomes.now.changes) rs c.add_update.new.steps.items)
+      (sym (take_more update_rows c.loop-row.row-index _ c.loop-row-test.true))
+      (c.add_update.ensures.listed (take c.loop-row.row-index update_rows) c.loop-row.invariant.listed);
+  room = omega arith;
+}

@@ -1,0 +1,11 @@
+pub mod Lists
+pub mod State
+pub mod Want
+pub mod Heard
+pub mod Step
+pub mod Shows
+pub mod Run
+pub mod Going
+pub mod Owed
+pub mod Listed
+pub mod Rows

@@ -1,0 +1,251 @@
+//! What a state does by itself (RFC 4271, 8.2.2).
+
+ghost use Rattle.std.specs.Prelude.{◌≡◌, ◌≤◌, ◌<◌, ◌+◌, ◌++◌, List, [], ◌∷◌, length};
+ghost use Rattle.arrayvec.specs.ArrayVec.{array_vec_len};
+ghost use Rattle.bgp_machine.specs.Listed.{ListsHidden};
+ghost use Rattle.bgp_machine.specs.Rows.{HiddenShown, ListsRows, MakesHidden};
+ghost use Rattle.bgp_machine.specs.Listed.{no_changes};
+ghost use Rattle.bgp_machine.specs.Rows.{shown_rows};
+ghost use Rattle.bgp_machine.specs.declared.rows.HiddenRow.{HiddenRow as TheRow};
+ghost use Rattle.bgp_machine.specs.declared.state.Head.TheVariants as heads;
+
+use crate::effects::{entering, failing, falling, noting, only_if, waiting};
+use crate::listing::{MOST_STEPS, add};
+use crate::rows::HiddenRow;
+use crate::state::{Head, HoldTimer};
+use crate::step::Step;
+use crate::want::{Want, Wants};
+use arrayvec::ArrayVec;
+use bgp_open::{Config, Link};
+use bgp_prefix::Seconds;
+
+/// What the rows of Idle make.
+fn idle_step(config: &Config, t: Seconds, row: HiddenRow) -> Option<Step>
+    ensures { MakesHidden config.now heads.Idle t row result }
+{
+    let head = Head::Idle;
+    match row {
+        HiddenRow::Starts => Some(entering(head, Wants::Nothing, Head::Connect(false))),
+        HiddenRow::Listens => Some(entering(head, Wants::Nothing, Head::Active(false))),
+        HiddenRow::Notes => Some(noting(head)),
+        _ => None,
+    }
+}
+
+/// What the rows of Connect make. That the OPEN is delayed from now on shows no record, and neither
+/// does another try.
+fn connect_step(config: &Config, delay: bool, t: Seconds, row: HiddenRow) -> Option<Step>
+    ensures { MakesHidden config.now (heads.Connect delay) t row result }
+{
+    let head = Head::Connect(delay);
+    let opened = entering(head, Wants::One(Want::OwnOpen), waiting(config, t));
+    match row {
+        HiddenRow::Stops => Some(falling(head, Wants::Nothing)),
+        HiddenRow::DelayExpires => only_if(delay, opened),
+        HiddenRow::ConnectionOpens => Some(opened),
+        HiddenRow::ConnectionFails => Some(failing(delay)),
+        HiddenRow::Notes => Some(noting(head)),
+        _ => None,
+    }
+}
+
+/// What the rows of Active make. That the OPEN is delayed from now on shows no record.
+fn active_step(config: &Config, delay: bool, t: Seconds, row: HiddenRow) -> Option<Step>
+    ensures { MakesHidden config.now (heads.Active delay) t row result }
+{
+    let head = Head::Active(delay);
+    let opened = entering(head, Wants::One(Want::OwnOpen), waiting(config, t));
+    match row {
+        HiddenRow::Stops => Some(falling(head, Wants::Nothing)),
+        HiddenRow::Ceases => only_if(delay, falling(head, Wants::One(Want::Cease))),
+        HiddenRow::RetryExpires => Some(entering(head, Wants::Nothing, Head::Connect(false))),
+        HiddenRow::DelayExpires => only_if(delay, opened),
+        HiddenRow::ConnectionOpens => Some(opened),
+        HiddenRow::ConnectionFails => Some(falling(head, Wants::Nothing)),
+        HiddenRow::Notes => Some(noting(head)),
+        _ => None,
+    }
+}
+
+/// What the rows of OpenSent make.
+fn open_sent_step(config: &Config, timer: HoldTimer, t: Seconds, row: HiddenRow) -> Option<Step>
+    ensures { MakesHidden config.now (heads.OpenSent timer) t row result }
+{
+    let head = Head::OpenSent(timer);
+    let expired = falling(head, Wants::One(Want::HoldExpired));
+    match row {
+        HiddenRow::Ceases => Some(falling(head, Wants::One(Want::Cease))),
+        HiddenRow::HoldExpires => only_if(timer.is_expired(t), expired),
+        HiddenRow::ConnectionFails => Some(entering(head, Wants::Nothing, Head::Active(false))),
+        HiddenRow::Notes => Some(noting(head)),
+        _ => None,
+    }
+}
+
+/// What the rows of OpenConfirm make.
+fn open_confirm_step(
+    config: &Config,
+    link: Link,
+    timer: HoldTimer,
+    t: Seconds,
+    row: HiddenRow,
+) -> Option<Step>
+    ensures { MakesHidden config.now (heads.OpenConfirm link timer) t row result }
+{
+    let head = Head::OpenConfirm(link, timer);
+    let expired = falling(head, Wants::One(Want::HoldExpired));
+    let alive = entering(head, Wants::One(Want::KeepAlive), head);
+    match row {
+        HiddenRow::Ceases => Some(falling(head, Wants::One(Want::Cease))),
+        HiddenRow::HoldExpires => only_if(timer.is_expired(t), expired),
+        HiddenRow::KeepaliveExpires => only_if(timer.is_running(), alive),
+        HiddenRow::ConnectionFails => Some(falling(head, Wants::Nothing)),
+        HiddenRow::Notes => Some(noting(head)),
+        _ => None,
+    }
+}
+
+/// What the rows of Established make.
+fn established_step(
+    config: &Config,
+    link: Link,
+    timer: HoldTimer,
+    t: Seconds,
+    row: HiddenRow,
+) -> Option<Step>
+    ensures { MakesHidden config.now (heads.Established link timer) t row result }
+{
+    let head = Head::Established(link, timer);
+    let expired = falling(head, Wants::One(Want::HoldExpired));
+    let alive = entering(head, Wants::One(Want::KeepAlive), head);
+    match row {
+        HiddenRow::Ceases => Some(falling(head, Wants::One(Want::Cease))),
+        HiddenRow::HoldExpires => only_if(timer.is_expired(t), expired),
+        HiddenRow::KeepaliveExpires => only_if(timer.is_running(), alive),
+        HiddenRow::ConnectionFails => Some(falling(head, Wants::Nothing)),
+        HiddenRow::Announces => Some(entering(head, Wants::One(Want::CleanUpdate), head)),
+        HiddenRow::Notes => Some(noting(head)),
+        _ => None,
+    }
+}
+
+/// What a row makes.
+fn hidden_step(config: &Config, head: Head, t: Seconds, row: HiddenRow) -> Option<Step>
+    ensures { MakesHidden config.now head t row result }
+{
+    match head {
+        Head::Idle => idle_step(config, t, row),
+        Head::Connect(delay) => connect_step(config, delay, t, row),
+        Head::Active(delay) => active_step(config, delay, t, row),
+        Head::OpenSent(timer) => open_sent_step(config, timer, t, row),
+        Head::OpenConfirm(link, timer) => open_confirm_step(config, link, timer, t, row),
+        Head::Established(link, timer) => established_step(config, link, timer, t, row),
+    }
+}
+
+/// Adds what a row makes.
+fn add_row(
+    config: &Config,
+    head: Head,
+    t: Seconds,
+    row: HiddenRow,
+    steps: &mut ArrayVec<Step, MOST_STEPS>,
+)
+    requires { array_vec_len steps.old < 8 }
+    ensures listed { (rows : List TheRow)
+        → ListsRows (HiddenShown config.now head t) no_changes rows steps.old.items
+        → ListsRows (HiddenShown config.now head t) no_changes (rows ++ row ∷ [])
+        steps.new.items }
+    ensures count { array_vec_len steps.new ≤ array_vec_len steps.old + 1 }
+{
+    let Some(step) = hidden_step(config, head, t, row) else {
+        return;
+    };
+    add(steps, step);
+}
+
+/// The steps of these rows.
+fn steps_of(
+    config: &Config,
+    head: Head,
+    t: Seconds,
+    rows: &[HiddenRow],
+) -> ArrayVec<Step, MOST_STEPS>
+    requires { length rows.now ≤ 8 }
+    ensures { ListsRows (HiddenShown config.now head t) no_changes rows.now result.items }
+{
+    let mut steps = ArrayVec::new();
+    for row in rows {
+        add_row(config, head, t, *row, &mut steps);
+    }
+    steps
+}
+
+// The rows by which each state shows a record, in the order of the standard's events.
+
+const IDLE: [HiddenRow; 3] = [HiddenRow::Starts, HiddenRow::Listens, HiddenRow::Notes];
+
+const CONNECT: [HiddenRow; 5] = [
+    HiddenRow::Stops,
+    HiddenRow::DelayExpires,
+    HiddenRow::ConnectionOpens,
+    HiddenRow::ConnectionFails,
+    HiddenRow::Notes,
+];
+
+const ACTIVE: [HiddenRow; 7] = [
+    HiddenRow::Stops,
+    HiddenRow::Ceases,
+    HiddenRow::RetryExpires,
+    HiddenRow::DelayExpires,
+    HiddenRow::ConnectionOpens,
+    HiddenRow::ConnectionFails,
+    HiddenRow::Notes,
+];
+
+const OPEN_SENT: [HiddenRow; 4] = [
+    HiddenRow::Ceases,
+    HiddenRow::HoldExpires,
+    HiddenRow::ConnectionFails,
+    HiddenRow::Notes,
+];
+
+const OPEN_CONFIRM: [HiddenRow; 5] = [
+    HiddenRow::Ceases,
+    HiddenRow::HoldExpires,
+    HiddenRow::KeepaliveExpires,
+    HiddenRow::ConnectionFails,
+    HiddenRow::Notes,
+];
+
+const ESTABLISHED: [HiddenRow; 6] = [
+    HiddenRow::Ceases,
+    HiddenRow::HoldExpires,
+    HiddenRow::KeepaliveExpires,
+    HiddenRow::ConnectionFails,
+    HiddenRow::Announces,
+    HiddenRow::Notes,
+];
+
+/// The rows by which a state shows a record.
+fn rows_at(head: Head) -> &'static [HiddenRow]
+    ensures rows { result.now ≡ shown_rows head }
+    ensures few { length result.now ≤ 8 }
+{
+    match head {
+        Head::Idle => &IDLE,
+        Head::Connect(_) => &CONNECT,
+        Head::Active(_) => &ACTIVE,
+        Head::OpenSent(_) => &OPEN_SENT,
+        Head::OpenConfirm(_, _) => &OPEN_CONFIRM,
+        Head::Established(_, _) => &ESTABLISHED,
+    }
+}
+
+/// The steps that a session may take by itself at a second and that show a record: just those that
+/// the table's rows allow, each once. It takes no memory.
+pub fn hidden_steps(config: &Config, head: Head, t: Seconds) -> ArrayVec<Step, MOST_STEPS>
+    ensures { ListsHidden config.now head t result.items }
+{
+    steps_of(config, head, t, rows_at(head))
+}

@@ -1,0 +1,28 @@
+//! Laws of the session machine's rows.
+
+ghost use Rattle.bgp_machine.specs.Going.{HiddenShape, ReceivedShape};
+ghost use Rattle.bgp_machine.specs.Owed.{EachOwedCanBeMet, EachOwedSetHasFault, NoteKeepsState};
+
+use bgp_update::empty_is_clean;
+
+/// All steps that one record opens and that do not fall to Idle go one way: with the same left to
+/// send they end in one head, and their routes stay or take the message's one list of changes. A
+/// step that falls sends at most one NOTIFICATION more.
+pub fn each_record_goes_one_way()
+    ensures hidden { HiddenShape }
+    ensures received { ReceivedShape }
+{}
+
+/// Each want that a step owes is met by some message, on the link that stood before the step. So a
+/// set of faults that is owed has one.
+pub fn each_owed_want_can_be_met()
+    ensures met { EachOwedCanBeMet }
+    ensures some { EachOwedSetHasFault }
+{
+    empty_is_clean();
+}
+
+/// A note of the state sends nothing, and leaves the state as it was.
+pub fn a_note_keeps_the_state()
+    ensures { NoteKeepsState }
+{}

@@ -1,0 +1,44 @@
+//! The session machine (RFC 4271, 8.2.2): the steps that a session may take, and what each sends,
+//! shows and leaves. Each row of its tables has a name (docs/SESSION-MACHINE.md).
+//!
+//! ```text
+//! let by_itself = hidden_steps(&config, head, second);
+//! let about_octets = message_steps(alloc, &config, head, second, octets)?;
+//! for step in about_octets.steps.as_slice() {
+//!     let owed = step.owed(); // what it sends is met by octets where `meets` says so
+//! }
+//! ```
+#![tactic(auto)]
+
+mod effects;
+mod fsm;
+mod hearing;
+mod hidden;
+mod laws;
+mod listing;
+mod meeting;
+mod messages;
+mod received;
+mod rows;
+mod sameness;
+mod silent;
+mod state;
+mod step;
+mod updates;
+mod want;
+
+pub use fsm::Fsm;
+pub use hearing::{Heard, hear};
+pub use hidden::hidden_steps;
+pub use laws::{a_note_keeps_the_state, each_owed_want_can_be_met, each_record_goes_one_way};
+pub use listing::MOST_STEPS;
+pub use meeting::meets;
+pub use messages::{MessageSteps, message_steps};
+pub use rows::{HiddenRow, ReceivedRow};
+pub use silent::silent_steps;
+pub use state::{Head, HoldTimer, State};
+pub use step::{After, Owed, Routes, Step};
+pub use want::{FaultSet, Unexpected, Want, Wants};
+
+#[cfg(test)]
+mod tests;

@@ -1,0 +1,113 @@
+//! What a state does about octets that it receives.
+
+ghost use Rattle.std.specs.Prelude.{◌≡◌, IfOk, IsErr};
+ghost use Rattle.bgp_update.specs.Outcome.{IsOnlyReset};
+ghost use Rattle.bgp_machine.specs.Heard.{Hears};
+ghost use Rattle.bgp_machine.specs.Listed.{ListsReceived, TakesMemory, changes_of};
+ghost use Rattle.bgp_machine.specs.Rows.{NeedsOutcomes};
+ghost use Rattle.bgp_machine.specs.declared.hearing.Heard.TheVariants as hearings;
+ghost use Rattle.bgp_machine.specs.declared.state.Head.TheVariants as heads;
+
+use crate::hearing::{Heard, hear};
+use crate::listing::MOST_STEPS;
+use crate::received::heard_steps;
+use crate::state::{Head, HoldTimer};
+use crate::step::Step;
+use crate::updates::update_steps;
+use arrayvec::ArrayVec;
+use bgp_open::{Config, Link};
+use bgp_prefix::Seconds;
+use bgp_update::{Changes, read_update};
+use std::alloc::{AllocError, Allocator, Global};
+
+/// The steps that a state takes about a message.
+#[derive(Drop)]
+pub struct MessageSteps<A: Allocator = Global> {
+    /// The steps.
+    pub steps: ArrayVec<Step, MOST_STEPS>,
+    /// The changes of the UPDATE, which each step makes whose routes are
+    /// [given](crate::Routes::Given); `None` where there is no such step.
+    pub changes: Option<Changes<A>>,
+}
+
+/// The steps about a message whose outcomes needn't be known.
+fn plain_steps<A: Allocator>(
+    config: &Config,
+    head: Head,
+    t: Seconds,
+    octets: &[u8],
+    heard: Heard,
+) -> MessageSteps<A>
+    requires heard { Hears config.now octets.now heard }
+    requires plain { ¬ NeedsOutcomes head heard }
+    ensures { ListsReceived config.now head t octets.now (changes_of result.changes)
+        result.steps.items }
+{
+    MessageSteps {
+        steps: heard_steps(octets, head, t, heard),
+        changes: None,
+    }
+}
+
+/// The steps about an UPDATE in Established.
+fn established_steps<A: Allocator + Copy>(
+    alloc: A,
+    config: &Config,
+    own: Link,
+    timer: HoldTimer,
+    t: Seconds,
+    octets: &[u8],
+) -> Result<MessageSteps<A>, AllocError>
+    requires { Hears config.now octets.now hearings.Update }
+    ensures memory { IsErr result → ¬ IsOnlyReset own octets.now }
+    ensures exact { IfOk result (λ m. ListsReceived config.now (heads.Established own timer) t octets.now
+        (changes_of m.changes) m.steps.items) }
+{
+    let outcomes = read_update(alloc, &own, octets)?;
+    let steps = update_steps(octets, own, timer, t, &outcomes);
+    Ok(MessageSteps {
+        steps,
+        changes: outcomes.changes,
+    })
+}
+
+/// The steps about an UPDATE.
+fn steps_on_update<A: Allocator + Copy>(
+    alloc: A,
+    config: &Config,
+    head: Head,
+    t: Seconds,
+    octets: &[u8],
+) -> Result<MessageSteps<A>, AllocError>
+    requires { Hears config.now octets.now hearings.Update }
+    ensures exact { IfOk result (λ m. ListsReceived config.now head t octets.now
+        (changes_of m.changes)
+        m.steps.items) }
+    ensures memory { IsErr result → TakesMemory head octets.now }
+{
+    match head {
+        Head::Established(own, timer) => established_steps(alloc, config, own, timer, t, octets),
+        _ => Ok(plain_steps(config, head, t, octets, Heard::Update)),
+    }
+}
+
+/// The steps that a session may take about octets which it receives at a second: just those that
+/// the table's rows allow, each once, whatever the octets are. Only for an UPDATE in Established
+/// that may be applied does it take memory.
+pub fn message_steps<A: Allocator + Copy>(
+    alloc: A,
+    config: &Config,
+    head: Head,
+    t: Seconds,
+    octets: &[u8],
+) -> Result<MessageSteps<A>, AllocError>
+    ensures exact { IfOk result (λ m. ListsReceived config.now head t octets.now
+        (changes_of m.changes)
+        m.steps.items) }
+    ensures memory { IsErr result → TakesMemory head octets.now }
+{
+    match hear(config, octets) {
+        Heard::Update => steps_on_update(alloc, config, head, t, octets),
+        heard => Ok(plain_steps(config, head, t, octets, heard)),
+    }
+}

@@ -1,0 +1,420 @@
+//! What a state does about a message (RFC 4271, 8.2.2 and 6.1 to 6.8), an UPDATE in Established
+//! apart.
+
+ghost use Rattle.std.specs.Prelude.{◌≡◌, ◌≢◌, ◌≤◌, ◌<◌, ◌+◌, ◌++◌, List, [], ◌∷◌, length};
+ghost use Rattle.std.specs.Prelude.{MatchOption, IsTrue, false};
+ghost use Rattle.arrayvec.specs.ArrayVec.{array_vec_len};
+ghost use Rattle.bgp_machine.specs.Listed.{IsStep};
+ghost use Rattle.bgp_machine.specs.Rows.{HeardShown, ListsRows, MakesHeard};
+ghost use Rattle.bgp_machine.specs.Listed.{no_changes};
+ghost use Rattle.bgp_machine.specs.Rows.{NeedsOutcomes, heard_rows};
+ghost use Rattle.bgp_machine.specs.State.{fsm_of, enters, settled as settled_with};
+ghost use Rattle.bgp_machine.specs.Step.{changed};
+ghost use Rattle.bgp_machine.specs.declared.fsm.Fsm.TheVariants as fsms;
+ghost use Rattle.bgp_machine.specs.declared.hearing.Heard.TheVariants as hearings;
+ghost use Rattle.bgp_machine.specs.declared.rows.ReceivedRow.{ReceivedRow as TheRow};
+ghost use Rattle.bgp_machine.specs.declared.state.Head.TheVariants as heads;
+ghost use Rattle.bgp_machine.specs.declared.want.Want.TheVariants as wants;
+
+use crate::effects::{entering, falling, naming, renewed, reporting, settled};
+use crate::hearing::Heard;
+use crate::listing::{MOST_STEPS, add};
+use crate::rows::ReceivedRow;
+use crate::state::{Head, HoldTimer};
+use crate::step::Step;
+use crate::want::{FaultSet, Unexpected, Want, Wants};
+use arrayvec::ArrayVec;
+use bgp_open::{Link, OpenSubcodes};
+use bgp_prefix::Seconds;
+
+/// What Idle does about a message.
+fn idle_on(octets: &[u8], t: Seconds, message: Heard, row: ReceivedRow) -> Option<Step>
+    ensures { MakesHeard heads.Idle t octets.now message row result }
+{
+    match row {
+        ReceivedRow::Ignores => Some(entering(Head::Idle, Wants::Nothing, Head::Idle)),
+        _ => None,
+    }
+}
+
+/// The OPEN is accepted in Connect or Active, where the own one is delayed.
+fn accepting(head: Head, delay: bool, link: Link, t: Seconds) -> Option<Step>
+    ensures { MatchOption result (delay ≡ false) (λ x. IsTrue delay
+        × IsStep no_changes x (wants.OwnOpen ∷ wants.KeepAlive ∷ [])
+        (changed (fsm_of head) fsms.OpenConfirm)
+        (enters (heads.OpenConfirm link (settled_with link t)))) }
+{
+    if !delay {
+        return None;
+    }
+    Some(entering(
+        head,
+        Wants::Two(Want::OwnOpen, Want::KeepAlive),
+        Head::OpenConfirm(link, settled(link, t)),
+    ))
+}
+
+/// What Connect does about a message.
+fn connect_on(
+    octets: &[u8],
+    delay: bool,
+    t: Seconds,
+    message: Heard,
+    row: ReceivedRow,
+) -> Option<Step>
+    ensures { MakesHeard (heads.Connect delay) t octets.now message row result }
+{
+    let head = Head::Connect(delay);
+    match message {
+        Heard::ValidOpen(link, subcodes) => match row {
+            ReceivedRow::Accepts => accepting(head, delay, link, t),
+            ReceivedRow::Drops => Some(falling(head, Wants::Nothing)),
+            ReceivedRow::NamesFault => Some(naming(head, FaultSet::Open(subcodes))),
+            _ => None,
+        },
+        Heard::FaultyHeader(faults) => match row {
+            ReceivedRow::Drops => Some(falling(head, Wants::Nothing)),
+            ReceivedRow::NamesFault => Some(naming(head, FaultSet::Header(faults))),
+            _ => None,
+        },
+        Heard::InvalidOpen(subcodes) => match row {
+            ReceivedRow::Drops => Some(falling(head, Wants::Nothing)),
+            ReceivedRow::NamesFault => Some(naming(head, FaultSet::Open(subcodes))),
+            _ => None,
+        },
+        Heard::BadVersion | Heard::Notification | Heard::Keepalive | Heard::Update => match row {
+            ReceivedRow::Drops => Some(falling(head, Wants::Nothing)),
+            _ => None,
+        },
+        Heard::TooShort => None,
+    }
+}
+
+/// What Active does about a message.
+fn active_on(
+    octets: &[u8],
+    delay: bool,
+    t: Seconds,
+    message: Heard,
+    row: ReceivedRow,
+) -> Option<Step>
+    ensures { MakesHeard (heads.Active delay) t octets.now message row result }
+{
+    let head = Head::Active(delay);
+    match message {
+        Heard::ValidOpen(link, subcodes) => match row {
+            ReceivedRow::Accepts => accepting(head, delay, link, t),
+            ReceivedRow::Drops => Some(falling(head, Wants::Nothing)),
+            ReceivedRow::NamesFault => Some(naming(head, FaultSet::Open(subcodes))),
+            _ => None,
+        },
+        Heard::FaultyHeader(faults) => match row {
+            ReceivedRow::Drops => Some(falling(head, Wants::Nothing)),
+            ReceivedRow::NamesFault => Some(naming(head, FaultSet::Header(faults))),
+            _ => None,
+        },
+        Heard::InvalidOpen(subcodes) => match row {
+            ReceivedRow::Drops => Some(falling(head, Wants::Nothing)),
+            ReceivedRow::NamesFault => Some(naming(head, FaultSet::Open(subcodes))),
+            _ => None,
+        },
+        Heard::BadVersion | Heard::Notification | Heard::Keepalive | Heard::Update => match row {
+            ReceivedRow::Drops => Some(falling(head, Wants::Nothing)),
+            _ => None,
+        },
+        Heard::TooShort => None,
+    }
+}
+
+/// What OpenSent does about a valid OPEN.
+fn open_sent_on_open(
+    octets: &[u8],
+    timer: HoldTimer,
+    t: Seconds,
+    link: Link,
+    subcodes: OpenSubcodes,
+    row: ReceivedRow,
+) -> Option<Step>
+    ensures { MakesHeard (heads.OpenSent timer) t octets.now
+        (hearings.ValidOpen link subcodes) row result }
+{
+    let head = Head::OpenSent(timer);
+    let accepted = Head::OpenConfirm(link, settled(link, t));
+    match row {
+        ReceivedRow::Accepts => Some(entering(head, Wants::One(Want::KeepAlive), accepted)),
+        ReceivedRow::Collides => Some(falling(head, Wants::One(Want::Cease))),
+        ReceivedRow::NamesFault => Some(naming(head, FaultSet::Open(subcodes))),
+        _ => None,
+    }
+}
+
+/// What OpenSent does about a message. Of a NOTIFICATION other than 2/1 the standard has a Finite
+/// State Machine Error alone (profile).
+fn open_sent_on(
+    octets: &[u8],
+    timer: HoldTimer,
+    t: Seconds,
+    message: Heard,
+    row: ReceivedRow,
+) -> Option<Step>
+    ensures { MakesHeard (heads.OpenSent timer) t octets.now message row result }
+{
+    let head = Head::OpenSent(timer);
+    let unexpected = reporting(head, Unexpected::InOpenSent);
+    match message {
+        Heard::ValidOpen(link, subcodes) => open_sent_on_open(
+            octets, timer, t, link, subcodes, row,
+        ),
+        Heard::FaultyHeader(faults) => match row {
+            ReceivedRow::NamesFault => Some(naming(head, FaultSet::Header(faults))),
+            _ => None,
+        },
+        Heard::InvalidOpen(subcodes) => match row {
+            ReceivedRow::NamesFault => Some(naming(head, FaultSet::Open(subcodes))),
+            _ => None,
+        },
+        Heard::BadVersion => match row {
+            ReceivedRow::Drops => Some(falling(head, Wants::Nothing)),
+            _ => None,
+        },
+        Heard::Notification => match row {
+            ReceivedRow::Drops => Some(falling(head, Wants::Nothing)),
+            ReceivedRow::ReportsError => Some(unexpected),
+            _ => None,
+        },
+        Heard::Keepalive | Heard::Update => match row {
+            ReceivedRow::ReportsError => Some(unexpected),
+            _ => None,
+        },
+        Heard::TooShort => None,
+    }
+}
+
+/// What OpenConfirm does about a second valid OPEN.
+fn open_confirm_on_open(
+    octets: &[u8],
+    own: Link,
+    timer: HoldTimer,
+    t: Seconds,
+    link: Link,
+    subcodes: OpenSubcodes,
+    row: ReceivedRow,
+) -> Option<Step>
+    ensures { MakesHeard (heads.OpenConfirm own timer) t octets.now
+        (hearings.ValidOpen link subcodes) row result }
+{
+    let head = Head::OpenConfirm(own, timer);
+    match row {
+        ReceivedRow::Overlooks => Some(entering(head, Wants::Nothing, head)),
+        ReceivedRow::Collides => Some(falling(head, Wants::One(Want::Cease))),
+        ReceivedRow::NamesFault => Some(naming(head, FaultSet::Open(subcodes))),
+        ReceivedRow::ReportsError => Some(reporting(head, Unexpected::InOpenConfirm)),
+        _ => None,
+    }
+}
+
+/// What OpenConfirm does about a message.
+fn open_confirm_on(
+    octets: &[u8],
+    own: Link,
+    timer: HoldTimer,
+    t: Seconds,
+    message: Heard,
+    row: ReceivedRow,
+) -> Option<Step>
+    ensures { MakesHeard (heads.OpenConfirm own timer) t octets.now message row result }
+{
+    let head = Head::OpenConfirm(own, timer);
+    let confirmed = Head::Established(own, renewed(timer, t));
+    match message {
+        Heard::ValidOpen(link, subcodes) => open_confirm_on_open(
+            octets, own, timer, t, link, subcodes, row,
+        ),
+        Heard::FaultyHeader(faults) => match row {
+            ReceivedRow::NamesFault => Some(naming(head, FaultSet::Header(faults))),
+            _ => None,
+        },
+        Heard::InvalidOpen(subcodes) => match row {
+            ReceivedRow::NamesFault => Some(naming(head, FaultSet::Open(subcodes))),
+            _ => None,
+        },
+        Heard::BadVersion | Heard::Notification => match row {
+            ReceivedRow::Drops => Some(falling(head, Wants::Nothing)),
+            _ => None,
+        },
+        Heard::Keepalive => match row {
+            ReceivedRow::Establishes => Some(entering(head, Wants::Nothing, confirmed)),
+            _ => None,
+        },
+        Heard::Update => match row {
+            ReceivedRow::ReportsError => Some(reporting(head, Unexpected::InOpenConfirm)),
+            _ => None,
+        },
+        Heard::TooShort => None,
+    }
+}
+
+/// What Established does about a second valid OPEN.
+fn established_on_open(
+    octets: &[u8],
+    own: Link,
+    timer: HoldTimer,
+    t: Seconds,
+    link: Link,
+    subcodes: OpenSubcodes,
+    row: ReceivedRow,
+) -> Option<Step>
+    ensures { MakesHeard (heads.Established own timer) t octets.now
+        (hearings.ValidOpen link subcodes) row result }
+{
+    let head = Head::Established(own, timer);
+    match row {
+        ReceivedRow::Overlooks => Some(entering(head, Wants::Nothing, head)),
+        ReceivedRow::Collides => Some(falling(head, Wants::One(Want::Cease))),
+        ReceivedRow::NamesFault => Some(naming(head, FaultSet::Open(subcodes))),
+        ReceivedRow::ReportsError => Some(reporting(head, Unexpected::InEstablished)),
+        _ => None,
+    }
+}
+
+/// What Established does about a message other than an UPDATE.
+fn established_on(
+    octets: &[u8],
+    own: Link,
+    timer: HoldTimer,
+    t: Seconds,
+    message: Heard,
+    row: ReceivedRow,
+) -> Option<Step>
+    requires { message ≢ hearings.Update }
+    ensures { MakesHeard (heads.Established own timer) t octets.now message row result }
+{
+    let head = Head::Established(own, timer);
+    let unexpected = reporting(head, Unexpected::InEstablished);
+    let alive = Head::Established(own, renewed(timer, t));
+    match message {
+        Heard::ValidOpen(link, subcodes) => established_on_open(
+            octets, own, timer, t, link, subcodes, row,
+        ),
+        Heard::FaultyHeader(faults) => match row {
+            ReceivedRow::NamesFault => Some(naming(head, FaultSet::Header(faults))),
+            ReceivedRow::ReportsError => Some(unexpected),
+            _ => None,
+        },
+        Heard::InvalidOpen(subcodes) => match row {
+            ReceivedRow::NamesFault => Some(naming(head, FaultSet::Open(subcodes))),
+            ReceivedRow::ReportsError => Some(unexpected),
+            _ => None,
+        },
+        Heard::BadVersion | Heard::Notification => match row {
+            ReceivedRow::Drops => Some(falling(head, Wants::Nothing)),
+            _ => None,
+        },
+        Heard::Keepalive => match row {
+            ReceivedRow::Renews => Some(entering(head, Wants::Nothing, alive)),
+            _ => None,
+        },
+        _ => None,
+    }
+}
+
+/// What a row about a message makes.
+fn heard_step(
+    octets: &[u8],
+    head: Head,
+    t: Seconds,
+    message: Heard,
+    row: ReceivedRow,
+) -> Option<Step>
+    requires { ¬ NeedsOutcomes head message }
+    ensures { MakesHeard head t octets.now message row result }
+{
+    match head {
+        Head::Idle => idle_on(octets, t, message, row),
+        Head::Connect(delay) => connect_on(octets, delay, t, message, row),
+        Head::Active(delay) => active_on(octets, delay, t, message, row),
+        Head::OpenSent(timer) => open_sent_on(octets, timer, t, message, row),
+        Head::OpenConfirm(own, timer) => open_confirm_on(octets, own, timer, t, message, row),
+        Head::Established(own, timer) => established_on(octets, own, timer, t, message, row),
+    }
+}
+
+/// Adds what a row makes.
+fn add_heard(
+    octets: &[u8],
+    head: Head,
+    t: Seconds,
+    message: Heard,
+    row: ReceivedRow,
+    steps: &mut ArrayVec<Step, MOST_STEPS>,
+)
+    requires told { ¬ NeedsOutcomes head message }
+    requires room { array_vec_len steps.old < 8 }
+    ensures listed { (rows : List TheRow)
+        → ListsRows (HeardShown head t octets.now message) no_changes rows steps.old.items
+        → ListsRows (HeardShown head t octets.now message) no_changes (rows ++ row ∷ [])
+        steps.new.items }
+    ensures count { array_vec_len steps.new ≤ array_vec_len steps.old + 1 }
+{
+    let Some(step) = heard_step(octets, head, t, message, row) else {
+        return;
+    };
+    add(steps, step);
+}
+
+/// The rows of a state about messages, in the order of the standard's events.
+fn rows_on(head: Head) -> &'static [ReceivedRow]
+    ensures rows { result.now ≡ heard_rows head }
+    ensures few { length result.now ≤ 8 }
+{
+    match head {
+        Head::Idle => &[ReceivedRow::Ignores],
+        Head::Connect(_) | Head::Active(_) => &[
+            ReceivedRow::Accepts,
+            ReceivedRow::Drops,
+            ReceivedRow::NamesFault,
+        ],
+        Head::OpenSent(_) => &[
+            ReceivedRow::Accepts,
+            ReceivedRow::Collides,
+            ReceivedRow::Drops,
+            ReceivedRow::NamesFault,
+            ReceivedRow::ReportsError,
+        ],
+        Head::OpenConfirm(_, _) => &[
+            ReceivedRow::Overlooks,
+            ReceivedRow::Collides,
+            ReceivedRow::Drops,
+            ReceivedRow::NamesFault,
+            ReceivedRow::ReportsError,
+            ReceivedRow::Establishes,
+        ],
+        Head::Established(_, _) => &[
+            ReceivedRow::Overlooks,
+            ReceivedRow::Collides,
+            ReceivedRow::Drops,
+            ReceivedRow::NamesFault,
+            ReceivedRow::ReportsError,
+            ReceivedRow::Renews,
+        ],
+    }
+}
+
+/// The steps that a state takes about a message.
+pub(crate) fn heard_steps(
+    octets: &[u8],
+    head: Head,
+    t: Seconds,
+    message: Heard,
+) -> ArrayVec<Step, MOST_STEPS>
+    requires { ¬ NeedsOutcomes head message }
+    ensures { ListsRows (HeardShown head t octets.now message) no_changes (heard_rows head)
+        result.items }
+{
+    let mut steps = ArrayVec::new();
+    let rows = rows_on(head);
+    for row in rows {
+        add_heard(octets, head, t, message, *row, &mut steps);
+    }
+    steps
+}

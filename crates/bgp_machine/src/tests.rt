@@ -1,0 +1,87 @@
+//! Each row of the session machine's tables: its effect is listed where the row holds, and isn't
+//! where its guard fails by one: a second, a flag, a state, a message. Steps and numbers of steps
+//! were written down by hand from the tables.
+
+mod hidden;
+mod meeting;
+mod received;
+mod silent;
+mod updates;
+
+use crate::{After, Head, HoldTimer, Routes, Step, Wants};
+use bgp_open::{Config, ConfigParts, Families, Link, negotiate, read_open};
+use bgp_prefix::{Address, Session};
+use bgp_wire::vectors::OPEN_B;
+use std::test::Fail;
+
+/// What router A is configured to do: AS 65001 at 192.0.2.1, with AS 65002 at 192.0.2.2, Hold Time
+/// 90, both families and four-octet AS numbers.
+const PARTS_A: ConfigParts = ConfigParts {
+    local_as: 65001,
+    peer_as: 65002,
+    local_id: 0xc000_0201,
+    hold: 90,
+    families: Families { v4: true, v6: true },
+    as4: true,
+    delay_open: false,
+    large_hold: 240,
+    session: Session {
+        peer: Address::V4(0xc000_0202),
+        local: Address::V4(0xc000_0201),
+        refresh: true,
+    },
+};
+
+/// The HoldTimer of a session, set at 102 for 90 seconds.
+const TIMER: HoldTimer = HoldTimer {
+    since: 102,
+    span: 90,
+};
+
+/// With a Hold Time of 0.
+const STOPPED: HoldTimer = HoldTimer {
+    since: 102,
+    span: 0,
+};
+
+/// The large HoldTimer of OpenSent, set at 100.
+const LARGE: HoldTimer = HoldTimer {
+    since: 100,
+    span: 240,
+};
+
+/// Router A.
+fn router_a(delay_open: bool) -> Result<Config, Fail> {
+    let parts = ConfigParts {
+        delay_open,
+        ..PARTS_A
+    };
+    Ok(Config::new(parts).ok_or("no configuration")?)
+}
+
+/// What routers A and B settle.
+fn link_of_a_and_b(config: &Config) -> Result<Link, Fail> {
+    let Ok(open) = read_open(&OPEN_B) else {
+        return Err("no OPEN".into());
+    };
+    Ok(negotiate(config, &open))
+}
+
+/// The step that sends this and ends so.
+fn step(from: Head, sends: Wants, to: Head) -> Step {
+    let (old, new) = (from.fsm(), to.fsm());
+    let falls = to == Head::Idle && old != new;
+    Step {
+        wants: sends,
+        change: if old == new { None } else { Some((old, new)) },
+        after: After {
+            head: to,
+            routes: if falls { Routes::Cleared } else { Routes::Kept },
+        },
+    }
+}
+
+/// Whether the step is listed.
+fn lists(steps: &[Step], step: Step) -> bool {
+    steps.iter().any(|listed| *listed == step)
+}

@@ -1,0 +1,216 @@
+//! What a state does by itself.
+
+use super::*;
+use crate::{Fsm, HiddenRow, Want, hidden_steps};
+use HiddenRow::*;
+
+/// Where a row is asked: a state, a second, and whether the OPEN may be delayed.
+#[derive(Clone, Copy)]
+struct Place {
+    head: Head,
+    t: u32,
+    delay_open: bool,
+}
+
+/// A row, where it holds, what it sends and where it ends; and where it doesn't hold.
+#[derive(Clone, Copy)]
+struct Case {
+    row: HiddenRow,
+    holds: Place,
+    sends: Wants,
+    to: Head,
+    fails: Place,
+}
+
+fn at(head: Head, t: u32) -> Place {
+    Place {
+        head,
+        t,
+        delay_open: false,
+    }
+}
+
+/// A row whose guard is the state alone.
+fn in_state(row: HiddenRow, head: Head, sends: Wants, to: Head, elsewhere: Head) -> Case {
+    Case {
+        row,
+        holds: at(head, 120),
+        sends,
+        to,
+        fails: at(elsewhere, 120),
+    }
+}
+
+/// A row whose guard is the second.
+fn in_time(row: HiddenRow, head: Head, sends: Wants, to: Head, t: u32) -> Case {
+    Case {
+        row,
+        holds: at(head, t),
+        sends,
+        to,
+        fails: at(head, t.saturating_sub(1)),
+    }
+}
+
+/// The HoldTimer with which the peer's OPEN is waited for at 120.
+const WAITING: Head = Head::OpenSent(HoldTimer {
+    since: 120,
+    span: 240,
+});
+
+const NOTHING: Wants = Wants::Nothing;
+
+const OPEN: Wants = Wants::One(Want::OwnOpen);
+
+const CEASE: Wants = Wants::One(Want::Cease);
+
+const EXPIRED: Wants = Wants::One(Want::HoldExpired);
+
+const ALIVE: Wants = Wants::One(Want::KeepAlive);
+
+const UPDATE: Wants = Wants::One(Want::CleanUpdate);
+
+const CONNECT: Head = Head::Connect(false);
+
+const CONNECT_DELAYED: Head = Head::Connect(true);
+
+const ACTIVE: Head = Head::Active(false);
+
+const ACTIVE_DELAYED: Head = Head::Active(true);
+
+const SENT: Head = Head::OpenSent(LARGE);
+
+/// The rows up to OpenSent but the notes. An OPEN whose delay expires is sent as one whose
+/// connection is up, so that row is seen by its effect alone.
+fn rows_before_an_open() -> [Case; 13] {
+    [
+        in_state(Starts, Head::Idle, NOTHING, CONNECT, SENT),
+        in_state(Listens, Head::Idle, NOTHING, ACTIVE, CONNECT),
+        in_state(Stops, CONNECT, NOTHING, Head::Idle, SENT),
+        in_state(DelayExpires, CONNECT_DELAYED, OPEN, WAITING, Head::Idle),
+        in_state(ConnectionOpens, CONNECT, OPEN, WAITING, Head::Idle),
+        in_state(ConnectionFails, CONNECT_DELAYED, NOTHING, ACTIVE, CONNECT),
+        in_state(ConnectionFails, CONNECT, NOTHING, Head::Idle, SENT),
+        in_state(Stops, ACTIVE, NOTHING, Head::Idle, SENT),
+        in_state(Ceases, ACTIVE_DELAYED, CEASE, Head::Idle, ACTIVE),
+        in_state(RetryExpires, ACTIVE, NOTHING, CONNECT, SENT),
+        in_state(DelayExpires, ACTIVE_DELAYED, OPEN, WAITING, Head::Idle),
+        in_state(ConnectionOpens, ACTIVE, OPEN, WAITING, Head::Idle),
+        in_state(ConnectionFails, ACTIVE, NOTHING, Head::Idle, SENT),
+    ]
+}
+
+/// The rows from OpenSent on but the notes.
+fn rows_after_an_open(link: Link) -> [Case; 12] {
+    let confirm = Head::OpenConfirm(link, TIMER);
+    let up = Head::Established(link, TIMER);
+    let stopped_confirm = Head::OpenConfirm(link, STOPPED);
+    let stopped_up = Head::Established(link, STOPPED);
+    [
+        in_state(Ceases, SENT, CEASE, Head::Idle, CONNECT),
+        in_time(HoldExpires, SENT, EXPIRED, Head::Idle, 340),
+        in_state(ConnectionFails, SENT, NOTHING, ACTIVE, confirm),
+        in_state(Ceases, confirm, CEASE, Head::Idle, ACTIVE),
+        in_time(HoldExpires, confirm, EXPIRED, Head::Idle, 192),
+        in_state(KeepaliveExpires, confirm, ALIVE, confirm, stopped_confirm),
+        in_state(ConnectionFails, confirm, NOTHING, Head::Idle, SENT),
+        in_state(Ceases, up, CEASE, Head::Idle, CONNECT_DELAYED),
+        in_time(HoldExpires, up, EXPIRED, Head::Idle, 192),
+        in_state(KeepaliveExpires, up, ALIVE, up, stopped_up),
+        in_state(ConnectionFails, up, NOTHING, Head::Idle, SENT),
+        in_state(Announces, up, UPDATE, up, confirm),
+    ]
+}
+
+fn is_listed(place: Place, step: Step) -> Result<bool, Fail> {
+    let config = router_a(place.delay_open)?;
+    let steps = hidden_steps(&config, place.head, place.t);
+    Ok(lists(steps.as_slice(), step))
+}
+
+/// The row's step, taken from another place: one that stays stays there.
+fn step_from(case: &Case, place: Place) -> Step {
+    let to = if case.to == case.holds.head {
+        place.head
+    } else {
+        case.to
+    };
+    step(place.head, case.sends, to)
+}
+
+#[test]
+fn each_row_is_listed_where_it_holds_and_nowhere_else(rt: HostRuntime) -> Result<(), Fail> {
+    let link = link_of_a_and_b(&router_a(false)?)?;
+    let before = rows_before_an_open();
+    let after = rows_after_an_open(link);
+    for case in before.iter().chain(after.iter()) {
+        let row = case.row;
+        let (holds, fails) = (case.holds, case.fails);
+        assert!(rt;
+            is_listed(holds, step_from(case, holds))?,
+            "{row:?} at {:?}",
+            holds.head
+        );
+        assert!(rt;
+            !is_listed(fails, step_from(case, fails))?,
+            "{row:?} at {:?}",
+            fails.head
+        );
+    }
+    Ok(())
+}
+
+/// A note of a state.
+fn note(head: Head, fsm: Fsm) -> Step {
+    Step {
+        wants: NOTHING,
+        change: Some((fsm, fsm)),
+        after: After {
+            head,
+            routes: Routes::Kept,
+        },
+    }
+}
+
+#[test]
+fn a_note_is_of_the_state_as_it_is(rt: HostRuntime) -> Result<(), Fail> {
+    let link = link_of_a_and_b(&router_a(false)?)?;
+    let confirm = Head::OpenConfirm(link, TIMER);
+    let rows = [
+        (Head::Idle, Fsm::Idle, CONNECT),
+        (CONNECT, Fsm::Connect, CONNECT_DELAYED),
+        (CONNECT_DELAYED, Fsm::Connect, CONNECT),
+        (ACTIVE, Fsm::Active, ACTIVE_DELAYED),
+        (ACTIVE_DELAYED, Fsm::Active, ACTIVE),
+        (SENT, Fsm::OpenSent, WAITING),
+        (confirm, Fsm::OpenConfirm, SENT),
+        (Head::Established(link, TIMER), Fsm::Established, confirm),
+    ];
+    for (head, fsm, other) in rows {
+        assert!(rt;
+            is_listed(at(head, 120), note(head, fsm))?,
+            "{Notes:?} at {head:?}"
+        );
+        assert!(rt;
+            !is_listed(at(other, 120), note(head, fsm))?,
+            "{Notes:?} at {other:?}"
+        );
+    }
+    Ok(())
+}
+
+#[test]
+fn each_state_has_as_many_steps_as_its_rows_say(rt: HostRuntime) -> Result<(), Fail> {
+    let config = router_a(false)?;
+    let delayed = router_a(true)?;
+    let link = link_of_a_and_b(&config)?;
+    let up = Head::Established(link, TIMER);
+    let stopped = Head::Established(link, STOPPED);
+    assert_eq!(rt; hidden_steps(&config, Head::Idle, 100).len(), 3);
+    assert_eq!(rt; hidden_steps(&config, CONNECT, 100).len(), 3);
+    assert_eq!(rt; hidden_steps(&delayed, ACTIVE_DELAYED, 100).len(), 5);
+    assert_eq!(rt; hidden_steps(&config, up, 191).len(), 5);
+    assert_eq!(rt; hidden_steps(&config, up, 192).len(), 6);
+    assert_eq!(rt; hidden_steps(&config, stopped, 192).len(), 4);
+    Ok(())
+}

@@ -1,0 +1,172 @@
+//! What Established does about an UPDATE (RFC 4271, 8.2.2, events 27 and 28; RFC 7606).
+
+ghost use Rattle.std.specs.Prelude.{◌≡◌, ◌↔◌, ◌⊎◌, ◌≤◌, ◌<◌, ◌+◌, ◌++◌, List, [], ◌∷◌, IsTrue};
+ghost use Rattle.arrayvec.specs.ArrayVec.{array_vec_len};
+ghost use Rattle.bgp_open.specs.Families.{contains};
+ghost use Rattle.bgp_update.specs.Disabled.{IsDisabled};
+ghost use Rattle.bgp_machine.specs.Rows.{AreOutcomes, ListsRows, MakesUpdate, UpdateShown};
+ghost use Rattle.bgp_machine.specs.Listed.{changes_of};
+ghost use Rattle.bgp_machine.specs.Rows.{update_rows};
+ghost use Rattle.bgp_machine.specs.declared.rows.ReceivedRow.TheVariants as the_rows;
+ghost use Rattle.bgp_machine.specs.declared.rows.ReceivedRow.{ReceivedRow as TheRow};
+
+use crate::effects::{naming, renewed};
+use crate::listing::{MOST_STEPS, add};
+use crate::rows::ReceivedRow;
+use crate::state::{Head, HoldTimer};
+use crate::step::{After, Routes, Step};
+use crate::want::{FaultSet, Wants};
+use arrayvec::ArrayVec;
+use bgp_open::{Families, Link};
+use bgp_prefix::Seconds;
+use bgp_update::{Outcomes, subcodes_are_sets};
+use std::alloc::Allocator;
+
+/// Whether a family is disabled where it has to be, and only where it may be.
+fn is_disabled_so(certain: bool, optional: bool, disabled: bool) -> bool
+    ensures { IsTrue result ↔ ((IsTrue certain → IsTrue disabled)
+        × (IsTrue disabled → IsTrue certain ⊎ IsTrue optional)) }
+{
+    if certain {
+        return disabled;
+    }
+    optional || !disabled
+}
+
+/// Whether just these families may be disabled.
+fn are_disabled_so(certain: Families, optional: Families, disabled: Families) -> bool
+    ensures { IsTrue result ↔ IsDisabled (λ f. IsTrue (contains certain f))
+        (λ f. IsTrue (contains optional f)) disabled }
+{
+    if !is_disabled_so(certain.v4, optional.v4, disabled.v4) {
+        return false;
+    }
+    is_disabled_so(certain.v6, optional.v6, disabled.v6)
+}
+
+/// The UPDATE is applied, and these families are disabled.
+fn applying<A: Allocator>(
+    octets: &[u8],
+    own: Link,
+    timer: HoldTimer,
+    t: Seconds,
+    outcomes: &Outcomes<A>,
+    families: Families,
+) -> Option<Step>
+    requires { AreOutcomes own octets.now outcomes.now }
+    ensures { MakesUpdate own timer t octets.now outcomes.now (the_rows.Applies families) result }
+{
+    if outcomes.changes.is_none() {
+        return None;
+    }
+    if !are_disabled_so(outcomes.certain, outcomes.optional, families) {
+        return None;
+    }
+    Some(Step {
+        wants: Wants::Nothing,
+        change: None,
+        after: After {
+            head: Head::Established(own, renewed(timer, t)),
+            routes: Routes::Given(families),
+        },
+    })
+}
+
+/// The UPDATE is refused.
+fn refusing<A: Allocator>(
+    octets: &[u8],
+    own: Link,
+    timer: HoldTimer,
+    t: Seconds,
+    outcomes: &Outcomes<A>,
+) -> Option<Step>
+    requires { AreOutcomes own octets.now outcomes.now }
+    ensures { MakesUpdate own timer t octets.now outcomes.now the_rows.NamesFault result }
+{
+    if outcomes.reset.is_empty() {
+        return None;
+    }
+    subcodes_are_sets();
+    let head = Head::Established(own, timer);
+    Some(naming(head, FaultSet::Update(outcomes.reset)))
+}
+
+/// What a row about an UPDATE makes.
+fn update_step<A: Allocator>(
+    octets: &[u8],
+    own: Link,
+    timer: HoldTimer,
+    t: Seconds,
+    outcomes: &Outcomes<A>,
+    row: ReceivedRow,
+) -> Option<Step>
+    requires { AreOutcomes own octets.now outcomes.now }
+    ensures { MakesUpdate own timer t octets.now outcomes.now row result }
+{
+    match row {
+        ReceivedRow::NamesFault => refusing(octets, own, timer, t, outcomes),
+        ReceivedRow::Applies(families) => applying(octets, own, timer, t, outcomes, families),
+        _ => None,
+    }
+}
+
+/// Adds what a row makes.
+fn add_update<A: Allocator>(
+    octets: &[u8],
+    own: Link,
+    timer: HoldTimer,
+    t: Seconds,
+    outcomes: &Outcomes<A>,
+    row: ReceivedRow,
+    steps: &mut ArrayVec<Step, MOST_STEPS>,
+)
+    requires outcomes { AreOutcomes own octets.now outcomes.now }
+    requires room { array_vec_len steps.old < 8 }
+    ensures listed { (rows : List TheRow)
+        → ListsRows (UpdateShown own timer t octets.now) (changes_of outcomes.now.changes) rows
+        steps.old.items
+        → ListsRows (UpdateShown own timer t octets.now) (changes_of outcomes.now.changes)
+        (rows ++ row ∷ []) steps.new.items }
+    ensures count { array_vec_len steps.new ≤ array_vec_len steps.old + 1 }
+{
+    let Some(step) = update_step(octets, own, timer, t, outcomes, row) else {
+        return;
+    };
+    add(steps, step);
+}
+
+/// The steps that Established takes about an UPDATE with these outcomes.
+pub(crate) fn update_steps<A: Allocator>(
+    octets: &[u8],
+    own: Link,
+    timer: HoldTimer,
+    t: Seconds,
+    outcomes: &Outcomes<A>,
+) -> ArrayVec<Step, MOST_STEPS>
+    requires { AreOutcomes own octets.now outcomes.now }
+    ensures { ListsRows (UpdateShown own timer t octets.now)
+        (changes_of outcomes.now.changes) update_rows
+        result.items }
+{
+    let rows = [
+        ReceivedRow::NamesFault,
+        ReceivedRow::Applies(Families {
+            v4: false,
+            v6: false,
+        }),
+        ReceivedRow::Applies(Families {
+            v4: true,
+            v6: false,
+        }),
+        ReceivedRow::Applies(Families {
+            v4: false,
+            v6: true,
+        }),
+        ReceivedRow::Applies(Families { v4: true, v6: true }),
+    ];
+    let mut steps = ArrayVec::new();
+    for row in &rows {
+        add_update(octets, own, timer, t, outcomes, *row, &mut steps);
+    }
+    steps
+}
