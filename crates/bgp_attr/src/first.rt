@@ -90,7 +90,8 @@ impl<'a> FirstAttrs<'a> {
     pub fn good(&self, side: Side, attr_type: AttrType) -> Option<Attr<'a>>
         ensures value { option_map (λ a. a.value.now) result
             ≡ value_by_type side (first_at self.now) attr_type }
-        ensures rows { IfSome result (λ a. strongest (value_rows side attr_type a.value.now) ≡ Good) }
+        ensures rows { IfSome result
+            (λ a. strongest (value_rows side attr_type a.value.now) ≡ Good) }
     {
         let attr = self.get(attr_type)?;
         if class(side, &attr) != Some(AttrVerdict::Good) {

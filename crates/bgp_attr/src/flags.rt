@@ -1,5 +1,5 @@
-//! The bits of the Attribute Flags octet (RFC 4271, 4.3). Partial and the low four bits mean nothing
-//! to this project.
+//! The bits of the Attribute Flags octet (RFC 4271, 4.3). Partial and the low four bits mean
+//! nothing to this project.
 
 /// Optional: it isn't well-known.
 pub const OPTIONAL: u8 = 128;

@@ -48,7 +48,8 @@ fn read_parts<A: Allocator + Copy>(
     next_hop: NextHop,
 ) -> Result<PathParts<A>, AllocError>
     ensures parts { IfOk result
-        (λ parts. value_of parts ≡ path_from side (value_by_type side (first_at first.now)) next_hop) }
+        (λ parts. value_of parts
+        ≡ path_from side (value_by_type side (first_at first.now)) next_hop) }
 {
     let plain = aggregator(side, first, AttrType::Aggregator, side.as4);
     let as4 = aggregator(side, first, AttrType::As4Aggregator, true);
@@ -84,7 +85,8 @@ fn origin(side: Side, first: &FirstAttrs<'_>) -> Origin
 /// The number of four octets that an attribute of this type says.
 fn number(side: Side, first: &FirstAttrs<'_>, attr_type: AttrType) -> Option<u32>
     requires { (v : List ℕ) → strongest (value_rows side attr_type v) ≡ Good → length v ≡ 4 }
-    ensures { result ≡ option_map (big_number 4) (value_by_type side (first_at first.now) attr_type) }
+    ensures { result
+        ≡ option_map (big_number 4) (value_by_type side (first_at first.now) attr_type) }
 {
     let attr = first.good(side, attr_type)?;
     Some(BigEndian::read_u32(attr.value))

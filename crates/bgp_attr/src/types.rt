@@ -1,7 +1,8 @@
 //! The attribute table: the path attribute types that this project knows.
 
 ghost use Rattle.std.specs.Prelude.{◌≡◌};
-ghost use Rattle.bgp_attr.specs.Types.{is_multiprotocol, type_bits, type_name, type_number, type_of};
+ghost use Rattle.bgp_attr.specs.Types.{is_multiprotocol, type_bits, type_name, type_number};
+ghost use Rattle.bgp_attr.specs.Types.{type_of};
 
 use crate::flags::{OPTIONAL, OPTIONAL_TRANSITIVE, TRANSITIVE};
 

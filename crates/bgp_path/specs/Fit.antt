@@ -1,4 +1,5 @@
--- The numbers of a path fit the octets that a message has for them (RFC 4271, 4.3; 1997; 2545; 4360;
+-- The numbers of a path fit the octets that a message has for them (RFC 4271, 4.3; 1997; 2545;
+-- 4360;
 -- 4456): each `Path` is so, by the types of its parts.
 use Rattle.std.specs.Prelude.{◌<◌, ◌^◌, All, IfSome}
 use Rattle.bgp_path.specs.declared.path.NextHop.{NextHop}

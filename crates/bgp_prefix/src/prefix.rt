@@ -165,7 +165,8 @@ impl Prefix {
     }
 
     /// Appends the octets that spell the prefix, with zeros for the bits after it. It is `Err` only
-    /// where there was too little room and memory for more was refused, and then `out` is as before.
+    /// where there was too little room and memory for more was refused, and then `out` is as
+    /// before.
     pub fn write<A: Allocator>(&self, out: &mut Vec<u8, A>) -> Result<(), AllocError>
         ensures ok { OnOk result (out.new.items ≡ out.old.items ++ prefix_octets self.now) }
         ensures err { OnErr result (out.new.items ≡ out.old.items) }

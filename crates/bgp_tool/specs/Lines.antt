@@ -5,5 +5,6 @@ use Rattle.bgp_tool.specs.declared.lines.Lines.{Lines}
 use Rattle.bgp_tool.specs.Outlet.{Passes}
 
 -- a text was appended: the sink took a beginning of it, behind what was held, and the rest is held
-abbrev pub Writes : {W : Type 0} {sink : sinks.Ghosts W} → Lines W sink → Lines W sink → List ℕ → Type 0
+abbrev pub Writes : {W : Type 0} {sink : sinks.Ghosts W} → Lines W sink → Lines W sink → List ℕ
+    → Type 0
 Writes old new text = Passes old.outlet new.outlet old.held.items text new.held.items

@@ -12,7 +12,8 @@ module _ {W : Type 0} (failures : W → ℕ) (old new : W) (left held : List ℕ
   IsKept true true = new ≡ old
   IsKept true false = ⊥
 
--- What was held, with a text behind it, was handed over or is held: the sink took a beginning of it.
+-- What was held, with a text behind it, was handed over or is held: the sink took a beginning of
+-- it.
 pub record Passes {W : Type 0} {sink : sinks.Ghosts W} (old new : Outlet W sink)
     (held text held' : List ℕ) : Type 0 where
   pub same_sink : new.sink.ghost_name ≡ old.sink.ghost_name

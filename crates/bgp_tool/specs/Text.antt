@@ -37,7 +37,8 @@ open_line fields =
 
 -- an OPEN whose form is wrong: the number of its fault (RFC 4271, 6.2)
 unfoldable pub malformed_open_line : OpenFault → List ℕ
-malformed_open_line fault = codes "open malformed " ++ (decimal (open_fault_number fault) ++ codes "\n")
+malformed_open_line fault =
+    codes "open malformed " ++ (decimal (open_fault_number fault) ++ codes "\n")
 
 -- an UPDATE, which isn't read yet: the count of the whole message's octets
 unfoldable pub update_line : ℕ → List ℕ

@@ -1,6 +1,7 @@
 //! The text of addresses and prefixes (RFC 4632, 3.1; RFC 5952), piece by piece.
 
-ghost use Rattle.std.specs.Prelude.{◌≡◌, ◌<◌, ◌≤◌, ◌+◌, ◌↔◌, IfSome, IsTrue, length, take, replicate};
+ghost use Rattle.std.specs.Prelude.{◌≡◌, ◌<◌, ◌≤◌, ◌+◌, ◌↔◌, IfSome, IsTrue, length, take};
+ghost use Rattle.std.specs.Prelude.{replicate};
 ghost use Rattle.std.specs.Char.{digit_char};
 ghost use Rattle.std.specs.Net.Text.{leading_zero_digits};
 ghost use Rattle.bgp_prefix.specs.Text.{address_text, prefix_text, group_text, colon_text};
