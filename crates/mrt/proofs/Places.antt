@@ -6,6 +6,7 @@ use Rattle.mrt.specs.declared.fault.FaultKind.TheVariants as kinds
 use Rattle.mrt.specs.declared.judging.Found.{Found}
 use Rattle.mrt.specs.Layout.{Header, header_in, header_of, body_of, content_in, IsRecord, IsBgp4mp}
 use Rattle.mrt.specs.Rules.{Judgement, Holds, FirstSays, rules, IsJudged, Skipped, Refused}
+use Rattle.mrt.specs.Capture.{IsBegun}
 use Rattle.mrt.specs.Found.{IsJudgedBy, IsFound, shown_as}
 use Rattle.mrt.specs.Reading.{IsFoundIn, IsRefused}
 
@@ -128,6 +129,23 @@ long_body session last front more len kind long =
 pub cut_header : (session : Session) (last : Option ℕ) (front : List ℕ) → 0 < length front → length front < 12
     → IsJudged session last front (Refused kinds.Truncated)
 cut_header session last front some short = inr (λ none. absurd (omega arith), inl (short, refl))
+
+-- a record that has begun: of another type, and of a body that isn't too long
+pub begun_other : (front body : List ℕ) → length front ≡ 12 → (¬ IsBgp4mp (header_in front).kind) → length body < (header_in front).count
+    → IsBegun (front ++ body)
+begun_other front body len kind cut =
+    let same = header_front front body len in
+    let count = ap (λ (h : Header). h.count) same in
+    let many = length-append front body in
+    inr (omega arith, λ long. kind (subst (λ (h : Header). IsBgp4mp h.kind) same long.0))
+
+pub begun_body : (front body : List ℕ) → length front ≡ 12 → (header_in front).count ≤ 8192 → length body < (header_in front).count
+    → IsBegun (front ++ body)
+begun_body front body len fits cut =
+    let same = header_front front body len in
+    let count = ap (λ (h : Header). h.count) same in
+    let many = length-append front body in
+    inr (omega arith, λ long. absurd (omega (arith, long.1)))
 
 -- what is refused where nothing follows is refused where the source has ended
 pub refused_at_end : (session : Session) (last : Option ℕ) (octets : List ℕ) (ended : Bool) → IsTrue ended

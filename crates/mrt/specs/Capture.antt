@@ -1,15 +1,17 @@
 -- A capture of one session: records one after another, of which some are skipped and the others are
 -- the session's, and then the end or the first fault (RFC 6396, 2).
-use Rattle.std.specs.Prelude.{◌≡◌, ◌++◌, ℕ, List, [], ◌∷◌, length, Option, None, Some}
+use Rattle.std.specs.Prelude.{◌≡◌, ◌<◌, ◌⊎◌, ◌++◌, ℕ, List, [], ◌∷◌, length, Option, None, Some}
 use Rattle.std.specs.List.{flat_map}
 use Rattle.bgp_prefix.specs.Shown.{ShownRecord, second_of}
 use Rattle.bgp_prefix.specs.declared.session.Session.{Session}
 use Rattle.mrt.specs.Layout.{IsRecord, header_of, body_of, content_in, peer_in, local_in, shown_in}
 use Rattle.mrt.specs.Rules.{Judgement, End, Skipped, SkippedSession, Refused, OfSession, IsJudged}
+use Rattle.mrt.specs.Rules.{IsCut, HasLongBody, place_of}
 use Rattle.mrt.specs.declared.fault.FaultKind.{FaultKind}
 use Rattle.mrt.specs.declared.record.Endpoints.{Endpoints}
 
--- One record's octets: skipped for its type or subtype, skipped for its addresses, or the session's.
+-- One record's octets: skipped for its type or subtype, skipped for its addresses, or the
+-- session's.
 pub data Piece : Type 0 where
   Other : List ℕ → Piece
   OtherEnds : List ℕ → Piece
@@ -50,6 +52,12 @@ last_after last (Shown octets) = Some (second_of (shown_of octets))
 abbrev pub last_of : Option ℕ → List Piece → Option ℕ
 last_of last [] = last
 last_of last (piece ∷ pieces) = last_of (last_after last piece) pieces
+
+-- A record has begun of which octets are wanted still: of its header, or of a body that isn't too
+-- long to be read.
+abbrev pub IsBegun : List ℕ → Type 0
+IsBegun octets =
+    (length octets < 12) ⊎ (IsCut (place_of octets) × ¬ HasLongBody (place_of octets))
 
 -- pieces one after another
 abbrev pub ArePieces : Session → Option ℕ → List Piece → Type 0

@@ -4,7 +4,8 @@ use Rattle.bgp_prefix.specs.Shown.{ShownRecord, Received, Sent, Changed}
 use Rattle.bgp_prefix.specs.declared.family.Family.{Family}
 use Rattle.bgp_prefix.specs.declared.family.Family.TheVariants.{V4, V6}
 use Rattle.bgp_prefix.specs.declared.session.Session.{Session}
-use Rattle.mrt.specs.Layout.{Header, LacksFields, peer_in, local_in, content_at, content_in, shown_in}
+use Rattle.mrt.specs.Layout.{Header, LacksFields, peer_in, local_in, content_at}
+use Rattle.mrt.specs.Layout.{content_in, shown_in}
 use Rattle.mrt.specs.Rules as rules
 use Rattle.mrt.specs.Rules.{Place, Judgement, Holds, FirstSays, record_rules}
 use Rattle.mrt.specs.declared.layout.RecordHeader.{RecordHeader}

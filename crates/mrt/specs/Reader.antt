@@ -1,10 +1,11 @@
 -- What a reader of a capture answers, call by call: the next record of the session, the end, or the
 -- first fault; and how it stands then.
-use Rattle.std.specs.Prelude.{◌≡◌, ◌+◌, ◌⊎◌, ◌++◌, ◌==◌, ℕ, Bool, true, false, List, [], ◌∷◌, length}
+use Rattle.std.specs.Prelude.{◌≡◌, ◌+◌, ◌⊎◌, ◌++◌, ◌==◌, ℕ, Bool, true, false, List, []}
+use Rattle.std.specs.Prelude.{◌∷◌, length}
 use Rattle.std.specs.Prelude.{Option, None, Some, Result, Ok, Err, IsTrue, is_some, if◌then◌else◌}
 use Rattle.bgp_prefix.specs.Shown.{ShownRecord, Received, Sent, Changed}
 use Rattle.bgp_prefix.specs.declared.session.Session.{Session}
-use Rattle.mrt.specs.Capture.{Piece, Shown, ArePieces, last_of, joined, records_of, first_other}
+use Rattle.mrt.specs.Capture.{Piece, Shown, ArePieces, IsBegun, last_of, joined, records_of, first_other}
 use Rattle.mrt.specs.Capture as capture
 use Rattle.mrt.specs.Fault.{fault_number}
 use Rattle.mrt.specs.Reading.{IsRefused}
@@ -81,7 +82,8 @@ module _ {S : Type 0} (gives : S → S → List ℕ → Type 0) (has_ended : S �
     pub stands : after ≡ at_end (after_pieces from skipped)
 
   -- They are those of skipped records and a rest. The place where the rest begins is refused,
-  -- whatever follows; or a device failed; or there was no memory, and nothing was read.
+  -- whatever follows; or a device failed, and the rest is a record that has begun; or there was no
+  -- memory, and nothing was read.
   pub record Fails (old new : S) (from after : ReaderState) (fault : CaptureFault) : Type 0 where
     pub skipped : List Piece
     pub rest : List ℕ
@@ -89,7 +91,7 @@ module _ {S : Type 0} (gives : S → S → List ℕ → Type 0) (has_ended : S �
     pub pieces : ArePieces session from.last skipped
     pub taken : gives old new (joined skipped ++ rest)
     pub why : IsRefused session (last_of from.last skipped) rest (has_ended new) fault.kind
-        ⊎ (fault.kind ≡ kinds.Device) ⊎ ((fault.kind ≡ kinds.Memory) × (new ≡ old))
+        ⊎ ((fault.kind ≡ kinds.Device) × IsBegun rest) ⊎ ((fault.kind ≡ kinds.Memory) × (new ≡ old))
     pub offset : fault.offset ≡ (after_pieces from skipped).passed
     pub stands : after ≡ at_fault (after_pieces from skipped) fault
 

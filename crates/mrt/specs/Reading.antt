@@ -15,7 +15,8 @@ use Rattle.mrt.specs.declared.reading.Read.TheVariants as reads
 -- they begin is refused for this fault.
 abbrev pub IsRefused : Session → Option ℕ → List ℕ → Bool → FaultKind → Type 0
 IsRefused session last octets ended kind =
-    (more : List ℕ) → (IsTrue ended → more ≡ []) → IsJudged session last (octets ++ more) (Refused kind)
+    (more : List ℕ) → (IsTrue ended → more ≡ [])
+    → IsJudged session last (octets ++ more) (Refused kind)
 
 -- the octets are a record of the session, whose body the buffer holds, and this was found
 pub record IsFoundIn (octets buffer : List ℕ) (found : Found) : Type 0 where

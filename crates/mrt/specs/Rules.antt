@@ -37,6 +37,10 @@ place_of octets = record {
 abbrev pub IsCut : Place → Type 0
 IsCut place = place.left < 12 + place.header.count
 
+-- a record of type BGP4MP or BGP4MP_ET has a longer body than is read
+abbrev pub HasLongBody : Place → Type 0
+HasLongBody place = IsBgp4mp place.header.kind × (8192 < place.header.count)
+
 -- the addresses are not both the session's
 abbrev pub IsOfOtherSession : Session → Place → Type 0
 IsOfOtherSession session place =
@@ -163,4 +167,5 @@ FirstSays Holds (rule ∷ later) judgement =
 
 -- the place from which on these octets are left is judged so
 abbrev pub IsJudged : Session → Option ℕ → List ℕ → Judgement → Type 0
-IsJudged session last octets judgement = FirstSays (Holds session last (place_of octets)) rules judgement
+IsJudged session last octets judgement =
+    FirstSays (Holds session last (place_of octets)) rules judgement

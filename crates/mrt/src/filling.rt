@@ -16,7 +16,8 @@ pub(crate) fn fill<S: Source>(source: &mut S, buffer: &mut [u8]) -> Result<usize
     ensures ok { IfOk result (λ count. S.gives source.old source.new (take count buffer.new)) }
     ensures ended { IfOk result (λ count. count < length buffer.new
         → IsTrue (S.has_ended source.new)) }
-    ensures err { OnErr result ((taken : List ℕ) × S.gives source.old source.new taken) }
+    ensures err { OnErr result ((taken : List ℕ) × S.gives source.old source.new taken
+        × (length taken < length buffer.new)) }
     ensures failures { S.failures source.new ≡ failures_after (S.failures source.old) result }
 {
     let mut filled = 0;
@@ -46,7 +47,8 @@ pub(crate) fn pass_over<S: Source>(
     ensures passed { IfOk result (λ all. (taken : List ℕ)
         × S.gives source.old source.new taken
         × IsPassed taken count (S.has_ended source.new) all) }
-    ensures err { OnErr result ((taken : List ℕ) × S.gives source.old source.new taken) }
+    ensures err { OnErr result ((taken : List ℕ) × S.gives source.old source.new taken
+        × (length taken < count)) }
     ensures failures { S.failures source.new ≡ failures_after (S.failures source.old) result }
 {
     let mut left = count;

@@ -5,7 +5,8 @@
 ghost use Rattle.std.specs.Prelude.{◌≡◌, ◌≢◌, ◌↔◌, ◌≤◌, ◌+◌, IsTrue, IfSome, IfNone, length};
 ghost use Rattle.mrt.specs.Layout.{header_in, second_in, kind_in, subtype_in, count_in};
 ghost use Rattle.mrt.specs.Layout.{IsBgp4mp, form_of, as_width, afi_at, afi_in};
-ghost use Rattle.mrt.specs.Layout.{address_len, address_in, LacksFields, old_state_in, new_state_in};
+ghost use Rattle.mrt.specs.Layout.{address_len, address_in, LacksFields};
+ghost use Rattle.mrt.specs.Layout.{old_state_in, new_state_in};
 ghost use Rattle.mrt.specs.Found.{header_value, afi_number, AreFields};
 
 use crate::record::Endpoints;

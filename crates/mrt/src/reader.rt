@@ -1,7 +1,6 @@
 //! Captures, read record by record (RFC 6396).
 
-ghost use Rattle.std.specs.Prelude.{◌≡◌, ◌<◌, ◌≤◌, ◌+◌, ◌^◌, ℕ, List, Result, IsTrue, length, take, drop};
-ghost use Rattle.std.specs.Prelude.{OnOk, is_some};
+ghost use Rattle.std.specs.Prelude.{◌≡◌, ◌<◌, ◌≤◌, ◌+◌, length, OnOk, is_some};
 ghost use Rattle.std.specs.Borrow.{sem};
 ghost use Rattle.std.specs.Io.BufRead.{Rests};
 ghost use Rattle.mrt.specs.Progress.{state_of, shown_from, Advances, failures_of};

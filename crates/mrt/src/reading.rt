@@ -1,8 +1,10 @@
 //! One record, read from a source: its header, and then its body or what is passed over.
 
-ghost use Rattle.std.specs.Prelude.{◌≡◌, ◌<◌, ◌≤◌, ◌+◌, ◌++◌, ℕ, List, Option, IfOk, OnErr, IsTrue, length};
+ghost use Rattle.std.specs.Prelude.{◌≡◌, ◌<◌, ◌≤◌, ◌+◌, ◌++◌, ℕ, List, Option, IfOk, OnErr};
+ghost use Rattle.std.specs.Prelude.{IsTrue, length};
 ghost use Rattle.mrt.specs.Failures.{failures_after};
 ghost use Rattle.mrt.specs.Layout.{header_in, IsBgp4mp};
+ghost use Rattle.mrt.specs.Capture.{IsBegun};
 ghost use Rattle.mrt.specs.Found.{header_value};
 ghost use Rattle.mrt.specs.Reading.{IsRead};
 
@@ -54,7 +56,8 @@ fn skip_body<S: Source>(
         × ((session : Session) (last : Option ℕ) (front : List ℕ) → length front ≡ 12
         → header_value header.now ≡ header_in front
         → IsRead session last (front ++ body) (S.has_ended source.new) buffer.new read)) }
-    ensures err { OnErr result ((taken : List ℕ) × S.gives source.old source.new taken) }
+    ensures err { OnErr result ((taken : List ℕ) × S.gives source.old source.new taken
+        × (length taken < header.now.count)) }
     ensures failures { S.failures source.new ≡ failures_after (S.failures source.old) result }
 {
     if pass_over(source, buffer, header.count)? {
@@ -80,7 +83,8 @@ fn read_body<S: Source>(
     ensures ok { IfOk result (λ read. (body : List ℕ) × S.gives source.old source.new body
         × ((front : List ℕ) → length front ≡ 12 → header_value header.now ≡ header_in front
         → IsRead session.now last (front ++ body) (S.has_ended source.new) buffer.new read)) }
-    ensures err { OnErr result ((taken : List ℕ) × S.gives source.old source.new taken) }
+    ensures err { OnErr result ((taken : List ℕ) × S.gives source.old source.new taken
+        × (length taken < header.now.count)) }
     ensures failures { S.failures source.new ≡ failures_after (S.failures source.old) result }
 {
     let count = header.count as usize;
@@ -109,7 +113,8 @@ pub(crate) fn read_record<S: Source>(
     ensures room { length buffer.new ≡ length buffer.old }
     ensures ok { IfOk result (λ read. (octets : List ℕ) × S.gives source.old source.new octets
         × IsRead session.now last octets (S.has_ended source.new) buffer.new read) }
-    ensures err { OnErr result ((taken : List ℕ) × S.gives source.old source.new taken) }
+    ensures err { OnErr result ((taken : List ℕ) × S.gives source.old source.new taken
+        × IsBegun taken) }
     ensures failures { S.failures source.new ≡ failures_after (S.failures source.old) result }
 {
     let mut octets = [0; HEADER];

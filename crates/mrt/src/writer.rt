@@ -1,6 +1,7 @@
 //! Records of a capture, as they are written (RFC 6396, 2 and 4.4).
 
-ghost use Rattle.std.specs.Prelude.{◌≡◌, ◌<◌, ◌≤◌, ◌+◌, ◌++◌, ◌↔◌, OnOk, OnErr, IsTrue, is_ok, length};
+ghost use Rattle.std.specs.Prelude.{◌≡◌, ◌<◌, ◌≤◌, ◌+◌, ◌++◌, ◌↔◌, OnOk, OnErr, IsTrue};
+ghost use Rattle.std.specs.Prelude.{is_ok, length};
 ghost use Rattle.std.specs.Prelude.{if◌then◌else◌};
 ghost use Rattle.byteorder.specs.Endian.{big_bytes};
 ghost use Rattle.bgp_prefix.specs.Shown.{second_of};
@@ -200,7 +201,8 @@ pub fn is_writable(session: &Session, shown: &Record<'_>) -> bool
 /// Writes one record of a session between these AS numbers, of type BGP4MP, with four-octet AS
 /// numbers and interface index 0. It takes no memory.
 ///
-/// It needs that the record can be written ([`is_writable`]). After a fault a beginning of the record was written.
+/// It needs that the record can be written ([`is_writable`]). After a fault a beginning of the
+/// record was written.
 pub fn write_record<W: Sink>(
     sink: &mut W,
     session: &Session,

@@ -284,14 +284,40 @@ fn the_first_other_session_is_kept(rt: HostRuntime) -> Result<(), Fail> {
     Ok(())
 }
 
+/// Reads a capture whose read of octet `call` fails: so many records, and then the failure for good.
+fn compare_failing(
+    alloc: Global,
+    rt: &impl Abort,
+    row: &Row<'_>,
+    call: u64,
+    offset: u64,
+) -> Result<(), Fail> {
+    let octets = capture_of(alloc, row)?;
+    let mut source = MemSource::new(octets)
+        .in_pieces_of(NonZeroUsize::MIN)
+        .upset_at(call, SourceUpset::Fail);
+    let mut reader = Reader::new(alloc);
+    for shown in row.shown {
+        let answer = next(&mut reader, &mut source, &SESSION)?;
+        assert_eq!(rt; answer, Ok(Some(*shown)), "read {call}");
+    }
+    let fault = CaptureFault {
+        kind: FaultKind::Device,
+        offset,
+    };
+    for _ in 0..3 {
+        let answer = next(&mut reader, &mut source, &SESSION)?;
+        assert_eq!(rt; answer, Err(fault), "read {call}");
+        assert_eq!(rt; source.failures(), 1, "read {call}");
+    }
+    assert_eq!(rt; reader.place(), offset, "read {call}");
+    Ok(())
+}
+
 #[test]
 fn each_read_that_fails_is_told_for_good(rt: HostRuntime) -> Result<(), Fail> {
-    let row = Row {
-        before: &CHANGE,
-        record: &RECEIVED,
-        ..ROW
-    };
-    for (call, shown, offset) in [
+    let shown = [Record::Change(100, 1, 2), Record::In(101, &KEEPALIVE)];
+    for (call, count, offset) in [
         (0, 0, 0),
         (5, 0, 0),
         (35, 0, 0),
@@ -299,24 +325,26 @@ fn each_read_that_fails_is_told_for_good(rt: HostRuntime) -> Result<(), Fail> {
         (86, 1, 36),
         (87, 2, 87),
     ] {
-        let octets = capture_of(rt.alloc(), &row)?;
-        let mut source = MemSource::new(octets)
-            .in_pieces_of(NonZeroUsize::MIN)
-            .upset_at(call, SourceUpset::Fail);
-        let mut reader = Reader::new(rt.alloc());
-        for _ in 0..shown {
-            let answer = next(&mut reader, &mut source, &SESSION)?;
-            assert_eq!(rt; answer.is_ok(), true, "read {call}");
-        }
-        let fault = CaptureFault {
-            kind: FaultKind::Device,
-            offset,
+        let row = Row {
+            before: &CHANGE,
+            record: &RECEIVED,
+            shown: &shown[..count],
+            ..ROW
         };
-        for _ in 0..3 {
-            let answer = next(&mut reader, &mut source, &SESSION)?;
-            assert_eq!(rt; answer, Err(fault), "read {call}");
-            assert_eq!(rt; source.failures(), 1, "read {call}");
-        }
+        compare_failing(rt.alloc(), &rt, &row, call, offset)?;
+    }
+    Ok(())
+}
+
+#[test]
+fn a_read_that_fails_behind_a_skipped_record_names_its_own(rt: HostRuntime) -> Result<(), Fail> {
+    let row = Row {
+        before: &[0, 0, 0, 1, 0, 13, 0, 1, 0, 0, 0, 2, 0xaa, 0xbb],
+        record: &CHANGE,
+        ..ROW
+    };
+    for (call, offset) in [(13, 0), (14, 14), (20, 14), (49, 14)] {
+        compare_failing(rt.alloc(), &rt, &row, call, offset)?;
     }
     Ok(())
 }

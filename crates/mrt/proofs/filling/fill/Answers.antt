@@ -1,5 +1,6 @@
 use Rattle.std.proofs.Common.{◌≡◌, ◌∙◌, ◌-◌, ap, sym, subst, ℕ, List, [], ◌++◌, take, append-nil, arith, length, rules, refl}
 use Rattle.std.proofs.lemmas.Result.{err_from_is_err_and}
+use Rattle.std.proofs.lemmas.List.{length-take-le}
 use Rattle.std.proofs.lemmas.Slice.{take-put_mid_below}
 use Rattle.mrt.proofs.Filled.{filled_more}
 use Rattle.mrt.proofs.filling.fill.Goals as goal
@@ -7,9 +8,11 @@ use Rattle.mrt.proofs.filling.fill.Goals as goal
 pub returns-in_err-count-clause-err : goal.returns-in_err-count-clause-err
 returns-in_err-count-clause-err g c =
     let p = err_from_is_err_and c.from_residual.result c.from_residual.ensures.1 in
+    let len = length-take-le c.loop-filled.filled c.loop-filled.buffer c.loop-filled.invariant.within in
     rw (p.1) (
       take c.loop-filled.filled c.loop-filled.buffer,
       rw append-nil at (g.met.S.Source.joined c.args.source.now c.loop-filled.source c.read.new.self (take c.loop-filled.filled c.loop-filled.buffer) [] c.loop-filled.invariant.gave c.in_err-count.ensures.err),
+      (let room : length c.loop-filled.buffer ≡ length c.args.buffer.now = c.loop-filled.invariant.room in search rules),
     )
 
 pub returns-then-count-eq0-clause-ok : goal.returns-then-count-eq0-clause-ok

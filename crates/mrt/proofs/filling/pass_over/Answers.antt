@@ -1,4 +1,4 @@
-use Rattle.std.proofs.Common.{◌++◌, take, arith, rules}
+use Rattle.std.proofs.Common.{◌++◌, length-append, take, arith, rules}
 use Rattle.std.proofs.lemmas.List.{length-take-le}
 use Rattle.std.proofs.lemmas.Result.{err_from_is_err_and}
 use Rattle.mrt.proofs.Taken.{length-taken}
@@ -8,8 +8,10 @@ pub returns-in_err-passed-clause-err : goal.returns-in_err-passed-clause-err
 returns-in_err-passed-clause-err g c =
     let p = err_from_is_err_and c.from_residual.result c.from_residual.ensures.1 in
     let (taken, gave, _many) = c.loop-left.invariant.passed in
-    let (more, given) = c.in_err-passed.ensures.err in
-    rw (p.1) (taken ++ more, g.met.S.Source.joined _ _ _ _ _ gave given)
+    let (more, given, fewer) = c.in_err-passed.ensures.err in
+    let len = length-append taken more in
+    let room = length-take-le c.min-room.result c.loop-left.buffer (omega arith) in
+    rw (p.1) (taken ++ more, g.met.S.Source.joined _ _ _ _ _ gave given, omega (arith, c.fill.ensures.room))
 
 pub returns-then-passed-room-clause-passed : goal.returns-then-passed-room-clause-passed
 returns-then-passed-room-clause-passed g c =

@@ -1,6 +1,7 @@
-use Rattle.std.proofs.Common.{◌+◌, ap, refl, arith, inl}
+use Rattle.std.proofs.Common.{◌+◌, ap, refl, arith, inl, inr}
 use Rattle.mrt.specs.Reader.{ReaderState, device_count}
 use Rattle.mrt.specs.declared.fault.CaptureFault.{CaptureFault}
+use Rattle.mrt.specs.declared.fault.FaultKind.TheVariants as kinds
 use Rattle.mrt.proofs.Advancing.{skips, skips_other, ends_there, finds_there, fails_there, refused_is_no_device}
 use Rattle.mrt.proofs.reader.advance.Goals as goal
 
@@ -48,3 +49,9 @@ pub returns-in-Ok-OfSession-clause-next : goal.returns-in-Ok-OfSession-clause-ne
 returns-in-Ok-OfSession-clause-next g c =
     let (octets, given, is) = rw c.in-Ok-OfSession.field-0-is at c.in-Ok-OfSession.ensures.ok in
     finds_there _ _ g.met.S.Source.joined _ _ _ _ _ _ _ octets _ c.in-Ok-OfSession.found (12 + c.in-Ok-OfSession.found.count) c.loop-progress.invariant.passes given is.0 is.1 refl c.answer.ensures
+
+pub returns-in-Err-clause-next : goal.returns-in-Err-clause-next
+returns-in-Err-clause-next g c =
+    let (taken, given, begun) = c.in-Err.ensures.err in
+    rw c.refuse-in-Err.ensures.fault (fails_there _ _ g.met.S.Source.joined _ _ _ _ _ _ _ taken kinds.Device c.loop-progress.invariant.passes given
+    (inr (inl (refl, begun))) (rw c.refuse-in-Err.ensures.fault at c.refuse-in-Err.ensures.state))

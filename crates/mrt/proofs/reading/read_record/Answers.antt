@@ -1,5 +1,7 @@
-use Rattle.std.proofs.Common.{◌≡◌, subst, List, ℕ, ◌++◌, take, arith}
+use Rattle.std.proofs.Common.{◌≡◌, subst, ap, List, ℕ, ◌++◌, take, arith, rules}
 use Rattle.std.proofs.lemmas.List.{take_all}
+use Rattle.mrt.specs.Layout.{Header, IsBgp4mp}
+use Rattle.mrt.proofs.Places.{begun_other, begun_body}
 use Rattle.mrt.proofs.Exits.{ok_then, err_then}
 use Rattle.mrt.proofs.reading.read_record.Goals as goal
 
@@ -15,7 +17,18 @@ returns-then-not-is_bgp4mp-clause-ok g c =
 
 pub returns-then-not-is_bgp4mp-clause-err : goal.returns-then-not-is_bgp4mp-clause-err
 returns-then-not-is_bgp4mp-clause-err g c =
-    err_then c.skip_body.result _ _ (λ made. (_, g.met.S.Source.joined _ _ _ _ _ c.in_ok-filled.ensures.ok made.1)) c.skip_body.ensures.err
+    let front = c.fill.new.buffer in
+    let all : take c.in_ok-filled.filled front ≡ front = take_all _ _ (omega (arith, c.fill.ensures.room)) in
+    let gave = subst (λ (o : List ℕ). g.S.Source.gives c.args.source.now c.fill.new.source o) all c.in_ok-filled.ensures.ok in
+    err_then c.skip_body.result _ _ (λ made.
+    let (body, given, fewer) = made in
+    let count = ap (λ (h : Header). h.count) c.read_header-header.ensures in (
+      front ++ body,
+      g.met.S.Source.joined _ _ _ _ _ gave given,
+      begun_other front body (omega (arith, c.fill.ensures.room))
+          (subst (λ (h : Header). ¬ IsBgp4mp h.kind) c.read_header-header.ensures (search rules)) (omega arith),
+    ))
+    c.skip_body.ensures.err
 
 pub returns-clause-ok : goal.returns-clause-ok
 returns-clause-ok g c =
@@ -29,4 +42,11 @@ returns-clause-ok g c =
 
 pub returns-clause-err : goal.returns-clause-err
 returns-clause-err g c =
-    err_then c.read_body.result _ _ (λ made. (_, g.met.S.Source.joined _ _ _ _ _ c.in_ok-filled.ensures.ok made.1)) c.read_body.ensures.err
+    let front = c.fill.new.buffer in
+    let all : take c.in_ok-filled.filled front ≡ front = take_all _ _ (omega (arith, c.fill.ensures.room)) in
+    let gave = subst (λ (o : List ℕ). g.S.Source.gives c.args.source.now c.fill.new.source o) all c.in_ok-filled.ensures.ok in
+    err_then c.read_body.result _ _ (λ made.
+    let (body, given, fewer) = made in
+    let count = ap (λ (h : Header). h.count) c.read_header-header.ensures in
+    (front ++ body, g.met.S.Source.joined _ _ _ _ _ gave given, begun_body front body (omega (arith, c.fill.ensures.room)) (omega arith) (omega arith)))
+    c.read_body.ensures.err
