@@ -6,3 +6,4 @@ pub mod UpdateRows
 pub mod Quiet
 pub mod OwedWants
 pub mod Shapes
+pub mod Moves

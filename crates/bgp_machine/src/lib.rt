@@ -18,6 +18,7 @@ mod laws;
 mod listing;
 mod meeting;
 mod messages;
+mod moving;
 mod received;
 mod rows;
 mod sameness;

@@ -4,6 +4,7 @@
 
 mod hidden;
 mod meeting;
+mod moving;
 mod received;
 mod silent;
 mod updates;
