@@ -11,3 +11,6 @@ pub mod Joined
 pub mod ZeroRuns
 pub mod ListTexts
 pub mod WholeTexts
+pub mod CaptureMessages
+pub mod CaptureLines
+pub mod CaptureDecoded

@@ -29,6 +29,10 @@ module _ {W : Type 0} {sink : sinks.Ghosts W} (lines lines' : Lines W sink) (tex
   pub put_is : text ≡ wrote.taken ++ wrote.left
   put_is = sym (ap (λ (held : List ℕ). held ++ text) fresh.empty) ∙ wrote.whole
 
+  -- nothing is left, if it didn't fail
+  pub nothing_left : lines'.held.items ≡ [] → lines'.outlet.has_failed ≡ false → wrote.left ≡ []
+  nothing_left none calm = (kept_by false calm).0 ∙ none
+
   -- the sink took all, if it didn't fail
   pub all_taken : lines'.held.items ≡ [] → lines'.outlet.has_failed ≡ false → text ≡ wrote.taken
   all_taken none calm =

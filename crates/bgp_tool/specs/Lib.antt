@@ -7,3 +7,5 @@ pub mod Lines
 pub mod Decoding
 pub mod Ending
 pub mod Opened
+pub mod Capture
+pub mod CaptureDecoding

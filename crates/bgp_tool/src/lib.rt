@@ -7,6 +7,7 @@
 //! ```
 #![tactic(auto)]
 
+mod captures;
 mod decoding;
 mod front;
 mod headline;
@@ -21,6 +22,7 @@ mod tests;
 mod text;
 mod words;
 
+pub use captures::decode_capture;
 pub use decoding::decode_raw;
 pub use front::Form;
 pub use headline::text_and_status;

@@ -50,6 +50,13 @@ impl<'a, W: Sink> Lines<'a, W> {
         self.outlet.into_sink()
     }
 
+    /// Whether the sink has failed, so that all that is put is lost.
+    pub(crate) fn has_failed(&self) -> bool
+        ensures { result ≡ self.now.outlet.has_failed }
+    {
+        self.outlet.has_failed()
+    }
+
     /// Appends a piece to the text.
     #[inline(always)]
     pub(crate) fn put(&mut self, piece: &[u8])

@@ -2,4 +2,5 @@
 
 pub(crate) mod addresses;
 pub(crate) mod messages;
+pub(crate) mod records;
 pub(crate) mod routes;

@@ -109,7 +109,7 @@ pub(crate) fn put_message<W: Sink>(lines: &mut Lines<'_, W>, kind: MessageType, 
 }
 
 /// A text where something is so, and nothing where it isn't.
-fn text_if(is_so: bool, text: &str) -> &str
+pub(crate) fn text_if(is_so: bool, text: &str) -> &str
     ensures { result.now ≡ subcode_text is_so text.entry.now }
 {
     if is_so { text } else { "" }

@@ -1,0 +1,63 @@
+-- A capture's decoding that began with a fresh text, told by what the sink took.
+use Rattle.std.proofs.Common.{◌≡◌, ◌∙◌, ◌++◌, ◌+◌, ℕ, List, Bool, true, false, refl, sym, ap, subst, inl, inr, Result}
+use Rattle.bgp_prefix.specs.declared.session.Session.{Session}
+use Rattle.mrt.specs.declared.fault.CaptureFault.{CaptureFault}
+use Rattle.mrt.specs.declared.sink.Sink as sinks
+use Rattle.mrt.specs.Progress.{failures_of}
+use Rattle.bgp_tool.specs.declared.lines.Lines.{Lines}
+use Rattle.bgp_tool.specs.Outlet.{IsKept}
+use Rattle.bgp_tool.specs.Lines.{Writes}
+use Rattle.bgp_tool.specs.CaptureDecoding.{PutsRecords, Finishes, DecodesCapture, last_line_for}
+use Rattle.bgp_tool.proofs.Pieces.{Joins, and_then}
+use Rattle.bgp_tool.proofs.Raw.{IsFresh, put_is, nothing_left, none_counted, one_counted}
+
+-- a sink that has failed stays so
+sticky : {W : Type 0} (failures : W → ℕ) (old new : W) (left held : List ℕ) (before after : Bool) → IsKept failures old new left held before after
+    → before ≡ true → after ≡ true
+sticky failures old new left held true true kept is = refl
+sticky failures old new left held true false kept is = absurd kept
+sticky failures old new left held false after kept is = absurd (cc)
+
+module _ {R W : Type 0} {sinks' : sinks.Ghosts W} (law : Joins sinks') (gives : R → R → List ℕ → Type 0) (has_ended : R → Bool) (counts : R → ℕ)
+    (session : Session) (source source' : R) (lines middle lines' : Lines W sinks') (sink sink' : W) (fresh : IsFresh lines)
+    (first : lines.outlet.sink.now ≡ sink) (last : sink' ≡ lines'.outlet.sink.now) where
+  pub decodes_capture : (answer : Result (Unit {0}) CaptureFault) (status : ℕ) → PutsRecords gives has_ended session source source' lines middle answer
+      → Finishes middle lines' answer status → counts source' ≡ counts source + failures_of answer
+      → DecodesCapture gives has_ended sinks'.takes counts sinks'.failures session source source' sink sink' status
+  decodes_capture answer status puts ends counted =
+      let wrote : Writes lines lines' (puts.text ++ last_line_for answer) = and_then law puts.wrote ends.wrote in
+      let text = puts.text ++ last_line_for answer in record {
+        pieces = puts.pieces;
+        rest = puts.rest;
+        answer = answer;
+        gave = puts.gave;
+        each = puts.each;
+        ends = elim puts.ends [
+          | inl there ↦ inl there
+          | inr early ↦ inr (
+            early.0,
+            ap sinks'.failures last
+                ∙ one_counted lines lines' text fresh wrote
+                (sticky sinks'.failures _ _ ends.wrote.left _ middle.outlet.has_failed lines'.outlet.has_failed ends.wrote.kept early.1)
+                ∙ ap (λ (w : W). sinks'.failures w + 1) first,
+          )
+        ];
+        counted = counted;
+        lines = puts.text;
+        are_lines = puts.are_lines;
+        written = wrote.taken;
+        left = wrote.left;
+        took = subst (λ (w : W). sinks'.takes w sink' wrote.taken) first (subst (λ (w : W). sinks'.takes lines.outlet.sink.now w wrote.taken) (sym last) wrote.took);
+        begun = put_is lines lines' text fresh wrote;
+        all = elim ends.told [
+          | inl calm ↦ inl (
+            ap sinks'.failures last ∙ none_counted lines lines' text fresh wrote calm.0 ∙ ap sinks'.failures first,
+            nothing_left lines lines' text fresh wrote ends.handed_over calm.0,
+            calm.1,
+          )
+          | inr failed ↦ inr (
+            ap sinks'.failures last ∙ one_counted lines lines' text fresh wrote failed.0 ∙ ap (λ (w : W). sinks'.failures w + 1) first,
+            failed.1,
+          )
+        ];
+      }

@@ -1,0 +1,175 @@
+-- The records of a capture, read one after another, and their lines.
+use Rattle.std.proofs.Common.{◌≡◌, ◌∙◌, ℕ, Bool, false, ◌+◌, ◌<◌, List, [], ◌∷◌, ◌++◌, length, refl, sym, ap, subst, arith, inl, inr, append_assoc, append-nil, length-append, Option, None, Result, Ok, Err}
+use Rattle.bgp_prefix.specs.Shown.{ShownRecord}
+use Rattle.bgp_prefix.specs.declared.session.Session.{Session}
+use Rattle.mrt.specs.declared.record.Record.{Record}
+use Rattle.mrt.specs.declared.fault.CaptureFault.{CaptureFault}
+use Rattle.mrt.specs.Capture.{Piece, Shown, ArePieces, last_of, joined, records_of, shown_of}
+use Rattle.mrt.specs.Reading.{IsRefused}
+use Rattle.mrt.specs.Reader.{ReaderState, fresh_reader, Answers, Ends, Fails, IsAnswer, NextBy, IsNext}
+use Rattle.mrt.specs.Written.{IsAllowed}
+use Rattle.mrt.proofs.Advancing.{joined_more}
+use Rattle.mrt.proofs.AllowedRecord.{each_allowed}
+use Rattle.mrt.proofs.Chains.{joined_chain, records_chain, last_chain, pieces_chain, one_record, last_piece}
+use Rattle.bgp_tool.specs.Capture.{IsRecordLine, AreRecordLines}
+use Rattle.bgp_tool.specs.CaptureDecoding.{EndsAt}
+
+-- one line more
+lines_more : (records : List ShownRecord) (text : List ℕ) (shown : ShownRecord) (line : List ℕ) → AreRecordLines records text → IsRecordLine shown line
+    → AreRecordLines (records ++ shown ∷ []) (text ++ line)
+lines_more [] text shown line are is = (line, [], is, refl, ap (λ (t : List ℕ). t ++ line) are ∙ sym (append-nil line))
+lines_more (one ∷ records) text shown line are is =
+    (are.0, are.1 ++ line, are.2, lines_more records are.1 shown line are.3 is, ap (λ (t : List ℕ). t ++ line) are.4 ∙ append_assoc are.0 are.1 line)
+
+no_length : (xs : List ℕ) → length xs ≡ 0 → xs ≡ []
+no_length [] none = refl
+no_length (x ∷ xs) none = absurd (omega arith)
+
+module _ {R : Type 0} (gives : R → R → List ℕ → Type 0) (has_ended : R → Bool)
+    (gives_joined : (a b c : R) (xs ys : List ℕ) → gives a b xs → gives b c ys → gives a c (xs ++ ys))
+    (count : R → ℕ) (counted : (a b : R) (xs : List ℕ) → gives a b xs → count b ≡ count a + length xs)
+    (session : Session) (source : R) where
+  -- what was read from the source, and the lines of its records
+  pub record SoFar (now : R) (state : ReaderState) (text : List ℕ) : Type 0 where
+    pub pieces : List Piece
+    pub each : ArePieces session None pieces
+    pub gave : gives source now (joined pieces)
+    pub passed : state.passed ≡ length (joined pieces)
+    pub last : state.last ≡ last_of None pieces
+    pub calm : state.fault ≡ None
+    pub going : state.is_ended ≡ false
+    pub are_lines : AreRecordLines (records_of pieces) text
+
+  pub nothing_read : (state : ReaderState) → state ≡ fresh_reader → gives source source [] → SoFar source state []
+  nothing_read state fresh nothing = record {
+    pieces = [];
+    each = tt;
+    gave = nothing;
+    passed = ap (λ (s : ReaderState). s.passed) fresh;
+    last = ap (λ (s : ReaderState). s.last) fresh;
+    calm = ap (λ (s : ReaderState). s.fault) fresh;
+    going = ap (λ (s : ReaderState). s.is_ended) fresh;
+    are_lines = refl;
+  }
+
+  pub answer_of : (now next : R) (state after : ReaderState) (answer : Result (Option Record) CaptureFault) → state.fault ≡ None → state.is_ended ≡ false
+      → IsNext gives has_ended session now next state after answer → IsAnswer gives has_ended session now next state after answer
+  answer_of now next state after answer calm going is =
+      subst (λ (b : Bool). NextBy gives has_ended session None b now next state after answer) going
+      (subst (λ (f : Option CaptureFault). NextBy gives has_ended session f state.is_ended now next state after answer) calm is)
+
+  -- a record of the session is one that a capture may have
+  pub allowed_answer : (now next : R) (state after : ReaderState) (shown : ShownRecord) → Answers gives has_ended session now next state after shown
+      → (s : Session) × ((last : Option ℕ) × IsAllowed s last shown)
+  allowed_answer now next state after shown answer =
+      let piece = last_piece session state.last answer.skipped (Shown answer.octets) answer.pieces in (
+        session,
+        (
+          last_of state.last answer.skipped,
+          subst (λ (r : ShownRecord). IsAllowed session (last_of state.last answer.skipped) r) answer.shown
+              (each_allowed session (last_of state.last answer.skipped) answer.octets piece.0),
+        ),
+      )
+
+  -- it has octets
+  pub takes_some : (now next : R) (state after : ReaderState) (shown : ShownRecord) → (answer : Answers gives has_ended session now next state after shown)
+      → 0 < length (joined (answer.skipped ++ Shown answer.octets ∷ []))
+  takes_some now next state after shown answer =
+      let piece = last_piece session state.last answer.skipped (Shown answer.octets) answer.pieces in
+      let long = piece.0.whole.header in
+      let many = ap length (joined_more answer.skipped (Shown answer.octets)) ∙ length-append (joined answer.skipped) answer.octets in omega arith
+
+  behind : (now next : R) (state : ReaderState) (text : List ℕ) (so_far : SoFar now state text) (more : List Piece) → ArePieces session state.last more
+      → ArePieces session None (so_far.pieces ++ more)
+  behind now next state text so_far more are =
+      pieces_chain session None so_far.pieces more so_far.each (subst (λ (l : Option ℕ). ArePieces session l more) so_far.last are)
+
+  last_behind : (now : R) (state : ReaderState) (text : List ℕ) (so_far : SoFar now state text) (more : List Piece)
+      → last_of state.last more ≡ last_of None (so_far.pieces ++ more)
+  last_behind now state text so_far more =
+      ap (λ (l : Option ℕ). last_of l more) so_far.last ∙ sym (last_chain None so_far.pieces more)
+
+  given_behind : (now next : R) (state : ReaderState) (text : List ℕ) (so_far : SoFar now state text) (more : List Piece) → gives now next (joined more)
+      → gives source next (joined (so_far.pieces ++ more))
+  given_behind now next state text so_far more given =
+      subst (λ (o : List ℕ). gives source next o) (sym (joined_chain so_far.pieces more))
+      (gives_joined source now next (joined so_far.pieces) (joined more) so_far.gave given)
+
+  count_behind : (now : R) (state : ReaderState) (text : List ℕ) (so_far : SoFar now state text) (more : List Piece)
+      → state.passed + length (joined more) ≡ length (joined (so_far.pieces ++ more))
+  count_behind now state text so_far more =
+      let many = ap length (joined_chain so_far.pieces more) ∙ length-append (joined so_far.pieces) (joined more) in
+      let before = so_far.passed in omega arith
+
+  pub answered : (now next : R) (state after : ReaderState) (text line : List ℕ) (shown : ShownRecord) → SoFar now state text
+      → Answers gives has_ended session now next state after shown → IsRecordLine shown line → SoFar next after (text ++ line)
+  answered now next state after text line shown so_far answer is =
+      let more = answer.skipped ++ Shown answer.octets ∷ [] in
+      let records = records_chain so_far.pieces more ∙ ap (λ (r : List ShownRecord). records_of so_far.pieces ++ r) (one_record answer.skipped answer.octets answer.only) in
+      record {
+        pieces = so_far.pieces ++ more;
+        each = behind now next state text so_far more answer.pieces;
+        gave = given_behind now next state text so_far more answer.exactly;
+        passed = ap (λ (s : ReaderState). s.passed) answer.stands ∙ count_behind now state text so_far more;
+        last = ap (λ (s : ReaderState). s.last) answer.stands ∙ last_behind now state text so_far more;
+        calm = ap (λ (s : ReaderState). s.fault) answer.stands ∙ so_far.calm;
+        going = ap (λ (s : ReaderState). s.is_ended) answer.stands ∙ so_far.going;
+        are_lines = subst (λ (r : List ShownRecord). AreRecordLines r (text ++ line)) (sym records)
+            (lines_more (records_of so_far.pieces) text (shown_of answer.octets) line so_far.are_lines (subst (λ (r : ShownRecord). IsRecordLine r line) (sym answer.shown) is));
+      }
+
+  -- skipped records add no line
+  lines_behind : (now : R) (state : ReaderState) (text : List ℕ) (so_far : SoFar now state text) (more : List Piece) → records_of more ≡ []
+      → AreRecordLines (records_of (so_far.pieces ++ more)) text
+  lines_behind now state text so_far more only =
+      subst (λ (r : List ShownRecord). AreRecordLines r text)
+      (sym (records_chain so_far.pieces more ∙ ap (λ (r : List ShownRecord). records_of so_far.pieces ++ r) only ∙ append-nil (records_of so_far.pieces))) so_far.are_lines
+
+  -- how it ends
+  pub record Stops {X : Type 0} (next : R) (text : List ℕ) (answer : Result X CaptureFault) : Type 0 where
+    pub pieces : List Piece
+    pub rest : List ℕ
+    pub gave : gives source next (joined pieces ++ rest)
+    pub each : ArePieces session None pieces
+    pub ends : EndsAt has_ended session next pieces rest answer
+    pub are_lines : AreRecordLines (records_of pieces) text
+
+  pub stops_at_end : {X : Type 0} (x : X) (now next : R) (state after : ReaderState) (text : List ℕ) → SoFar now state text
+      → Ends gives has_ended session now next state after → Stops next text (Ok x)
+  stops_at_end x now next state after text so_far ends = record {
+    pieces = so_far.pieces ++ ends.skipped;
+    rest = [];
+    gave = subst (λ (o : List ℕ). gives source next o) (sym (append-nil (joined (so_far.pieces ++ ends.skipped)))) (given_behind now next state text so_far ends.skipped ends.exactly);
+    each = behind now next state text so_far ends.skipped ends.pieces;
+    ends = (refl, ends.ended);
+    are_lines = lines_behind now state text so_far ends.skipped ends.only;
+  }
+
+  -- where the source is as before, nothing was given
+  nothing_rests : (now next : R) (xs rest : List ℕ) → gives now next (xs ++ rest) → next ≡ now → rest ≡ []
+  nothing_rests now next xs rest given same =
+      let many = counted now next (xs ++ rest) given in
+      let stays = ap count same in
+      let long = length-append xs rest in no_length rest (omega arith)
+
+  pub stops_at_fault : {X : Type 0} (now next : R) (state after : ReaderState) (text : List ℕ) (fault : CaptureFault) → SoFar now state text
+      → Fails gives has_ended session now next state after fault → Stops {X = X} next text (Err fault)
+  stops_at_fault now next state after text fault so_far fails = record {
+    pieces = so_far.pieces ++ fails.skipped;
+    rest = fails.rest;
+    gave = subst (λ (o : List ℕ). gives source next o)
+        (sym (append_assoc (joined so_far.pieces) (joined fails.skipped) fails.rest) ∙ ap (λ (o : List ℕ). o ++ fails.rest) (sym (joined_chain so_far.pieces fails.skipped)))
+        (gives_joined source now next (joined so_far.pieces) (joined fails.skipped ++ fails.rest) so_far.gave fails.taken);
+    each = behind now next state text so_far fails.skipped fails.pieces;
+    ends = (
+      fails.offset ∙ count_behind now state text so_far fails.skipped,
+      elim fails.why [
+        | inl refused ↦ inl (subst (λ (l : Option ℕ). IsRefused session l fails.rest (has_ended next) fault.kind) (last_behind now state text so_far fails.skipped) refused)
+        | inr others ↦ elim others [
+          | inl device ↦ inr (inl device)
+          | inr memory ↦ inr (inr (memory.0, nothing_rests now next (joined fails.skipped) fails.rest fails.taken memory.1))
+        ]
+      ],
+    );
+    are_lines = lines_behind now state text so_far fails.skipped fails.only;
+  }

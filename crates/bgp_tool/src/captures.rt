@@ -1,0 +1,119 @@
+//! `bgp decode --mrt`: the records of one session in a capture (RFC 6396).
+
+ghost use Rattle.std.specs.Prelude.{◌≡◌, ◌<◌, ◌+◌, ◌^◌, ◌⊎◌, [], IsTrue, IsFalse};
+ghost use Rattle.bgp_tool.specs.Lines.{Writes};
+ghost use Rattle.mrt.specs.Progress.{failures_of};
+ghost use Rattle.mrt.specs.Reader.{fresh_reader};
+ghost use Rattle.bgp_tool.specs.Status.{code_of};
+ghost use Rattle.bgp_tool.specs.CaptureDecoding.{status_by, PutsRecords, Finishes};
+ghost use Rattle.bgp_tool.specs.CaptureDecoding.{DecodesCapture};
+
+use crate::lines::Lines;
+use crate::status::Status;
+use crate::text::records::{put_record, put_refused};
+use bgp_prefix::Session;
+use mrt::{CaptureFault, FaultKind, Reader, Sink, Source};
+use std::alloc::Allocator;
+
+/// Writes the line of each record of the session, to the end of the capture or to its first fault.
+/// It reads no further once the sink has failed.
+fn put_records<R: Source, W: Sink, A: Allocator + Copy>(
+    reader: &mut Reader<A>,
+    session: &Session,
+    source: &mut R,
+    lines: &mut Lines<'_, W>,
+) -> Result<(), CaptureFault>
+    requires fresh { reader.old ≡ fresh_reader }
+    requires failures { R.failures source.old < u64.MAX }
+    ensures puts { PutsRecords R.gives R.has_ended session.now source.old source.new
+        lines.old lines.new result }
+    ensures failures { R.failures source.new ≡ R.failures source.old + failures_of result }
+{
+    loop {
+        match reader.next_record(source, session) {
+            Ok(Some(shown)) => put_record(lines, &shown),
+            Ok(None) => return Ok(()),
+            Err(fault) => return Err(fault),
+        }
+        if lines.has_failed() {
+            return Ok(());
+        }
+    }
+}
+
+/// The exit status of a capture that is refused.
+fn status_of(kind: FaultKind) -> Status
+    ensures { code_of result ≡ status_by kind }
+{
+    match kind {
+        FaultKind::Device => Status::Device,
+        FaultKind::Memory => Status::Memory,
+        FaultKind::Truncated
+        | FaultKind::TooLong
+        | FaultKind::Body
+        | FaultKind::BadState
+        | FaultKind::NotAMessage
+        | FaultKind::TimeBack
+        | FaultKind::RouteRefresh
+        | FaultKind::AddPath => Status::Refused,
+    }
+}
+
+/// Tells the fault, if there is one, and hands over the text.
+fn finish<W: Sink>(lines: &mut Lines<'_, W>, read: Result<(), CaptureFault>) -> Status
+    ensures { Finishes lines.old lines.new read (code_of result) }
+{
+    match read {
+        Ok(()) => hand_over(lines, Status::Done),
+        Err(fault) => {
+            put_refused(lines, fault);
+            hand_over(lines, status_of(fault.kind))
+        }
+    }
+}
+
+/// Hands over the text, and answers the status, or that of a device where the sink failed.
+fn hand_over<W: Sink>(lines: &mut Lines<'_, W>, status: Status) -> Status
+    ensures writes { Writes lines.old lines.new [] }
+    ensures none { lines.new.held.items ≡ [] }
+    ensures told { (IsFalse lines.new.outlet.has_failed × (code_of result ≡ code_of status))
+        ⊎ (IsTrue lines.new.outlet.has_failed × (code_of result ≡ 5)) }
+{
+    match lines.hand_over() {
+        Ok(()) => status,
+        Err(_) => Status::Device,
+    }
+}
+
+/// Decodes a capture of one session: writes one line a record of the session
+/// (`specs/Capture.antt`), and a last one where the capture is refused.
+///
+/// It reads with a reader that has read nothing, which tells afterwards whether it found a record of
+/// the session; it takes no memory but the reader's.
+///
+/// Answers the exit status:
+///
+/// * 0: the capture was read to its end. Messages with faults in their headers are no refusal.
+/// * 3: the capture is refused; the last line is `capture refused: NUMBER NAME at OFFSET`.
+/// * 4: the reader's buffer couldn't be made; the last line says so too.
+/// * 5: a device failed. Where it is the source, the last line says so too, and else a beginning of
+///   the text is written.
+pub fn decode_capture<R: Source, W: Sink, A: Allocator + Copy>(
+    reader: &mut Reader<A>,
+    session: &Session,
+    source: &mut R,
+    sink: &mut W,
+) -> u8
+    requires fresh { reader.old ≡ fresh_reader }
+    requires source { R.failures source.old < 2 ^ 63 }
+    requires sink { W.failures sink.old < 2 ^ 63 }
+    ensures { DecodesCapture R.gives R.has_ended W.takes R.failures W.failures session.now
+        source.old source.new sink.old sink.new result }
+{
+    let mut lines = Lines::new(sink);
+    let read = put_records(reader, session, source, &mut lines);
+    let status = finish(&mut lines, read);
+    // No effect: it ends the loan of the sink.
+    lines.into_sink();
+    status.code()
+}
