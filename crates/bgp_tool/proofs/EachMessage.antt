@@ -9,7 +9,8 @@ use Rattle.bgp_wire.specs.Framing.{IsFrame}
 use Rattle.bgp_open.proofs.EachOpen.{each_open}
 use Rattle.bgp_wire.proofs.WholeFrame.{least_holds, frame_is_message, frame_is_keepalive, type_of_frame}
 use Rattle.bgp_open.specs.Open.{IsOpen, open_of}
-use Rattle.bgp_tool.specs.Message.{Message, open_message, malformed_open_message, update_message, notification_message, keepalive_message, Says, Say}
+use Rattle.bgp_update.proofs.OneParts.{each_parts}
+use Rattle.bgp_tool.specs.Message.{Message, open_message, malformed_open_message, update_message, malformed_update_message, notification_message, keepalive_message, Says, Say}
 
 -- a body of two octets or more has a code and a subcode
 two_first : (octets : List ℕ) → 2 ≤ length octets → (code subcode : ℕ) × (detail : List ℕ) × (octets ≡ code ∷ subcode ∷ detail)
@@ -32,7 +33,10 @@ each_message frame whole = elim (type_of_frame Plain frame whole) [
         | inr fault ↦ (malformed_open_message fault.0, (is, fault.1))
       ]
   | inr others ↦ elim others [
-    | inl is ↦ (update_message (length frame), (is, refl))
+    | inl is ↦ elim (each_parts frame (frame_is_message Plain frame 2 whole is)) [
+      | inl parts ↦ (update_message parts.0, (is, parts.1))
+      | inr none ↦ (malformed_update_message, (is, none))
+    ]
     | inr last ↦ elim last [
       | inl is ↦
           let fields : 2 ≤ length (body_of frame) = body_length frame 21 whole (least_holds Plain (header_of frame) 3 whole.sound is) in

@@ -9,35 +9,47 @@ use Rattle.bgp_wire.specs.Framing.{joined}
 use Rattle.bgp_wire.proofs.Front.{faulty_not_short}
 use Rattle.bgp_wire.proofs.OneFraming.{one_framing}
 use Rattle.bgp_open.proofs.LeastFault as open_faults
+use Rattle.bgp_update.proofs.OneParts.{one_parts}
 use Rattle.bgp_tool.specs.Message.{Message, Says, Say}
-use Rattle.bgp_tool.specs.Message.{open_message, malformed_open_message, update_message, notification_message, keepalive_message}
+use Rattle.bgp_tool.specs.Message.{open_message, malformed_open_message, update_message, malformed_update_message, notification_message, keepalive_message}
 use Rattle.bgp_tool.specs.Text.{fault_line}
 use Rattle.bgp_tool.specs.Decoding.{lines_of, IsLastLine, IsDecoded}
 
 pub one_message : (frame : List ℕ) (message other : Message) → Says frame message → Says frame other → message ≡ other
 one_message frame (open_message f) (open_message f') h k = ap open_message (h.2 ∙ sym k.2)
 one_message frame (open_message f) (malformed_open_message f') h k = absurd (open_faults.none_if_well_formed frame f' h.1 k.1)
-one_message frame (open_message f) (update_message n') h k = absurd (omega (arith, h.0, k.0))
+one_message frame (open_message f) (update_message p') h k = absurd (omega (arith, h.0, k.0))
+one_message frame (open_message f) malformed_update_message h k = absurd (omega (arith, h.0, k.0))
 one_message frame (open_message f) (notification_message c' s' d') h k = absurd (omega (arith, h.0, k.0))
 one_message frame (open_message f) keepalive_message h k = absurd (omega (arith, h.0, k.0))
 one_message frame (malformed_open_message f) (open_message f') h k = absurd (open_faults.none_if_well_formed frame f k.1 h.1)
 one_message frame (malformed_open_message f) (malformed_open_message f') h k = ap malformed_open_message (open_faults.one_fault frame f f' h.1 k.1)
-one_message frame (malformed_open_message f) (update_message n') h k = absurd (omega (arith, h.0, k.0))
+one_message frame (malformed_open_message f) (update_message p') h k = absurd (omega (arith, h.0, k.0))
+one_message frame (malformed_open_message f) malformed_update_message h k = absurd (omega (arith, h.0, k.0))
 one_message frame (malformed_open_message f) (notification_message c' s' d') h k = absurd (omega (arith, h.0, k.0))
 one_message frame (malformed_open_message f) keepalive_message h k = absurd (omega (arith, h.0, k.0))
-one_message frame (update_message n) (open_message f') h k = absurd (omega (arith, h.0, k.0))
-one_message frame (update_message n) (malformed_open_message f') h k = absurd (omega (arith, h.0, k.0))
-one_message frame (update_message n) (update_message n') h k = ap update_message (h.1 ∙ sym k.1)
-one_message frame (update_message n) (notification_message c' s' d') h k = absurd (omega (arith, h.0, k.0))
-one_message frame (update_message n) keepalive_message h k = absurd (omega (arith, h.0, k.0))
+one_message frame (update_message p) (open_message f') h k = absurd (omega (arith, h.0, k.0))
+one_message frame (update_message p) (malformed_open_message f') h k = absurd (omega (arith, h.0, k.0))
+one_message frame (update_message p) (update_message p') h k = ap update_message (one_parts frame p p' h.1 k.1)
+one_message frame (update_message p) malformed_update_message h k = absurd (k.1 p h.1)
+one_message frame (update_message p) (notification_message c' s' d') h k = absurd (omega (arith, h.0, k.0))
+one_message frame (update_message p) keepalive_message h k = absurd (omega (arith, h.0, k.0))
+one_message frame malformed_update_message (open_message f') h k = absurd (omega (arith, h.0, k.0))
+one_message frame malformed_update_message (malformed_open_message f') h k = absurd (omega (arith, h.0, k.0))
+one_message frame malformed_update_message (update_message p') h k = absurd (h.1 p' k.1)
+one_message frame malformed_update_message malformed_update_message h k = refl
+one_message frame malformed_update_message (notification_message c' s' d') h k = absurd (omega (arith, h.0, k.0))
+one_message frame malformed_update_message keepalive_message h k = absurd (omega (arith, h.0, k.0))
 one_message frame (notification_message c s d) (open_message f') h k = absurd (omega (arith, h.0, k.0))
 one_message frame (notification_message c s d) (malformed_open_message f') h k = absurd (omega (arith, h.0, k.0))
-one_message frame (notification_message c s d) (update_message n') h k = absurd (omega (arith, h.0, k.0))
+one_message frame (notification_message c s d) (update_message p') h k = absurd (omega (arith, h.0, k.0))
+one_message frame (notification_message c s d) malformed_update_message h k = absurd (omega (arith, h.0, k.0))
 one_message frame (notification_message c s d) (notification_message c' s' d') h k = let same : c ∷ s ∷ d ≡ c' ∷ s' ∷ d' = sym h.1.body ∙ k.1.body in cc
 one_message frame (notification_message c s d) keepalive_message h k = absurd (omega (arith, h.0, k.0))
 one_message frame keepalive_message (open_message f') h k = absurd (omega (arith, h.0, k.0))
 one_message frame keepalive_message (malformed_open_message f') h k = absurd (omega (arith, h.0, k.0))
-one_message frame keepalive_message (update_message n') h k = absurd (omega (arith, h.0, k.0))
+one_message frame keepalive_message (update_message p') h k = absurd (omega (arith, h.0, k.0))
+one_message frame keepalive_message malformed_update_message h k = absurd (omega (arith, h.0, k.0))
 one_message frame keepalive_message (notification_message c' s' d') h k = absurd (omega (arith, h.0, k.0))
 one_message frame keepalive_message keepalive_message h k = refl
 

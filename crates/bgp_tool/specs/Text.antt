@@ -1,17 +1,21 @@
 -- The lines that a stream prints, as octets: one a message, and one for what is no message.
-use Rattle.std.specs.Prelude.{◌++◌, ℕ, Bool, List, [], ◌∷◌, if◌then◌else◌, is_some, codes}
-use Rattle.std.specs.List.{flat_map}
+use Rattle.std.specs.Prelude.{◌++◌, ℕ, Bool, List, [], ◌∷◌, if◌then◌else◌, is_some, map, codes}
+use Rattle.std.specs.List.{flat_map, join_with_byte}
 use Rattle.std.specs.Fmt.{decimal}
 use Rattle.hex.specs.Hex.{encode_lower}
 use Rattle.bgp_prefix.specs.declared.address.Address.TheVariants.{V4}
-use Rattle.bgp_prefix.specs.Text.{address_text}
+use Rattle.bgp_prefix.specs.Prefix.{PrefixBits}
+use Rattle.bgp_prefix.specs.Text.{address_text, prefix_text}
+use Rattle.bgp_attr.specs.Field.{Attribute}
 use Rattle.bgp_wire.specs.declared.header.HeaderFaults.{HeaderFaults}
 use Rattle.bgp_open.specs.Triplet.{Triplet}
 use Rattle.bgp_open.specs.Open.{OpenFields}
 use Rattle.bgp_open.specs.OpenFault.{open_fault_number}
 use Rattle.bgp_open.specs.declared.fault.OpenFault.{OpenFault}
+use Rattle.bgp_update.specs.Parts.{UpdateParts}
 use Rattle.bgp_tool.specs.Message.{Message, open_message, malformed_open_message, update_message}
-use Rattle.bgp_tool.specs.Message.{notification_message, keepalive_message}
+use Rattle.bgp_tool.specs.Message.{malformed_update_message, notification_message}
+use Rattle.bgp_tool.specs.Message.{keepalive_message}
 
 -- octets in hexadecimal, two lower-case digits each; a dash for none
 unfoldable pub hex_text : List ℕ → List ℕ
@@ -40,9 +44,28 @@ unfoldable pub malformed_open_line : OpenFault → List ℕ
 malformed_open_line fault =
     codes "open malformed " ++ (decimal (open_fault_number fault) ++ codes "\n")
 
--- an UPDATE, which isn't read yet: the count of the whole message's octets
-unfoldable pub update_line : ℕ → List ℕ
-update_line count = codes "update octets " ++ (decimal count ++ codes "\n")
+-- prefixes with blanks (octet 32) between them; a dash for none
+unfoldable pub prefixes_text : List PrefixBits → List ℕ
+prefixes_text [] = codes "-"
+prefixes_text (prefix ∷ prefixes) = join_with_byte 32 (map prefix_text (prefix ∷ prefixes))
+
+-- a path attribute: its flags octet and its type in decimal, and its value
+unfoldable pub attribute_text : Attribute → List ℕ
+attribute_text a =
+    decimal a.flags ++ (codes "." ++ (decimal a.kind ++ (codes ":" ++ hex_text a.value)))
+
+-- attributes with blanks between them; a dash for none
+unfoldable pub attributes_text : List Attribute → List ℕ
+attributes_text [] = codes "-"
+attributes_text (a ∷ attributes) = join_with_byte 32 (map attribute_text (a ∷ attributes))
+
+-- an UPDATE: withdrawn prefixes, path attributes in wire order, and announced prefixes (RFC 4271,
+-- 4.3)
+unfoldable pub update_line : UpdateParts → List ℕ
+update_line parts =
+    codes "update " ++ (prefixes_text parts.withdrawn
+    ++ (codes " | " ++ (attributes_text parts.attributes
+    ++ (codes " | " ++ (prefixes_text parts.nlri ++ codes "\n")))))
 
 -- a NOTIFICATION: its error code and subcode, and its data (RFC 4271, 4.5)
 unfoldable pub notification_line : ℕ → ℕ → List ℕ → List ℕ
@@ -54,7 +77,8 @@ notification_line code subcode detail =
 abbrev pub line_of : Message → List ℕ
 line_of (open_message fields) = open_line fields
 line_of (malformed_open_message fault) = malformed_open_line fault
-line_of (update_message count) = update_line count
+line_of (update_message parts) = update_line parts
+line_of malformed_update_message = codes "update malformed\n"
 line_of (notification_message code subcode detail) = notification_line code subcode detail
 line_of keepalive_message = codes "keepalive\n"
 

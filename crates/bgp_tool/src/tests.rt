@@ -4,6 +4,7 @@ mod captures;
 mod commands;
 mod great;
 mod routes;
+mod updates;
 
 use super::*;
 use bgp_wire::vectors::{
@@ -109,6 +110,11 @@ fn joined(alloc: Global, messages: &[&[u8]]) -> Result<Vec<u8>, AllocError> {
     Ok(octets)
 }
 
+/// The line of [`ANNOUNCES_10`].
+const ANNOUNCES_10_LINE: &str = "\
+update - | 64.1:00 64.2:02010000fdea 64.3:c0000202 | 10.0.0.0/8
+";
+
 /// Streams, their text, and the exit status.
 const STREAMS: [(&[&[u8]], &str, u8); 13] = [
     (&SESSION, SESSION_TEXT, 2),
@@ -134,7 +140,7 @@ const STREAMS: [(&[&[u8]], &str, u8); 13] = [
     (&[&OPEN_OF_VERSION_3], "open malformed 1\n", 0),
     (&[&OPEN_WITH_PARAMETER_1], "open malformed 4\n", 0),
     (&[&OPEN_WITH_HALF_A_CAPABILITY], "open malformed 0\n", 0),
-    (&[&ANNOUNCES_10], "update octets 45\n", 0),
+    (&[&ANNOUNCES_10], ANNOUNCES_10_LINE, 0),
     (&[&BAD_LENGTH_18], "notification 1/2 0012\n", 0),
 ];
 
@@ -288,7 +294,7 @@ fn memory_does_not_grow_with_the_stream(rt: HostRuntime) -> Result<(), Fail> {
     let mut source = MemSource::new(octets);
     let mut sink = MemSink::new(rt.alloc());
     assert_eq!(rt; decode_raw(&heap, &mut source, &mut sink), 0);
-    assert_eq!(rt; sink.octets().len(), 10_000 * "update octets 45\n".len());
+    assert_eq!(rt; sink.octets().len(), 10_000 * ANNOUNCES_10_LINE.len());
     Ok(())
 }
 

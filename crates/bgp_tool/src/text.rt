@@ -4,3 +4,4 @@ pub(crate) mod addresses;
 pub(crate) mod messages;
 pub(crate) mod records;
 pub(crate) mod routes;
+pub(crate) mod updates;

@@ -38,7 +38,9 @@ One line a message:
                         AS number, hold time, BGP identifier, capabilities CODE:HEX
   open malformed 1      an OPEN whose form is wrong: 1 its version, 4 a parameter that is no
                         capability, 0 a length or a parameter that doesn't fit
-  update octets 45      the count of an UPDATE's octets
+  update 10.2.0.0/16 | 64.1:00 | -
+                        withdrawn prefixes, attributes FLAGS.TYPE:HEX, announced prefixes
+  update malformed      an UPDATE in which a length, a prefix or the last attribute doesn't fit
   notification 6/2 -    error code, subcode, data in hexadecimal
   keepalive
 and last, where there is something to tell:

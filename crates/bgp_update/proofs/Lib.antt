@@ -5,6 +5,7 @@ pub mod Joined
 pub mod Marks
 pub mod MpValues
 pub mod OneOutcome
+pub mod OneParts
 pub mod OneSplit
 pub mod PrefixLists
 pub mod Routes

@@ -23,7 +23,7 @@ one_counted octets field other rest more one two =
     }
 
 -- the two fields that have a length
-first : (octets : List ℕ) (s : Sections) → IsUpdate octets s → IsCounted (body_of octets) s.withdrawn (big_bytes 2 (length s.attributes) ++ (s.attributes ++ s.nlri))
+pub first : (octets : List ℕ) (s : Sections) → IsUpdate octets s → IsCounted (body_of octets) s.withdrawn (big_bytes 2 (length s.attributes) ++ (s.attributes ++ s.nlri))
 first octets s is = record { spelled = is.body; fits = is.withdrawn_length }
 
 second : (octets : List ℕ) (s : Sections) → IsUpdate octets s → IsCounted (big_bytes 2 (length s.attributes) ++ (s.attributes ++ s.nlri)) s.attributes s.nlri

@@ -1,5 +1,5 @@
 -- A list of prefixes walked from its front, and that the walk reads what the relation says.
-use Rattle.std.proofs.Common.{◌≡◌, ◌↔◌, ℕ, zero, suc, ◌+◌, ◌/◌, ◌≤◌, Bool, true, false, List, [], ◌∷◌, ◌++◌, length, drop, get_or, Option, None, Some, option_map, is_some, IsTrue, refl, sym, ap, subst, ◌∙◌, arith, inl, inr, eqb, append_assoc, append-nil}
+use Rattle.std.proofs.Common.{◌≡◌, ◌↔◌, ◌⊎◌, ℕ, zero, suc, ◌+◌, ◌/◌, ◌≤◌, Bool, true, false, List, [], ◌∷◌, ◌++◌, length, drop, get_or, Option, None, Some, option_map, is_some, IsTrue, refl, sym, ap, subst, ◌∙◌, arith, inl, inr, eqb, append_assoc, append-nil}
 use Rattle.std.proofs.lemmas.Bool.{cases_Bool, and_parts, leb-true, le-leb, eqb-true, ne_eqb, eq-eqb}
 use Rattle.std.proofs.lemmas.List.{length-drop, nil_from_length}
 use Rattle.bgp_prefix.specs.declared.family.Family.{Family}
@@ -194,3 +194,44 @@ no_prefixes family octets b e = (
   λ is. prefixes_end family octets (sym is ∙ e),
   λ none. let nothing : octets ≡ [] = (reads_prefixes family octets []).1 none in e ∙ rw nothing refl,
 )
+
+-- ---- a field gone through prefix by prefix
+
+pub record Yields (family : Family) (octets after : List ℕ) (p : PrefixBits) : Type 0 where
+  pub whole : is_some (prefixes_of family after) ≡ true
+  pub first : listed (prefixes_of family octets) ≡ p ∷ listed (prefixes_of family after)
+
+pub yields : (family : Family) (octets after : List ℕ) (p : PrefixBits) (n : ℕ) → BeginsWithPrefix family octets p n
+    → after ≡ drop n octets → is_some (prefixes_of family octets) ≡ true → Yields family octets after p
+yields family octets after p n b gone whole =
+    let all = listed (prefixes_of family octets) in
+    let on : Goes family after (p ∷ []) all = goes family octets after p n [] (p ∷ []) all b gone refl (record { whole = whole; so_far = refl }) in
+    record { whole = on.whole; first = sym on.so_far }
+
+pub yields_none : (family : Family) (octets : List ℕ) → ((p : PrefixBits) (n : ℕ) → ¬ BeginsWithPrefix family octets p n)
+    → is_some (prefixes_of family octets) ≡ true → listed (prefixes_of family octets) ≡ []
+yields_none family octets none whole = sym (all_pushed family octets [] _ none (record { whole = whole; so_far = refl }))
+
+-- a field is a list of prefixes, or it isn't
+pub each_list : (family : Family) (octets : List ℕ)
+    → ((prefixes : List PrefixBits) × ArePrefixes family octets prefixes) ⊎ ((prefixes : List PrefixBits) → ¬ ArePrefixes family octets prefixes)
+each_list family octets = go (prefixes_of family octets) refl
+  where
+    go : (found : Option (List PrefixBits)) → prefixes_of family octets ≡ found
+        → ((prefixes : List PrefixBits) × ArePrefixes family octets prefixes) ⊎ ((prefixes : List PrefixBits) → ¬ ArePrefixes family octets prefixes)
+    go None e = inr (λ prefixes is. absurd (let some = sym e ∙ (reads_prefixes family octets prefixes).0 is in cc))
+    go (Some prefixes) e = inl (prefixes, (reads_prefixes family octets prefixes).1 e)
+
+-- a field whose prefixes can be counted is a list of them, and another isn't
+pub is_list : (family : Family) (octets : List ℕ) (count : Option ℕ) (n : ℕ) → count ≡ option_map length (prefixes_of family octets) → count ≡ Some n
+    → ArePrefixes family octets (listed (prefixes_of family octets))
+is_list family octets count n counts some = go (prefixes_of family octets) refl (sym counts ∙ some)
+  where
+    go : (found : Option (List PrefixBits)) → prefixes_of family octets ≡ found → option_map length found ≡ Some n → ArePrefixes family octets (listed found)
+    go None is e = absurd cc
+    go (Some prefixes) is e = (reads_prefixes family octets prefixes).1 is
+
+pub is_none : (family : Family) (octets : List ℕ) (count : Option ℕ) → count ≡ option_map length (prefixes_of family octets) → count ≡ None
+    → (prefixes : List PrefixBits) → ¬ ArePrefixes family octets prefixes
+is_none family octets count counts none prefixes is =
+    absurd (let some = (reads_prefixes family octets prefixes).0 is in let e = rw some at (sym counts ∙ none) in cc)

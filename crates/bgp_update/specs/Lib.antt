@@ -2,6 +2,7 @@ pub mod Sections
 pub mod Counted
 pub mod Fields
 pub mod Prefixes
+pub mod Parts
 pub mod Listed
 pub mod MpValue
 pub mod Mp

@@ -15,15 +15,18 @@ use bgp_wire::{MessageType, message_body};
 use byteorder::{BigEndian, ByteOrder};
 
 /// The octets of the fields.
-#[derive(Clone, Copy)]
-pub(crate) struct Fields<'a> {
-    pub(crate) withdrawn: &'a [u8],
-    pub(crate) attributes: &'a [u8],
-    pub(crate) nlri: &'a [u8],
+#[derive(Clone, Copy, Debug, PartialEq, Eq)]
+pub struct Fields<'a> {
+    /// The Withdrawn Routes field.
+    pub withdrawn: &'a [u8],
+    /// The Path Attributes field.
+    pub attributes: &'a [u8],
+    /// The Network Layer Reachability Information field.
+    pub nlri: &'a [u8],
 }
 
 /// The fields of a whole UPDATE: none where its lengths are bad, or where the octets are none.
-pub(crate) fn split_update(octets: &[u8]) -> Option<Fields<'_>>
+pub fn split_update(octets: &[u8]) -> Option<Fields<'_>>
     ensures some { IfSome result (λ fields. IsUpdate octets.entry.now (sections_of fields)) }
     ensures none { IfNone result (IsMalformed octets.entry.now) }
 {

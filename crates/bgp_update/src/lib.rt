@@ -20,6 +20,7 @@ mod link_side;
 mod mp;
 mod mp_faults;
 mod outcomes;
+mod parts;
 mod pass;
 mod prefixes;
 mod reading;
@@ -29,11 +30,14 @@ mod survey;
 mod withdraw_faults;
 
 pub use clean::is_clean;
+pub use fields::{Fields, split_update};
 pub use laws::{
     clean_is_applied, empty_is_clean, fields_are_read, one_change, one_split, some_outcome,
 };
 pub use link_side::side;
 pub use outcomes::{Changes, Outcomes, Put};
+pub use parts::{Parts, read_parts};
+pub use prefixes::Prefixes;
 pub use reading::read_update;
 pub use subcodes::{Subcodes, subcodes_are_sets};
 

@@ -8,6 +8,70 @@ ghost use Rattle.bgp_update.specs.Listed.{listed};
 
 use bgp_prefix::{Family, Prefix};
 use std::alloc::{AllocError, Allocator};
+use std::marker::Model;
+
+/// The prefixes of a field, in the order in which they stand there. It takes no memory.
+///
+/// Contracts see it as the list of what is left.
+#[derive(Debug, Drop)]
+pub struct Prefixes<'a> {
+    family: Family,
+    rest: &'a [u8],
+}
+
+impl<'a> Model for Prefixes<'a> {
+    ghost use Rattle.std.specs.Prelude.{◌≡◌, List, is_some, true};
+    ghost use Rattle.bgp_prefix.specs.Prefix.{PrefixBits};
+    ghost use Rattle.bgp_update.specs.Listed.{listed};
+    ghost use Rattle.bgp_update.specs.Prefixes.{prefixes_of};
+
+    ghost Value = { List PrefixBits };
+
+    ghost view = { λ p. listed (prefixes_of p.family p.rest.now) };
+
+    ghost invariant = { λ p. is_some (prefixes_of p.family p.rest.now) ≡ true };
+}
+
+impl<'a> Prefixes<'a> {
+    ghost use Rattle.std.specs.Prelude.{List, IfSome, IfNone};
+    ghost use Rattle.bgp_prefix.specs.Prefix.{PrefixBits};
+    ghost use Rattle.bgp_update.specs.Prefixes.{ArePrefixes};
+
+    /// The prefixes of this field: none where it is incorrect, since a length is above that of an
+    /// address, or the last prefix runs over (RFC 7606, 5.3).
+    pub fn new(family: Family, field: &'a [u8]) -> Option<Prefixes<'a>>
+        ensures some { IfSome result (λ prefixes. ArePrefixes family field.entry.now prefixes) }
+        ensures none { IfNone result ((prefixes : List PrefixBits)
+            → ¬ ArePrefixes family field.entry.now prefixes) }
+    {
+        match count_prefixes(family, field) {
+            Some(_) => Some(Prefixes {
+                family,
+                rest: field,
+            }),
+            None => None,
+        }
+    }
+}
+
+impl<'a> Iterator for Prefixes<'a> {
+    ghost use Rattle.std.specs.Prelude.{length};
+    ghost use Rattle.std.specs.Iterator.{YieldsFirst, at_most};
+
+    type Item = Prefix;
+
+    ghost next_gives = { YieldsFirst (λ s. s) };
+
+    ghost remaining = { λ s. at_most (length s) };
+
+    fn next(&mut self) -> Option<Prefix> {
+        let Ok((prefix, count)) = Prefix::read(self.family, self.rest) else {
+            return None;
+        };
+        self.rest = self.rest.split_at(count).1;
+        Some(prefix)
+    }
+}
 
 /// How many octets spell the prefix at the front: none where no prefix of the family stands there.
 #[tactic(auto, unfolding(crate::specs::Prefixes::has_prefix, crate::specs::Prefixes::prefix_len))]

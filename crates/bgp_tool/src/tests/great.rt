@@ -48,7 +48,8 @@ fn the_greatest_messages_have_their_lines(rt: HostRuntime) -> Result<(), Fail> {
     let alloc = rt.alloc();
     // Length, fixed fields, filler; then the line's front, digits, and how often.
     let rows: [(u8, u16, &[u8], u8, &str, &str, usize); 3] = [
-        (2, 4096, &[], 0, "update octets 4096", "", 0),
+        // both lengths 0, and then 4073 times 0.0.0.0/0
+        (2, 4096, &[], 0, "update - | - |", " 0.0.0.0/0", 4073),
         (
             1,
             284, // header 19, fixed fields 10, parameters 255
@@ -102,7 +103,7 @@ fn memory_is_refused_before_the_first_line_alone(rt: HostRuntime) -> Result<(), 
             0,
         ),
         (&OPEN_OF_VERSION_3, "open malformed 1\n", 0),
-        (&ANNOUNCES_10, "update octets 45\n", 0),
+        (&ANNOUNCES_10, ANNOUNCES_10_LINE, 0),
         (&ADMINISTRATIVE_SHUTDOWN, "notification 6/2 -\n", 0),
         (&KEEPALIVE, "keepalive\n", 0),
         (&EIGHTEEN_OCTETS, "rest 18\n", 2),

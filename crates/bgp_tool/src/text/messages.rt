@@ -7,13 +7,15 @@ ghost use Rattle.bgp_open.specs.Capability.{capability_of};
 ghost use Rattle.bgp_tool.specs.Lines.{Writes};
 ghost use Rattle.bgp_tool.specs.Message.{Message, Says};
 ghost use Rattle.bgp_tool.specs.Text.{line_of, capability_text, capabilities_text, open_line};
-ghost use Rattle.bgp_tool.specs.Text.{malformed_open_line, update_line, notification_line};
+ghost use Rattle.bgp_tool.specs.Text.{malformed_open_line, notification_line};
 ghost use Rattle.bgp_tool.specs.Text.{subcode_text, fault_line, rest_line};
 
 use crate::lines::Lines;
+use crate::text::updates::put_update;
 use bgp_open::{
     Capabilities, Capability, Notification, Open, OpenFault, read_notification, read_open,
 };
+use bgp_update::read_parts;
 use bgp_wire::{HeaderFaults, MessageType};
 use mrt::Sink;
 
@@ -64,15 +66,6 @@ fn put_malformed_open<W: Sink>(lines: &mut Lines<'_, W>, fault: OpenFault)
     lines.put(b"\n");
 }
 
-/// The line of an UPDATE: until its contents are read, how many octets it has.
-fn put_update<W: Sink>(lines: &mut Lines<'_, W>, count: usize)
-    ensures { Writes lines.old lines.new (update_line count) }
-{
-    lines.put(b"update octets ");
-    lines.put_decimal(count);
-    lines.put(b"\n");
-}
-
 /// The line of a NOTIFICATION.
 fn put_notification<W: Sink>(lines: &mut Lines<'_, W>, message: Notification<'_>)
     ensures { Writes lines.old lines.new
@@ -99,7 +92,10 @@ pub(crate) fn put_message<W: Sink>(lines: &mut Lines<'_, W>, kind: MessageType, 
             Ok(message) => put_open(lines, &message),
             Err(fault) => put_malformed_open(lines, fault),
         },
-        MessageType::Update => put_update(lines, frame.len()),
+        MessageType::Update => match read_parts(frame) {
+            Some(parts) => put_update(lines, parts),
+            None => lines.put(b"update malformed\n"),
+        },
         MessageType::Notification => match read_notification(frame) {
             Some(message) => put_notification(lines, message),
             None => unreachable!(),

@@ -1,0 +1,36 @@
+-- The parts of an UPDATE (RFC 4271, 4.3): prefixes that are withdrawn, path attributes, and prefixes
+-- that are announced.
+use Rattle.std.specs.Prelude.{◌≡◌, ℕ, List, None}
+use Rattle.bgp_prefix.specs.declared.family.Family.TheVariants.{V4}
+use Rattle.bgp_prefix.specs.Prefix.{PrefixBits}
+use Rattle.bgp_attr.specs.Field.{Attribute}
+use Rattle.bgp_attr.specs.Split.{split_of}
+use Rattle.bgp_update.specs.declared.parts.Parts as declared
+use Rattle.bgp_update.specs.Prefixes.{ArePrefixes}
+use Rattle.bgp_update.specs.Sections.{Sections, IsUpdate}
+
+pub record UpdateParts : Type 0 where
+  pub withdrawn : List PrefixBits
+  pub attributes : List Attribute
+  pub nlri : List PrefixBits
+
+-- the octets are a whole UPDATE whose fields are these, with nothing behind the last attribute
+pub record SpellsParts (octets : List ℕ) (parts : UpdateParts) : Type 0 where
+  pub sections : Sections
+  pub update : IsUpdate octets sections
+  pub withdrawn : ArePrefixes V4 sections.withdrawn parts.withdrawn
+  pub attributes : split_of sections.attributes
+      ≡ record { attributes = parts.attributes; tail = None }
+  pub nlri : ArePrefixes V4 sections.nlri parts.nlri
+
+-- a length, a list of prefixes or the end of the attributes is at fault, or it is no UPDATE at all
+abbrev pub LacksParts : List ℕ → Type 0
+LacksParts octets = (parts : UpdateParts) → ¬ SpellsParts octets parts
+
+-- what the parts that were read are to a contract
+abbrev pub parts_of : declared.Parts → UpdateParts
+parts_of parts = record {
+  withdrawn = parts.withdrawn;
+  attributes = parts.attributes.attributes;
+  nlri = parts.nlri;
+}

@@ -1,0 +1,46 @@
+//! An UPDATE part by part (RFC 4271, 4.3): what a router says, before it is asked what to do about it.
+
+ghost use Rattle.std.specs.Prelude.{IfSome, IfNone};
+ghost use Rattle.bgp_update.specs.Parts.{LacksParts, SpellsParts, parts_of};
+
+use crate::fields::split_update;
+use crate::prefixes::Prefixes;
+use bgp_attr::Attrs;
+use bgp_prefix::Family;
+
+/// The parts of an UPDATE, each of which is gone through in wire order.
+#[derive(Debug, Drop)]
+pub struct Parts<'a> {
+    /// The prefixes that the Withdrawn Routes field withdraws.
+    pub withdrawn: Prefixes<'a>,
+    /// The path attributes, repeated ones too.
+    pub attributes: Attrs<'a>,
+    /// The prefixes that the NLRI field announces.
+    pub nlri: Prefixes<'a>,
+}
+
+/// The parts of a whole UPDATE: none where a length, one of both lists of IPv4 prefixes or the end
+/// of the attributes is at fault, or where the octets are no UPDATE. It takes no memory.
+pub fn read_parts(octets: &[u8]) -> Option<Parts<'_>>
+    ensures some { IfSome result (λ parts. SpellsParts octets.entry.now (parts_of parts)) }
+    ensures none { IfNone result (LacksParts octets.entry.now) }
+{
+    let Some(fields) = split_update(octets) else {
+        return None;
+    };
+    let Some(withdrawn) = Prefixes::new(Family::V4, fields.withdrawn) else {
+        return None;
+    };
+    let Some(nlri) = Prefixes::new(Family::V4, fields.nlri) else {
+        return None;
+    };
+    let attributes = Attrs::new(fields.attributes);
+    if attributes.tail().is_some() {
+        return None;
+    }
+    Some(Parts {
+        withdrawn,
+        attributes,
+        nlri,
+    })
+}
