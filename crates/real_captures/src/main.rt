@@ -1,0 +1,72 @@
+//! Decodes captures whose answers are known from elsewhere: those of real routers' sessions, whose
+//! text is this program's; and two tables of captures, whose lines and statuses it compares.
+//! `cases.txt` was answered by another program, `rules.txt` was worked out by hand from RFC 6396.
+#![tactic(auto)]
+
+mod case;
+mod recordings;
+mod runs;
+
+use case::read_case;
+use recordings::{CAPTURES, print_capture};
+use runs::{Answer, is_whole, stops_anywhere};
+use std::alloc::Global;
+use std::process::ExitCode;
+use std::rt::Files;
+use std::{fs, io};
+
+fn main(rt: HostRuntime) -> ExitCode {
+    match decode_all(&rt) {
+        Ok(true) => ExitCode::SUCCESS,
+        Ok(false) => ExitCode::FAILURE,
+        Err(error) => {
+            let _ = eprintln!(rt; "{error}");
+            ExitCode::FAILURE
+        }
+    }
+}
+
+/// Decodes all. Answers whether all cases are so.
+fn decode_all<R: Files + Print + AllocGlobal>(rt: &R) -> io::Result<bool> {
+    for name in CAPTURES {
+        print_capture(rt, name)?;
+    }
+    let cases = compare(rt, "cases.txt", false)?;
+    let rules = compare(rt, "rules.txt", true)?;
+    Ok(cases && rules)
+}
+
+/// Prints each case of a table that is not so, and then how many there were. Answers whether all
+/// are so. Where `stops` says it, each case is also read by a source that fails at each of its
+/// octets in turn, and by one that ends there.
+fn compare<R: Files + Print + AllocGlobal>(rt: &R, name: &str, stops: bool) -> io::Result<bool> {
+    let table = fs::read_to_string(rt, name)?;
+    let mut cases = 0u64;
+    let mut all = true;
+    for block in table.split("\n\n") {
+        if block.trim_end().is_empty() {
+            continue;
+        }
+        cases = cases.saturating_add(1);
+        if !is_so(rt.alloc(), block.trim_end(), stops)? {
+            println!(rt; "{name}: case {cases} is not so:\n{block}")?;
+            all = false;
+        }
+    }
+    println!(rt; "{name}: {cases} cases")?;
+    Ok(all)
+}
+
+/// Whether a case is so.
+fn is_so(alloc: Global, block: &str, stops: bool) -> io::Result<bool> {
+    let case = read_case(alloc, block)?;
+    let Answer { given, .. } = match is_whole(alloc, &case)? {
+        Some(answer) => answer,
+        None => return Ok(false),
+    };
+    if stops {
+        Ok(stops_anywhere(alloc, &case, given)?)
+    } else {
+        Ok(true)
+    }
+}
