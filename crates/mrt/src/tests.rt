@@ -1,7 +1,6 @@
 //! What no clause says: devices that fail in mid-stream, each upset once, refused memory.
 
 mod captures;
-mod refusals;
 mod written;
 
 use super::*;

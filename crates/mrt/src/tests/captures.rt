@@ -1,8 +1,9 @@
-//! Captures whose records were worked out by hand from RFC 6396, read whole.
+//! What a reader answers call by call, over devices that fail and with memory refused. What each
+//! record shows, and each rule, is compared by the program `real_captures`.
 
 use super::*;
 use bgp_prefix::{Address, Session};
-use bgp_wire::vectors::{KEEPALIVE, KEEPALIVE_OF_18};
+use bgp_wire::vectors::KEEPALIVE;
 use std::process::Abort;
 
 /// The session of 192.0.2.1 with 192.0.2.2, which may have route refresh.
@@ -12,77 +13,45 @@ pub(crate) const SESSION: Session = Session {
     refresh: true,
 };
 
-/// A change from Idle to Connect at second 100.
-pub(crate) const CHANGE: [u8; 36] = [
-    0, 0, 0, 100, // Timestamp
-    0, 16, 0, 5, // BGP4MP, STATE_CHANGE_AS4
-    0, 0, 0, 24, // Length
-    0, 0, 0xfd, 0xea, 0, 0, 0xfd, 0xe9, // peer AS 65002, local AS 65001
-    0, 0, 0, 1, // interface index, AFI: IPv4
-    192, 0, 2, 2, 192, 0, 2, 1, // peer, local
-    0, 1, 0, 2, // Idle, Connect
-];
+/// A change from Idle to Connect at second 100: Timestamp, type and subtype, Length; AS numbers;
+/// interface index and AFI; peer and local address; states.
+pub(crate) const CHANGE: &str = "00000064 00100005 00000018 \
+    0000fdea 0000fde9 00000001 c0000202 c0000201 00010002";
+
+/// The same at second 99.
+const EARLIER: &str = "00000063 00100005 00000018 \
+    0000fdea 0000fde9 00000001 c0000202 c0000201 00010002";
 
 /// A KEEPALIVE that was received at second 101.
-pub(crate) const RECEIVED: [u8; 51] = [
-    0, 0, 0, 101, // Timestamp
-    0, 16, 0, 4, // BGP4MP, MESSAGE_AS4
-    0, 0, 0, 39, // Length
-    0, 0, 0xfd, 0xea, 0, 0, 0xfd, 0xe9, // peer AS 65002, local AS 65001
-    0, 0, 0, 1, // interface index, AFI: IPv4
-    192, 0, 2, 2, 192, 0, 2, 1, // peer, local
-    255, 255, 255, 255, 255, 255, 255, 255, 255, 255, 255, 255, 255, 255, 255, 255, // marker
-    0, 19, 4, // a KEEPALIVE
-];
+pub(crate) const RECEIVED: &str = "00000065 00100004 00000027 \
+    0000fdea 0000fde9 00000001 c0000202 c0000201 \
+    ffffffffffffffffffffffffffffffff 0013 04";
 
-/// A capture: some octets, a record that is changed in places, and octets behind it.
-#[derive(Clone, Copy)]
-pub(crate) struct Row<'a> {
-    pub(crate) lesson: &'a str,
-    pub(crate) before: &'a [u8],
-    pub(crate) record: &'a [u8],
-    /// Octets that stand in the record from an offset on in place of its own.
-    pub(crate) changes: &'a [(usize, &'a [u8])],
-    pub(crate) behind: &'a [u8],
-    pub(crate) shown: &'a [Record<'a>],
-    /// The fault and its offset, if it is refused.
-    pub(crate) fault: Option<(FaultKind, u64)>,
-}
+/// A record of another type, of 14 octets.
+const OTHER: &str = "00000001 000d0001 00000002 aabb";
 
-pub(crate) const ROW: Row<'static> = Row {
-    lesson: "",
-    before: &[],
-    record: &[],
-    changes: &[],
-    behind: &[],
-    shown: &[],
-    fault: None,
-};
-
-/// The octets, some of which stand in place of others from an offset on.
-fn change(octets: &mut [u8], at: usize, new: &[u8]) {
-    for (octet, place) in octets.iter_mut().zip(0..usize::MAX) {
-        if let Some(index) = place.checked_sub(at) {
-            if let Some(changed) = new.get(index) {
-                *octet = *changed;
-            }
+/// The octets that groups of hexadecimal digits spell.
+pub(crate) fn octets_of(alloc: Global, groups: &str) -> Result<Vec<u8>, Fail> {
+    let mut octets = Vec::new(alloc);
+    for group in groups.split(' ') {
+        if let Ok(some) = hex::decode(alloc, group) {
+            octets.extend_from_slice(some.as_slice())?;
         }
     }
+    Ok(octets)
 }
 
-pub(crate) fn capture_of(alloc: Global, row: &Row<'_>) -> Result<Vec<u8>, AllocError> {
-    let mut record = row.record.to_vec(alloc)?;
-    for (at, new) in row.changes {
-        change(&mut record, *at, new);
+/// A capture of these records.
+fn capture_of(alloc: Global, records: &[&str]) -> Result<Vec<u8>, Fail> {
+    let mut capture = Vec::new(alloc);
+    for groups in records {
+        capture.extend_from_slice(octets_of(alloc, groups)?.as_slice())?;
     }
-    let mut capture = row.before.to_vec(alloc)?;
-    capture.extend_from_slice(&record)?;
-    capture.extend_from_slice(row.behind)?;
     Ok(capture)
 }
 
 /// The next answer, of a reader and a source that belong together.
-pub(crate) fn next<'a>(
+fn next<'a>(
     reader: &'a mut Reader,
     source: &mut MemSource,
     session: &Session,
@@ -93,155 +62,62 @@ pub(crate) fn next<'a>(
     Ok(reader.next_record(source, session))
 }
 
-/// Reads a row's capture and compares each answer, and those after the end or the fault.
-pub(crate) fn compare(
+/// Reads so many changes of second 100, and then a fault, or the end, three times.
+fn compare(
     alloc: Global,
     rt: &impl Abort,
-    row: &Row<'_>,
-    session: &Session,
-    most: NonZeroUsize,
+    source: MemSource,
+    changes: usize,
+    fault: Option<CaptureFault>,
 ) -> Result<(), Fail> {
-    let lesson = row.lesson;
-    let mut source = MemSource::new(capture_of(alloc, row)?).in_pieces_of(most);
+    let mut source = source;
     let mut reader = Reader::new(alloc);
-    for shown in row.shown {
-        let answer = next(&mut reader, &mut source, session)?;
-        assert_eq!(rt; answer, Ok(Some(*shown)), "{lesson}");
-        let passed = reader.passed();
-        assert_eq!(rt; source.given() as u64, passed, "{lesson}");
+    for _ in 0..changes {
+        let answer = next(&mut reader, &mut source, &SESSION)?;
+        assert_eq!(rt; answer, Ok(Some(Record::Change(100, 1, 2))));
     }
-    let wanted = match row.fault {
-        Some((kind, offset)) => Err(CaptureFault { kind, offset }),
+    let wanted = match fault {
+        Some(fault) => Err(fault),
         None => Ok(None),
     };
-    for _ in 0..3 {
-        let answer = next(&mut reader, &mut source, session)?;
-        assert_eq!(rt; answer, wanted, "{lesson}");
-        let given = source.given();
-        let again = next(&mut reader, &mut source, session)?;
-        assert_eq!(rt; again, wanted, "{lesson}");
-        assert_eq!(rt; source.given(), given, "{lesson}");
+    let answer = next(&mut reader, &mut source, &SESSION)?;
+    assert_eq!(rt; answer, wanted);
+    let given = source.given();
+    let failures = source.failures();
+    for _ in 0..2 {
+        let answer = next(&mut reader, &mut source, &SESSION)?;
+        assert_eq!(rt; answer, wanted);
+        assert_eq!(rt; source.given(), given);
+        assert_eq!(rt; source.failures(), failures);
     }
-    if let Some((_, offset)) = row.fault {
-        assert_eq!(rt; reader.place(), offset, "{lesson}");
-    }
-    Ok(())
-}
-
-pub(crate) fn compare_each(alloc: Global, rt: &impl Abort, rows: &[Row<'_>]) -> Result<(), Fail> {
-    for row in rows {
-        for most in [1, 5, 4096, usize::MAX] {
-            compare(alloc, rt, row, &SESSION, at_most(most)?)?;
-        }
+    if let Some(fault) = fault {
+        assert_eq!(rt; reader.place(), fault.offset);
     }
     Ok(())
 }
 
-/// A KEEPALIVE that was sent over IPv6 at second 7, with two-octet AS numbers and microseconds.
-const SENT: [u8; 75] = [
-    0, 0, 0, 7, // Timestamp
-    0, 17, 0, 6, // BGP4MP_ET, MESSAGE_LOCAL
-    0, 0, 0, 63, // Length
-    0, 1, 2, 3, // microseconds
-    0xfd, 0xea, 0xfd, 0xe9, // peer AS 65002, local AS 65001
-    0, 1, 0, 2, // interface index, AFI: IPv6
-    0x20, 1, 0x0d, 0xb8, 0, 0, 0, 0, 0, 0, 0, 0, 0, 0, 0, 2, // peer
-    0x20, 1, 0x0d, 0xb8, 0, 0, 0, 0, 0, 0, 0, 0, 0, 0, 0, 1, // local
-    255, 255, 255, 255, 255, 255, 255, 255, 255, 255, 255, 255, 255, 255, 255, 255, // marker
-    0, 19, 4, // a KEEPALIVE
-];
-
-/// A change from OpenConfirm to Established at second 9, with two-octet AS numbers.
-const CHANGE_OF_TWO_OCTETS: [u8; 32] = [
-    0, 0, 0, 9, // Timestamp
-    0, 16, 0, 0, // BGP4MP, STATE_CHANGE
-    0, 0, 0, 20, // Length
-    0xfd, 0xea, 0xfd, 0xe9, // peer AS 65002, local AS 65001
-    0, 0, 0, 1, // interface index, AFI: IPv4
-    192, 0, 2, 2, 192, 0, 2, 1, // peer, local
-    0, 5, 0, 6, // OpenConfirm, Established
-];
-
 #[test]
-fn each_record_shows_what_it_says(rt: HostRuntime) -> Result<(), Fail> {
-    let rows = [
-        Row {
-            lesson: "nothing",
-            ..ROW
-        },
-        Row {
-            lesson: "a change and a message",
-            before: &CHANGE,
-            record: &RECEIVED,
-            shown: &[Record::Change(100, 1, 2), Record::In(101, &KEEPALIVE)],
-            ..ROW
-        },
-        Row {
-            lesson: "a change with microseconds",
-            before: &[0, 0, 0, 100, 0, 17, 0, 5, 0, 0, 0, 28, 0, 0, 0, 7],
-            record: CHANGE.split_at(12).1,
-            shown: &[Record::Change(100, 1, 2)],
-            ..ROW
-        },
-        Row {
-            lesson: "two-octet AS numbers",
-            before: &CHANGE_OF_TWO_OCTETS,
-            record: &RECEIVED,
-            changes: &[(7, &[7])],
-            shown: &[Record::Change(9, 5, 6), Record::Out(101, &KEEPALIVE)],
-            ..ROW
-        },
-        Row {
-            lesson: "a faulty header is a message",
-            record: &RECEIVED,
-            changes: &[(49, &[18])],
-            shown: &[Record::In(101, &KEEPALIVE_OF_18)],
-            ..ROW
-        },
-        Row {
-            lesson: "a record of another type",
-            before: &[0, 0, 0, 1, 0, 13, 0, 1, 0, 0, 0, 2, 0xaa, 0xbb],
-            record: &CHANGE,
-            shown: &[Record::Change(100, 1, 2)],
-            ..ROW
-        },
-        Row {
-            lesson: "another session's peer address, and its time goes back",
-            before: &CHANGE,
-            record: &RECEIVED,
-            changes: &[(3, &[99]), (27, &[9])],
-            shown: &[Record::Change(100, 1, 2)],
-            ..ROW
-        },
-    ];
-    compare_each(rt.alloc(), &rt, &rows)
-}
-
-#[test]
-fn addresses_of_ipv6_and_microseconds_are_read(rt: HostRuntime) -> Result<(), Fail> {
-    let session = Session {
-        peer: Address::V6(0x2001_0db8_0000_0000_0000_0000_0000_0002),
-        local: Address::V6(0x2001_0db8_0000_0000_0000_0000_0000_0001),
-        refresh: false,
-    };
-    let row = Row {
-        lesson: "sent over IPv6",
-        before: &RECEIVED,
-        record: &SENT,
-        shown: &[Record::Out(7, &KEEPALIVE)],
-        ..ROW
-    };
-    compare(rt.alloc(), &rt, &row, &session, NonZeroUsize::MIN)
+fn a_capture_is_read_to_its_end_or_its_first_fault(rt: HostRuntime) -> Result<(), Fail> {
+    let alloc = rt.alloc();
+    let cut = CHANGE.split_at(CHANGE.len().saturating_sub(2)).0;
+    let long = "00000064 00100004 00002001";
+    for (records, changes, fault) in [
+        ([CHANGE, ""], 1, None),
+        ([cut, ""], 0, Some((FaultKind::Truncated, 0))),
+        ([CHANGE, EARLIER], 1, Some((FaultKind::TimeBack, 36))),
+        ([long, ""], 0, Some((FaultKind::TooLong, 0))),
+        ([OTHER, ""], 0, None),
+    ] {
+        let source = MemSource::new(capture_of(alloc, &records)?);
+        let fault = fault.map(|(kind, offset)| CaptureFault { kind, offset });
+        compare(alloc, &rt, source, changes, fault)?;
+    }
+    Ok(())
 }
 
 #[test]
 fn no_octet_beyond_the_record_is_taken(rt: HostRuntime) -> Result<(), Fail> {
-    let row = Row {
-        before: &CHANGE,
-        record: &RECEIVED,
-        ..ROW
-    };
-    let mut source = MemSource::new(capture_of(rt.alloc(), &row)?);
+    let mut source = MemSource::new(capture_of(rt.alloc(), &[CHANGE, RECEIVED])?);
     let mut reader = Reader::new(rt.alloc());
     assert_eq!(rt; reader.place(), 0);
     let answer = next(&mut reader, &mut source, &SESSION)?;
@@ -261,17 +137,12 @@ fn no_octet_beyond_the_record_is_taken(rt: HostRuntime) -> Result<(), Fail> {
 
 #[test]
 fn the_first_other_session_is_kept(rt: HostRuntime) -> Result<(), Fail> {
-    let row = Row {
-        before: &CHANGE,
-        record: &RECEIVED,
-        ..ROW
-    };
     let exchanged = Session {
         peer: SESSION.local,
         local: SESSION.peer,
         refresh: false,
     };
-    let mut source = MemSource::new(capture_of(rt.alloc(), &row)?);
+    let mut source = MemSource::new(capture_of(rt.alloc(), &[CHANGE, RECEIVED])?);
     let mut reader = Reader::new(rt.alloc());
     let answer = next(&mut reader, &mut source, &exchanged)?;
     assert_eq!(rt; answer, Ok(None));
@@ -284,67 +155,26 @@ fn the_first_other_session_is_kept(rt: HostRuntime) -> Result<(), Fail> {
     Ok(())
 }
 
-/// Reads a capture whose read of octet `call` fails: so many records, and then the failure for good.
-fn compare_failing(
-    alloc: Global,
-    rt: &impl Abort,
-    row: &Row<'_>,
-    call: u64,
-    offset: u64,
-) -> Result<(), Fail> {
-    let octets = capture_of(alloc, row)?;
-    let mut source = MemSource::new(octets)
-        .in_pieces_of(NonZeroUsize::MIN)
-        .upset_at(call, SourceUpset::Fail);
-    let mut reader = Reader::new(alloc);
-    for shown in row.shown {
-        let answer = next(&mut reader, &mut source, &SESSION)?;
-        assert_eq!(rt; answer, Ok(Some(*shown)), "read {call}");
-    }
-    let fault = CaptureFault {
-        kind: FaultKind::Device,
-        offset,
-    };
-    for _ in 0..3 {
-        let answer = next(&mut reader, &mut source, &SESSION)?;
-        assert_eq!(rt; answer, Err(fault), "read {call}");
-        assert_eq!(rt; source.failures(), 1, "read {call}");
-    }
-    assert_eq!(rt; reader.place(), offset, "read {call}");
-    Ok(())
-}
-
 #[test]
 fn each_read_that_fails_is_told_for_good(rt: HostRuntime) -> Result<(), Fail> {
-    let shown = [Record::Change(100, 1, 2), Record::In(101, &KEEPALIVE)];
-    for (call, count, offset) in [
-        (0, 0, 0),
-        (5, 0, 0),
-        (35, 0, 0),
-        (36, 1, 36),
-        (86, 1, 36),
-        (87, 2, 87),
+    for (records, call, changes, offset) in [
+        ([CHANGE, CHANGE], 0, 0, 0),
+        ([CHANGE, CHANGE], 35, 0, 0),
+        ([CHANGE, CHANGE], 36, 1, 36),
+        ([CHANGE, CHANGE], 72, 2, 72),
+        ([OTHER, CHANGE], 13, 0, 0),
+        ([OTHER, CHANGE], 14, 0, 14),
+        ([OTHER, CHANGE], 49, 0, 14),
+        ([OTHER, CHANGE], 50, 1, 50),
     ] {
-        let row = Row {
-            before: &CHANGE,
-            record: &RECEIVED,
-            shown: &shown[..count],
-            ..ROW
+        let source = MemSource::new(capture_of(rt.alloc(), &records)?)
+            .in_pieces_of(NonZeroUsize::MIN)
+            .upset_at(call, SourceUpset::Fail);
+        let fault = CaptureFault {
+            kind: FaultKind::Device,
+            offset,
         };
-        compare_failing(rt.alloc(), &rt, &row, call, offset)?;
-    }
-    Ok(())
-}
-
-#[test]
-fn a_read_that_fails_behind_a_skipped_record_names_its_own(rt: HostRuntime) -> Result<(), Fail> {
-    let row = Row {
-        before: &[0, 0, 0, 1, 0, 13, 0, 1, 0, 0, 0, 2, 0xaa, 0xbb],
-        record: &CHANGE,
-        ..ROW
-    };
-    for (call, offset) in [(13, 0), (14, 14), (20, 14), (49, 14)] {
-        compare_failing(rt.alloc(), &rt, &row, call, offset)?;
+        compare(rt.alloc(), &rt, source, changes, Some(fault))?;
     }
     Ok(())
 }
@@ -353,7 +183,7 @@ fn a_read_that_fails_behind_a_skipped_record_names_its_own(rt: HostRuntime) -> R
 fn a_buffer_that_is_refused_is_told_for_good(rt: HostRuntime) -> Result<(), Fail> {
     for size in [64, 4096, 8000] {
         let heap = LocalHeap::new(rt.alloc(), size)?;
-        let mut source = MemSource::new(CHANGE.to_vec(rt.alloc())?);
+        let mut source = MemSource::new(octets_of(rt.alloc(), CHANGE)?);
         let mut reader = Reader::new(&heap);
         let fault = CaptureFault {
             kind: FaultKind::Memory,
@@ -374,7 +204,7 @@ fn a_buffer_that_is_refused_is_told_for_good(rt: HostRuntime) -> Result<(), Fail
 #[test]
 fn ample_memory(rt: HostRuntime) -> Result<(), Fail> {
     let heap = LocalHeap::new(rt.alloc(), 16384)?;
-    let mut source = MemSource::new(CHANGE.to_vec(rt.alloc())?);
+    let mut source = MemSource::new(octets_of(rt.alloc(), CHANGE)?);
     let mut reader = Reader::new(&heap);
     let passed = reader.passed();
     if source.failures() < u64::MAX && passed <= source.given() as u64 {

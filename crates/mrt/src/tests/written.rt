@@ -1,20 +1,15 @@
 //! Records that are written, octet by octet, and read again.
 
-use super::captures::{CHANGE, RECEIVED, SESSION};
+use super::captures::{CHANGE, RECEIVED, SESSION, octets_of};
 use super::*;
 use bgp_prefix::{Address, Session};
 use bgp_wire::vectors::KEEPALIVE;
 
-/// The first octets of a KEEPALIVE that is sent over IPv6 at second 7, up to its message.
-const SENT: [u8; 56] = [
-    0, 0, 0, 7, // Timestamp
-    0, 16, 0, 7, // BGP4MP, MESSAGE_AS4_LOCAL
-    0, 0, 0, 63, // Length
-    0, 0, 0xfd, 0xea, 0, 0, 0xfd, 0xe9, // peer AS 65002, local AS 65001
-    0, 0, 0, 2, // interface index, AFI: IPv6
-    0x20, 1, 0x0d, 0xb8, 0, 0, 0, 0, 0, 0, 0, 0, 0, 0, 0, 2, // peer
-    0x20, 1, 0x0d, 0xb8, 0, 0, 0, 0, 0, 0, 0, 0, 0, 0, 0, 1, // local
-];
+/// The first octets of a KEEPALIVE that is sent over IPv6 at second 7, up to its message: Timestamp,
+/// BGP4MP and MESSAGE_AS4_LOCAL, Length; AS numbers; interface index and AFI; peer, local.
+const SENT: &str = "00000007 00100007 0000003f \
+    0000fdea 0000fde9 00000002 \
+    20010db8000000000000000000000002 20010db8000000000000000000000001";
 
 const OVER_IPV6: Session = Session {
     peer: Address::V6(0x2001_0db8_0000_0000_0000_0000_0000_0002),
@@ -43,9 +38,10 @@ fn records_are_written_octet_by_octet(rt: HostRuntime) -> Result<(), Fail> {
     assert_eq!(rt; write(&mut sink, &SESSION, &change)?, Ok(()));
     assert_eq!(rt; write(&mut sink, &SESSION, &received)?, Ok(()));
     assert_eq!(rt; write(&mut sink, &OVER_IPV6, &sent)?, Ok(()));
-    let mut wanted = CHANGE.to_vec(rt.alloc())?;
-    wanted.extend_from_slice(&RECEIVED)?;
-    wanted.extend_from_slice(&SENT)?;
+    let mut wanted = Vec::new(rt.alloc());
+    for record in [CHANGE, RECEIVED, SENT] {
+        wanted.extend_from_slice(octets_of(rt.alloc(), record)?.as_slice())?;
+    }
     wanted.extend_from_slice(&KEEPALIVE)?;
     assert_eq!(rt; sink.octets(), wanted.as_slice());
     Ok(())
@@ -54,6 +50,7 @@ fn records_are_written_octet_by_octet(rt: HostRuntime) -> Result<(), Fail> {
 #[test]
 fn a_sink_that_fails_has_a_beginning(rt: HostRuntime) -> Result<(), Fail> {
     let received = Record::In(101, &KEEPALIVE);
+    let octets = octets_of(rt.alloc(), RECEIVED)?;
     for call in 0..51 {
         let mut sink = MemSink::new(rt.alloc())
             .in_pieces_of(NonZeroUsize::MIN)
@@ -63,7 +60,7 @@ fn a_sink_that_fails_has_a_beginning(rt: HostRuntime) -> Result<(), Fail> {
         assert_eq!(rt; sink.failures(), 1, "{call}");
         let taken = sink.octets();
         assert_eq!(rt; taken.len() as u64, call);
-        assert_eq!(rt; RECEIVED.starts_with(taken), true, "{call}");
+        assert_eq!(rt; octets.starts_with(taken), true, "{call}");
     }
     Ok(())
 }
