@@ -14,3 +14,5 @@ pub mod WholeTexts
 pub mod CaptureMessages
 pub mod CaptureLines
 pub mod CaptureDecoded
+pub mod SpelledCommand
+pub mod Fronts

@@ -6,6 +6,9 @@ pub mod Outlet
 pub mod Lines
 pub mod Decoding
 pub mod Ending
+pub mod Front
+pub mod FrontLaws
 pub mod Opened
 pub mod Capture
 pub mod CaptureDecoding
+pub mod Words

@@ -1,9 +1,12 @@
-//! The first octets of a reader, which tell files that are no raw stream.
+//! The first octets of a source, which tell files that are no raw stream.
 
-ghost use Rattle.std.specs.Prelude.{◌≡◌, ◌≤◌, ◌+◌, length};
+ghost use Rattle.std.specs.Prelude.{◌≡◌, ◌≤◌, ◌<◌, ◌^◌, ◌++◌, List, ℕ, [], length, take};
+ghost use Rattle.std.specs.Prelude.{IfOk, OnErr};
+ghost use Rattle.bgp_tool.specs.Front.{kept};
+ghost use Rattle.bgp_tool.specs.Front as spec;
 
-use std::io;
-use std::io::Read;
+use arrayvec::ArrayVec;
+use mrt::{Failed, Source};
 
 /// How many octets are kept.
 const FRONT: usize = 16;
@@ -21,76 +24,146 @@ pub enum Form {
     Text,
 }
 
-/// A reader that keeps the first 16 octets that it gave.
+/// A source that keeps the first 16 octets that it gave.
 #[derive(Drop)]
-pub(crate) struct WithFront<R> {
-    reader: R,
-    front: [u8; FRONT],
-    count: usize,
-    ghost within: { count ≤ 16 },
+pub(crate) struct WithFront<S> {
+    source: S,
+    front: ArrayVec<u8, FRONT>,
+    ghost within: { length front.items ≤ 16 },
 }
 
-impl<R: Read> WithFront<R> {
-    /// A reader that has given nothing yet.
-    pub(crate) fn new(reader: R) -> WithFront<R>
-        ensures { result.reader ≡ reader }
+impl<S: Source> WithFront<S> {
+    /// A source that has given nothing yet.
+    pub(crate) fn new(source: S) -> WithFront<S>
+        ensures source { result.source ≡ source }
+        ensures front { result.front.items ≡ [] }
     {
         WithFront {
-            reader,
-            front: [0; FRONT],
-            count: 0,
+            source,
+            front: ArrayVec::new(),
         }
     }
 
+    /// The source itself.
+    pub(crate) fn source(&self) -> &S
+        ensures { result.now ≡ self.now.source }
+    {
+        &self.source
+    }
+
     /// What the octets are, if they are the front of no raw stream.
-    pub(crate) fn form(&self) -> Option<Form> {
-        form_of(&self.front[..self.count])
+    pub(crate) fn form(&self) -> Option<Form>
+        ensures { result ≡ spec.form_of self.now.front.items }
+    {
+        form_of(self.front.as_slice())
     }
 
     // Keeps what there is room for.
     fn keep(&mut self, octets: &[u8])
-        ensures { self.new.reader ≡ self.old.reader }
+        ensures source { self.new.source ≡ self.old.source }
+        ensures front { self.new.front.items ≡ kept (self.old.front.items ++ octets.now) }
     {
-        let count = octets.len().min(FRONT - self.count);
-        put_at(&mut self.front, self.count, &octets[..count]);
-        self.count += count;
+        let room = self.front.remaining_capacity();
+        match self
+            .front
+            .try_extend_from_slice(&octets[..room.min(octets.len())])
+        {
+            Ok(()) => {}
+            Err(_) => unreachable!(),
+        }
     }
 }
 
-/// Puts octets at this place.
-fn put_at(front: &mut [u8], at: usize, octets: &[u8])
-    requires { at + length octets.now ≤ length front.old }
-{
-    front[at..at + octets.len()].copy_from_slice(octets);
-}
+impl<S: Source> Source for WithFront<S> {
+    ghost use Rattle.bgp_tool.specs.FrontLaws.{kept_nothing, kept_joined};
 
-impl<R: Read> Read for WithFront<R> {
-    ghost remaining = { λ r. R.remaining r.reader };
+    ghost gives = { λ a b octets. S.gives a.source b.source octets
+        × (b.front.items ≡ kept (a.front.items ++ octets)) };
 
-    fn read(&mut self, buffer: &mut [u8]) -> io::Result<usize> {
-        let count = self.reader.read(buffer)?;
+    ghost given_count = { λ a. S.given_count a.source };
+
+    ghost failures = { λ a. S.failures a.source };
+
+    ghost has_ended = { λ a. S.has_ended a.source };
+
+    ghost nothing = { λ a. (S.nothing a.source, kept_nothing a.front.items a.within) };
+
+    ghost joined = { λ a b c xs ys first second. (
+      S.joined a.source b.source c.source xs ys first.0 second.0,
+      kept_joined a.front.items b.front.items c.front.items xs ys first.1 second.1,
+    ) };
+
+    ghost counted = { λ a b xs given. S.counted a.source b.source xs given.0 };
+
+    ghost below = { λ a. S.below a.source };
+
+    fn read(&mut self, buffer: &mut [u8]) -> Result<usize, Failed> {
+        let count = self.source.read(buffer)?;
         self.keep(&buffer[..count]);
         Ok(count)
+    }
+
+    fn failures(&self) -> u64 {
+        self.source.failures()
     }
 }
 
 /// What a file with this front is, if it is no raw stream.
-pub(crate) fn form_of(front: &[u8]) -> Option<Form> {
-    match front {
-        // The magic number in either order, of microseconds or of nanoseconds.
-        [0xa1, 0xb2, 0xc3, 0xd4, ..]
-        | [0xd4, 0xc3, 0xb2, 0xa1, ..]
-        | [0xa1, 0xb2, 0x3c, 0x4d, ..]
-        | [0x4d, 0x3c, 0xb2, 0xa1, ..] => Some(Form::Pcap),
-        [0x0a, 0x0d, 0x0d, 0x0a, ..] => Some(Form::Pcapng),
-        // Behind a timestamp: TABLE_DUMP, TABLE_DUMP_V2, BGP4MP or BGP4MP_ET (RFC 6396, 4).
-        [_, _, _, _, 0, 12 | 13 | 16 | 17, 0, _, ..] => Some(Form::Mrt),
-        [_, ..] if front.iter().all(is_text) => Some(Form::Text),
-        _ => None,
+fn form_of(front: &[u8]) -> Option<Form>
+    ensures { result ≡ spec.form_of front.now }
+{
+    if is_pcap(front) {
+        Some(Form::Pcap)
+    } else if is_pcapng(front) {
+        Some(Form::Pcapng)
+    } else if is_mrt(front) {
+        Some(Form::Mrt)
+    } else if is_text(front) {
+        Some(Form::Text)
+    } else {
+        None
     }
 }
 
+/// Whether a packet capture of libpcap begins so: with its magic number in either order, of
+/// microseconds or of nanoseconds.
+fn is_pcap(front: &[u8]) -> bool
+    ensures { result ≡ spec.is_pcap front.now }
+{
+    front.starts_with(&[0xa1, 0xb2, 0xc3, 0xd4])
+        || front.starts_with(&[0xd4, 0xc3, 0xb2, 0xa1])
+        || front.starts_with(&[0xa1, 0xb2, 0x3c, 0x4d])
+        || front.starts_with(&[0x4d, 0x3c, 0xb2, 0xa1])
+}
+
+/// Whether a packet capture of the newer form begins so: with a Section Header Block.
+fn is_pcapng(front: &[u8]) -> bool
+    ensures { result ≡ spec.is_pcapng front.now }
+{
+    front.starts_with(&[0x0a, 0x0d, 0x0d, 0x0a])
+}
+
+/// Whether a record of RFC 6396 begins so: behind its timestamp TABLE_DUMP, TABLE_DUMP_V2, BGP4MP
+/// or BGP4MP_ET, and a subtype.
+fn is_mrt(front: &[u8]) -> bool
+    ensures { result ≡ spec.is_mrt front.now }
+{
+    match front {
+        [_, _, _, _, 0, kind, 0, _, ..] => matches!(*kind, 12 | 13 | 16 | 17),
+        _ => false,
+    }
+}
+
+/// Whether a text begins so.
+fn is_text(front: &[u8]) -> bool
+    ensures { result ≡ spec.is_text front.now }
+{
+    !front.is_empty() && front.iter().all(|octet| is_text_octet(*octet))
+}
+
 /// Whether this octet stands in a text.
-fn is_text(octet: &u8) -> bool {
-    matches!(*octet, b' '..=b'~' | b'\t' | b'\n' | b'\r')
+fn is_text_octet(octet: u8) -> bool
+    ensures { result ≡ spec.is_text_octet octet }
+{
+    matches!(octet, b' '..=b'~' | b'\t' | b'\n' | b'\r')
 }

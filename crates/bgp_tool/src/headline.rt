@@ -9,8 +9,8 @@ use std::alloc::Allocator;
 
 /// The text of a stream of octets in memory, and the exit status.
 ///
-/// Where the status is 0, 2 or 3, the text is exactly the lines of the stream's one framing, with the
-/// last line that tells how it ends, and the status says which end it is
+/// Where the status is 0, 2 or 3, the text is exactly the lines of the stream's one framing, with
+/// the last line that tells how it ends, and the status says which end it is
 /// ([`each_stream_has_one_text`](crate::each_stream_has_one_text)). Else memory was refused.
 pub fn text_and_status<A: Allocator + Copy>(alloc: A, stream: Vec<u8, A>) -> (Vec<u8, A>, u8)
     ensures { result.1 < 4 → IsDecoded stream.items result.0.items result.1 }

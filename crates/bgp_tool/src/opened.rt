@@ -1,9 +1,12 @@
 //! Commands over any reader and any writer: what stands between a file and `decode_raw`.
 
-ghost use Rattle.std.specs.Prelude.{◌≡◌, ◌≢◌, ◌≤◌, ◌<◌, ◌^◌, ◌⊎◌, IfOk, IfErr, IsNone, IsSome};
-ghost use Rattle.std.specs.declared.io.ErrorKind.TheVariants.{BrokenPipe};
+ghost use Rattle.std.specs.Prelude.{◌≡◌, ◌≤◌, ◌<◌, ◌^◌, Some, None, option_map, IfOk, IfErr};
+ghost use Rattle.std.specs.IoError.{error_kind};
+ghost use Rattle.mrt.specs.FromRead.{reader_state};
 ghost use Rattle.mrt.specs.FromWrite.{writer_state};
-ghost use Rattle.bgp_tool.specs.Opened.{DecodesReader};
+ghost use Rattle.bgp_tool.specs.declared.note.Note.TheVariants as notes;
+ghost use Rattle.bgp_tool.specs.Front.{form_of};
+ghost use Rattle.bgp_tool.specs.Opened.{DecodesReader, TellsWriter};
 
 use crate::decoding::decode_raw;
 use crate::front::WithFront;
@@ -24,8 +27,11 @@ pub struct Outcome<'a> {
 }
 
 /// Decodes a raw stream that a reader gives, if it could be opened, as
-/// [`decode_raw`](crate::decode_raw) does, and says what went wrong, if anything did. A closed pipe
-/// is status 5 and not told.
+/// [`decode_raw`](crate::decode_raw) does, and says what went wrong, if anything did
+/// (`specs/Opened.antt`).
+///
+/// A file whose first header is wrong and whose front is that of a capture or of text is told as
+/// that. A closed pipe is status 5 and not told.
 pub fn decode_opened<'a, R: Read + Drop, W: Write, A: Allocator + Copy>(
     alloc: A,
     file: &'a str,
@@ -33,19 +39,14 @@ pub fn decode_opened<'a, R: Read + Drop, W: Write, A: Allocator + Copy>(
     sink: &mut FromWrite<W>,
 ) -> Outcome<'a>
     requires { (writer_state sink.old).failures < 2 ^ 63 }
-    ensures text { IfOk opened (λ reader. DecodesReader (R.remaining reader)
-        (W.contents (writer_state sink.old).writer) (W.contents (writer_state sink.new).writer)
-        result.status) }
+    ensures decoded { IfOk opened (λ reader. DecodesReader R.remaining W.contents file.entry reader
+        (writer_state sink.old) (writer_state sink.new) result) }
 
     // A file that can't be opened is a device's failure, and nothing is written.
     ensures unopened { IfErr opened (λ error. (result.status ≡ 5)
+        × (result.note ≡ Some (notes.Unopened file.entry (error_kind error)))
         × (writer_state sink.new ≡ writer_state sink.old)) }
 
-    // A whole stream isn't told of, refused memory is, and a failure unless a pipe was closed.
-    ensures quiet { ((result.status ≡ 0) ⊎ (result.status ≡ 2)) → IsNone result.note }
-    ensures memory { result.status ≡ 4 → IsSome result.note }
-    ensures device { result.status ≡ 5 → (writer_state sink.new).last_error ≢ Some BrokenPipe →
-        IsSome result.note }
     ensures statuses { result.status ≤ 5 }
 {
     match opened {
@@ -68,46 +69,51 @@ fn decode_reader<'a, R: Read + Drop, W: Write, A: Allocator + Copy>(
     sink: &mut FromWrite<W>,
 ) -> Outcome<'a>
     requires { (writer_state sink.old).failures < 2 ^ 63 }
-    ensures text { DecodesReader (R.remaining reader)
-        (W.contents (writer_state sink.old).writer) (W.contents (writer_state sink.new).writer)
-        result.status }
-    ensures quiet { ((result.status ≡ 0) ⊎ (result.status ≡ 2)) → IsNone result.note }
-    ensures memory { result.status ≡ 4 → IsSome result.note }
-    ensures device { result.status ≡ 5 → (writer_state sink.new).last_error ≢ Some BrokenPipe →
-        IsSome result.note }
+    ensures decoded { DecodesReader R.remaining W.contents file.entry reader
+        (writer_state sink.old) (writer_state sink.new) result }
     ensures statuses { result.status ≤ 5 }
 {
-    let mut source = FromRead::new(WithFront::new(reader));
+    let mut source = WithFront::new(FromRead::new(reader));
     let status = decode_raw(alloc, &mut source, sink);
-    let octet = source.given();
-    let note = match status {
-        3 => no_stream(file, source),
+    let note = note_of(status, file, &source, sink);
+    Outcome { status, note }
+}
+
+/// What to tell of a decoding that ended with this status.
+fn note_of<'a, R: Read, W: Write>(
+    status: u8,
+    file: &'a str,
+    source: &WithFront<FromRead<R>>,
+    sink: &FromWrite<W>,
+) -> Option<Note<'a>>
+    ensures quiet { status < 3 → result ≡ None }
+    ensures refused { status ≡ 3 → result
+        ≡ option_map (notes.NoStream file.entry) (form_of source.now.front.items) }
+    ensures memory { status ≡ 4 → result
+        ≡ Some (notes.OutOfMemory file.entry (reader_state source.now.source).given) }
+    ensures reader { status ≡ 5 → 0 < (reader_state source.now.source).failures → result
+        ≡ Some (notes.Unread file.entry (reader_state source.now.source).given
+        (reader_state source.now.source).last_error) }
+    ensures writer { status ≡ 5 → (reader_state source.now.source).failures ≡ 0 →
+        TellsWriter (writer_state sink.now) result }
+{
+    let octet = source.source().given();
+    match status {
+        3 => source.form().map(|form| Note::NoStream { file, form }),
         4 => Some(Note::OutOfMemory { file, octet }),
         5 if source.failures() > 0 => Some(Note::Unread {
             file,
             octet,
-            error: source.last_error(),
+            error: source.source().last_error(),
         }),
         5 => unwritten(sink),
         _ => None,
-    };
-    Outcome { status, note }
-}
-
-/// What a file is that isn't a raw stream, if its first octets tell.
-fn no_stream<'a, R: Read + Drop>(
-    file: &'a str,
-    source: FromRead<WithFront<R>>,
-) -> Option<Note<'a>> {
-    match source.into_inner().form() {
-        Some(form) => Some(Note::NoStream { file, form }),
-        None => None,
     }
 }
 
 /// What to tell of a sink that failed: nothing, where a pipe was closed.
 fn unwritten<'a, W: Write>(sink: &FromWrite<W>) -> Option<Note<'a>>
-    ensures { (writer_state sink.now).last_error ≢ Some BrokenPipe → IsSome result }
+    ensures { TellsWriter (writer_state sink.now) result }
 {
     match sink.last_error() {
         Some(ErrorKind::BrokenPipe) => None,

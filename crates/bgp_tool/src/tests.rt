@@ -9,38 +9,13 @@ mod updates;
 use super::*;
 use bgp_wire::vectors::{
     ADMINISTRATIVE_SHUTDOWN, ANNOUNCES_10, BAD_LENGTH_18, KEEPALIVE, KEEPALIVE_OF_18, OPEN_B,
+    OPEN_WITH_ROUTE_REFRESH, OPEN_WITHOUT_PARAMETERS,
 };
 use linked_list_allocator::LocalHeap;
 use mrt::{MemSink, MemSource, SinkUpset, SourceUpset};
 use std::alloc::{AllocError, Global};
 use std::num::NonZeroUsize;
 use std::test::Fail;
-
-/// An OPEN without parameters.
-const OPEN_WITHOUT_PARAMETERS: [u8; 29] = [
-    255, 255, 255, 255, 255, 255, 255, 255, 255, 255, 255, 255, 255, 255, 255, 255, // marker
-    0x00, 0x1d, // Length: 29
-    0x01, // Type: OPEN
-    0x04, // version 4
-    0xfd, 0xea, // My Autonomous System: 65002
-    0x00, 0x5a, // Hold Time: 90
-    0xc0, 0x00, 0x02, 0x02, // BGP Identifier: 192.0.2.2
-    0x00, // Optional Parameters Length: 0
-];
-
-/// An OPEN with one capability, which has no value.
-const OPEN_WITH_ROUTE_REFRESH: [u8; 33] = [
-    255, 255, 255, 255, 255, 255, 255, 255, 255, 255, 255, 255, 255, 255, 255, 255, // marker
-    0x00, 0x21, // Length: 33
-    0x01, // Type: OPEN
-    0x04, // version 4
-    0xfd, 0xea, // My Autonomous System: 65002
-    0x00, 0x5a, // Hold Time: 90
-    0xc0, 0x00, 0x02, 0x02, // BGP Identifier: 192.0.2.2
-    0x04, // Optional Parameters Length: 4
-    0x02, 0x02, // Capabilities, 2 octets
-    0x02, 0x00, // route refresh, no value
-];
 
 /// An OPEN of another version (RFC 4271, 6.2: Unsupported Version Number).
 const OPEN_OF_VERSION_3: [u8; 29] = [
@@ -160,6 +135,17 @@ fn each_stream_has_its_lines_and_its_status(rt: HostRuntime) -> Result<(), Fail>
 }
 
 #[test]
+fn octets_in_memory_have_their_text_and_their_status(rt: HostRuntime) -> Result<(), Fail> {
+    for (messages, text, status) in STREAMS {
+        let octets = joined(rt.alloc(), messages)?;
+        let (written, answer) = text_and_status(rt.alloc(), octets);
+        assert_eq!(rt; answer, status, "{text}");
+        assert_eq!(rt; written.as_slice(), text.as_bytes(), "{text}");
+    }
+    Ok(())
+}
+
+#[test]
 fn a_failing_read_leaves_the_lines_of_the_whole_frames(rt: HostRuntime) -> Result<(), Fail> {
     // At which reads, of one octet each, and what has been written by then.
     let rows = [
@@ -245,7 +231,7 @@ fn a_stream_that_ends_early_has_a_rest(rt: HostRuntime) -> Result<(), Fail> {
     Ok(())
 }
 
-/// Short lines, and then a long one, for which memory may be refused.
+/// Short messages, and then a longer one, for which the splitter's room may have to grow.
 const SHUTDOWN_BEFORE_OPEN: [&[u8]; 4] = [
     &KEEPALIVE,
     &ADMINISTRATIVE_SHUTDOWN,
@@ -298,17 +284,18 @@ fn memory_does_not_grow_with_the_stream(rt: HostRuntime) -> Result<(), Fail> {
     Ok(())
 }
 
-/// The call that may want memory, with enough of it.
+/// The calls that may want memory, with enough of it.
 #[test]
 fn ample_memory(rt: HostRuntime) -> Result<(), Fail> {
     let octets = joined(rt.alloc(), &[&ADMINISTRATIVE_SHUTDOWN, &KEEPALIVE])?;
-    let mut source = MemSource::new(octets);
+    let text = b"notification 6/2 -\nkeepalive\n".as_slice();
+    let mut source = MemSource::new(octets.clone()?);
     let mut sink = MemSink::new(rt.alloc());
     assert_eq!(rt; decode_raw(rt.alloc(), &mut source, &mut sink), 0);
-    assert_eq!(rt;
-        sink.octets(),
-        b"notification 6/2 -\nkeepalive\n".as_slice()
-    );
+    assert_eq!(rt; sink.octets(), text);
+    let (written, status) = text_and_status(rt.alloc(), octets);
+    assert_eq!(rt; status, 0);
+    assert_eq!(rt; written.as_slice(), text);
     Ok(())
 }
 

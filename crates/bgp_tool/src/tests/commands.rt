@@ -21,6 +21,19 @@ impl Read for Breaking<'_> {
     }
 }
 
+/// A reader that gives one octet at a time.
+#[derive(Drop)]
+struct OneByOne<'a> {
+    octets: &'a [u8],
+}
+
+impl Read for OneByOne<'_> {
+    fn read(&mut self, buffer: &mut [u8]) -> io::Result<usize> {
+        let most = buffer.len().min(1);
+        self.octets.read(&mut buffer[..most])
+    }
+}
+
 /// A writer that takes so many octets, and then answers an error.
 #[derive(Drop)]
 struct Full {
@@ -45,18 +58,39 @@ impl Write for Full {
 
 #[test]
 fn words_spell_a_command_or_have_a_status(rt: HostRuntime) -> Result<(), Fail> {
-    let rows: [(&[&str], Result<Command, Status>); 9] = [
+    let rows: [(&[&str], Result<Command, Status>); 24] = [
         (
             &["bgp", "decode", "a.bgp"],
             Ok(Command::Decode { file: "a.bgp" }),
         ),
+        (&["", "decode", "a"], Ok(Command::Decode { file: "a" })),
         (&["bgp", "decode", "-"], Ok(Command::Decode { file: "-" })),
+        (&["bgp", "decode", ""], Ok(Command::Decode { file: "" })),
+        (
+            &["bgp", "decode", "--", "--help"],
+            Ok(Command::Decode { file: "--help" }),
+        ),
+        (
+            &["bgp", "decode", "a", "--"],
+            Ok(Command::Decode { file: "a" }),
+        ),
         (&["bgp", "--help"], Err(Status::Done)),
+        (&["bgp", "-h"], Err(Status::Done)),
+        (&["bgp", "help"], Err(Status::Done)),
+        (&["bgp", "help", "decode"], Err(Status::Done)),
         (&["bgp", "decode", "--help"], Err(Status::Done)),
+        (&["bgp", "decode", "a", "-h"], Err(Status::Done)),
         (&["bgp", "--version"], Err(Status::Done)),
+        (&["bgp", "-V"], Err(Status::Done)),
+        (&[], Err(Status::Usage)),
         (&["bgp"], Err(Status::Usage)),
         (&["bgp", "decode"], Err(Status::Usage)),
+        (&["bgp", "decode", "--"], Err(Status::Usage)),
         (&["bgp", "decode", "a", "b"], Err(Status::Usage)),
+        (&["bgp", "decode", "-x"], Err(Status::Usage)),
+        (&["bgp", "decode", "--version"], Err(Status::Usage)),
+        (&["bgp", "--", "decode", "a"], Err(Status::Usage)),
+        (&["bgp", "--quiet", "decode", "a"], Err(Status::Usage)),
         (&["bgp", "encode", "a"], Err(Status::Usage)),
     ];
     for (words, wanted) in rows {
@@ -64,6 +98,143 @@ fn words_spell_a_command_or_have_a_status(rt: HostRuntime) -> Result<(), Fail> {
             Ok(command) => assert_eq!(rt; Ok(command), wanted),
             Err(error) => assert_eq!(rt; Err(words_status(&error)), wanted),
         }
+    }
+    Ok(())
+}
+
+/// What help has to tell: the statuses, each form of line with an example, where the manual is.
+const IN_HELP: [&str; 17] = [
+    "\n  0   all octets were whole messages",
+    "\n  2   the stream ends inside a message\n",
+    "\n  3   the stream stops being BGP\n",
+    "\n  4   memory was refused\n",
+    "\n  5   a file can't be opened or read, or output can't be written\n",
+    "\n  64  the command line is none that the program knows\n",
+    "open as 65002 hold 90 id 192.0.2.2 caps 1:00010001 65:0000fdea\n",
+    "open malformed 1",
+    "update 10.2.0.0/16 | 64.1:00 | -\n",
+    "update malformed",
+    "notification 6/2 -",
+    "\n  keepalive\n",
+    "rest 10",
+    "fault at 19 1/2",
+    "A dash stands for nothing.",
+    "The manual is README.md",
+    "Usage: bgp",
+];
+
+#[test]
+fn help_tells_statuses_lines_and_the_manual(rt: HostRuntime) -> Result<(), Fail> {
+    let requests: [&[&str]; 3] = [
+        &["bgp", "--help"],
+        &["bgp", "decode", "--help"],
+        &["bgp", "help", "decode"],
+    ];
+    for words in requests {
+        let Err(error) = command_line(rt.alloc(), words) else {
+            return Err(Fail::new("help is a command"));
+        };
+        let told = format!(in rt.alloc(); "{error}")?;
+        for text in IN_HELP {
+            assert!(rt; told.as_str().contains(text), "{text}");
+        }
+    }
+    Ok(())
+}
+
+#[test]
+fn the_version_is_told(rt: HostRuntime) -> Result<(), Fail> {
+    let Err(error) = command_line(rt.alloc(), ["bgp", "--version"].as_slice()) else {
+        return Err(Fail::new("the version is a command"));
+    };
+    let told = format!(in rt.alloc(); "{error}")?;
+    assert_eq!(rt; told.as_str(), "bgp 0.1.0\n");
+    Ok(())
+}
+
+#[test]
+fn each_note_has_its_words(rt: HostRuntime) -> Result<(), Fail> {
+    let rows = [
+        (
+            Note::Unopened {
+                file: "a.bgp",
+                error: ErrorKind::PermissionDenied,
+            },
+            "a.bgp: permission denied",
+        ),
+        (
+            Note::Unread {
+                file: "a.bgp",
+                octet: 7,
+                error: Some(ErrorKind::TimedOut),
+            },
+            "a.bgp: read failed at octet 7: timed out",
+        ),
+        (
+            Note::Unread {
+                file: "-",
+                octet: 9223372036854775807,
+                error: None,
+            },
+            "standard input: too long, read up to octet 9223372036854775807",
+        ),
+        (
+            Note::Unwritten {
+                octet: 5,
+                error: Some(ErrorKind::StorageFull),
+            },
+            "standard output: write failed at octet 5: no storage space",
+        ),
+        (
+            Note::Unwritten {
+                octet: 0,
+                error: None,
+            },
+            "standard output: write failed at octet 0",
+        ),
+        (
+            Note::OutOfMemory {
+                file: "-",
+                octet: 65536,
+            },
+            "standard input: memory was refused at octet 65536",
+        ),
+        (
+            Note::NoStream {
+                file: "a.pcap",
+                form: Form::Pcap,
+            },
+            "a.pcap is a packet capture: cut the octets of one direction of a connection from it, \
+             as Wireshark's \"Follow TCP Stream\" does, and save them raw",
+        ),
+        (
+            Note::NoStream {
+                file: "a.pcapng",
+                form: Form::Pcapng,
+            },
+            "a.pcapng is a packet capture: cut the octets of one direction of a connection from \
+             it, as Wireshark's \"Follow TCP Stream\" does, and save them raw",
+        ),
+        (
+            Note::NoStream {
+                file: "a.mrt",
+                form: Form::Mrt,
+            },
+            "a.mrt seems to be a capture of MRT records, which this program doesn't read: give it \
+             the raw octets of one direction of a connection",
+        ),
+        (
+            Note::NoStream {
+                file: "-",
+                form: Form::Text,
+            },
+            "standard input seems to be text: give the raw octets of one direction of a \
+             connection, and not their hexadecimal digits",
+        ),
+    ];
+    for (note, words) in rows {
+        let told = format!(in rt.alloc(); "{note}")?;
+        assert_eq!(rt; told.as_str(), words);
     }
     Ok(())
 }
@@ -86,39 +257,65 @@ fn a_stream_has_its_status_and_nothing_is_told(rt: HostRuntime) -> Result<(), Fa
 
 #[test]
 fn a_file_that_is_no_stream_is_told_by_its_front(rt: HostRuntime) -> Result<(), Fail> {
-    let rows: [(&[u8], Form); 7] = [
+    // The 20 octets of each file: what follows its front is zeros, or more of its text.
+    let rows: [(&[u8; 20], Option<Form>); 13] = [
         (
             b"\xa1\xb2\xc3\xd4\x00\x02\x00\x04\x00\x00\x00\x00\x00\x00\x00\x00\x00\x00\x00\x00",
-            Form::Pcap,
+            Some(Form::Pcap),
         ),
         (
             b"\xd4\xc3\xb2\xa1\x02\x00\x04\x00\x00\x00\x00\x00\x00\x00\x00\x00\x00\x00\x00\x00",
-            Form::Pcap,
+            Some(Form::Pcap),
+        ),
+        (
+            b"\xa1\xb2\x3c\x4d\x00\x02\x00\x04\x00\x00\x00\x00\x00\x00\x00\x00\x00\x00\x00\x00",
+            Some(Form::Pcap),
         ),
         (
             b"\x4d\x3c\xb2\xa1\x02\x00\x04\x00\x00\x00\x00\x00\x00\x00\x00\x00\x00\x00\x00\x00",
-            Form::Pcap,
+            Some(Form::Pcap),
         ),
         (
             b"\x0a\x0d\x0d\x0a\x1c\x00\x00\x00\x4d\x3c\x2b\x1a\x01\x00\x00\x00\xff\xff\xff\xff",
-            Form::Pcapng,
+            Some(Form::Pcapng),
         ),
+        // TABLE_DUMP, TABLE_DUMP_V2, BGP4MP, BGP4MP_ET; and a type of which nothing is known.
         (
-            b"\x65\x53\xf1\x00\x00\x10\x00\x04\x00\x00\x00\x3b\x00\x00\xfd\xe9\x00\x00\xfd\xea",
-            Form::Mrt,
+            b"\x65\x53\xf1\x00\x00\x0c\x00\x01\x00\x00\x00\x3b\x00\x00\x00\x00\x00\x00\x00\x00",
+            Some(Form::Mrt),
         ),
         (
             b"\x65\x53\xf1\x00\x00\x0d\x00\x01\x00\x00\x00\x3b\x00\x00\xfd\xe9\x00\x00\xfd\xea",
-            Form::Mrt,
+            Some(Form::Mrt),
         ),
-        (b"ffffffffffffffffffffffffffffffff001304\n", Form::Text),
+        (
+            b"\x65\x53\xf1\x00\x00\x10\x00\x04\x00\x00\x00\x3b\x00\x00\xfd\xe9\x00\x00\xfd\xea",
+            Some(Form::Mrt),
+        ),
+        (
+            b"\x65\x53\xf1\x00\x00\x11\x00\x04\x00\x00\x00\x3b\x00\x01\x86\xa0\x00\x00\xfd\xe9",
+            Some(Form::Mrt),
+        ),
+        (
+            b"\x65\x53\xf1\x00\x00\x0e\x00\x04\x00\x00\x00\x3b\x00\x00\xfd\xe9\x00\x00\xfd\xea",
+            None,
+        ),
+        (b"ffffffffffffffffffff", Some(Form::Text)),
+        (b"FF FF\tFF FF\r\nFF FF .", Some(Form::Text)),
+        (b"ffffffffffffff\x00fffff", None),
     ];
     for (octets, form) in rows {
+        let octets = octets.as_slice();
+        let note = form.map(|form| Note::NoStream { file: "a", form });
         let mut sink = FromWrite::new(Vec::new(rt.alloc()));
         let outcome = decode_opened(rt.alloc(), "a", Ok(octets), &mut sink);
         assert_eq!(rt; outcome.status, 3);
-        assert_eq!(rt; outcome.note, Some(Note::NoStream { file: "a", form }));
+        assert_eq!(rt; outcome.note, note);
         assert!(rt; sink.into_inner().starts_with(b"fault at 0 1/1"));
+        let mut sink = FromWrite::new(Vec::new(rt.alloc()));
+        let outcome = decode_opened(rt.alloc(), "a", Ok(OneByOne { octets }), &mut sink);
+        assert_eq!(rt; outcome.status, 3);
+        assert_eq!(rt; outcome.note, note);
     }
     Ok(())
 }

@@ -94,7 +94,7 @@ fn text_longer_than_the_room_comes_whole_and_in_order(rt: HostRuntime) -> Result
 }
 
 #[test]
-fn memory_is_refused_before_the_first_line_alone(rt: HostRuntime) -> Result<(), Fail> {
+fn a_single_message_is_told_whole_or_not_at_all(rt: HostRuntime) -> Result<(), Fail> {
     // Each kind of line by itself.
     let streams: [(&[u8], &str, u8); 7] = [
         (

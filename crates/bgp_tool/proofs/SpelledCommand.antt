@@ -1,0 +1,196 @@
+-- The command that a parse met, by its name and its values; and the words of `decode`.
+use Rattle.std.proofs.Common.{rules, ◌≡◌, ◌≢◌, ◌∙◌, ℕ, List, [], ◌∷◌, Option, Some, None, Result, Ok, Err, refl, sym, ap, ap₂, subst, inl, inr, true, false, Bool, codes, option_map}
+use Rattle.std.specs.Prelude.{MatchResult, IfErr, IsErr, IsErrAnd, ◌⊎◌, Box, slice_get, unwrap_or, if◌then◌else◌, ◌==◌}
+use Rattle.std.specs.Box.{box_value}
+use Rattle.std.specs.Str.{bytes_eq}
+use Rattle.std.specs.Option.{option_map_or}
+use Rattle.std.proofs.lemmas.Option.{same_Some}
+use Rattle.clap.specs.Words.{Kinds, Row, Text, HasKind, IsAmong, fault_of, first_of, kind_of, subcommand_of, subcommand_rows}
+use Rattle.clap.specs.Kinds.{or_else}
+use Rattle.clap.specs.Lexer.{long_of, short_of}
+use Rattle.clap.specs.Faults.{bundle_fault, check_fault, defaults_fault, flag_word_fault, level_fault, settle_fault, step_fault, word_fault}
+use Rattle.clap.specs.Walk.{Held, Step, Walk, after_step, finished, idle, long_or_other, nothing_held, settled, short_or_plain, trailing, value, walk_from, word_met}
+use Rattle.clap.specs.Simple.{Shape, built, names_of, new_shape}
+use Rattle.clap.specs.declared.error.Error.{Error}
+use Rattle.clap.specs.declared.error.kind.ErrorKind.{ErrorKind}
+use Rattle.clap.specs.declared.error.kind.ErrorKind.TheVariants.{OutOfMemory}
+use Rattle.clap.specs.declared.parser.matches.ArgMatches.TheViews.{out-SubCommand}
+use Rattle.clap.specs.declared.parser.matches.SubCommand.{SubCommand}
+use Rattle.clap.proofs.OnLiterals.{clap_on_literals}
+use Rattle.bgp_tool.specs.declared.words.Command.{Command}
+use Rattle.bgp_tool.specs.declared.words.Command.TheVariants.{Decode}
+use Rattle.bgp_tool.specs.Words.{program_words, IsUsed, Names, NamesDecode, IsFileWord, IsDecode, IsDecodeOf, IsDecodeOrMemory}
+
+-- the name of a met subcommand is that of its rows
+pub same_name : {Z : Type 0} (o : Option (Box SubCommand Z))
+    → option_map (λ p. p.0) (subcommand_rows o) ≡ option_map (λ b. (out-SubCommand (box_value b)).name.now) o
+same_name None = refl
+same_name (Some b) = refl
+
+module _ (name : Text) (values : List Row → Type 0) (rows : List Row) where
+  pub is_used : (used : Option (Text × List Row)) → option_map (λ p. p.0) used ≡ Some name
+      → option_map (λ p. p.1) used ≡ Some rows → values rows → IsUsed name values used
+  is_used None named has good = absurd (search rules)
+  is_used (Some p) named has good = (same_Some _ _ named, subst values (sym (same_Some _ _ has)) good)
+
+  pub is_unused : (used : Option (Text × List Row)) → option_map (λ p. p.1) used ≡ Some rows
+      → (values rows → ⊥) → IsUsed name values used → ⊥
+  is_unused None has bad met = met
+  is_unused (Some p) has bad met = bad (subst values (same_Some _ _ has) met.1)
+
+-- one file is read
+pub one_file : (used : Option (Text × List Row)) (file : Text) (command : Command)
+    → NamesDecode file used → Names used command → IsDecodeOf file command
+one_file None file (Decode name) first second = absurd first
+one_file (Some p) file (Decode name) first second = same_Some _ _ (sym second.1 ∙ first.1)
+
+-- where no file is named, no command is
+pub unspelled : (used : Option (Text × List Row)) (command : Command) → ((file : Text) → NamesDecode file used → ⊥)
+    → Names used command → ⊥
+unspelled used (Decode file) none named = none file.now named
+
+-- an error that is handed on
+pub handed_on : {T E : Type 0} (r : Result T E) (e : E) (P : E → Type 0) → IsErrAnd r (λ y. y ≡ e) → P e → IfErr r P
+handed_on (Ok x) e P is p = tt
+handed_on (Err y) e P is p = subst P (sym is) p
+
+pub memory_handed_on : (r : Result Command Error) (e : Error) (file : Text) → IsErrAnd r (λ y. y ≡ e)
+    → kind_of e ≡ OutOfMemory → IsDecodeOrMemory file r
+memory_handed_on (Ok x) e file is p = absurd is
+memory_handed_on (Err y) e file is p = subst (λ (z : Error). kind_of z ≡ OutOfMemory) (sym is) p
+
+-- a kind of the first list
+pub among_first : (k : ErrorKind) (kinds next : Kinds) → IsAmong k kinds → IsAmong k (or_else kinds next)
+among_first k [] next among = absurd among
+among_first k (x ∷ xs) next among = among
+
+pub known_kind : (kinds next : Kinds) (e : Error) → HasKind kinds e → kind_of e ≢ OutOfMemory
+    → IsAmong (kind_of e) (or_else kinds next)
+known_kind kinds next e has other = elim has [
+  | inl memory ↦ absurd (other memory)
+  | inr among ↦ among_first (kind_of e) kinds next among
+]
+
+pub only_memory : (kinds : Kinds) (e : Error) → HasKind kinds e → kinds ≡ [] → kind_of e ≡ OutOfMemory
+only_memory kinds e has none = elim (subst (λ (ks : Kinds). HasKind ks e) none has) [
+  | inl memory ↦ memory
+  | inr among ↦ absurd among
+]
+
+-- ---- the words of `decode`
+
+-- a word that names a file is no flag
+pub no_dash : (x : ℕ) (xs : Text) → x ≢ 45 → (x == 45) ≡ false
+no_dash x xs other = search rules
+
+abbrev pub IsSpelled : List Text → Text → Type 0
+IsSpelled words file =
+    (fault_of program_words words ≡ []) × NamesDecode file (subcommand_of program_words words)
+
+pub behind_dashes : (name file : Text) → IsSpelled (name ∷ codes "decode" ∷ codes "--" ∷ file ∷ []) file
+unfolding clap_on_literals
+behind_dashes name file = (refl, (refl, refl))
+
+pub a_dash : (name : Text) → IsSpelled (name ∷ codes "decode" ∷ codes "-" ∷ []) (codes "-")
+unfolding clap_on_literals
+a_dash name = (refl, (refl, refl))
+
+pub no_word : (name : Text) → IsSpelled (name ∷ codes "decode" ∷ [] ∷ []) []
+unfolding clap_on_literals
+no_word name = (refl, (refl, refl))
+
+-- what `decode` reads, once the program is built
+abbrev decode_shape : Shape
+decode_shape = unwrap_or (slice_get (built program_words).subs 0) (new_shape [])
+
+abbrev at_first : Walk
+at_first = walk_from nothing_held
+
+-- a word that is no flag, at `decode`: by what it is met as, and by what is wrong with it
+module _ (w : Text) where
+  abbrev word_is : Held × Step
+  word_is = word_met decode_shape.rules [] false idle 1 w nothing_held
+
+  abbrev word_wrong : Kinds
+  word_wrong = word_fault decode_shape [] false idle w nothing_held
+
+  abbrev held_after : Held × Step → Held
+  held_after m = (after_step decode_shape.rules w at_first m.0 m.1).held
+
+  abbrev level_by : Held × Step → Kinds → Kinds
+  level_by m wrong =
+      or_else (or_else (or_else wrong (step_fault decode_shape 1 m.0 m.1)) [])
+      (or_else [] (or_else (settle_fault decode_shape.rules decode_shape.args_override_self (held_after m))
+      (or_else (defaults_fault (settled decode_shape.rules (held_after m)).rows decode_shape.rules)
+      (check_fault decode_shape (finished decode_shape.rules (held_after m)) false))))
+
+  abbrev file_by : Held × Step → Option Text
+  file_by m = first_of (codes "FILE") (finished decode_shape.rules (held_after m))
+
+  -- the fault of the whole, by that of `decode`
+  abbrev whole_by : Kinds → Kinds
+  whole_by below = level_fault (built program_words).top (names_of (built program_words)) nothing_held
+      (codes "decode" ∷ w ∷ []) true below
+
+  by_level : level_fault decode_shape [] nothing_held (w ∷ []) false [] ≡ level_by word_is word_wrong
+  unfolding clap_on_literals
+  by_level = refl
+
+  module _ (dashes : bytes_eq w (codes "--") ≡ false) (long : long_of w ≡ None) (short : short_of w ≡ None) where
+    met_as : word_is ≡ (nothing_held, value)
+    met_as = ap (λ (b : Bool). if b then (nothing_held, trailing 1)
+        else long_or_other decode_shape.rules idle w (long_of w) nothing_held) dashes
+        ∙ ap (λ o. long_or_other decode_shape.rules idle w o nothing_held) long
+        ∙ ap (λ o. short_or_plain decode_shape.rules idle w o nothing_held) short
+
+    none_wrong : word_wrong ≡ []
+    none_wrong = ap (λ (b : Bool). if b then [] else flag_word_fault decode_shape.rules decode_shape.args_override_self
+        (long_of w) w nothing_held) dashes
+        ∙ ap (λ o. flag_word_fault decode_shape.rules decode_shape.args_override_self o w nothing_held) long
+        ∙ ap (λ o. option_map_or (λ flags. bundle_fault decode_shape.rules decode_shape.args_override_self flags
+        nothing_held) o []) short
+
+    level_passes : level_by (nothing_held, value) [] ≡ []
+    unfolding clap_on_literals
+    level_passes = refl
+
+    file_is : file_by (nothing_held, value) ≡ Some w
+    unfolding clap_on_literals
+    file_is = refl
+
+    whole_passes : (name : Text) → fault_of program_words (name ∷ codes "decode" ∷ w ∷ [])
+        ≡ whole_by (level_fault decode_shape [] nothing_held (w ∷ []) false [])
+    unfolding clap_on_literals
+    whole_passes name = refl
+
+    none_above : whole_by [] ≡ []
+    unfolding clap_on_literals
+    none_above = refl
+
+    named_so : (name : Text) → file_by word_is ≡ Some w
+        → NamesDecode w (subcommand_of program_words (name ∷ codes "decode" ∷ w ∷ []))
+    unfolding clap_on_literals
+    named_so name is = (refl, is)
+
+    pub plain_word_spells : (name : Text) → IsSpelled (name ∷ codes "decode" ∷ w ∷ []) w
+    plain_word_spells name = (
+      whole_passes name ∙ ap whole_by (by_level ∙ ap₂ level_by met_as none_wrong ∙ level_passes) ∙ none_above,
+      named_so name (ap file_by met_as ∙ file_is),
+    )
+
+pub a_word : (name : Text) (x : ℕ) (xs : Text) → (x == 45) ≡ false
+    → IsSpelled (name ∷ codes "decode" ∷ (x ∷ xs) ∷ []) (x ∷ xs)
+a_word name x xs other = plain_word_spells (x ∷ xs) (rw other refl) (rw other refl) (rw other refl) name
+
+pub spelled_file : (name file : Text) → IsFileWord file → IsSpelled (name ∷ codes "decode" ∷ file ∷ []) file
+spelled_file name [] is = no_word name
+spelled_file name (x ∷ xs) is = elim is [
+  | inl dash ↦ subst (λ (word : Text). IsSpelled (name ∷ codes "decode" ∷ word ∷ []) word) (sym dash) (a_dash name)
+  | inr other ↦ a_word name x xs (no_dash x xs (λ e. other (ap Some e)))
+]
+
+pub spelled_decode : (words : List Text) (file : Text) → IsDecode words file → IsSpelled words file
+spelled_decode words file is = elim is.1 [
+  | inl plain ↦ subst (λ (ws : List Text). IsSpelled ws file) (sym plain.0) (spelled_file is.0 file plain.1)
+  | inr dashes ↦ subst (λ (ws : List Text). IsSpelled ws file) (sym dashes) (behind_dashes is.0 file)
+]

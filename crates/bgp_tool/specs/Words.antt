@@ -1,0 +1,68 @@
+-- The words of a command line, the program's own name first: what they may be, and the command that
+-- they spell. How words are read is told by the crate clap, of a program and its commands.
+use Rattle.std.specs.Prelude.{◌≡◌, ◌≢◌, ◌⊎◌, ℕ, true, List, [], ◌∷◌, Option, Some, None, Result}
+use Rattle.std.specs.Prelude.{MatchResult, codes, slice_get}
+use Rattle.clap.specs.Words.{App, Kinds, Row, Rule, Text, fault_of, first_of, kind_of, new_app}
+use Rattle.clap.specs.Words.{new_rule, subcommand_of, with_rule, with_subcommand}
+use Rattle.clap.specs.Kinds.{or_else}
+use Rattle.clap.specs.declared.error.Error.{Error}
+use Rattle.clap.specs.declared.error.kind.ErrorKind.TheVariants.{MissingSubcommand, OutOfMemory}
+use Rattle.bgp_tool.specs.declared.words.Command.{Command}
+use Rattle.bgp_tool.specs.declared.words.Command.TheVariants.{Decode}
+
+-- the file that a command reads
+abbrev pub file_word : Rule
+file_word = record (new_rule (codes "FILE")) { required = true }
+
+-- `decode FILE`
+abbrev pub decode_words : App
+decode_words = with_rule (new_app (codes "decode")) file_word
+
+-- the program: it has a version, and one of its commands is wanted
+abbrev pub program_words : App
+program_words =
+    let name = new_app (codes "bgp") in
+    with_subcommand (record name {
+      top = record name.top { has_version = true; subcommand_required = true };
+    }) decode_words.top
+
+-- a command was named, and its values are such
+abbrev pub IsUsed : Text → (List Row → Type 0) → Option (Text × List Row) → Type 0
+IsUsed name values None = ⊥
+IsUsed name values (Some used) = (used.0 ≡ name) × values used.1
+
+-- `decode` was named, with this file
+abbrev pub NamesDecode : Text → Option (Text × List Row) → Type 0
+NamesDecode file = IsUsed (codes "decode") (λ rows. first_of (codes "FILE") rows ≡ Some file)
+
+-- the command that was named, and its values
+abbrev pub Names : Option (Text × List Row) → Command → Type 0
+Names used (Decode file) = NamesDecode file.now used
+
+-- the words spell the command: nothing is wrong with them, and they name it
+abbrev pub Spells : List Text → Command → Type 0
+Spells words command =
+    (fault_of program_words words ≡ []) × Names (subcommand_of program_words words) command
+
+-- what may be wrong with words that spell no command, or what they ask for in its place
+abbrev pub word_faults : List Text → Kinds
+word_faults words = or_else (fault_of program_words words) (MissingSubcommand ∷ [])
+
+-- a word that names a file: it doesn't begin with a dash, or is one
+abbrev pub IsFileWord : Text → Type 0
+IsFileWord word = (word ≡ codes "-") ⊎ (slice_get word 0 ≢ Some 45)
+
+-- The words are `decode FILE` behind the program's name. Behind `--` any word is a file.
+abbrev pub IsDecode : List Text → Text → Type 0
+IsDecode words file = (name : Text)
+    × (((words ≡ name ∷ codes "decode" ∷ file ∷ []) × IsFileWord file)
+    ⊎ (words ≡ name ∷ codes "decode" ∷ codes "--" ∷ file ∷ []))
+
+-- the command is `decode` of this file
+abbrev pub IsDecodeOf : Text → Command → Type 0
+IsDecodeOf text (Decode file) = file.now ≡ text
+
+-- it is that command, or memory was refused
+abbrev pub IsDecodeOrMemory : Text → Result Command Error → Type 0
+IsDecodeOrMemory text result =
+    MatchResult result (IsDecodeOf text) (λ error. kind_of error ≡ OutOfMemory)
