@@ -7,3 +7,5 @@ pub mod Quiet
 pub mod OwedWants
 pub mod Shapes
 pub mod Moves
+pub mod GivenChanges
+pub mod ShownRows

@@ -10,9 +10,9 @@ use Rattle.bgp_machine.specs.declared.rows.HiddenRow.TheVariants.{Starts, Listen
 use Rattle.bgp_machine.specs.declared.state.Head.{Head}
 use Rattle.bgp_machine.specs.declared.state.Head.TheVariants.{Idle, Connect, Active, OpenSent, OpenConfirm, Established}
 use Rattle.bgp_machine.specs.declared.want.Want.{Want}
-use Rattle.bgp_machine.specs.Lists.{Has, Each}
+use Rattle.bgp_machine.specs.Lists.{Has, Each, NoneTwice}
 use Rattle.bgp_machine.specs.Rows.{silent_heads}
-use Rattle.bgp_machine.specs.Run.{Taken, IsTaken, AreSteps, records_of, Silent, ListsSilent}
+use Rattle.bgp_machine.specs.Run.{Taken, IsTaken, AreDelayedLast, AreSteps, is_delayed, records_of, Silent, ListsSilent}
 use Rattle.bgp_machine.specs.Shows.{Shows}
 use Rattle.bgp_machine.specs.State.{SessionState, Turn, enters, falls, fsm_of, link_at, moved}
 use Rattle.bgp_machine.specs.Step.{Event, Hidden, Received, HiddenIn, Step, changed, change_of, hidden_change}
@@ -44,7 +44,7 @@ out_either false x y h e = elim e [ inl a ↦ inl a | inr z ↦ absurd z ]
 
 pub self_listed : (config : Config) (head : Head) → Has (λ h. h ≡ head) (silent_heads config head)
 self_listed config Idle = inl refl
-self_listed config (Connect true) = inl refl
+self_listed config (Connect true) = inr (inl refl)
 self_listed config (Connect false) = in_either config.parts.delay_open (Connect false) (Connect true) (Connect false) (inl refl)
 self_listed config (Active true) = inl refl
 self_listed config (Active false) = in_either config.parts.delay_open (Active false) (Active true) (Active false) (inl refl)
@@ -55,14 +55,14 @@ self_listed config (Established k s) = inl refl
 -- from Connect without delay, whatever is reached from Connect with delay is reached where it is allowed
 from_delayed : (config : Config) → IsTrue config.parts.delay_open → (h : Head) → Has (λ x. x ≡ h) (silent_heads config (Connect true)) → Has (λ x. x ≡ h) (silent_heads config (Connect false))
 from_delayed config may h e = in_either config.parts.delay_open (Connect false) (Connect true) h (elim e [
-  | inl a ↦ inr (may, a)
-  | inr b ↦ elim b [ inl a ↦ inl a | inr z ↦ absurd z ]
+  | inl a ↦ inl a
+  | inr b ↦ elim b [ inl a ↦ inr (may, a) | inr z ↦ absurd z ]
 ])
 
 from_undelayed : (config : Config) (h : Head) → Has (λ x. x ≡ h) (silent_heads config (Connect false)) → Has (λ x. x ≡ h) (silent_heads config (Connect true))
 from_undelayed config h e = elim (out_either config.parts.delay_open (Connect false) (Connect true) h e) [
-  | inl a ↦ inr (inl a)
-  | inr b ↦ inl b.1
+  | inl a ↦ inl a
+  | inr b ↦ inr (inl b.1)
 ]
 
 from_delayed_active : (config : Config) → IsTrue config.parts.delay_open → (h : Head) → Has (λ x. x ≡ h) (silent_heads config (Active true)) → Has (λ x. x ≡ h) (silent_heads config (Active false))
@@ -75,11 +75,11 @@ silent_row config Idle t Starts ws turn h e f = absurd (moves fsms.Idle turn (en
 silent_row config Idle t Listens ws turn h e f = absurd (moves fsms.Idle turn (enters (Active false)) (fsms.Idle, fsms.Active) h.1 refl f)
 silent_row config Idle t Notes ws turn h e f = absurd (notes (fsms.Idle, fsm_of turn.head) f)
 silent_row config (Connect d) t Stops ws turn h e f = absurd (moves fsms.Connect turn (falls) (fsms.Connect, fsms.Idle) h.1 refl f)
-silent_row config (Connect true) t RetryExpires ws turn h e f = record { next = Connect false; ends = h.1; leads = inr (inl refl); further = from_undelayed config }
+silent_row config (Connect true) t RetryExpires ws turn h e f = record { next = Connect false; ends = h.1; leads = inl refl; further = from_undelayed config }
 silent_row config (Connect false) t RetryExpires ws turn h e f = record { next = Connect false; ends = h.1; leads = self_listed config (Connect false); further = λ h k. k }
 silent_row config (Connect d) t DelayExpires ws turn h e f = absurd (speaks _ ws _ h.1 e)
 silent_row config (Connect d) t ConnectionOpens ws turn h e f = absurd (speaks _ ws _ h.0 e)
-silent_row config (Connect true) t DelayBegins ws turn h e f = record { next = Connect true; ends = h.2; leads = inl refl; further = λ h k. k }
+silent_row config (Connect true) t DelayBegins ws turn h e f = record { next = Connect true; ends = h.2; leads = inr (inl refl); further = λ h k. k }
 silent_row config (Connect false) t DelayBegins ws turn h e f = record { next = Connect true; ends = h.2; leads = in_either config.parts.delay_open (Connect false) (Connect true) (Connect true) (inr (h.0, refl)); further = from_delayed config h.0 }
 silent_row config (Connect true) t ConnectionFails ws turn h e f = absurd (moves fsms.Connect turn (enters (Active false)) (fsms.Connect, fsms.Active) h.1 refl f)
 silent_row config (Connect false) t ConnectionFails ws turn h e f = absurd (moves fsms.Connect turn falls (fsms.Connect, fsms.Idle) h.1 refl f)
@@ -170,7 +170,7 @@ each_either false P x y p q = (p, tt)
 each_reached : (config : Config) (head : Head) (routes : Routes)
     → Each (λ h. Silent config (record { head = head; routes = routes }) (record { head = h; routes = routes })) (silent_heads config head)
 each_reached config Idle routes = (no_step config _, tt)
-each_reached config (Connect true) routes = (no_step config _, (one_step config RetryExpires (Connect true) (Connect false) routes (refl, refl) refl, tt))
+each_reached config (Connect true) routes = (one_step config RetryExpires (Connect true) (Connect false) routes (refl, refl) refl, (no_step config _, tt))
 each_reached config (Connect false) routes =
     each_either config.parts.delay_open (λ h. Silent config (record { head = Connect false; routes = routes }) (record { head = h; routes = routes })) (Connect false) (Connect true)
     (no_step config _) (λ may. one_step config DelayBegins (Connect false) (Connect true) routes (may, refl, refl) refl)
@@ -189,10 +189,49 @@ has_state (x ∷ xs) s e r h = elim h [
   | inr b ↦ inr (has_state xs s e r b)
 ]
 
+-- one head, or two of which the second has the delay
+either_list : (b : Bool) (P : List Head → Type 0) (x y : Head) → P (x ∷ y ∷ []) → P (x ∷ []) → P (if b then x ∷ y ∷ [] else x ∷ [])
+either_list true P x y p q = p
+either_list false P x y p q = q
+
+one_once : (x : Head) → NoneTwice (x ∷ [])
+one_once x = (λ h. h, tt)
+
+two_once : (x y : Head) → (y ≡ x → ⊥) → NoneTwice (x ∷ y ∷ [])
+two_once x y n = (λ h. elim h [ inl e ↦ n e | inr z ↦ absurd z ], one_once y)
+
+heads_once : (config : Config) (head : Head) → NoneTwice (silent_heads config head)
+heads_once config Idle = one_once Idle
+heads_once config (Connect true) = two_once (Connect false) (Connect true) (λ e. cc)
+heads_once config (Connect false) = either_list config.parts.delay_open NoneTwice (Connect false) (Connect true) (two_once (Connect false) (Connect true) (λ e. cc)) (one_once (Connect false))
+heads_once config (Active true) = one_once (Active true)
+heads_once config (Active false) = either_list config.parts.delay_open NoneTwice (Active false) (Active true) (two_once (Active false) (Active true) (λ e. cc)) (one_once (Active false))
+heads_once config (OpenSent s) = one_once (OpenSent s)
+heads_once config (OpenConfirm k s) = one_once (OpenConfirm k s)
+heads_once config (Established k s) = one_once (Established k s)
+
+one_ordered : (x : Head) → AreDelayedLast (x ∷ [])
+one_ordered x = (λ t. tt, tt)
+
+two_ordered : (x y : Head) → is_delayed y ≡ true → AreDelayedLast (x ∷ y ∷ [])
+two_ordered x y e = (λ t. (e, tt), one_ordered y)
+
+heads_ordered : (config : Config) (head : Head) → AreDelayedLast (silent_heads config head)
+heads_ordered config Idle = one_ordered Idle
+heads_ordered config (Connect true) = two_ordered (Connect false) (Connect true) refl
+heads_ordered config (Connect false) = either_list config.parts.delay_open AreDelayedLast (Connect false) (Connect true) (two_ordered (Connect false) (Connect true) refl) (one_ordered (Connect false))
+heads_ordered config (Active true) = one_ordered (Active true)
+heads_ordered config (Active false) = either_list config.parts.delay_open AreDelayedLast (Active false) (Active true) (two_ordered (Active false) (Active true) refl) (one_ordered (Active false))
+heads_ordered config (OpenSent s) = one_ordered (OpenSent s)
+heads_ordered config (OpenConfirm k s) = one_ordered (OpenConfirm k s)
+heads_ordered config (Established k s) = one_ordered (Established k s)
+
 pub lists_silent : (config : Config) (head : Head) (routes : Routes) → ListsSilent config (record { head = head; routes = routes }) (silent_heads config head)
 lists_silent config head routes = record {
   each = each_reached config head routes;
   every = λ e run.
       let q = quiet config run.steps (record { head = head; routes = routes }) e run.are_steps run.shows in
       has_state (silent_heads config head) (record { head = head; routes = routes }) e q.0 q.1;
+  none_twice = heads_once config head;
+  in_order = heads_ordered config head;
 }

@@ -14,8 +14,8 @@ use Rattle.bgp_machine.specs.declared.rows.ReceivedRow.TheVariants.{Ignores, Dro
 use Rattle.bgp_machine.specs.declared.want.FaultSet.TheVariants as sets
 use Rattle.bgp_machine.specs.declared.want.Want.{Want}
 use Rattle.bgp_machine.specs.declared.want.Want.TheVariants as wants
-use Rattle.bgp_machine.specs.Going.{Shape, Falling, GoingOn, Fall, Silently, Ceased, Expired, Erred, Faulted, fall_wants, told, shown_after, going, going_wants, undelayed, going_on, going_on_wants, HiddenShape, ReceivedShape}
-use Rattle.bgp_machine.specs.State.{Turn, fsm_of, link_at, enters, falls, waiting, settled, renewed}
+use Rattle.bgp_machine.specs.Going.{Shape, Falling, GoingOn, GoOnWith, Fall, Silently, Ceased, Expired, Erred, Faulted, fall_wants, told, shown_after, going, going_wants, undelayed, going_on, going_on_wants, HiddenShape, ReceivedShape}
+use Rattle.bgp_machine.specs.State.{Turn, Kept, fsm_of, link_at, enters, falls, waiting, settled, renewed}
 use Rattle.bgp_machine.specs.Shows.{Pays}
 use Rattle.bgp_machine.specs.Step.{changed, hidden_change}
 
@@ -192,11 +192,11 @@ drops head t b m f ws a e q = inl (record { ends = inl q; fall = f; wants = e })
 
 -- one that goes on, and keeps the routes
 keeps : (head : Head) (t : ℕ) (b : List ℕ) (m : Heard) (h2 : Head) (ws : List Want) (a : Turn) → (fsm_of h2 ≡ fsms.Idle → ⊥)
-    → h2 ≡ going_on head t m → ws ≡ going_on_wants head m → a ≡ enters h2 → Falling head ws a ⊎ GoingOn head t b m ws a
-keeps head t b m h2 ws a u g w q = inr (record {
+    → GoOnWith head b m Kept → h2 ≡ going_on head t m → ws ≡ going_on_wants head m → a ≡ enters h2 → Falling head ws a ⊎ GoingOn head t b m ws a
+keeps head t b m h2 ws a u k g w q = inr (record {
   head_after = ap (λ (v : Turn). v.head) q ∙ g;
   wants = w;
-  routes = inl (ap (λ (v : Turn). v.routes) q);
+  routes = subst (λ (v : Turn). GoOnWith head b m v.routes) (sym q) k;
   is_up = λ z. u (sym (ap (λ (v : Turn). fsm_of v.head) q) ∙ z);
 })
 
@@ -208,7 +208,7 @@ shape_received (Connect d) t b (heard.InvalidOpen e) Drops ws a h = drops (Conne
 shape_received (Connect d) t b (heard.InvalidOpen e) NamesFault ws a h = drops (Connect d) t b (heard.InvalidOpen e) (Faulted (sets.Open e)) ws a h.0 h.1
 shape_received (Connect d) t b (heard.ValidOpen l e) Drops ws a h = drops (Connect d) t b (heard.ValidOpen l e) (Silently) ws a h.0 h.1
 shape_received (Connect d) t b (heard.ValidOpen l e) NamesFault ws a h = drops (Connect d) t b (heard.ValidOpen l e) (Faulted (sets.Open e)) ws a h.0 h.1
-shape_received (Connect d) t b (heard.ValidOpen l e) Accepts ws a h = keeps (Connect d) t b (heard.ValidOpen l e) (OpenConfirm l (settled l t)) ws a (λ z. cc) refl h.1 h.2
+shape_received (Connect d) t b (heard.ValidOpen l e) Accepts ws a h = keeps (Connect d) t b (heard.ValidOpen l e) (OpenConfirm l (settled l t)) ws a (λ z. cc) refl refl h.1 h.2
 shape_received (Connect d) t b heard.Keepalive Drops ws a h = drops (Connect d) t b heard.Keepalive (Silently) ws a h.0 h.1
 shape_received (Connect d) t b heard.Update Drops ws a h = drops (Connect d) t b heard.Update (Silently) ws a h.0 h.1
 shape_received (Connect d) t b heard.BadVersion Drops ws a h = drops (Connect d) t b heard.BadVersion (Silently) ws a h.0 h.1
@@ -219,14 +219,14 @@ shape_received (Active d) t b (heard.InvalidOpen e) Drops ws a h = drops (Active
 shape_received (Active d) t b (heard.InvalidOpen e) NamesFault ws a h = drops (Active d) t b (heard.InvalidOpen e) (Faulted (sets.Open e)) ws a h.0 h.1
 shape_received (Active d) t b (heard.ValidOpen l e) Drops ws a h = drops (Active d) t b (heard.ValidOpen l e) (Silently) ws a h.0 h.1
 shape_received (Active d) t b (heard.ValidOpen l e) NamesFault ws a h = drops (Active d) t b (heard.ValidOpen l e) (Faulted (sets.Open e)) ws a h.0 h.1
-shape_received (Active d) t b (heard.ValidOpen l e) Accepts ws a h = keeps (Active d) t b (heard.ValidOpen l e) (OpenConfirm l (settled l t)) ws a (λ z. cc) refl h.1 h.2
+shape_received (Active d) t b (heard.ValidOpen l e) Accepts ws a h = keeps (Active d) t b (heard.ValidOpen l e) (OpenConfirm l (settled l t)) ws a (λ z. cc) refl refl h.1 h.2
 shape_received (Active d) t b heard.Keepalive Drops ws a h = drops (Active d) t b heard.Keepalive (Silently) ws a h.0 h.1
 shape_received (Active d) t b heard.Update Drops ws a h = drops (Active d) t b heard.Update (Silently) ws a h.0 h.1
 shape_received (Active d) t b heard.BadVersion Drops ws a h = drops (Active d) t b heard.BadVersion (Silently) ws a h.0 h.1
 shape_received (Active d) t b heard.Notification Drops ws a h = drops (Active d) t b heard.Notification (Silently) ws a h.0 h.1
 shape_received (OpenSent s) t b (heard.FaultyHeader f) NamesFault ws a h = drops (OpenSent s) t b (heard.FaultyHeader f) (Faulted (sets.Header f)) ws a h.0 h.1
 shape_received (OpenSent s) t b (heard.InvalidOpen e) NamesFault ws a h = drops (OpenSent s) t b (heard.InvalidOpen e) (Faulted (sets.Open e)) ws a h.0 h.1
-shape_received (OpenSent s) t b (heard.ValidOpen l e) Accepts ws a h = keeps (OpenSent s) t b (heard.ValidOpen l e) (OpenConfirm l (settled l t)) ws a (λ z. cc) refl h.0 h.1
+shape_received (OpenSent s) t b (heard.ValidOpen l e) Accepts ws a h = keeps (OpenSent s) t b (heard.ValidOpen l e) (OpenConfirm l (settled l t)) ws a (λ z. cc) refl refl h.0 h.1
 shape_received (OpenSent s) t b (heard.ValidOpen l e) Collides ws a h = drops (OpenSent s) t b (heard.ValidOpen l e) (Ceased) ws a h.0 h.1
 shape_received (OpenSent s) t b (heard.ValidOpen l e) NamesFault ws a h = drops (OpenSent s) t b (heard.ValidOpen l e) (Faulted (sets.Open e)) ws a h.0 h.1
 shape_received (OpenSent s) t b heard.Keepalive ReportsError ws a h = drops (OpenSent s) t b heard.Keepalive (Erred) ws a h.0 h.1
@@ -239,8 +239,8 @@ shape_received (OpenConfirm k s) t b (heard.InvalidOpen e) NamesFault ws a h = d
 shape_received (OpenConfirm k s) t b (heard.ValidOpen l e) Collides ws a h = drops (OpenConfirm k s) t b (heard.ValidOpen l e) (Ceased) ws a h.0 h.1
 shape_received (OpenConfirm k s) t b (heard.ValidOpen l e) ReportsError ws a h = drops (OpenConfirm k s) t b (heard.ValidOpen l e) (Erred) ws a h.0 h.1
 shape_received (OpenConfirm k s) t b (heard.ValidOpen l e) NamesFault ws a h = drops (OpenConfirm k s) t b (heard.ValidOpen l e) (Faulted (sets.Open e)) ws a h.0 h.1
-shape_received (OpenConfirm k s) t b (heard.ValidOpen l e) Overlooks ws a h = keeps (OpenConfirm k s) t b (heard.ValidOpen l e) (OpenConfirm k s) ws a (λ z. cc) refl h.0 h.1
-shape_received (OpenConfirm k s) t b heard.Keepalive Establishes ws a h = keeps (OpenConfirm k s) t b heard.Keepalive (Established k (renewed s t)) ws a (λ z. cc) refl h.0 h.1
+shape_received (OpenConfirm k s) t b (heard.ValidOpen l e) Overlooks ws a h = keeps (OpenConfirm k s) t b (heard.ValidOpen l e) (OpenConfirm k s) ws a (λ z. cc) refl refl h.0 h.1
+shape_received (OpenConfirm k s) t b heard.Keepalive Establishes ws a h = keeps (OpenConfirm k s) t b heard.Keepalive (Established k (renewed s t)) ws a (λ z. cc) refl refl h.0 h.1
 shape_received (OpenConfirm k s) t b heard.Update ReportsError ws a h = drops (OpenConfirm k s) t b heard.Update (Erred) ws a h.0 h.1
 shape_received (OpenConfirm k s) t b heard.BadVersion Drops ws a h = drops (OpenConfirm k s) t b heard.BadVersion (Silently) ws a h.0 h.1
 shape_received (OpenConfirm k s) t b heard.Notification Drops ws a h = drops (OpenConfirm k s) t b heard.Notification (Silently) ws a h.0 h.1
@@ -251,12 +251,12 @@ shape_received (Established k s) t b (heard.InvalidOpen e) ReportsError ws a h =
 shape_received (Established k s) t b (heard.ValidOpen l e) Collides ws a h = drops (Established k s) t b (heard.ValidOpen l e) (Ceased) ws a h.0 h.1
 shape_received (Established k s) t b (heard.ValidOpen l e) ReportsError ws a h = drops (Established k s) t b (heard.ValidOpen l e) (Erred) ws a h.0 h.1
 shape_received (Established k s) t b (heard.ValidOpen l e) NamesFault ws a h = drops (Established k s) t b (heard.ValidOpen l e) (Faulted (sets.Open e)) ws a h.0 h.1
-shape_received (Established k s) t b (heard.ValidOpen l e) Overlooks ws a h = keeps (Established k s) t b (heard.ValidOpen l e) (Established k s) ws a (λ z. cc) refl h.0 h.1
-shape_received (Established k s) t b heard.Keepalive Renews ws a h = keeps (Established k s) t b heard.Keepalive (Established k (renewed s t)) ws a (λ z. cc) refl h.0 h.1
+shape_received (Established k s) t b (heard.ValidOpen l e) Overlooks ws a h = keeps (Established k s) t b (heard.ValidOpen l e) (Established k s) ws a (λ z. cc) refl refl h.0 h.1
+shape_received (Established k s) t b heard.Keepalive Renews ws a h = keeps (Established k s) t b heard.Keepalive (Established k (renewed s t)) ws a (λ z. cc) refl refl h.0 h.1
 shape_received (Established k s) t b heard.Update (Applies g) ws a h = inr (record {
   head_after = ap (λ (v : Turn). v.head) h.3;
   wants = h.2;
-  routes = inr (k, s, h.0, g, refl, h.1, ap (λ (v : Turn). v.routes) h.3);
+  routes = (h.0, g, h.1, ap (λ (v : Turn). v.routes) h.3);
   is_up = λ z. let e : fsm_of a.head ≡ fsms.Established = ap (λ (v : Turn). fsm_of v.head) h.3 in cc;
 })
 shape_received (Established k s) t b heard.Update NamesFault ws a h = inl (record { ends = inl h.3; fall = Faulted (sets.Update h.0); wants = h.2 })

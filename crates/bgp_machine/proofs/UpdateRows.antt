@@ -42,7 +42,7 @@ each_family certain optional disabled a b V6 = b
 
 -- ---- the UPDATE is applied
 
-no_apply : {X : Type 0} (link : Link) (octets : List ℕ) (o : Outcomes X) (changes : RouteChanges) (f : Families) → AreOutcomes link octets o
+pub no_apply : {X : Type 0} (link : Link) (octets : List ℕ) (o : Outcomes X) (changes : RouteChanges) (f : Families) → AreOutcomes link octets o
     → o.changes ≡ None → IsOutcome link octets (Applied changes f) → ⊥
 no_apply {X} link octets o changes f are none is =
     subst (λ (v : Option (Changes X)). MatchOption v ⊥ (λ c. (changes ≡ changes_value c)
@@ -54,7 +54,7 @@ allowed : {X : Type 0} (o : Option (Changes X)) (changes : RouteChanges) (certai
 allowed None changes certain optional f h = absurd h
 allowed (Some c) changes certain optional f h = h
 
-allows : {X : Type 0} (o : Option (Changes X)) (certain optional f : Families) → (o ≡ None → ⊥)
+pub allows : {X : Type 0} (o : Option (Changes X)) (certain optional f : Families) → (o ≡ None → ⊥)
     → IsDisabled (λ g. IsTrue (contains certain g)) (λ g. IsTrue (contains optional g)) f
     → MatchOption o ⊥ (λ c. (changes_of o ≡ changes_value c) × IsDisabled (λ g. IsTrue (contains certain g)) (λ g. IsTrue (contains optional g)) f)
 allows None certain optional f some h = absurd (some refl)
@@ -140,7 +140,7 @@ if_false b A B e m = subst (λ (v : Bool). MatchBool v A B) e m
 
 -- ---- which rows there are
 
-each_set : (v4 v6 : Bool) → Has (λ r. r ≡ Applies (record { v4 = v4; v6 = v6 })) update_rows
+pub each_set : (v4 v6 : Bool) → Has (λ r. r ≡ Applies (record { v4 = v4; v6 = v6 })) update_rows
 each_set false false = inr (inl refl)
 each_set true false = inr (inr (inl refl))
 each_set false true = inr (inr (inr (inl refl)))

@@ -6,7 +6,6 @@ use Rattle.std.specs.Prelude.{Some, false}
 use Rattle.bgp_prefix.specs.Shown.{ShownRecord, Changed, second_of}
 use Rattle.bgp_open.specs.declared.config.Config.{Config}
 use Rattle.bgp_open.specs.declared.families.Families.{Families}
-use Rattle.bgp_open.specs.declared.link.Link.{Link}
 use Rattle.bgp_update.specs.Changes.{RouteChanges}
 use Rattle.bgp_update.specs.Outcome.{IsOutcome, Applied}
 use Rattle.bgp_machine.specs.declared.fsm.Fsm.{Fsm}
@@ -14,7 +13,6 @@ use Rattle.bgp_machine.specs.declared.fsm.Fsm.TheVariants as fsms
 use Rattle.bgp_machine.specs.declared.state.Head.{Head}
 use Rattle.bgp_machine.specs.declared.state.Head.TheVariants.{Idle, Connect, Active, OpenSent}
 use Rattle.bgp_machine.specs.declared.state.Head.TheVariants.{OpenConfirm, Established}
-use Rattle.bgp_machine.specs.declared.state.HoldTimer.{HoldTimer}
 use Rattle.bgp_machine.specs.declared.hearing.Heard.{Heard}
 use Rattle.bgp_machine.specs.declared.hearing.Heard.TheVariants as heard
 use Rattle.bgp_machine.specs.declared.rows.HiddenRow.{HiddenRow}
@@ -25,8 +23,8 @@ use Rattle.bgp_machine.specs.declared.want.Unexpected.TheVariants.{InEstablished
 use Rattle.bgp_machine.specs.declared.want.Want.{Want}
 use Rattle.bgp_machine.specs.declared.want.Want.TheVariants as wants
 use Rattle.bgp_machine.specs.Shows.{Pays}
-use Rattle.bgp_machine.specs.State.{Turn, Kept, Given, fsm_of, link_at, enters, falls, waiting}
-use Rattle.bgp_machine.specs.State.{settled, renewed}
+use Rattle.bgp_machine.specs.State.{RoutesTurn, Turn, Kept, Given, fsm_of, link_at, enters, falls}
+use Rattle.bgp_machine.specs.State.{waiting, settled, renewed}
 use Rattle.bgp_machine.specs.Step.{HiddenIn, ReceivedIn, changed, hidden_change}
 
 -- the state with this number
@@ -128,15 +126,20 @@ pub record Going (config : Config) (head : Head) (t : ℕ) (change : Option Fsm)
   pub routes : turn.routes ≡ Kept
   pub is_up : fsm_of turn.head ≢ fsms.Idle
 
--- it goes the one way about a message: the routes stay, or take the one list of changes
+-- The routes stay; but an UPDATE in Established gives them its one list of changes, and then
+-- disables families.
+abbrev pub GoOnWith : Head → List ℕ → Heard → RoutesTurn → Type 0
+GoOnWith (Established link timer) octets heard.Update routes =
+    (changes : RouteChanges) × (families : Families)
+    × IsOutcome link octets (Applied changes families) × (routes ≡ Given changes families)
+GoOnWith head octets message routes = routes ≡ Kept
+
+-- it goes the one way about a message
 pub record GoingOn (head : Head) (t : ℕ) (octets : List ℕ) (message : Heard) (left : List Want)
     (turn : Turn) : Type 0 where
   pub head_after : turn.head ≡ going_on head t message
   pub wants : left ≡ going_on_wants head message
-  pub routes : (turn.routes ≡ Kept)
-      ⊎ ((link : Link) × (timer : HoldTimer) × (changes : RouteChanges) × (families : Families)
-      × (head ≡ Established link timer) × IsOutcome link octets (Applied changes families)
-      × (turn.routes ≡ Given changes families))
+  pub routes : GoOnWith head octets message turn.routes
   pub is_up : fsm_of turn.head ≢ fsms.Idle
 
 -- of a step which a record opens, and what it then owes

@@ -1,6 +1,7 @@
 -- Lists of the steps that there are.
 use Rattle.std.specs.Prelude.{◌≡◌, ℕ, List, [], Option, None, Some}
 use Rattle.bgp_open.specs.declared.config.Config.{Config}
+use Rattle.bgp_open.specs.declared.families.Families.{Families}
 use Rattle.bgp_update.specs.declared.outcomes.Changes.{Changes}
 use Rattle.bgp_update.specs.Allowed.{changes_value}
 use Rattle.bgp_update.specs.Changes.{RouteChanges}
@@ -71,6 +72,10 @@ ListsHidden config head t steps =
 abbrev pub ListsReceived : Config → Head → ℕ → List ℕ → RouteChanges → List Step → Type 0
 ListsReceived config head t octets changes steps =
     Lists (IsShown head config t (Received octets)) changes steps
+
+-- the step makes its message's changes
+abbrev pub MakesChanges : Step → Type 0
+MakesChanges step = (families : Families) × (step.after.routes ≡ routes.Given families)
 
 -- the changes that stand beside a list of steps
 abbrev pub changes_of : {X : Type 0} → Option (Changes X) → RouteChanges

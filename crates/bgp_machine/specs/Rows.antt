@@ -1,5 +1,5 @@
--- The steps of single rows, and which rows a state has: what the contracts of private functions say,
--- from which those of public ones follow.
+-- The steps of single rows, and which rows a state has: what the contracts of private functions
+-- say, from which those of public ones follow.
 use Rattle.std.specs.Prelude.{if◌then◌else◌, ◌≡◌, ◌⊎◌, ◌++◌, ◌↔◌, ℕ, false, true, List, [], ◌∷◌}
 use Rattle.std.specs.Prelude.{Option, MatchOption}
 use Rattle.bgp_open.specs.declared.config.Config.{Config}
@@ -37,7 +37,7 @@ use Rattle.bgp_machine.specs.Listed.{no_changes, IsStep, ShowsSome, changes_of}
 -- the heads in one list: in Connect and Active the OPEN may be delayed from now on, where that is
 -- allowed, and in Connect another try ends the delay
 abbrev pub silent_heads : Config → Head → List Head
-silent_heads config (Connect true) = Connect true ∷ Connect false ∷ []
+silent_heads config (Connect true) = Connect false ∷ Connect true ∷ []
 silent_heads config (Connect false) =
     if config.parts.delay_open then Connect false ∷ Connect true ∷ [] else Connect false ∷ []
 silent_heads config (Active true) = Active true ∷ []

@@ -1,12 +1,13 @@
 -- Runs of the session machine: finite lists of steps, and the records that they show, joined.
-use Rattle.std.specs.Prelude.{◌≡◌, ◌++◌, ℕ, List, [], ◌∷◌}
+use Rattle.std.specs.Prelude.{◌≡◌, ◌++◌, ℕ, Bool, false, IsTrue, List, [], ◌∷◌}
 use Rattle.bgp_prefix.specs.Shown.{ShownRecord}
 use Rattle.bgp_open.specs.declared.config.Config.{Config}
 use Rattle.bgp_rib.specs.Routes.{Routes}
 use Rattle.bgp_machine.specs.declared.fsm.Fsm.{Fsm}
 use Rattle.bgp_machine.specs.declared.state.Head.{Head}
+use Rattle.bgp_machine.specs.declared.state.Head.TheVariants.{Connect, Active}
 use Rattle.bgp_machine.specs.declared.want.Want.{Want}
-use Rattle.bgp_machine.specs.Lists.{Has, Each}
+use Rattle.bgp_machine.specs.Lists.{Has, Each, NoneTwice}
 use Rattle.bgp_machine.specs.Shows.{Shows}
 use Rattle.bgp_machine.specs.State.{SessionState, fsm_of, fresh_state, link_at}
 use Rattle.bgp_machine.specs.Step.{Event, Step, change_of}
@@ -64,9 +65,23 @@ Begins config records =
 abbrev pub Silent : Config → SessionState → SessionState → Type 0
 Silent config s e = Run config s [] e
 
--- the heads are those to which steps lead that show no record: just those, and all of them; the
--- routes stay
+-- the OPEN is delayed
+abbrev pub is_delayed : Head → Bool
+is_delayed (Connect delay) = delay
+is_delayed (Active delay) = delay
+is_delayed head = false
+
+-- none with a delay stands before one without
+abbrev pub AreDelayedLast : List Head → Type 0
+AreDelayedLast [] = Unit {0}
+AreDelayedLast (head ∷ heads) =
+    (IsTrue (is_delayed head) → Each (λ x. IsTrue (is_delayed x)) heads) × AreDelayedLast heads
+
+-- the heads are those to which steps lead that show no record: just those, all of them, none twice,
+-- and those without a delay first; the routes stay
 pub record ListsSilent (config : Config) (s : SessionState) (heads : List Head) : Type 0 where
   pub each : Each (λ head. Silent config s (record s { head = head })) heads
   pub every : (e : SessionState) → Silent config s e
       → Has (λ head. record s { head = head } ≡ e) heads
+  pub none_twice : NoneTwice heads
+  pub in_order : AreDelayedLast heads

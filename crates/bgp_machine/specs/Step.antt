@@ -1,6 +1,7 @@
 -- The rows of the session machine (RFC 4271, 8.2.2, 6.1 to 6.8; RFC 6608): what a state does by
 -- itself, and what it does about a message. A row says what is sent, in order, and how the step
--- ends. The states, and a state's rows, stand in the order of the standard's events (8.1).
+-- ends. The states stand in the order of the standard (8.2.2), a state's own rows in that of its
+-- events (8.1), and those about messages in the order of messages.
 use Rattle.std.specs.Prelude.{◌≡◌, ◌<◌, ◌≤◌, ◌+◌, ◌↔◌, ℕ, Bool, false, true, List, [], ◌∷◌}
 use Rattle.std.specs.Prelude.{IsTrue, if◌then◌else◌, Option, None, Some}
 use Rattle.bgp_open.specs.declared.config.Config.{Config}

@@ -1,13 +1,16 @@
 //! What a state does by itself (RFC 4271, 8.2.2).
 
-ghost use Rattle.std.specs.Prelude.{◌≡◌, ◌≤◌, ◌<◌, ◌+◌, ◌++◌, List, [], ◌∷◌, length};
+ghost use Rattle.std.specs.Prelude.{◌≡◌, ◌≤◌, ◌<◌, ◌+◌, ◌++◌, ℕ, List, [], ◌∷◌, length};
 ghost use Rattle.arrayvec.specs.ArrayVec.{array_vec_len};
+ghost use Rattle.bgp_open.specs.declared.config.Config.{Config as TheConfig};
 ghost use Rattle.bgp_machine.specs.Listed.{ListsHidden};
 ghost use Rattle.bgp_machine.specs.Rows.{HiddenShown, ListsRows, MakesHidden};
 ghost use Rattle.bgp_machine.specs.Listed.{no_changes};
 ghost use Rattle.bgp_machine.specs.Rows.{shown_rows};
 ghost use Rattle.bgp_machine.specs.declared.rows.HiddenRow.{HiddenRow as TheRow};
+ghost use Rattle.bgp_machine.specs.declared.state.Head.{Head as TheHead};
 ghost use Rattle.bgp_machine.specs.declared.state.Head.TheVariants as heads;
+ghost use Rattle.bgp_machine.specs.declared.step.Step.{Step as TheStep};
 
 use crate::effects::{entering, failing, falling, noting, only_if, waiting};
 use crate::listing::{MOST_STEPS, add};
@@ -130,7 +133,7 @@ fn established_step(
 }
 
 /// What a row makes.
-fn hidden_step(config: &Config, head: Head, t: Seconds, row: HiddenRow) -> Option<Step>
+pub(crate) fn hidden_step(config: &Config, head: Head, t: Seconds, row: HiddenRow) -> Option<Step>
     ensures { MakesHidden config.now head t row result }
 {
     match head {
@@ -242,10 +245,18 @@ fn rows_at(head: Head) -> &'static [HiddenRow]
     }
 }
 
+/// The steps of a state's rows are all that it takes by itself and that show a record.
+fn shown_rows_are_all()
+    ensures { (config : TheConfig) (head : TheHead) (t : ℕ) (rows : List TheRow)
+        (steps : List TheStep) → ListsRows (HiddenShown config head t) no_changes rows steps
+        → rows ≡ shown_rows head → ListsHidden config head t steps }
+{}
+
 /// The steps that a session may take by itself at a second and that show a record: just those that
 /// the table's rows allow, each once. It takes no memory.
 pub fn hidden_steps(config: &Config, head: Head, t: Seconds) -> ArrayVec<Step, MOST_STEPS>
     ensures { ListsHidden config.now head t result.items }
 {
+    shown_rows_are_all();
     steps_of(config, head, t, rows_at(head))
 }

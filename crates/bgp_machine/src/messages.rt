@@ -1,9 +1,10 @@
 //! What a state does about octets that it receives.
 
-ghost use Rattle.std.specs.Prelude.{◌≡◌, IfOk, IsErr};
+ghost use Rattle.std.specs.Prelude.{◌≡◌, ◌↔◌, IfOk, IsErr, IsSome};
 ghost use Rattle.bgp_update.specs.Outcome.{IsOnlyReset};
 ghost use Rattle.bgp_machine.specs.Heard.{Hears};
-ghost use Rattle.bgp_machine.specs.Listed.{ListsReceived, TakesMemory, changes_of};
+ghost use Rattle.bgp_machine.specs.Listed.{ListsReceived, MakesChanges, TakesMemory, changes_of};
+ghost use Rattle.bgp_machine.specs.Lists.{Has};
 ghost use Rattle.bgp_machine.specs.Rows.{NeedsOutcomes};
 ghost use Rattle.bgp_machine.specs.declared.hearing.Heard.TheVariants as hearings;
 ghost use Rattle.bgp_machine.specs.declared.state.Head.TheVariants as heads;
@@ -40,8 +41,9 @@ fn plain_steps<A: Allocator>(
 ) -> MessageSteps<A>
     requires heard { Hears config.now octets.now heard }
     requires plain { ¬ NeedsOutcomes head heard }
-    ensures { ListsReceived config.now head t octets.now (changes_of result.changes)
+    ensures exact { ListsReceived config.now head t octets.now (changes_of result.changes)
         result.steps.items }
+    ensures given { IsSome result.changes ↔ Has MakesChanges result.steps.items }
 {
     MessageSteps {
         steps: heard_steps(octets, head, t, heard),
@@ -60,8 +62,9 @@ fn established_steps<A: Allocator + Copy>(
 ) -> Result<MessageSteps<A>, AllocError>
     requires { Hears config.now octets.now hearings.Update }
     ensures memory { IsErr result → ¬ IsOnlyReset own octets.now }
-    ensures exact { IfOk result (λ m. ListsReceived config.now (heads.Established own timer) t octets.now
-        (changes_of m.changes) m.steps.items) }
+    ensures exact { IfOk result (λ m. ListsReceived config.now
+        (heads.Established own timer) t octets.now (changes_of m.changes) m.steps.items) }
+    ensures given { IfOk result (λ m. IsSome m.changes ↔ Has MakesChanges m.steps.items) }
 {
     let outcomes = read_update(alloc, &own, octets)?;
     let steps = update_steps(octets, own, timer, t, &outcomes);
@@ -81,8 +84,8 @@ fn steps_on_update<A: Allocator + Copy>(
 ) -> Result<MessageSteps<A>, AllocError>
     requires { Hears config.now octets.now hearings.Update }
     ensures exact { IfOk result (λ m. ListsReceived config.now head t octets.now
-        (changes_of m.changes)
-        m.steps.items) }
+        (changes_of m.changes) m.steps.items) }
+    ensures given { IfOk result (λ m. IsSome m.changes ↔ Has MakesChanges m.steps.items) }
     ensures memory { IsErr result → TakesMemory head octets.now }
 {
     match head {
@@ -92,8 +95,9 @@ fn steps_on_update<A: Allocator + Copy>(
 }
 
 /// The steps that a session may take about octets which it receives at a second: just those that
-/// the table's rows allow, each once, whatever the octets are. Only for an UPDATE in Established
-/// that may be applied does it take memory.
+/// the table's rows allow, each once, whatever the octets are. Changes stand beside them exactly
+/// where one of them makes them. Only for an UPDATE in Established that may be applied does it take
+/// memory.
 pub fn message_steps<A: Allocator + Copy>(
     alloc: A,
     config: &Config,
@@ -102,8 +106,8 @@ pub fn message_steps<A: Allocator + Copy>(
     octets: &[u8],
 ) -> Result<MessageSteps<A>, AllocError>
     ensures exact { IfOk result (λ m. ListsReceived config.now head t octets.now
-        (changes_of m.changes)
-        m.steps.items) }
+        (changes_of m.changes) m.steps.items) }
+    ensures given { IfOk result (λ m. IsSome m.changes ↔ Has MakesChanges m.steps.items) }
     ensures memory { IsErr result → TakesMemory head octets.now }
 {
     match hear(config, octets) {

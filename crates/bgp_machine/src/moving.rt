@@ -22,8 +22,8 @@ impl<A: Allocator + Copy> State<A> {
     /// It takes memory where routes are given alone. Refused for memory it leaves everything as it
     /// was, and called again it does what it would have done.
     pub fn take(&mut self, after: After, changes: Option<&Changes<A>>) -> Result<(), AllocError>
-        ensures ok { OnOk result (state_value self.new
-            ≡ moved (state_value self.old) (turn_of (changes_of (option_copied changes.entry)) after)) }
+        ensures ok { let given = changes_of (option_copied changes.entry) in
+            OnOk result (state_value self.new ≡ moved (state_value self.old) (turn_of given after)) }
         ensures err { OnErr result (state_value self.new ≡ state_value self.old) }
         ensures memory { IsErr result
             → (families : TheFamilies) × (after.routes ≡ turns.Given families) }
@@ -44,8 +44,8 @@ fn give<A: Allocator + Copy>(
     changes: Option<&Changes<A>>,
     families: Families,
 ) -> Result<(), AllocError>
-    ensures ok { OnOk result (rib.new
-        ≡ routes_without families (routes_after (changes_of (option_copied changes.entry)) rib.old)) }
+    ensures ok { let given = changes_of (option_copied changes.entry) in
+        OnOk result (rib.new ≡ routes_without families (routes_after given rib.old)) }
     ensures err { OnErr result (rib.new ≡ rib.old) }
 {
     if let Some(changes) = changes {

@@ -26,6 +26,7 @@ use crate::want::{FaultSet, Unexpected, Want, Wants};
 use arrayvec::ArrayVec;
 use bgp_open::{Link, OpenSubcodes};
 use bgp_prefix::Seconds;
+use bgp_wire::HeaderFaults;
 
 /// What Idle does about a message.
 fn idle_on(octets: &[u8], t: Seconds, message: Heard, row: ReceivedRow) -> Option<Step>
@@ -148,8 +149,25 @@ fn open_sent_on_open(
     }
 }
 
-/// What OpenSent does about a message. Of a NOTIFICATION other than 2/1 the standard has a Finite
-/// State Machine Error alone (profile).
+/// What OpenSent does about a NOTIFICATION other than 2/1. The standard has a Finite State Machine
+/// Error alone (profile).
+fn open_sent_on_notification(
+    octets: &[u8],
+    timer: HoldTimer,
+    t: Seconds,
+    row: ReceivedRow,
+) -> Option<Step>
+    ensures { MakesHeard (heads.OpenSent timer) t octets.now hearings.Notification row result }
+{
+    let head = Head::OpenSent(timer);
+    match row {
+        ReceivedRow::Drops => Some(falling(head, Wants::Nothing)),
+        ReceivedRow::ReportsError => Some(reporting(head, Unexpected::InOpenSent)),
+        _ => None,
+    }
+}
+
+/// What OpenSent does about a message.
 fn open_sent_on(
     octets: &[u8],
     timer: HoldTimer,
@@ -177,11 +195,7 @@ fn open_sent_on(
             ReceivedRow::Drops => Some(falling(head, Wants::Nothing)),
             _ => None,
         },
-        Heard::Notification => match row {
-            ReceivedRow::Drops => Some(falling(head, Wants::Nothing)),
-            ReceivedRow::ReportsError => Some(unexpected),
-            _ => None,
-        },
+        Heard::Notification => open_sent_on_notification(octets, timer, t, row),
         Heard::Keepalive | Heard::Update => match row {
             ReceivedRow::ReportsError => Some(unexpected),
             _ => None,
@@ -213,6 +227,25 @@ fn open_confirm_on_open(
     }
 }
 
+/// What OpenConfirm does about a header with faults.
+fn open_confirm_on_header(
+    octets: &[u8],
+    own: Link,
+    timer: HoldTimer,
+    t: Seconds,
+    faults: HeaderFaults,
+    row: ReceivedRow,
+) -> Option<Step>
+    ensures { MakesHeard (heads.OpenConfirm own timer) t octets.now
+        (hearings.FaultyHeader faults) row result }
+{
+    let head = Head::OpenConfirm(own, timer);
+    match row {
+        ReceivedRow::NamesFault => Some(naming(head, FaultSet::Header(faults))),
+        _ => None,
+    }
+}
+
 /// What OpenConfirm does about a message.
 fn open_confirm_on(
     octets: &[u8],
@@ -230,10 +263,9 @@ fn open_confirm_on(
         Heard::ValidOpen(link, subcodes) => open_confirm_on_open(
             octets, own, timer, t, link, subcodes, row,
         ),
-        Heard::FaultyHeader(faults) => match row {
-            ReceivedRow::NamesFault => Some(naming(head, FaultSet::Header(faults))),
-            _ => None,
-        },
+        Heard::FaultyHeader(faults) => {
+            open_confirm_on_header(octets, own, timer, t, faults, row)
+        }
         Heard::InvalidOpen(subcodes) => match row {
             ReceivedRow::NamesFault => Some(naming(head, FaultSet::Open(subcodes))),
             _ => None,
@@ -277,6 +309,26 @@ fn established_on_open(
     }
 }
 
+/// What Established does about a header with faults.
+fn established_on_header(
+    octets: &[u8],
+    own: Link,
+    timer: HoldTimer,
+    t: Seconds,
+    faults: HeaderFaults,
+    row: ReceivedRow,
+) -> Option<Step>
+    ensures { MakesHeard (heads.Established own timer) t octets.now
+        (hearings.FaultyHeader faults) row result }
+{
+    let head = Head::Established(own, timer);
+    match row {
+        ReceivedRow::NamesFault => Some(naming(head, FaultSet::Header(faults))),
+        ReceivedRow::ReportsError => Some(reporting(head, Unexpected::InEstablished)),
+        _ => None,
+    }
+}
+
 /// What Established does about a message other than an UPDATE.
 fn established_on(
     octets: &[u8],
@@ -290,20 +342,15 @@ fn established_on(
     ensures { MakesHeard (heads.Established own timer) t octets.now message row result }
 {
     let head = Head::Established(own, timer);
-    let unexpected = reporting(head, Unexpected::InEstablished);
     let alive = Head::Established(own, renewed(timer, t));
     match message {
         Heard::ValidOpen(link, subcodes) => established_on_open(
             octets, own, timer, t, link, subcodes, row,
         ),
-        Heard::FaultyHeader(faults) => match row {
-            ReceivedRow::NamesFault => Some(naming(head, FaultSet::Header(faults))),
-            ReceivedRow::ReportsError => Some(unexpected),
-            _ => None,
-        },
+        Heard::FaultyHeader(faults) => { established_on_header(octets, own, timer, t, faults, row) }
         Heard::InvalidOpen(subcodes) => match row {
             ReceivedRow::NamesFault => Some(naming(head, FaultSet::Open(subcodes))),
-            ReceivedRow::ReportsError => Some(unexpected),
+            ReceivedRow::ReportsError => Some(reporting(head, Unexpected::InEstablished)),
             _ => None,
         },
         Heard::BadVersion | Heard::Notification => match row {
@@ -362,7 +409,7 @@ fn add_heard(
     add(steps, step);
 }
 
-/// The rows of a state about messages, in the order of the standard's events.
+/// The rows of a state about messages, in the order of messages.
 fn rows_on(head: Head) -> &'static [ReceivedRow]
     ensures rows { result.now ≡ heard_rows head }
     ensures few { length result.now ≤ 8 }

@@ -1,4 +1,5 @@
-//! The names of the session machine's rows, in the order of the standard's events (RFC 4271, 8.1).
+//! The names of the session machine's rows: what a state does by itself in the order of the
+//! standard's events (RFC 4271, 8.1), what it does about messages in the order of messages.
 
 use bgp_open::Families;
 

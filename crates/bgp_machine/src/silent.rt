@@ -32,10 +32,7 @@ fn from_connect(may_delay: bool, delay: bool) -> ArrayVec<Head, 2>
     ensures { (config : TheConfig) → config.parts.delay_open ≡ may_delay
         → result.items ≡ silent_heads config (heads.Connect delay) }
 {
-    if delay {
-        return two(Head::Connect(true), Head::Connect(false));
-    }
-    if may_delay {
+    if delay || may_delay {
         return two(Head::Connect(false), Head::Connect(true));
     }
     one(Head::Connect(false))
@@ -67,8 +64,8 @@ fn heads_after(config: &Config, head: Head) -> ArrayVec<Head, 2>
     }
 }
 
-/// The heads that a session may reach by steps that show no record, its own one first. It takes no
-/// memory.
+/// The heads that a session may reach by steps that show no record, its own one among them, each
+/// once, and those without a delay first. It takes no memory.
 pub fn silent_steps(config: &Config, head: Head) -> ArrayVec<Head, 2>
     ensures { (routes : Routes)
         → ListsSilent config.now (record { head = head; routes = routes }) result.items }

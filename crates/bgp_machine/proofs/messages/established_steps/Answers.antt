@@ -5,6 +5,7 @@ use Rattle.bgp_machine.specs.declared.state.Head.TheVariants.{Established}
 use Rattle.bgp_machine.specs.Listed.{changes_of}
 use Rattle.bgp_machine.specs.Rows.{UpdateShown, update_rows}
 use Rattle.bgp_machine.specs.Step.{ReceivedIn}
+use Rattle.bgp_machine.proofs.GivenChanges.{changes_beside}
 use Rattle.bgp_machine.proofs.OneHearing.{one_heard}
 use Rattle.bgp_machine.proofs.RowByRow.{all_rows}
 use Rattle.bgp_machine.proofs.UpdateRows.{each_update}
@@ -21,3 +22,7 @@ returns-clause-exact g c =
     in
     (h.0.1, each_update c.args.own c.args.timer c.args.t c.args.octets.now h.0.1 ws ch u (is, h.1), (is, h.1)))
     c.update_steps-steps.ensures
+
+pub returns-clause-given : goal.returns-clause-given
+returns-clause-given g c =
+    changes_beside c.args.own c.args.timer c.args.t c.args.octets.now c.in_ok-outcomes.outcomes _ c.in_ok-outcomes.ensures.exact c.update_steps-steps.ensures
