@@ -1,6 +1,8 @@
 //! Each row of the session machine's tables: its effect is listed where the row holds, and isn't
-//! where its guard fails by one: a second, a flag, a state, a message. Steps and numbers of steps
-//! were written down by hand from the tables.
+//! where its guard fails by one: a second, a flag, a state, an octet, a message. Steps and numbers
+//! of steps were written down by hand from the tables of docs/SESSION-MACHINE.md, in their order:
+//! that of events for what a state does by itself, and that of messages for what it does about
+//! them.
 
 mod hidden;
 mod meeting;
@@ -39,6 +41,12 @@ const TIMER: HoldTimer = HoldTimer {
     span: 90,
 };
 
+/// For one second.
+const SHORT: HoldTimer = HoldTimer {
+    since: 102,
+    span: 1,
+};
+
 /// With a Hold Time of 0.
 const STOPPED: HoldTimer = HoldTimer {
     since: 102,
@@ -69,16 +77,22 @@ fn link_of_a_and_b(config: &Config) -> Result<Link, Fail> {
 }
 
 /// The step that sends this and ends so.
-fn step(from: Head, sends: Wants, to: Head) -> Step {
-    let (old, new) = (from.fsm(), to.fsm());
-    let falls = to == Head::Idle && old != new;
+fn ending(from: Head, sends: Wants, after: After) -> Step {
+    let (old, new) = (from.fsm(), after.head.fsm());
     Step {
         wants: sends,
         change: if old == new { None } else { Some((old, new)) },
-        after: After {
-            head: to,
-            routes: if falls { Routes::Cleared } else { Routes::Kept },
-        },
+        after,
+    }
+}
+
+/// What a row leaves that ends in this state: routes are kept, but not by one that ends in Idle and
+/// doesn't stay there.
+fn leaves(from: Head, to: Head) -> After {
+    let falls = to == Head::Idle && from != Head::Idle;
+    After {
+        head: to,
+        routes: if falls { Routes::Cleared } else { Routes::Kept },
     }
 }
 

@@ -1,18 +1,19 @@
 //! What a state does by itself.
 
 use super::*;
+use crate::hidden::hidden_step;
 use crate::{Fsm, HiddenRow, Want, hidden_steps};
 use HiddenRow::*;
 
-/// Where a row is asked: a state, a second, and whether the OPEN may be delayed.
+/// Where a row is asked: a state, and a second.
 #[derive(Clone, Copy)]
 struct Place {
     head: Head,
     t: u32,
-    delay_open: bool,
 }
 
-/// A row, where it holds, what it sends and where it ends; and where it doesn't hold.
+/// A row, where it holds, what it sends and where it ends; and where its guard fails by one, and
+/// whether another row has its effect there.
 #[derive(Clone, Copy)]
 struct Case {
     row: HiddenRow,
@@ -20,17 +21,14 @@ struct Case {
     sends: Wants,
     to: Head,
     fails: Place,
+    is_anothers: bool,
 }
 
 fn at(head: Head, t: u32) -> Place {
-    Place {
-        head,
-        t,
-        delay_open: false,
-    }
+    Place { head, t }
 }
 
-/// A row whose guard is the state alone.
+/// A row whose guard is the state, or a flag of it.
 fn in_state(row: HiddenRow, head: Head, sends: Wants, to: Head, elsewhere: Head) -> Case {
     Case {
         row,
@@ -38,6 +36,16 @@ fn in_state(row: HiddenRow, head: Head, sends: Wants, to: Head, elsewhere: Head)
         sends,
         to,
         fails: at(elsewhere, 120),
+        is_anothers: false,
+    }
+}
+
+/// The same, where another row has the same effect elsewhere: a delay that is off can't expire, but
+/// the connection may be up; and a connection that fails does as a stop does.
+fn as_another(row: HiddenRow, head: Head, sends: Wants, to: Head, elsewhere: Head) -> Case {
+    Case {
+        is_anothers: true,
+        ..in_state(row, head, sends, to, elsewhere)
     }
 }
 
@@ -49,6 +57,7 @@ fn in_time(row: HiddenRow, head: Head, sends: Wants, to: Head, t: u32) -> Case {
         sends,
         to,
         fails: at(head, t.saturating_sub(1)),
+        is_anothers: false,
     }
 }
 
@@ -80,62 +89,89 @@ const ACTIVE_DELAYED: Head = Head::Active(true);
 
 const SENT: Head = Head::OpenSent(LARGE);
 
-/// The rows up to OpenSent but the notes. An OPEN whose delay expires is sent as one whose
-/// connection is up, so that row is seen by its effect alone.
+/// The rows up to OpenSent but the notes, and those that show no record.
 fn rows_before_an_open() -> [Case; 13] {
     [
         in_state(Starts, Head::Idle, NOTHING, CONNECT, SENT),
         in_state(Listens, Head::Idle, NOTHING, ACTIVE, CONNECT),
         in_state(Stops, CONNECT, NOTHING, Head::Idle, SENT),
-        in_state(DelayExpires, CONNECT_DELAYED, OPEN, WAITING, Head::Idle),
+        as_another(DelayExpires, CONNECT_DELAYED, OPEN, WAITING, CONNECT),
         in_state(ConnectionOpens, CONNECT, OPEN, WAITING, Head::Idle),
         in_state(ConnectionFails, CONNECT_DELAYED, NOTHING, ACTIVE, CONNECT),
-        in_state(ConnectionFails, CONNECT, NOTHING, Head::Idle, SENT),
+        as_another(
+            ConnectionFails,
+            CONNECT,
+            NOTHING,
+            Head::Idle,
+            CONNECT_DELAYED,
+        ),
         in_state(Stops, ACTIVE, NOTHING, Head::Idle, SENT),
         in_state(Ceases, ACTIVE_DELAYED, CEASE, Head::Idle, ACTIVE),
         in_state(RetryExpires, ACTIVE, NOTHING, CONNECT, SENT),
-        in_state(DelayExpires, ACTIVE_DELAYED, OPEN, WAITING, Head::Idle),
+        as_another(DelayExpires, ACTIVE_DELAYED, OPEN, WAITING, ACTIVE),
         in_state(ConnectionOpens, ACTIVE, OPEN, WAITING, Head::Idle),
         in_state(ConnectionFails, ACTIVE, NOTHING, Head::Idle, SENT),
     ]
 }
 
-/// The rows from OpenSent on but the notes.
-fn rows_after_an_open(link: Link) -> [Case; 12] {
+/// The rows from OpenSent on but the notes. A HoldTimer of one second has run out at 120, and one
+/// of none never does.
+fn rows_after_an_open(link: Link) -> [Case; 15] {
     let confirm = Head::OpenConfirm(link, TIMER);
     let up = Head::Established(link, TIMER);
+    let short_sent = Head::OpenSent(SHORT);
+    let short_confirm = Head::OpenConfirm(link, SHORT);
+    let short_up = Head::Established(link, SHORT);
+    let stopped_sent = Head::OpenSent(STOPPED);
     let stopped_confirm = Head::OpenConfirm(link, STOPPED);
     let stopped_up = Head::Established(link, STOPPED);
     [
         in_state(Ceases, SENT, CEASE, Head::Idle, CONNECT),
         in_time(HoldExpires, SENT, EXPIRED, Head::Idle, 340),
+        in_state(HoldExpires, short_sent, EXPIRED, Head::Idle, stopped_sent),
         in_state(ConnectionFails, SENT, NOTHING, ACTIVE, confirm),
         in_state(Ceases, confirm, CEASE, Head::Idle, ACTIVE),
         in_time(HoldExpires, confirm, EXPIRED, Head::Idle, 192),
-        in_state(KeepaliveExpires, confirm, ALIVE, confirm, stopped_confirm),
+        in_state(
+            HoldExpires,
+            short_confirm,
+            EXPIRED,
+            Head::Idle,
+            stopped_confirm,
+        ),
+        in_state(
+            KeepaliveExpires,
+            short_confirm,
+            ALIVE,
+            short_confirm,
+            stopped_confirm,
+        ),
         in_state(ConnectionFails, confirm, NOTHING, Head::Idle, SENT),
         in_state(Ceases, up, CEASE, Head::Idle, CONNECT_DELAYED),
         in_time(HoldExpires, up, EXPIRED, Head::Idle, 192),
-        in_state(KeepaliveExpires, up, ALIVE, up, stopped_up),
+        in_state(HoldExpires, short_up, EXPIRED, Head::Idle, stopped_up),
+        in_state(KeepaliveExpires, short_up, ALIVE, short_up, stopped_up),
         in_state(ConnectionFails, up, NOTHING, Head::Idle, SENT),
         in_state(Announces, up, UPDATE, up, confirm),
     ]
 }
 
-fn is_listed(place: Place, step: Step) -> Result<bool, Fail> {
-    let config = router_a(place.delay_open)?;
-    let steps = hidden_steps(&config, place.head, place.t);
-    Ok(lists(steps.as_slice(), step))
+fn is_listed(config: &Config, place: Place, step: Step) -> bool {
+    lists(hidden_steps(config, place.head, place.t).as_slice(), step)
 }
 
-/// The row's step, taken from another place: one that stays stays there.
+/// Whether the row itself makes the step.
+fn is_made(config: &Config, row: HiddenRow, place: Place, step: Step) -> bool {
+    hidden_step(config, place.head, place.t, row) == Some(step)
+}
+
+/// The row's step, taken from a place: one that stays stays there.
 fn step_from(case: &Case, place: Place) -> Step {
-    let to = if case.to == case.holds.head {
-        place.head
-    } else {
-        case.to
-    };
-    step(place.head, case.sends, to)
+    let mut after = leaves(case.holds.head, case.to);
+    if case.to == case.holds.head {
+        after.head = place.head;
+    }
+    ending(place.head, case.sends, after)
 }
 
 #[test]
@@ -143,19 +179,35 @@ fn each_row_is_listed_where_it_holds_and_nowhere_else(rt: HostRuntime) -> Result
     let link = link_of_a_and_b(&router_a(false)?)?;
     let before = rows_before_an_open();
     let after = rows_after_an_open(link);
-    for case in before.iter().chain(after.iter()) {
-        let row = case.row;
-        let (holds, fails) = (case.holds, case.fails);
-        assert!(rt;
-            is_listed(holds, step_from(case, holds))?,
-            "{row:?} at {:?}",
-            holds.head
-        );
-        assert!(rt;
-            !is_listed(fails, step_from(case, fails))?,
-            "{row:?} at {:?}",
-            fails.head
-        );
+    // No row that shows a record looks at whether the OPEN may be delayed.
+    for delay_open in [false, true] {
+        let config = router_a(delay_open)?;
+        for case in before.iter().chain(after.iter()) {
+            let row = case.row;
+            let (holds, fails) = (case.holds, case.fails);
+            let step = step_from(case, holds);
+            assert!(rt;
+                is_made(&config, row, holds, step),
+                "{row:?} at {:?}",
+                holds.head
+            );
+            assert!(rt;
+                is_listed(&config, holds, step),
+                "{row:?} at {:?}",
+                holds.head
+            );
+            let step = step_from(case, fails);
+            assert!(rt;
+                !is_made(&config, row, fails, step),
+                "{row:?} at {:?}",
+                fails.head
+            );
+            assert!(rt;
+                is_listed(&config, fails, step) == case.is_anothers,
+                "{row:?} at {:?}",
+                fails.head
+            );
+        }
     }
     Ok(())
 }
@@ -174,7 +226,8 @@ fn note(head: Head, fsm: Fsm) -> Step {
 
 #[test]
 fn a_note_is_of_the_state_as_it_is(rt: HostRuntime) -> Result<(), Fail> {
-    let link = link_of_a_and_b(&router_a(false)?)?;
+    let config = router_a(true)?;
+    let link = link_of_a_and_b(&config)?;
     let confirm = Head::OpenConfirm(link, TIMER);
     let rows = [
         (Head::Idle, Fsm::Idle, CONNECT),
@@ -188,11 +241,11 @@ fn a_note_is_of_the_state_as_it_is(rt: HostRuntime) -> Result<(), Fail> {
     ];
     for (head, fsm, other) in rows {
         assert!(rt;
-            is_listed(at(head, 120), note(head, fsm))?,
+            is_listed(&config, at(head, 120), note(head, fsm)),
             "{Notes:?} at {head:?}"
         );
         assert!(rt;
-            !is_listed(at(other, 120), note(head, fsm))?,
+            !is_listed(&config, at(other, 120), note(head, fsm)),
             "{Notes:?} at {other:?}"
         );
     }

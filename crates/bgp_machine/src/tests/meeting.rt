@@ -59,8 +59,23 @@ fn a_want_is_met_by_its_own_messages_alone(rt: HostRuntime) -> Result<(), Fail> 
         assert!(rt; meets(&config, link, want, met), "{want:?}");
         assert!(rt; !meets(&config, link, want, not), "{want:?}");
     }
-    // Without a link no UPDATE is clean, and octets behind the message are none of it.
+    // Without a link no UPDATE is clean.
     assert!(rt; !meets(&config, None, Want::CleanUpdate, &EMPTY_UPDATE));
+    Ok(())
+}
+
+#[test]
+fn octets_behind_a_message_are_none_of_it(rt: HostRuntime) -> Result<(), Fail> {
+    let config = router_a(false)?;
+    let mut behind = [0u8; 20];
+    behind[..19].copy_from_slice(&KEEPALIVE);
+    // A KEEPALIVE that says the octets behind it are its own (RFC 4271, 4.4).
+    let mut long = [0u8; 25];
+    long[..19].copy_from_slice(&KEEPALIVE);
+    long[17] = 25; // Length
+    assert!(rt; meets(&config, None, Want::KeepAlive, &KEEPALIVE));
+    assert!(rt; !meets(&config, None, Want::KeepAlive, &behind));
+    assert!(rt; !meets(&config, None, Want::KeepAlive, &long));
     assert!(rt; !meets(&config, None, Want::KeepAlive, &ANNOUNCES_10));
     Ok(())
 }

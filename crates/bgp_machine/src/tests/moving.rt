@@ -53,8 +53,8 @@ fn a_state_is_moved_by_what_a_step_leaves(rt: HostRuntime) -> Result<(), Fail> {
     Ok(())
 }
 
-/// Whether a state whose routes are kept in a heap takes the changes of an UPDATE. Refused, it is as
-/// it was.
+/// Whether a state whose routes are kept in a heap takes the changes of an UPDATE. Refused, it is
+/// as it was.
 fn takes<'a>(rt: &impl Abort, heap: &'a LocalHeap, ample: &'a LocalHeap) -> Result<bool, Fail> {
     let config = router_a(false)?;
     let up = Head::Established(link_of_a_and_b(&config)?, TIMER);

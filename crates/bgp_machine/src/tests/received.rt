@@ -2,6 +2,7 @@
 
 use super::*;
 use crate::{FaultSet, ReceivedRow, Unexpected, Want, message_steps};
+use Fails::*;
 use ReceivedRow::*;
 use bgp_open::OpenSubcodes;
 use bgp_wire::HeaderFaults;
@@ -9,8 +10,19 @@ use bgp_wire::vectors::{
     ADMINISTRATIVE_SHUTDOWN, ANNOUNCES_10, KEEPALIVE, KEEPALIVE_OF_18, OPEN_A,
 };
 
-/// A row, the state and the message where it holds, what it sends and where it ends; and a state
-/// and a message where it doesn't hold.
+/// How a guard fails by one.
+#[derive(Clone, Copy, Debug)]
+enum Fails {
+    /// In another state, or with another flag.
+    In(Head),
+    /// With another message.
+    With(&'static [u8]),
+    /// With the message whose marker isn't all ones, so that its header has a fault.
+    Unmarked,
+}
+
+/// A row, the state and the message where it holds, what it sends and where it ends; and how its
+/// guard fails by one.
 #[derive(Clone, Copy)]
 struct Case {
     row: ReceivedRow,
@@ -18,7 +30,7 @@ struct Case {
     message: &'static [u8],
     sends: Wants,
     to: Head,
-    fails: (Head, &'static [u8]),
+    fails: Fails,
 }
 
 const NOTHING: Wants = Wants::Nothing;
@@ -50,6 +62,14 @@ const BAD_VERSION: [u8; 23] = [
     0, 4, // data: the version that is spoken
 ];
 
+/// The NOTIFICATION Bad Peer AS, 2/2.
+const BAD_PEER_AS: [u8; 21] = [
+    255, 255, 255, 255, 255, 255, 255, 255, 255, 255, 255, 255, 255, 255, 255, 255, // marker
+    0, 21, // Length
+    3, // Type: NOTIFICATION
+    2, 2, // OPEN Message Error, Bad Peer AS
+];
+
 /// A header with a fault, its Length of 18.
 const FAULTY: &'static [u8] = &KEEPALIVE_OF_18;
 
@@ -62,6 +82,8 @@ const ALIVE: &'static [u8] = &KEEPALIVE;
 const UPDATE: &'static [u8] = &ANNOUNCES_10;
 
 const VERSION: &'static [u8] = &BAD_VERSION;
+
+const PEER: &'static [u8] = &BAD_PEER_AS;
 
 const SHUTDOWN: &'static [u8] = &ADMINISTRATIVE_SHUTDOWN;
 
@@ -103,7 +125,7 @@ fn row_of(
     (head, message): (Head, &'static [u8]),
     sends: Wants,
     to: Head,
-    fails: (Head, &'static [u8]),
+    fails: Fails,
 ) -> Case {
     Case {
         row,
@@ -115,246 +137,172 @@ fn row_of(
     }
 }
 
-/// The rows of Connect or of Active, without and with a delay.
-fn rows_before_an_open(link: Link, plain: Head, delayed: Head) -> [Case; 11] {
+const IDLE: Head = Head::Idle;
+
+/// The row of Idle.
+const ROWS_IN_IDLE: [Case; 1] = [Case {
+    row: Ignores,
+    head: IDLE,
+    message: VALID,
+    sends: NOTHING,
+    to: IDLE,
+    fails: In(CONNECT),
+}];
+
+/// The row that takes an OPEN in Connect or in Active.
+fn accepts_in(link: Link, delayed: Head, plain: Head) -> Case {
     let both = Wants::Two(Want::OwnOpen, Want::KeepAlive);
     let accepted = Head::OpenConfirm(link, SET);
+    row_of(Accepts, (delayed, VALID), both, accepted, In(plain))
+}
+
+/// The other rows of Connect or of Active, without or with a delay.
+fn rows_before_an_open(here: Head) -> [Case; 11] {
     [
-        row_of(Accepts, (delayed, VALID), both, accepted, (plain, VALID)),
-        row_of(Drops, (plain, VALID), NOTHING, Head::Idle, (SENT, VALID)),
-        row_of(
-            NamesFault,
-            (plain, VALID),
-            any_open(),
-            Head::Idle,
-            (plain, INVALID),
-        ),
-        row_of(Drops, (plain, FAULTY), NOTHING, Head::Idle, (SENT, FAULTY)),
-        row_of(
-            NamesFault,
-            (plain, FAULTY),
-            faulty(),
-            Head::Idle,
-            (plain, ALIVE),
-        ),
-        row_of(
-            Drops,
-            (plain, INVALID),
-            NOTHING,
-            Head::Idle,
-            (SENT, INVALID),
-        ),
-        row_of(
-            NamesFault,
-            (plain, INVALID),
-            bad_peer(),
-            Head::Idle,
-            (plain, VALID),
-        ),
-        row_of(Drops, (plain, VERSION), NOTHING, Head::Idle, (SENT, ALIVE)),
-        row_of(Drops, (plain, SHUTDOWN), NOTHING, Head::Idle, (SENT, ALIVE)),
-        row_of(Drops, (plain, ALIVE), NOTHING, Head::Idle, (SENT, ALIVE)),
-        row_of(Drops, (plain, UPDATE), NOTHING, Head::Idle, (SENT, UPDATE)),
+        row_of(Drops, (here, VALID), NOTHING, IDLE, In(SENT)),
+        row_of(NamesFault, (here, VALID), any_open(), IDLE, With(INVALID)),
+        row_of(Drops, (here, FAULTY), NOTHING, IDLE, In(SENT)),
+        row_of(NamesFault, (here, FAULTY), faulty(), IDLE, With(ALIVE)),
+        row_of(Drops, (here, INVALID), NOTHING, IDLE, In(SENT)),
+        row_of(NamesFault, (here, INVALID), bad_peer(), IDLE, With(VALID)),
+        row_of(Drops, (here, VERSION), NOTHING, IDLE, In(IDLE)),
+        row_of(Drops, (here, PEER), NOTHING, IDLE, In(IDLE)),
+        row_of(Drops, (here, SHUTDOWN), NOTHING, IDLE, In(IDLE)),
+        row_of(Drops, (here, ALIVE), NOTHING, IDLE, In(SENT)),
+        row_of(Drops, (here, UPDATE), NOTHING, IDLE, In(SENT)),
     ]
 }
 
-/// The rows of OpenSent, and that of Idle.
-fn rows_in_open_sent(link: Link) -> [Case; 11] {
+/// The rows of OpenSent. At a NOTIFICATION 2/1 it is closed without a word, and 2/2 may be a
+/// machine error.
+fn rows_in_open_sent(link: Link) -> [Case; 12] {
     let alive = Wants::One(Want::KeepAlive);
     let accepted = Head::OpenConfirm(link, SET);
     let unexpected = error(Unexpected::InOpenSent);
     [
-        row_of(Accepts, (SENT, VALID), alive, accepted, (SENT, INVALID)),
-        row_of(Collides, (SENT, VALID), CEASE, Head::Idle, (SENT, INVALID)),
-        row_of(
-            NamesFault,
-            (SENT, VALID),
-            any_open(),
-            Head::Idle,
-            (SENT, INVALID),
-        ),
-        row_of(
-            NamesFault,
-            (SENT, FAULTY),
-            faulty(),
-            Head::Idle,
-            (SENT, ALIVE),
-        ),
-        row_of(
-            NamesFault,
-            (SENT, INVALID),
-            bad_peer(),
-            Head::Idle,
-            (SENT, VALID),
-        ),
-        row_of(Drops, (SENT, VERSION), NOTHING, Head::Idle, (SENT, ALIVE)),
-        row_of(Drops, (SENT, SHUTDOWN), NOTHING, Head::Idle, (SENT, UPDATE)),
-        row_of(
-            ReportsError,
-            (SENT, SHUTDOWN),
-            unexpected,
-            Head::Idle,
-            (SENT, VERSION),
-        ),
-        row_of(
-            ReportsError,
-            (SENT, ALIVE),
-            unexpected,
-            Head::Idle,
-            (SENT, VERSION),
-        ),
-        row_of(
-            ReportsError,
-            (SENT, UPDATE),
-            unexpected,
-            Head::Idle,
-            (SENT, VALID),
-        ),
-        row_of(
-            Ignores,
-            (Head::Idle, VALID),
-            NOTHING,
-            Head::Idle,
-            (SENT, VALID),
-        ),
+        row_of(Accepts, (SENT, VALID), alive, accepted, With(INVALID)),
+        row_of(Collides, (SENT, VALID), CEASE, IDLE, With(INVALID)),
+        row_of(NamesFault, (SENT, VALID), any_open(), IDLE, With(INVALID)),
+        row_of(NamesFault, (SENT, FAULTY), faulty(), IDLE, With(ALIVE)),
+        row_of(NamesFault, (SENT, INVALID), bad_peer(), IDLE, With(VALID)),
+        row_of(Drops, (SENT, VERSION), NOTHING, IDLE, Unmarked),
+        row_of(Drops, (SENT, PEER), NOTHING, IDLE, Unmarked),
+        row_of(ReportsError, (SENT, PEER), unexpected, IDLE, With(VERSION)),
+        row_of(Drops, (SENT, SHUTDOWN), NOTHING, IDLE, Unmarked),
+        row_of(ReportsError, (SENT, SHUTDOWN), unexpected, IDLE, Unmarked),
+        row_of(ReportsError, (SENT, ALIVE), unexpected, IDLE, With(FAULTY)),
+        row_of(ReportsError, (SENT, UPDATE), unexpected, IDLE, Unmarked),
     ]
 }
 
 /// The rows of OpenConfirm.
-fn rows_in_open_confirm(link: Link) -> [Case; 10] {
+fn rows_in_open_confirm(link: Link) -> [Case; 11] {
     let here = Head::OpenConfirm(link, TIMER);
     let up = Head::Established(link, SET);
     let unexpected = error(Unexpected::InOpenConfirm);
     [
-        row_of(Overlooks, (here, VALID), NOTHING, here, (here, INVALID)),
-        row_of(Collides, (here, VALID), CEASE, Head::Idle, (here, INVALID)),
-        row_of(
-            NamesFault,
-            (here, VALID),
-            any_open(),
-            Head::Idle,
-            (here, INVALID),
-        ),
-        row_of(
-            ReportsError,
-            (here, VALID),
-            unexpected,
-            Head::Idle,
-            (here, INVALID),
-        ),
-        row_of(
-            NamesFault,
-            (here, FAULTY),
-            faulty(),
-            Head::Idle,
-            (here, ALIVE),
-        ),
-        row_of(
-            NamesFault,
-            (here, INVALID),
-            bad_peer(),
-            Head::Idle,
-            (here, VALID),
-        ),
-        row_of(Drops, (here, VERSION), NOTHING, Head::Idle, (here, ALIVE)),
-        row_of(Drops, (here, SHUTDOWN), NOTHING, Head::Idle, (here, UPDATE)),
-        row_of(Establishes, (here, ALIVE), NOTHING, up, (here, SHUTDOWN)),
-        row_of(
-            ReportsError,
-            (here, UPDATE),
-            unexpected,
-            Head::Idle,
-            (here, SHUTDOWN),
-        ),
+        row_of(Overlooks, (here, VALID), NOTHING, here, With(INVALID)),
+        row_of(Collides, (here, VALID), CEASE, IDLE, With(INVALID)),
+        row_of(NamesFault, (here, VALID), any_open(), IDLE, With(INVALID)),
+        row_of(ReportsError, (here, VALID), unexpected, IDLE, With(INVALID)),
+        row_of(NamesFault, (here, FAULTY), faulty(), IDLE, With(ALIVE)),
+        row_of(NamesFault, (here, INVALID), bad_peer(), IDLE, With(VALID)),
+        row_of(Drops, (here, VERSION), NOTHING, IDLE, Unmarked),
+        row_of(Drops, (here, PEER), NOTHING, IDLE, Unmarked),
+        row_of(Drops, (here, SHUTDOWN), NOTHING, IDLE, Unmarked),
+        row_of(Establishes, (here, ALIVE), NOTHING, up, With(FAULTY)),
+        row_of(ReportsError, (here, UPDATE), unexpected, IDLE, Unmarked),
     ]
 }
 
-/// The rows of Established.
-fn rows_in_established(link: Link) -> [Case; 11] {
+/// The rows of Established but those about an UPDATE.
+fn rows_in_established(link: Link) -> [Case; 12] {
     let here = Head::Established(link, TIMER);
+    let before = Head::OpenConfirm(link, TIMER);
     let renewed = Head::Established(link, SET);
     let unexpected = error(Unexpected::InEstablished);
     [
-        row_of(Overlooks, (here, VALID), NOTHING, here, (here, INVALID)),
-        row_of(Collides, (here, VALID), CEASE, Head::Idle, (here, INVALID)),
-        row_of(
-            NamesFault,
-            (here, VALID),
-            any_open(),
-            Head::Idle,
-            (here, INVALID),
-        ),
-        row_of(
-            ReportsError,
-            (here, VALID),
-            unexpected,
-            Head::Idle,
-            (here, ALIVE),
-        ),
-        row_of(
-            NamesFault,
-            (here, FAULTY),
-            faulty(),
-            Head::Idle,
-            (here, ALIVE),
-        ),
-        row_of(
-            ReportsError,
-            (here, FAULTY),
-            unexpected,
-            Head::Idle,
-            (here, SHUTDOWN),
-        ),
-        row_of(
-            NamesFault,
-            (here, INVALID),
-            bad_peer(),
-            Head::Idle,
-            (here, VALID),
-        ),
-        row_of(
-            ReportsError,
-            (here, INVALID),
-            unexpected,
-            Head::Idle,
-            (here, SHUTDOWN),
-        ),
-        row_of(Drops, (here, VERSION), NOTHING, Head::Idle, (here, VALID)),
-        row_of(Drops, (here, SHUTDOWN), NOTHING, Head::Idle, (here, ALIVE)),
-        row_of(Renews, (here, ALIVE), NOTHING, renewed, (here, SHUTDOWN)),
+        row_of(Overlooks, (here, VALID), NOTHING, here, With(INVALID)),
+        row_of(Collides, (here, VALID), CEASE, IDLE, With(INVALID)),
+        row_of(NamesFault, (here, VALID), any_open(), IDLE, With(INVALID)),
+        row_of(ReportsError, (here, VALID), unexpected, IDLE, In(before)),
+        row_of(NamesFault, (here, FAULTY), faulty(), IDLE, With(ALIVE)),
+        row_of(ReportsError, (here, FAULTY), unexpected, IDLE, With(ALIVE)),
+        row_of(NamesFault, (here, INVALID), bad_peer(), IDLE, With(VALID)),
+        row_of(ReportsError, (here, INVALID), unexpected, IDLE, In(before)),
+        row_of(Drops, (here, VERSION), NOTHING, IDLE, Unmarked),
+        row_of(Drops, (here, PEER), NOTHING, IDLE, Unmarked),
+        row_of(Drops, (here, SHUTDOWN), NOTHING, IDLE, Unmarked),
+        row_of(Renews, (here, ALIVE), NOTHING, renewed, With(FAULTY)),
     ]
 }
 
-/// Whether the row's step is listed in a state for a message, a step that stays staying there.
-fn is_listed(
-    rt: &HostRuntime,
-    case: &Case,
-    (head, message): (Head, &'static [u8]),
-) -> Result<bool, Fail> {
+/// Whether the row's step is listed in a state for a message, one that stays staying there.
+fn is_listed(rt: &HostRuntime, case: &Case, head: Head, message: &[u8]) -> Result<bool, Fail> {
     let config = router_a(false)?;
-    let to = if case.to == case.head { head } else { case.to };
-    let listed = message_steps(rt.alloc(), &config, head, 120, message)?;
-    Ok(lists(listed.steps.as_slice(), step(head, case.sends, to)))
+    let mut after = leaves(case.head, case.to);
+    if case.to == case.head {
+        after.head = head;
+    }
+    let told = message_steps(rt.alloc(), &config, head, 120, message)?;
+    Ok(lists(told.steps.as_slice(), ending(head, case.sends, after)))
+}
+
+/// Whether it is where the guard fails.
+fn is_listed_so(rt: &HostRuntime, case: &Case) -> Result<bool, Fail> {
+    match case.fails {
+        In(head) => is_listed(rt, case, head, case.message),
+        With(message) => is_listed(rt, case, case.head, message),
+        Unmarked => {
+            let mut octets = [0u8; 64];
+            for (to, from) in octets.iter_mut().zip(case.message.iter()) {
+                *to = *from;
+            }
+            octets[15] = 254;
+            let message = octets.get(..case.message.len()).ok_or("a long message")?;
+            is_listed(rt, case, case.head, message)
+        }
+    }
 }
 
 #[test]
 fn each_row_is_listed_for_its_message_alone(rt: HostRuntime) -> Result<(), Fail> {
     let link = link_of_a_and_b(&router_a(false)?)?;
-    let connect = rows_before_an_open(link, CONNECT, CONNECT_DELAYED);
-    let active = rows_before_an_open(link, ACTIVE, ACTIVE_DELAYED);
+    let accepts = [
+        accepts_in(link, CONNECT_DELAYED, CONNECT),
+        accepts_in(link, ACTIVE_DELAYED, ACTIVE),
+    ];
+    let connect = rows_before_an_open(CONNECT);
+    let connect_delayed = rows_before_an_open(CONNECT_DELAYED);
+    let active = rows_before_an_open(ACTIVE);
+    let active_delayed = rows_before_an_open(ACTIVE_DELAYED);
     let sent = rows_in_open_sent(link);
     let confirm = rows_in_open_confirm(link);
     let up = rows_in_established(link);
-    let rows = connect.iter().chain(active.iter()).chain(sent.iter());
-    for case in rows.chain(confirm.iter()).chain(up.iter()) {
-        let row = case.row;
-        let here = (case.head, case.message);
-        assert!(rt; is_listed(&rt, case, here)?, "{row:?} at {:?}", case.head);
-        assert!(rt;
-            !is_listed(&rt, case, case.fails)?,
-            "{row:?} not at {:?}",
-            case.fails.0
-        );
+    let tables: [&[Case]; 9] = [
+        &ROWS_IN_IDLE,
+        &accepts,
+        &connect,
+        &connect_delayed,
+        &active,
+        &active_delayed,
+        &sent,
+        &confirm,
+        &up,
+    ];
+    for table in tables {
+        for case in table {
+            let (row, head) = (case.row, case.head);
+            assert!(rt;
+                is_listed(&rt, case, head, case.message)?,
+                "{row:?} at {head:?}"
+            );
+            assert!(rt;
+                !is_listed_so(&rt, case)?,
+                "{row:?} at {head:?}, {:?}",
+                case.fails
+            );
+        }
     }
     Ok(())
 }

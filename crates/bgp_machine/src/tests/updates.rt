@@ -1,11 +1,12 @@
-//! What Established does about an UPDATE: one row `Applies` for each set of families that may be
-//! disabled, and one that names a fault.
+//! What Established does about an UPDATE: a row `Applies` for each set of families that may be
+//! disabled, and `NamesFault`.
 
 use super::*;
-use crate::{FaultSet, Want, message_steps};
+use crate::{FaultSet, ReceivedRow, Want, message_steps};
+use ReceivedRow::*;
 use bgp_update::Subcodes;
 use bgp_wire::vectors::{
-    ANNOUNCES_10, MP_REACH_TRANSITIVE, MP_UNREACH_TWICE, NEXT_HOP_OF_5, ORIGIN_OF_3,
+    ANNOUNCES_10, KEEPALIVE, MP_REACH_TRANSITIVE, MP_UNREACH_TWICE, NEXT_HOP_OF_5, ORIGIN_OF_3,
 };
 use linked_list_allocator::LocalHeap;
 
@@ -44,22 +45,32 @@ fn wrong_flags_twice() -> [u8; 73] {
     octets
 }
 
-/// The step that applies an UPDATE and disables these families.
-fn applies(link: Link, families: Families) -> Step {
-    Step {
-        wants: Wants::Nothing,
-        change: None,
-        after: After {
-            head: Head::Established(link, SET),
-            routes: Routes::Given(families),
-        },
-    }
-}
+/// The rows about an UPDATE in Established.
+const ROWS: [ReceivedRow; 5] = [
+    NamesFault,
+    Applies(NONE),
+    Applies(V4),
+    Applies(V6),
+    Applies(BOTH),
+];
 
-/// The step that refuses it with one of these subcodes.
-fn refuses(link: Link, subcodes: Subcodes) -> Step {
-    let faults = Wants::One(Want::Faults(FaultSet::Update(subcodes)));
-    step(Head::Established(link, TIMER), faults, Head::Idle)
+/// The step that a row makes, which may refuse with these subcodes.
+fn step_of(row: ReceivedRow, link: Link, subcodes: Subcodes) -> Result<Step, Fail> {
+    let here = Head::Established(link, TIMER);
+    match row {
+        NamesFault => {
+            let faults = Wants::One(Want::Faults(FaultSet::Update(subcodes)));
+            Ok(ending(here, faults, leaves(here, Head::Idle)))
+        }
+        Applies(families) => {
+            let after = After {
+                head: Head::Established(link, SET),
+                routes: Routes::Given(families),
+            };
+            Ok(ending(here, Wants::Nothing, after))
+        }
+        _ => Err("no row about an UPDATE".into()),
+    }
 }
 
 const FLAGS_OR_OPTIONAL: Subcodes = Subcodes {
@@ -73,67 +84,82 @@ const OPTIONAL: Subcodes = Subcodes {
     ..Subcodes::NONE
 };
 
-/// An UPDATE, the sets of families with which it may be applied, and the subcodes with which it may
-/// be refused.
+/// An UPDATE, the rows that hold for it, and the subcodes with which it may be refused.
 #[derive(Clone, Copy)]
 struct Case<'a> {
     message: &'a [u8],
-    families: &'a [Families],
+    rows: &'a [ReceivedRow],
     subcodes: Subcodes,
 }
 
 #[test]
-fn an_update_is_applied_or_refused_as_its_outcomes_say(rt: HostRuntime) -> Result<(), Fail> {
+fn the_rows_about_an_update_hold_as_its_outcomes_say(rt: HostRuntime) -> Result<(), Fail> {
     let config = router_a(false)?;
     let link = link_of_a_and_b(&config)?;
     let twice = wrong_flags_twice();
-    let rows = [
+    let cases = [
         Case {
             message: &ANNOUNCES_10,
-            families: &[NONE],
+            rows: &[Applies(NONE)],
             subcodes: Subcodes::NONE,
         },
         Case {
             message: &ORIGIN_OF_3,
-            families: &[NONE],
+            rows: &[Applies(NONE)],
             subcodes: Subcodes::NONE,
         },
         Case {
             message: &NEXT_HOP_OF_5,
-            families: &[V6],
+            rows: &[NamesFault, Applies(V6)],
             subcodes: OPTIONAL,
         },
         Case {
             message: &MP_REACH_TRANSITIVE,
-            families: &[NONE, V6],
+            rows: &[NamesFault, Applies(NONE), Applies(V6)],
             subcodes: FLAGS_OR_OPTIONAL,
         },
         Case {
             message: &MP_UNREACH_TWICE,
-            families: &[],
+            rows: &[NamesFault],
             subcodes: Subcodes::MALFORMED_ATTRIBUTE_LIST,
         },
         Case {
             message: &twice,
-            families: &[NONE, V4, V6, BOTH],
+            rows: &ROWS,
             subcodes: FLAGS_OR_OPTIONAL,
         },
     ];
-    for case in rows {
+    for case in cases {
         let head = Head::Established(link, TIMER);
-        let listed = message_steps(rt.alloc(), &config, head, 120, case.message)?;
-        let steps = listed.steps.as_slice();
-        for families in [NONE, V4, V6, BOTH] {
-            let allowed = case.families.contains(&families);
-            assert!(rt;
-                lists(steps, applies(link, families)) == allowed,
-                "{families:?}"
-            );
+        let told = message_steps(rt.alloc(), &config, head, 120, case.message)?;
+        let steps = told.steps.as_slice();
+        for row in ROWS {
+            let holds = case.rows.contains(&row);
+            let step = step_of(row, link, case.subcodes)?;
+            assert!(rt; lists(steps, step) == holds, "{row:?}");
         }
-        let refusals = usize::from(case.subcodes != Subcodes::NONE);
-        assert_eq!(rt; steps.len(), case.families.len() + refusals);
-        assert!(rt; refusals == 0 || lists(steps, refuses(link, case.subcodes)));
-        assert!(rt; listed.changes.is_some() != case.families.is_empty());
+        assert_eq!(rt; steps.len(), case.rows.len());
+        assert!(rt; told.changes.is_some() == case.rows.iter().any(|row| *row != NamesFault));
+    }
+    Ok(())
+}
+
+/// In no other state is an UPDATE applied, and no other message is.
+#[test]
+fn other_messages_have_no_changes(rt: HostRuntime) -> Result<(), Fail> {
+    let config = router_a(true)?;
+    let link = link_of_a_and_b(&config)?;
+    let up = Head::Established(link, TIMER);
+    let rows: [(Head, &[u8]); 4] = [
+        (Head::OpenConfirm(link, TIMER), &ANNOUNCES_10),
+        (Head::Idle, &ANNOUNCES_10),
+        (up, &KEEPALIVE),
+        (up, &OPEN_B),
+    ];
+    for (head, message) in rows {
+        let told = message_steps(rt.alloc(), &config, head, 120, message)?;
+        assert!(rt; told.changes.is_none(), "{head:?}");
+        assert!(rt; !told.steps.is_empty(), "{head:?}");
     }
     Ok(())
 }
