@@ -16,3 +16,4 @@ pub mod CaptureLines
 pub mod CaptureDecoded
 pub mod SpelledCommand
 pub mod Fronts
+pub mod FaultRows

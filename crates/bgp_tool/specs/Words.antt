@@ -6,6 +6,9 @@ use Rattle.clap.specs.Words.{App, Kinds, Row, Rule, Text, fault_of, first_of, ki
 use Rattle.clap.specs.Words.{new_rule, subcommand_of, with_rule, with_subcommand}
 use Rattle.clap.specs.Kinds.{or_else}
 use Rattle.clap.specs.declared.error.Error.{Error}
+use Rattle.clap.specs.declared.error.kind.ErrorKind.{ErrorKind}
+use Rattle.clap.specs.declared.error.kind.ErrorKind.TheVariants.{DisplayHelp, DisplayVersion}
+use Rattle.clap.specs.declared.error.kind.ErrorKind.TheVariants.{MissingRequiredArgument}
 use Rattle.clap.specs.declared.error.kind.ErrorKind.TheVariants.{MissingSubcommand, OutOfMemory}
 use Rattle.bgp_tool.specs.declared.words.Command.{Command}
 use Rattle.bgp_tool.specs.declared.words.Command.TheVariants.{Decode}
@@ -66,3 +69,19 @@ IsDecodeOf text (Decode file) = file.now ≡ text
 abbrev pub IsDecodeOrMemory : Text → Result Command Error → Type 0
 IsDecodeOrMemory text result =
     MatchResult result (IsDecodeOf text) (λ error. kind_of error ≡ OutOfMemory)
+
+-- Words behind the program's name that spell no command: what they ask for, or lack.
+abbrev pub fault_rows : List (List Text × ErrorKind)
+fault_rows =
+    ([], MissingSubcommand)
+    ∷ (codes "decode" ∷ [], MissingRequiredArgument)
+    ∷ (codes "--help" ∷ [], DisplayHelp) ∷ (codes "-h" ∷ [], DisplayHelp)
+    ∷ (codes "decode" ∷ codes "--help" ∷ [], DisplayHelp)
+    ∷ (codes "decode" ∷ codes "-h" ∷ [], DisplayHelp)
+    ∷ (codes "--version" ∷ [], DisplayVersion) ∷ (codes "-V" ∷ [], DisplayVersion) ∷ []
+
+-- an error of this kind, or memory was refused
+abbrev pub IsFault : ErrorKind → Result Command Error → Type 0
+IsFault kind result =
+    MatchResult result (λ command. ⊥)
+    (λ error. (kind_of error ≡ kind) ⊎ (kind_of error ≡ OutOfMemory))

@@ -1,10 +1,11 @@
 //! The words of the command line, as a command.
 
-ghost use Rattle.std.specs.Prelude.{◌≡◌, ◌≢◌, ◌⊎◌, ℕ, List, map};
+ghost use Rattle.std.specs.Prelude.{◌≡◌, ◌≢◌, ◌⊎◌, ◌∷◌, ℕ, List, All, map};
 ghost use Rattle.std.specs.Prelude.{IfOk, IfErr, IfSome, IsNone};
 ghost use Rattle.clap.specs.Words.{app_of, kind_of, subcommand_rows_of, IsAmong};
 ghost use Rattle.bgp_tool.specs.Words.{program_words, word_faults, Names, NamesDecode};
 ghost use Rattle.bgp_tool.specs.Words.{Spells, IsDecode, IsDecodeOrMemory};
+ghost use Rattle.bgp_tool.specs.Words.{fault_rows, IsFault};
 
 use crate::status::Status;
 use clap::error::ErrorKind;
@@ -81,6 +82,8 @@ pub fn command_line<'a, S: AsStr>(alloc: Global, words: &'a [S]) -> Result<Comma
         (command : Command) → Spells (map S.text words.entry.now) command → ⊥) }
     ensures decode { (file : List ℕ) → IsDecode (map S.text words.entry.now) file →
         IsDecodeOrMemory file result }
+    ensures rows { (name : List ℕ) → All (λ row. map S.text words.entry.now ≡ name ∷ row.0 →
+        IsFault row.1 result) fault_rows }
 {
     let matches = program(alloc)?.try_get_matches_from(words)?;
     match named(&matches) {

@@ -1,10 +1,11 @@
-use Rattle.std.proofs.Common.{rules, ◌≡◌, ◌∙◌, List, [], ◌∷◌, map, refl, sym, ap, subst, inl}
+use Rattle.std.proofs.Common.{rules, ◌≡◌, ◌∙◌, List, [], ◌∷◌, Ok, Err, map, refl, sym, ap, subst, inl}
 use Rattle.clap.specs.Words.{App, Kinds, IsAmong, HasKind, app_of, fault_of, is_simple, is_simple_and_free, kind_of, subcommand_of, subcommand_rows_of}
 use Rattle.clap.specs.Kinds.{or_else}
 use Rattle.clap.specs.declared.error.Error.{Error}
 use Rattle.clap.specs.declared.error.kind.ErrorKind.TheVariants.{MissingSubcommand, OutOfMemory}
 use Rattle.bgp_tool.specs.Words.{program_words, word_faults, Names, NamesDecode}
 use Rattle.bgp_tool.proofs.SpelledCommand.{handed_on, memory_handed_on, known_kind, only_memory, one_file, spelled_decode, unspelled}
+use Rattle.bgp_tool.proofs.FaultRows.{each_row, fault_handed_on, memory_is_fault, no_row}
 use Rattle.bgp_tool.proofs.words.command_line.Goals as goal
 
 pub returns-in_err-matches-clause-err : goal.returns-in_err-matches-clause-err
@@ -65,3 +66,32 @@ returns-clause-none g c other command spelled =
     let subs = (c.in_ok-matches.ensures.matches (ap is_simple app)).1 ∙ ap (λ (a : App). subcommand_of a words) app in
     unspelled (subcommand_rows_of c.in_ok-matches.matches) command (c.in-None.ensures.none refl)
     (subst (λ used. Names used command) (sym subs) spelled.1)
+
+pub returns-in_err-matches-clause-rows : goal.returns-in_err-matches-clause-rows
+returns-in_err-matches-clause-rows g c name =
+    let words = map g.S.AsStr.text c.args.words.now in
+    let app = c.in_ok-program.ensures in
+    let error = c.in_err-matches.field-0.0 in
+    let has = subst (λ (a : App). HasKind (fault_of a words) error) app (c.in_err-matches.ensures.kinds (ap is_simple_and_free app)) in
+    let r = c.from_residual-in_err-matches.result in
+    each_row words r name (λ kind one.
+    fault_handed_on r error (fault_of program_words words) kind c.from_residual-in_err-matches.ensures.1 has one)
+
+pub returns-in_err-program-clause-rows : goal.returns-in_err-program-clause-rows
+returns-in_err-program-clause-rows g c name =
+    let r = c.from_residual.result in
+    each_row (map g.S.AsStr.text c.args.words.now) r name (λ kind one. memory_is_fault r kind c.from_residual.ensures.1)
+
+pub returns-in-Some-clause-rows : goal.returns-in-Some-clause-rows
+returns-in-Some-clause-rows g c name =
+    let words = map g.S.AsStr.text c.args.words.now in
+    let app = c.in_ok-program.ensures in
+    let none = subst (λ (a : App). fault_of a words ≡ []) app (c.in_ok-matches.ensures.kinds (ap is_simple_and_free app)) in
+    each_row words (Ok c.in-Some.command) name (λ kind one. no_row (fault_of program_words words) kind (Ok c.in-Some.command) none one)
+
+pub returns-clause-rows : goal.returns-clause-rows
+returns-clause-rows g c name =
+    let words = map g.S.AsStr.text c.args.words.now in
+    let app = c.in_ok-program.ensures in
+    let none = subst (λ (a : App). fault_of a words ≡ []) app (c.in_ok-matches.ensures.kinds (ap is_simple_and_free app)) in
+    each_row words (Err c.in_ok-no_command-in-None.field-0) name (λ kind one. no_row (fault_of program_words words) kind (Err c.in_ok-no_command-in-None.field-0) none one)
