@@ -1,5 +1,6 @@
-/* The baseline of routes.sh: the routes of crates/full_table in the balanced tree of the C library
- * (tsearch), a node and an entry of malloc for each, put, withdrawn and listed in the same order. */
+/* The baseline of routes.sh: the routes of crates/full_table in the balanced tree of the C
+ * library (tsearch), a node and an entry of malloc for each, put, withdrawn and listed in the same
+ * order. */
 #include <search.h>
 #include <stdint.h>
 #include <stdio.h>
@@ -148,7 +149,7 @@ int main(int argc, char **argv)
 	began = now();
 	twalk(tree, list);
 	printf("%u routes in order: %s\n", listed, in_order && listed == v4 + v6 ? "true" : "false");
-	printf("apply %lld ms, list %lld ms, ", apply / 1000000, (now() - began) / 1000000);
+	printf("apply %lld us, list %lld us, ", apply / 1000, (now() - began) / 1000);
 	status = fopen("/proc/self/status", "r");
 	while (status && fgets(line, sizeof line, status))
 		if (!strncmp(line, "VmHWM:", 6))

@@ -1,11 +1,20 @@
 #!/usr/bin/env bash
-# How a table of routes grows: prefixes of both families, a fifth as many of IPv6 as of IPv4, put in
-# no order in changes of six, a tenth of them withdrawn and put again, and all listed in order. Beside
-# it the same routes in the same order in the balanced tree of the C library (bench/routes.c): it
-# holds what the table holds, in a structure of the same growth, and does nothing else, which is why
-# it is the baseline. Octets a route are those of a table whose routes share one path. Wants bash,
-# coreutils, sed, cc and the program that `rt run` built in crates/full_table/out/full_table. Prints
-# figures; it is no test.
+# How a table of routes grows: prefixes of both families, a fifth as many of IPv6 as of IPv4, put
+# in no order in UPDATEs of six, a tenth of them withdrawn and put again, and all listed in order.
+# `read` is the time that `read_update` takes for the UPDATEs, and `apply` what applying the changes
+# of the same UPDATEs takes. Beside it the same routes in the same order in the balanced tree of the
+# C library (bench/routes.c): it holds what the table holds, in a structure of the same growth, and
+# does nothing else, which is why it is the baseline. Octets a route are those of a table whose
+# routes share one path.
+#
+# `apply` takes longer than `read`. An UPDATE is read once through, from octets that lie side by
+# side. A prefix goes to its place in a sorted table, 4 to 6 nodes down, of which the lowest are in
+# no cache where the table is large: of the search's time at 1,200,000 routes two thirds are waiting
+# for the first octets of a node (perf). The tree of the C library, with one route to a node, waits
+# more often.
+#
+# Wants bash, coreutils, sed, cc and the program that `rt run` built in
+# crates/full_table/out/full_table. Prints figures; it is no test.
 set -euo pipefail
 
 here=$(cd "$(dirname "$0")" && pwd)
@@ -17,35 +26,39 @@ work=$(mktemp -d)
 trap 'rm -rf "$work"' EXIT
 cc -O2 -o "$work/tree" "$here/routes.c"
 
-# A figure of what a program printed: the milliseconds of a phase, or KiB at most.
+# A figure of what a program printed: the microseconds of a phase, or KiB at most.
 figure() { sed -n "s/.*$1[^0-9]*\([0-9]*\).*/\1/p" "$2"; }
 
-# The least milliseconds of a phase in three runs, and the memory of the last.
-least() {
-    local phase=$1 least= run now
+# Runs a program three times, and keeps what it printed.
+thrice() {
+    local name=$1 run
     shift
     for run in 1 2 3; do
-        "$@" > "$work/printed"
-        grep -q 'in order: true' "$work/printed"
-        now=$(figure "$phase" "$work/printed")
-        [[ -n $least ]] && ((least <= now)) || least=$now
+        "$@" > "$work/$name.$run"
+        grep -q 'in order: true' "$work/$name.$run"
     done
-    echo "$least"
 }
 
-empty=$("$program" 1 1 1 > "$work/printed"; figure VmHWM: "$work/printed")
+# The least figure of those runs.
+least() { for run in 1 2 3; do figure "$2" "$work/$1.$run"; done | sort -n | head -1; }
+
+# Microseconds as milliseconds.
+ms() { printf '%d.%d ms' $(($1 / 1000)) $(($1 % 1000 / 100)); }
+
+"$program" 1 1 1 > "$work/empty"
+empty=$(figure VmHWM: "$work/empty")
 echo "cores: $(nproc), no routes: $empty KiB"
 for v4 in 10000 100000 1000000; do
     size=("$v4" $((v4 / 5)) $((v4 / 5)))
     routes=$((v4 + v4 / 5))
-    tree=$(least apply "$work/tree" "${size[@]}")
-    tree_peak=$(figure VmHWM: "$work/printed")
-    apply=$(least apply "$program" "${size[@]}")
-    list=$(least list "$program" "${size[@]}")
-    peak=$(figure VmHWM: "$work/printed")
-    "$program" "${size[@]}" shared > "$work/printed"
-    alone=$(figure VmHWM: "$work/printed")
-    echo "$routes routes: apply $apply ms, list $list ms, $peak KiB;" \
+    thrice tree "$work/tree" "${size[@]}"
+    thrice table "$program" "${size[@]}"
+    "$program" "${size[@]}" shared > "$work/shared"
+    alone=$(figure VmHWM: "$work/shared")
+    echo "$routes routes: read $(ms "$(least table read)")," \
+        "apply $(ms "$(least table apply)"), list $(ms "$(least table list)")," \
+        "$(least table VmHWM:) KiB;" \
         "$(((alone - empty) * 1024 / routes)) octets a route beside its path;" \
-        "tsearch: $tree ms, $tree_peak KiB"
+        "tsearch: $(ms "$(least tree apply)"), list $(ms "$(least tree list)")," \
+        "$(least tree VmHWM:) KiB"
 done

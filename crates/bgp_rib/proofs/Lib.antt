@@ -5,3 +5,4 @@ pub mod RouteLemmas
 pub mod RouteLaws
 pub mod SameTables
 pub mod Turns
+pub mod Undoing

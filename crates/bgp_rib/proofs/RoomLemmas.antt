@@ -7,6 +7,7 @@ use Rattle.std.proofs.lemmas.Map.Entries.{lookup-filter-keys}
 use Rattle.std.specs.Ordering.{is_eq}
 use Rattle.std.specs.BTreeMap.{insert_entry, is_at}
 use Rattle.std.specs.List.{AllByRecursion}
+use Rattle.std.specs.Option.{option_flatten}
 use Rattle.std.specs.List.Sorted.{IsStrictlySortedBy}
 use Rattle.std.specs.Map.{lookup, keys_of, remove_entry}
 use Rattle.std.proofs.lemmas.Cmp.{tied_itself, tied_back}
@@ -39,19 +40,6 @@ module _ {K V : Type 0} {R : K → K → Ordering} (o : IsTotalOrder R) (exact :
   below_more : (k j : K) (es : List (K × Option V)) → R k j ≡ Less → AllByRecursion (λ y. R j y ≡ Less) (keys_of es) → AllByRecursion (λ y. R k y ≡ Less) (keys_of es)
   below_more k j [] e h = tt
   below_more k j (x ∷ es) e h = (o.trans k j x.0 e h.0, below_more k j es e h.1)
-
-  -- room for a key is no route
-  hidden_by : (k p : K) (v : Option V) (es : List (K × Option V)) (r : Ordering) → R k p ≡ r
-      → lookup (is_at (R k)) ((p, v) ∷ es) ≡ None → (lookup (is_at (R k)) es ≡ None → routes_in (insert_entry R es k None) ≡ routes_in es)
-      → routes_in (insert_entry R ((p, v) ∷ es) k None) ≡ routes_in ((p, v) ∷ es)
-  hidden_by k p v es Less e absent more = rw e refl
-  hidden_by k p v es Equal e absent more = absurd (some_none v (rw e at absent))
-  hidden_by k p v es Greater e absent more = rw (e, more (rw e at absent)) refl
-
-  pub hidden : (k : K) (es : List (K × Option V)) → lookup (is_at (R k)) es ≡ None
-      → routes_in (insert_entry R es k None) ≡ routes_in es
-  hidden k [] absent = refl
-  hidden k (e ∷ es) absent = hidden_by k e.0 e.1 es (R k e.0) refl absent (hidden k es)
 
   -- a write without a route at k hides the route to k
 
@@ -161,6 +149,46 @@ module _ {K V : Type 0} {R : K → K → Ordering} (o : IsTotalOrder R) (exact :
   missing_below : (k : K) (es : List (K × Option V)) → AllByRecursion (λ y. R k y ≡ Less) (keys_of es) → lookup (is_at (R k)) es ≡ None
   missing_below k [] h = refl
   missing_below k (e ∷ es) h = rw (h.0, missing_below k es h.1) refl
+
+  -- what a look-up finds among the routes
+  found_with : (q p : K) (v : Option V) (es : List (K × Option V)) (b : Bool) → is_eq (R q p) ≡ b
+      → AllByRecursion (λ y. R p y ≡ Less) (keys_of es)
+      → lookup (is_at (R q)) (routes_in es) ≡ option_flatten (lookup (is_at (R q)) es)
+      → lookup (is_at (R q)) (routes_in ((p, v) ∷ es)) ≡ option_flatten (lookup (is_at (R q)) ((p, v) ∷ es))
+  found_with q p None es true t above more =
+      rw t (more ∙ ap option_flatten (missing_below q es (subst (λ z. AllByRecursion (λ y. R z y ≡ Less) (keys_of es)) (sym (exact q p ((Equal-is _).0 t))) above)))
+  found_with q p None es false t above more = rw t more
+  found_with q p (Some v) es true t above more = rw t refl
+  found_with q p (Some v) es false t above more = rw t more
+
+  pub found_route : (q : K) (es : List (K × Option V)) → IsStrictlySortedBy R (keys_of es)
+      → lookup (is_at (R q)) (routes_in es) ≡ option_flatten (lookup (is_at (R q)) es)
+  found_route q [] s = refl
+  found_route q (e ∷ es) s =
+      found_with q e.0 e.1 es (is_eq (R q e.0)) refl (sorted_head R e.0 (keys_of es) s) (found_route q es (sorted_tail R e.0 (keys_of es) s))
+
+  -- the entries that have a route
+  kept_by_route : (k : K) (v : Option V) (es fs : List (K × Option V)) → routes_in fs ≡ routes_in es
+      → routes_in (cond (is_some v) ((k, v) ∷ fs) fs) ≡ routes_in ((k, v) ∷ es)
+  kept_by_route k None es fs more = more
+  kept_by_route k (Some v) es fs more = ap (λ l. (k, v) ∷ l) more
+
+  pub routed_kept : (es : List (K × Option V)) → routes_in (filter (λ e. is_some e.1) es) ≡ routes_in es
+  routed_kept [] = refl
+  routed_kept (e ∷ es) = kept_by_route e.0 e.1 es (filter (λ e. is_some e.1) es) (routed_kept es)
+
+  no_room_by : (q k : K) (v : Option V) (fs : List (K × Option V)) (b : Bool) → is_eq (R q k) ≡ b → (HasRoom R fs q → ⊥)
+      → HasRoom R (cond (is_some v) ((k, v) ∷ fs) fs) q → ⊥
+  no_room_by q k None fs b t more h = more h
+  no_room_by q k (Some v) fs true t more h = some_some v (rw t at h)
+    where
+      some_some : (v : V) → Some (Some v) ≡ Some None → ⊥
+      some_some v e = absurd cc
+  no_room_by q k (Some v) fs false t more h = more (rw t at h)
+
+  pub routed_full : (es : List (K × Option V)) → HasNoRoom R (filter (λ e. is_some e.1) es)
+  routed_full [] q h = absurd cc
+  routed_full (e ∷ es) q h = no_room_by q e.0 e.1 (filter (λ e. is_some e.1) es) (is_eq (R q e.0)) refl (routed_full es q) h
 
   room_at_once : (e : K × Option V) (es : List (K × Option V)) → e.1 ≡ None → HasRoom R (e ∷ es) e.0
   room_at_once e es none = rw (tied_itself o e.0, none) refl

@@ -1,5 +1,5 @@
 -- What a turn of a loop over prefixes, or over routes, is to the whole list.
-use Rattle.std.proofs.Common.{◌≡◌, ℕ, ◌+◌, ◌<◌, ◌++◌, true, List, [], ◌∷◌, Some, length, take, get_or, All, sym, ap, ◌∙◌}
+use Rattle.std.proofs.Common.{◌≡◌, ℕ, ◌+◌, ◌<◌, ◌++◌, true, List, [], ◌∷◌, Some, length, take, get_or, All, Result, Ok, Err, OnOk, sym, ap, ◌∙◌}
 use Rattle.std.proofs.lemmas.List.{take_more}
 use Rattle.std.proofs.lemmas.List.Elements.{All-map, All-contains}
 use Rattle.std.proofs.lemmas.Map.Keys.{any_passes_from_place}
@@ -36,3 +36,12 @@ among P ps q all is = All-contains P ps q all (Contains-from_any equal_prefixes 
 pub among_keys : {V : Type 0} (P : PrefixBits → Type 0) (es : List (PrefixBits × V)) (q : PrefixBits) → All (λ e. P e.0) es
     → is_member prefix_eq (keys_of es) q ≡ true → P q
 among_keys {V} P es q all is = among P (keys_of es) q (All-map P (λ (e : PrefixBits × V). e.0) es all) is
+
+-- of a call that was not refused
+pub on_ok : {X E : Type 0} (r : Result X E) {P Q : Type 0} → OnOk r P → (P → Q) → OnOk r Q
+on_ok (Ok x) h f = f h
+on_ok (Err e) h f = h
+
+pub on_both : {X E : Type 0} (r : Result X E) {P Q R : Type 0} → OnOk r P → OnOk r Q → (P → Q → R) → OnOk r R
+on_both (Ok x) h k f = f h k
+on_both (Err e) h k f = h

@@ -1,9 +1,9 @@
 -- The routes of a table in which a key may have room and no route yet.
-use Rattle.std.specs.Prelude.{◌≡◌, List, [], ◌∷◌, Option, None, Some, IsTrue}
+use Rattle.std.specs.Prelude.{◌≡◌, List, [], ◌∷◌, Option, None, Some, All, IsSome}
 use Rattle.std.specs.declared.cmp.Ordering.{Ordering}
 use Rattle.std.specs.BTreeMap.{is_at}
-use Rattle.std.specs.Map.{lookup}
-use Rattle.std.specs.Set.{is_member}
+use Rattle.std.specs.Map.{lookup, update}
+use Rattle.std.specs.Option.{option_flatten}
 use Rattle.bgp_prefix.specs.Prefix.{PrefixBits}
 use Rattle.bgp_prefix.specs.PrefixOrder.{prefix_cmp, prefix_eq}
 
@@ -25,8 +25,25 @@ HasRoom cmp entries key = lookup (is_at (cmp key)) entries ≡ Some None
 abbrev pub HasNoRoom : {K V : Type 0} → (K → K → Ordering) → List (K × Option V) → Type 0
 HasNoRoom {K} cmp entries = (key : K) → HasRoom cmp entries key → ⊥
 
--- no prefix but these has room without a route
-abbrev pub HasRoomOnlyFor : {V : Type 0} → List PrefixBits → List (PrefixBits × Option V) → Type 0
-HasRoomOnlyFor prefixes entries =
-    (prefix : PrefixBits) → HasRoom prefix_cmp entries prefix
-    → IsTrue (is_member prefix_eq prefixes prefix)
+-- the route to a prefix
+abbrev pub route_to : {V : Type 0} → List (PrefixBits × Option V) → PrefixBits → Option V
+route_to entries prefix = option_flatten (lookup (is_at (prefix_cmp prefix)) entries)
+
+-- what each prefix leads to once writes are undone, the last one first: a log has what each prefix
+-- had before it was written
+abbrev pub undone : {V : Type 0} → List (PrefixBits × Option V) → (PrefixBits → Option V)
+    → PrefixBits → Option V
+undone [] routes = routes
+undone (e ∷ log) routes = update prefix_eq (undone log routes) e.0 e.1
+
+-- undone, a log and entries lead where an older log and older entries do
+abbrev pub LeadsBack : {V : Type 0} → List (PrefixBits × Option V) → List (PrefixBits × Option V)
+    → List (PrefixBits × Option V) → List (PrefixBits × Option V) → Type 0
+LeadsBack log entries old_log old_entries =
+    (prefix : PrefixBits)
+    → undone log (route_to entries) prefix ≡ undone old_log (route_to old_entries) prefix
+
+-- each prefix of a log has an entry
+abbrev pub HasEach : {V : Type 0} → List (PrefixBits × Option V) → List (PrefixBits × Option V)
+    → Type 0
+HasEach log entries = All (λ e. IsSome (lookup (is_at (prefix_cmp e.0)) entries)) log

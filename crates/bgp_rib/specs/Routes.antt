@@ -1,4 +1,5 @@
--- The routes that a peer has announced, its Adj-RIB-In (RFC 4271, 3.2): a map from prefixes to paths.
+-- The routes that a peer has announced, its Adj-RIB-In (RFC 4271, 3.2): a map from prefixes to
+-- paths.
 use Rattle.std.specs.Prelude.{true, false, ◌||◌, not, List, [], Option, All, IsFalse}
 use Rattle.std.specs.Prelude.{filter, fold, map}
 use Rattle.std.specs.BTreeMap.{insert_entry, is_at}

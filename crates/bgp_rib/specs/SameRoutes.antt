@@ -1,5 +1,5 @@
--- Equality of two peers' routes as a test, which is what `==` answers: of the routes of both families
--- and of the disabled families.
+-- Equality of two peers' routes as a test, which is what `==` answers: of the routes of both
+-- families and of the disabled families.
 use Rattle.std.specs.Prelude.{◌&&◌, Bool}
 use Rattle.std.specs.Bool.{beq}
 use Rattle.std.specs.Cmp.{IsEquivalence, IsPartialEquivalence, partial_equiv_from_equiv}
@@ -32,7 +32,8 @@ prefixes_equiv =
     (and_equiv (on_equiv prefix_number nat_eq_equiv) (on_equiv prefix_length nat_eq_equiv))
 
 entries_equiv : IsEquivalence same_entry
-entries_equiv = and_equiv (on_equiv (λ e. e.0) prefixes_equiv) (on_equiv (λ e. e.1) same_value_equiv)
+entries_equiv =
+    and_equiv (on_equiv (λ e. e.0) prefixes_equiv) (on_equiv (λ e. e.1) same_value_equiv)
 
 pub same_routes_equiv : IsEquivalence same_routes
 same_routes_equiv =

@@ -1,4 +1,5 @@
-//! The routes that a peer has announced (RFC 4271, 3.2: Adj-RIB-In), and what UPDATEs change of them.
+//! The routes that a peer has announced (RFC 4271, 3.2: Adj-RIB-In), and what UPDATEs change of
+//! them.
 //!
 //! ```text
 //! let mut rib = RibIn::new(alloc);

@@ -72,10 +72,11 @@ impl<A: Allocator> RibIn<A> {
         }
     }
 
-    /// Removes prefixes, and then puts routes. What the changes say of a disabled family is ignored.
+    /// Removes prefixes, and then puts routes. What the changes say of a disabled family is
+    /// ignored.
     ///
-    /// All growth comes first: refused for memory it leaves everything as it was, and called again
-    /// it does what it would have done.
+    /// Refused for memory it leaves everything as it was, and called again it does what it would
+    /// have done.
     pub fn apply(&mut self, changes: &Changes<A>) -> Result<(), AllocError>
     where
         A: Copy,
@@ -83,7 +84,7 @@ impl<A: Allocator> RibIn<A> {
         ensures err { OnErr result (self.new ≡ self.old) }
     {
         let put = enabled_routes(self.alloc, self.disabled, &changes.put)?;
-        change(&mut self.table, &changes.remove, put)
+        change(self.alloc, &mut self.table, &changes.remove, put)
     }
 
     /// Disables a family: its routes go, and it takes none from now on. It takes no memory.
@@ -117,7 +118,8 @@ impl<A: Allocator> RibIn<A> {
         self.table.len()
     }
 
-    /// The routes in the order of their prefixes: IPv4 before IPv6, then by address, then by length.
+    /// The routes in the order of their prefixes: IPv4 before IPv6, then by address, then by
+    /// length.
     pub fn routes(&self) -> RouteIter<'_, A>
         ensures rest { result ≡ self.now.entries }
         ensures are { AreRoutes self.now }
@@ -216,6 +218,7 @@ fn push_group<A: Allocator + Copy>(
     ensures { OnOk result (routes.new.items
         ≡ routes.old.items ++ entries_outside disabled (map entry_of (put_routes group.now))) }
 {
+    routes.reserve(group.prefixes.len())?;
     for prefix in &group.prefixes {
         if !disabled.contains(prefix.family()) {
             routes.push((*prefix, group.path.clone()?))?;

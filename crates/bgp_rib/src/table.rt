@@ -1,14 +1,21 @@
-//! A table of routes whose growth comes first: room for a prefix is an entry without a route, which
-//! no reader sees.
+//! A table of routes. What a change writes is noted first, so that it can be undone: a prefix whose
+//! route is taken away keeps its entry, as room without a route that no reader sees.
 
-ghost use Rattle.std.specs.Prelude.{◌≡◌, ◌⊎◌, ◌&&◌, ◌∷◌, [], OnOk, OnErr, All, Some, true, map, IsTrue};
+ghost use Rattle.std.specs.Prelude.{◌≡◌, ◌⊎◌, ◌&&◌, ◌∷◌, [], OnOk, OnErr, All, Some, IsTrue};
 ghost use Rattle.std.specs.BTreeMap.{insert_entry, ContainsKey, Updates, IsOrdered};
 ghost use Rattle.std.specs.Cmp.Lexicographic.{pointwise};
 ghost use Rattle.std.specs.Set.{is_member};
-ghost use Rattle.std.specs.Map.{keys_of};
 ghost use Rattle.bgp_prefix.specs.Prefix.{PrefixBits};
 ghost use Rattle.bgp_prefix.specs.PrefixOrder.{prefix_cmp, prefix_eq};
-ghost use Rattle.bgp_rib.specs.Rooms.{routes_in, HasRoom, HasNoRoom, HasRoomOnlyFor};
+ghost use Rattle.bgp_rib.specs.Rooms.{
+  routes_in,
+  route_to,
+  undone,
+  HasRoom,
+  HasNoRoom,
+  HasEach,
+  LeadsBack,
+};
 ghost use Rattle.bgp_rib.specs.Routes.{entries_without, entries_outside, entries_with};
 
 use bgp_open::Families;
@@ -19,9 +26,13 @@ use std::collections::BTreeMap;
 /// A prefix and its route, or `None` where there is room for one.
 pub type Table<V, A> = BTreeMap<Prefix, Option<V>, A>;
 
-/// Removes the routes to some prefixes, and then puts the others. All growth comes first: refused for
-/// memory it leaves the routes as they were.
-pub fn change<V: Drop, A: Allocator + Clone>(
+/// What prefixes had before they were written: the first write comes first.
+type Log<V, A> = Vec<(Prefix, Option<V>), A>;
+
+/// Removes the routes to some prefixes, and then puts the others. Where a growth is refused what
+/// was written is written back, so the routes stay.
+pub fn change<V: Drop, A: Allocator + Copy>(
+    alloc: A,
     table: &mut Table<V, A>,
     remove: &[Prefix],
     put: Vec<(Prefix, V), A>,
@@ -32,44 +43,57 @@ pub fn change<V: Drop, A: Allocator + Clone>(
     ensures err { OnErr result (routes_in table.new.entries ≡ routes_in table.old.entries) }
     ensures full { HasNoRoom prefix_cmp table.new.entries }
 {
-    reserve(table, &put)?;
-    replace(table, remove, put);
-    Ok(())
-}
-
-/// Makes room for each of the routes, or for none.
-fn reserve<V: Drop, A: Allocator + Clone>(
-    table: &mut Table<V, A>,
-    put: &[(Prefix, V)],
-) -> Result<(), AllocError>
-    requires full { HasNoRoom prefix_cmp table.old.entries }
-    ensures same { routes_in table.new.entries ≡ routes_in table.old.entries }
-    ensures room { OnOk result (All (λ e. ContainsKey prefix_cmp table.new e.0) put.now) }
-    ensures rooms { HasRoomOnlyFor (keys_of put.now) table.new.entries }
-    ensures full { OnErr result (HasNoRoom prefix_cmp table.new.entries) }
-{
-    if make_room(table, put).is_err() {
-        sweep_keys(table, put);
+    let _ = table.len(); // For the proof: it says that prefixes ascend.
+    let mut log = Vec::with_capacity(alloc, put.len())?;
+    if write_all(table, &mut log, remove, put).is_err() {
+        undo(table, log);
         return Err(AllocError);
     }
+    sweep_all(table, remove);
     Ok(())
 }
 
-/// Removes the routes to some prefixes, and then puts the others, for which there is room.
-fn replace<V: Drop, A: Allocator + Clone>(
+/// Removes the routes to some prefixes, whose room stays, and then puts the others.
+fn write_all<V: Drop, A: Allocator + Clone>(
     table: &mut Table<V, A>,
+    log: &mut Log<V, A>,
     remove: &[Prefix],
     put: Vec<(Prefix, V), A>,
-)
-    requires room { All (λ e. ContainsKey prefix_cmp table.old e.0) put.items }
-    requires rooms { HasRoomOnlyFor (keys_of put.items) table.old.entries }
-    ensures routes { routes_in table.new.entries
-        ≡ entries_with put.items (entries_without remove.now (routes_in table.old.entries)) }
-    ensures full { HasNoRoom prefix_cmp table.new.entries }
+) -> Result<(), AllocError>
+    ensures routes { OnOk result (routes_in table.new.entries
+        ≡ entries_with put.items (entries_without remove.now (routes_in table.old.entries))) }
+    ensures rooms { (q : PrefixBits) → HasRoom prefix_cmp table.new.entries q
+        → HasRoom prefix_cmp table.old.entries q ⊎ IsTrue (is_member prefix_eq remove.now q) }
+    ensures back { LeadsBack log.new.items table.new.entries log.old.items table.old.entries }
+    ensures noted { HasEach log.old.items table.old.entries
+        → HasEach log.new.items table.new.entries }
 {
-    hide_all(table, remove);
-    put_all(table, put);
-    sweep_all(table, remove);
+    hide_all(table, log, remove)?;
+    put_all(table, log, put)
+}
+
+/// Writes back what the log has, the last write first, and then takes away all room that is left.
+fn undo<V: Drop, A: Allocator + Clone>(table: &mut Table<V, A>, mut log: Log<V, A>)
+    requires noted { HasEach log.items table.old.entries }
+    ensures back { (q : PrefixBits) → route_to table.new.entries q
+        ≡ undone log.items (route_to table.old.entries) q }
+    ensures full { HasNoRoom prefix_cmp table.new.entries }
+    ensures ordered { IsOrdered prefix_cmp table.new }
+{
+    while let Some(note) = log.pop() {
+        overwrite(table, note.0, note.1);
+    }
+    clear_room(table);
+}
+
+/// Takes all room away that has no route.
+fn clear_room<V: Drop, A: Allocator>(table: &mut Table<V, A>)
+    ensures same { routes_in table.new.entries ≡ routes_in table.old.entries }
+    ensures full { HasNoRoom prefix_cmp table.new.entries }
+    ensures ordered { IsOrdered prefix_cmp table.new }
+    ensures was_ordered { IsOrdered prefix_cmp table.old }
+{
+    table.retain(|_, route| route.is_some());
 }
 
 /// Removes the routes of some families. It takes no memory.
@@ -95,81 +119,88 @@ pub fn have_same_routes<V: PartialEq, A: Allocator>(
     table.len() == other.len() && table == other
 }
 
-/// Makes room for each of the routes.
-fn make_room<V: Drop, A: Allocator + Clone>(
-    table: &mut Table<V, A>,
-    put: &[(Prefix, V)],
-) -> Result<(), AllocError>
-    ensures same { routes_in table.new.entries ≡ routes_in table.old.entries }
-    ensures room { OnOk result (All (λ e. ContainsKey prefix_cmp table.new e.0) put.now) }
-    ensures rooms { (q : PrefixBits) → HasRoom prefix_cmp table.new.entries q
-        → HasRoom prefix_cmp table.old.entries q ⊎ IsTrue (is_member prefix_eq (keys_of put.now) q) }
-{
-    for route in put {
-        make_room_for(table, route.0)?;
-    }
-    Ok(())
-}
-
-/// Makes room for a route to a prefix.
-fn make_room_for<V: Drop, A: Allocator + Clone>(
-    table: &mut Table<V, A>,
-    prefix: Prefix,
-) -> Result<(), AllocError>
-    ensures same { routes_in table.new.entries ≡ routes_in table.old.entries }
-    ensures room { OnOk result (ContainsKey prefix_cmp table.new prefix) }
-    ensures others { (q : PrefixBits) → ContainsKey prefix_cmp table.old q
-        → ContainsKey prefix_cmp table.new q }
-    ensures rooms { (q : PrefixBits) → HasRoom prefix_cmp table.new.entries q
-        → HasRoom prefix_cmp table.old.entries q ⊎ IsTrue (prefix_eq q prefix) }
-{
-    if table.contains_key(&prefix) {
-        return Ok(());
-    }
-    let _ = table.insert(prefix, None)?;
-    Ok(())
-}
-
 /// Takes the routes to the prefixes away, and leaves the room that they had.
-fn hide_all<V: Drop, A: Allocator + Clone>(table: &mut Table<V, A>, prefixes: &[Prefix])
-    ensures hidden { routes_in table.new.entries
-        ≡ entries_without prefixes.now (routes_in table.old.entries) }
-    ensures others { (q : PrefixBits) → ContainsKey prefix_cmp table.old q
-        → ContainsKey prefix_cmp table.new q }
+fn hide_all<V: Drop, A: Allocator + Clone>(
+    table: &mut Table<V, A>,
+    log: &mut Log<V, A>,
+    prefixes: &[Prefix],
+) -> Result<(), AllocError>
+    ensures hidden { OnOk result (routes_in table.new.entries
+        ≡ entries_without prefixes.now (routes_in table.old.entries)) }
     ensures rooms { (q : PrefixBits) → HasRoom prefix_cmp table.new.entries q
         → HasRoom prefix_cmp table.old.entries q ⊎ IsTrue (is_member prefix_eq prefixes.now q) }
+    ensures back { LeadsBack log.new.items table.new.entries log.old.items table.old.entries }
+    ensures noted { HasEach log.old.items table.old.entries
+        → HasEach log.new.items table.new.entries }
 {
     for prefix in prefixes {
-        hide(table, *prefix);
+        hide(table, log, *prefix)?;
     }
+    Ok(())
 }
 
 /// Takes the route to a prefix away, and leaves the room that it had.
-fn hide<V: Drop, A: Allocator + Clone>(table: &mut Table<V, A>, prefix: Prefix)
-    ensures hidden { routes_in table.new.entries
-        ≡ entries_without (prefix ∷ []) (routes_in table.old.entries) }
-    ensures others { (q : PrefixBits) → ContainsKey prefix_cmp table.old q
-        → ContainsKey prefix_cmp table.new q }
+fn hide<V: Drop, A: Allocator + Clone>(
+    table: &mut Table<V, A>,
+    log: &mut Log<V, A>,
+    prefix: Prefix,
+) -> Result<(), AllocError>
+    ensures hidden { OnOk result (routes_in table.new.entries
+        ≡ entries_without (prefix ∷ []) (routes_in table.old.entries)) }
     ensures rooms { (q : PrefixBits) → HasRoom prefix_cmp table.new.entries q
         → HasRoom prefix_cmp table.old.entries q ⊎ IsTrue (prefix_eq q prefix) }
+    ensures back { LeadsBack log.new.items table.new.entries log.old.items table.old.entries }
+    ensures noted { HasEach log.old.items table.old.entries
+        → HasEach log.new.items table.new.entries }
 {
-    if table.contains_key(&prefix) {
-        overwrite(table, prefix, None);
+    if !table.contains_key(&prefix) {
+        return Ok(());
     }
+    write(table, log, prefix, None)
 }
 
-/// Puts the routes, for which there is room.
-fn put_all<V: Drop, A: Allocator + Clone>(table: &mut Table<V, A>, put: Vec<(Prefix, V), A>)
-    requires room { All (λ e. ContainsKey prefix_cmp table.old e.0) put.items }
-    ensures routes { routes_in table.new.entries
-        ≡ entries_with put.items (routes_in table.old.entries) }
+/// Puts the routes.
+fn put_all<V: Drop, A: Allocator + Clone>(
+    table: &mut Table<V, A>,
+    log: &mut Log<V, A>,
+    put: Vec<(Prefix, V), A>,
+) -> Result<(), AllocError>
+    ensures routes { OnOk result (routes_in table.new.entries
+        ≡ entries_with put.items (routes_in table.old.entries)) }
     ensures rooms { (q : PrefixBits) → HasRoom prefix_cmp table.new.entries q
         → HasRoom prefix_cmp table.old.entries q }
-    ensures filled { All (λ e. HasRoom prefix_cmp table.new.entries e.0 → ⊥) put.items }
+    ensures back { LeadsBack log.new.items table.new.entries log.old.items table.old.entries }
+    ensures noted { HasEach log.old.items table.old.entries
+        → HasEach log.new.items table.new.entries }
 {
     for (prefix, route) in put {
-        overwrite(table, prefix, Some(route));
+        write(table, log, prefix, Some(route))?;
     }
+    Ok(())
+}
+
+/// Writes a route, or its absence, and notes in the log what the prefix had.
+fn write<V: Drop, A: Allocator + Clone>(
+    table: &mut Table<V, A>,
+    log: &mut Log<V, A>,
+    prefix: Prefix,
+    route: Option<V>,
+) -> Result<(), AllocError>
+    ensures entries { OnOk result (table.new.entries
+        ≡ insert_entry prefix_cmp table.old.entries prefix route) }
+    ensures updates { OnOk result (Updates prefix_cmp table.old table.new prefix (Some route)) }
+    ensures ordered { OnOk result (IsOrdered prefix_cmp table.old) }
+    ensures err { OnErr result (table.new.entries ≡ table.old.entries) }
+    ensures back { LeadsBack log.new.items table.new.entries log.old.items table.old.entries }
+    ensures noted { HasEach log.old.items table.old.entries
+        → HasEach log.new.items table.new.entries }
+{
+    log.reserve(1)?;
+    let had = table.insert(prefix, route)?;
+    if log.push((prefix, had.flatten())).is_err() {
+        unreachable!();
+    }
+    Ok(())
 }
 
 /// Takes the room of the prefixes away that have no route.
@@ -181,18 +212,6 @@ fn sweep_all<V: Drop, A: Allocator + Clone>(table: &mut Table<V, A>, prefixes: &
 {
     for prefix in prefixes {
         sweep(table, *prefix);
-    }
-}
-
-/// The same of the prefixes of routes.
-fn sweep_keys<V: Drop, A: Allocator + Clone>(table: &mut Table<V, A>, routes: &[(Prefix, V)])
-    ensures same { routes_in table.new.entries ≡ routes_in table.old.entries }
-    ensures rooms { (q : PrefixBits) → HasRoom prefix_cmp table.new.entries q
-        → HasRoom prefix_cmp table.old.entries q }
-    ensures swept { All (λ e. HasRoom prefix_cmp table.new.entries e.0 → ⊥) routes.now }
-{
-    for route in routes {
-        sweep(table, route.0);
     }
 }
 

@@ -1,5 +1,5 @@
-//! What RFC 4271 and RFC 7606 ask of a peer's routes, a long row of changes beside a plain list, and
-//! refused memory.
+//! What RFC 4271 and RFC 7606 ask of a peer's routes, a long row of changes beside a plain list,
+//! and refused memory.
 
 mod long_run;
 mod memory;
@@ -8,7 +8,7 @@ mod routes;
 use crate::*;
 use bgp_open::Families;
 use bgp_path::{AsPath, Items, NextHop, Origin, Path, PathParts, Segment, SegmentKind};
-use bgp_prefix::{Family, Prefix, read_prefix};
+use bgp_prefix::{Address, Family, Prefix, read_prefix};
 use bgp_update::{Changes, Put};
 use std::alloc::{AllocError, Allocator, Global};
 use std::process::Abort;
@@ -36,6 +36,51 @@ fn prefixes<A: Allocator + Copy>(
         prefixes.push(prefix(rt, text))?;
     }
     Ok(prefixes)
+}
+
+/// How many prefixes of 24 bits an UPDATE of 4096 octets has room for beside 43 octets of its
+/// header, its counts and three attributes (RFC 4271, 4.1 and 4.3).
+const MOST: u32 = 1013;
+
+/// One of many prefixes that ascend with their index: of 24 bits in 10.0.0.0/8, or of 48 in
+/// 2001:db8::/32.
+fn nth(rt: &impl Abort, family: Family, index: u32) -> Prefix {
+    let (address, length) = match family {
+        Family::V4 => (Address::V4(0x0a00_0000 | (index << 8)), 24),
+        Family::V6 => {
+            let number = (0x2001_0db8 << 96) | (u128::from(index) << 80);
+            (Address::V6(number), 48)
+        }
+    };
+    Prefix::new(address, length).expect(rt, "no prefix")
+}
+
+/// The first of those prefixes, as many as an UPDATE has room for.
+fn most<A: Allocator>(
+    rt: &impl Abort,
+    alloc: A,
+    family: Family,
+) -> Result<Vec<Prefix, A>, AllocError> {
+    let mut prefixes = Vec::new(alloc);
+    for index in 0..MOST {
+        prefixes.push(nth(rt, family, index))?;
+    }
+    Ok(prefixes)
+}
+
+/// Whether the routes are those prefixes of the families, each with a path of the family's mark.
+fn are_most<A: Allocator>(rt: &impl Abort, rib: &RibIn<A>, families: &[(Family, u32)]) -> bool {
+    let mut found = rib.routes();
+    for (family, number) in families {
+        for index in 0..MOST {
+            match found.next() {
+                Some((prefix, path))
+                    if *prefix == nth(rt, *family, index) && mark(path) == *number => {}
+                _ => return false,
+            }
+        }
+    }
+    found.next().is_none()
 }
 
 /// A path that takes memory for its parts, told from others by its LOCAL_PREF.

@@ -82,13 +82,19 @@ impl Feed {
         })
     }
 
-    /// The UPDATE by which the group is announced: in its NLRI field (RFC 4271, 4.3), or for IPv6 in
-    /// MP_REACH_NLRI (RFC 4760, 3).
-    pub fn update(&self, alloc: Global, group: u32) -> Result<Vec<u8>, AllocError> {
-        let mut nlri = Vec::new(alloc);
+    /// The octets of the group's prefixes (RFC 4271, 4.3).
+    fn spelled(&self, alloc: Global, group: u32) -> Result<Vec<u8>, AllocError> {
+        let mut octets = Vec::new(alloc);
         for prefix in self.group(alloc, group)? {
-            prefix.write(&mut nlri)?;
+            prefix.write(&mut octets)?;
         }
+        Ok(octets)
+    }
+
+    /// The UPDATE by which the group is announced: in its NLRI field (RFC 4271, 4.3), or for IPv6
+    /// in MP_REACH_NLRI (RFC 4760, 3).
+    pub fn announcing(&self, alloc: Global, group: u32) -> Result<Vec<u8>, AllocError> {
+        let nlri = self.spelled(alloc, group)?;
         let mut attributes = Vec::from_slice(alloc, b"\x40\x01\x01\x00\x40\x02\x12\x02\x04")?;
         for number in [65002, 174, 3356, group] {
             attributes.extend_from_slice(&number.to_be_bytes())?;
@@ -97,31 +103,51 @@ impl Feed {
         attributes.extend_from_slice(&group.to_be_bytes())?;
         if self.members(group).0 == Family::V4 {
             attributes.extend_from_slice(b"\x40\x03\x04\xc0\x00\x02\x02")?;
-        } else {
-            attributes.extend_from_slice(b"\x90\x0e")?;
-            put_count(&mut attributes, nlri.len().saturating_add(21))?;
-            attributes.extend_from_slice(b"\x00\x02\x01\x10\x20\x01\x0d\xb8")?;
-            attributes.extend_from_slice(&[0; 13])?;
-            attributes.extend_from_slice(&nlri)?;
-            nlri.clear();
+            return update(alloc, b"", &attributes, &nlri);
         }
-        let mut octets = Vec::from_slice(alloc, &[0xff; 16])?;
-        let count = attributes.len().saturating_add(nlri.len());
-        put_count(&mut octets, count.saturating_add(23))?;
-        octets.extend_from_slice(b"\x02\x00\x00")?;
-        put_count(&mut octets, attributes.len())?;
-        octets.extend_from_slice(&attributes)?;
-        octets.extend_from_slice(&nlri)?;
-        Ok(octets)
+        attributes.extend_from_slice(b"\x90\x0e")?;
+        put_count(&mut attributes, nlri.len().saturating_add(21))?;
+        attributes.extend_from_slice(b"\x00\x02\x01\x10\x20\x01\x0d\xb8")?;
+        attributes.extend_from_slice(&[0; 13])?;
+        attributes.extend_from_slice(&nlri)?;
+        update(alloc, b"", &attributes, b"")
     }
 
-    /// The group is withdrawn.
-    pub fn withdrawal(&self, alloc: Global, group: u32) -> Result<Changes, AllocError> {
-        Ok(Changes {
-            remove: self.group(alloc, group)?,
-            put: Vec::new(alloc),
-        })
+    /// The UPDATE by which the group is withdrawn: in its field of withdrawn routes (RFC 4271,
+    /// 4.3), or for IPv6 in MP_UNREACH_NLRI (RFC 4760, 4).
+    pub fn withdrawing(&self, alloc: Global, group: u32) -> Result<Vec<u8>, AllocError> {
+        let withdrawn = self.spelled(alloc, group)?;
+        if self.members(group).0 == Family::V4 {
+            return update(alloc, &withdrawn, b"", b"");
+        }
+        let mut attributes = Vec::from_slice(alloc, b"\x90\x0f")?;
+        put_count(&mut attributes, withdrawn.len().saturating_add(3))?;
+        attributes.extend_from_slice(b"\x00\x02\x01")?;
+        attributes.extend_from_slice(&withdrawn)?;
+        update(alloc, b"", &attributes, b"")
     }
+}
+
+/// The UPDATE of these fields (RFC 4271, 4.3).
+fn update(
+    alloc: Global,
+    withdrawn: &[u8],
+    attributes: &[u8],
+    nlri: &[u8],
+) -> Result<Vec<u8>, AllocError> {
+    let mut octets = Vec::from_slice(alloc, &[0xff; 16])?;
+    let fields = withdrawn.len().saturating_add(attributes.len());
+    put_count(
+        &mut octets,
+        fields.saturating_add(nlri.len()).saturating_add(23),
+    )?;
+    octets.push(2)?;
+    put_count(&mut octets, withdrawn.len())?;
+    octets.extend_from_slice(withdrawn)?;
+    put_count(&mut octets, attributes.len())?;
+    octets.extend_from_slice(attributes)?;
+    octets.extend_from_slice(nlri)?;
+    Ok(octets)
 }
 
 /// Appends a count as two octets, or the greatest that fits.

@@ -28,8 +28,17 @@ fn main(rt: HostRuntime) -> ExitCode {
     }
 }
 
-/// Answers whether the listing had each route, in order.
-fn run<R: Files + Env + Clock + Print + AllocGlobal>(rt: &R) -> io::Result<bool> {
+/// The sizes that are asked for, and whether any is; and whether all routes are to share a path.
+#[derive(Clone, Copy)]
+struct Wish {
+    feed: Feed,
+    is_measured: bool,
+    is_shared: bool,
+}
+
+/// What the program's words wish: numbers of prefixes of each family and of paths, and any fourth
+/// word for one path.
+fn wishes<R: Env + AllocGlobal>(rt: &R) -> io::Result<Wish> {
     let mut words = env::args(rt)?.skip(1);
     let mut numbers = [1000, 200, 200];
     let mut is_measured = false;
@@ -42,10 +51,21 @@ fn run<R: Files + Env + Clock + Print + AllocGlobal>(rt: &R) -> io::Result<bool>
         }
     }
     let [v4, v6, paths] = numbers;
-    let feed = Feed::new(v4, v6, paths);
-    let shared = match words.next() {
-        None => None,
-        Some(_) => Some(feed::path(rt.alloc(), 0)?),
+    Ok(Wish {
+        feed: Feed::new(v4, v6, paths),
+        is_measured,
+        is_shared: words.next().is_some(),
+    })
+}
+
+/// Answers whether the listing had each route, in order.
+fn run<R: Files + Env + Clock + Print + AllocGlobal>(rt: &R) -> io::Result<bool> {
+    let wish = wishes(rt)?;
+    let feed = wish.feed;
+    let shared = if wish.is_shared {
+        Some(feed::path(rt.alloc(), 0)?)
+    } else {
+        None
     };
     let mut table = Timed {
         routes: RibIn::new(rt.alloc()),
@@ -60,12 +80,12 @@ fn run<R: Files + Env + Clock + Print + AllocGlobal>(rt: &R) -> io::Result<bool>
     let is_listed = is_in_order(&table.routes, &feed);
     let listed = began.elapsed(rt)?;
     println!(rt; "{} routes in order: {is_listed}", table.routes.len())?;
-    if is_measured {
+    if wish.is_measured {
         println!(rt;
-            "read {} ms, apply {} ms, list {} ms, {}",
-            table.reading.as_millis(),
-            table.time.as_millis(),
-            listed.as_millis(),
+            "read {} us, apply {} us, list {} us, {}",
+            table.reading.as_micros(),
+            table.time.as_micros(),
+            listed.as_micros(),
             peak(rt)?
         )?;
     }
@@ -119,9 +139,23 @@ impl Timed {
             let path = path.clone()?;
             return self.apply(rt, &feed.announcement(rt.alloc(), group, path)?);
         }
-        let octets = feed.update(rt.alloc(), group)?;
+        self.hear(rt, &feed.announcing(rt.alloc(), group)?)
+    }
+
+    /// Takes the routes of a group away.
+    fn withdraw<R: Clock + AllocGlobal>(
+        &mut self,
+        rt: &R,
+        feed: &Feed,
+        group: u32,
+    ) -> io::Result<()> {
+        self.hear(rt, &feed.withdrawing(rt.alloc(), group)?)
+    }
+
+    /// Reads an UPDATE, and applies what it changes.
+    fn hear<R: Clock + AllocGlobal>(&mut self, rt: &R, octets: &[u8]) -> io::Result<()> {
         let began = Instant::now(rt)?;
-        let outcomes = read_update(rt.alloc(), &self.link, &octets)?;
+        let outcomes = read_update(rt.alloc(), &self.link, octets)?;
         self.reading = self.reading.saturating_add(began.elapsed(rt)?);
         match outcomes.changes {
             None => Err(io::Error::from(io::ErrorKind::InvalidData)),
@@ -144,7 +178,7 @@ fn fill<R: Clock + AllocGlobal>(rt: &R, feed: &Feed, table: &mut Timed) -> io::R
         table.announce(rt, feed, group)?;
     }
     for group in (0..feed.groups()).filter(|group| group % 10 == 0) {
-        table.apply(rt, &feed.withdrawal(rt.alloc(), group)?)?;
+        table.withdraw(rt, feed, group)?;
         table.announce(rt, feed, group)?;
     }
     Ok(())

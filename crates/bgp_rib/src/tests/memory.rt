@@ -1,16 +1,50 @@
 //! Memory: enough of it, and growths that are refused.
 
+ghost use Rattle.std.specs.Prelude.{IfOk};
+ghost use Rattle.bgp_prefix.specs.PrefixOrder.{prefix_cmp};
+ghost use Rattle.bgp_rib.specs.Rooms.{HasNoRoom};
+
 use super::*;
+use crate::table::{Table, change};
 use linked_list_allocator::LocalHeap;
+use std::collections::BTreeMap;
+
+/// The changes that put all prefixes of a family that an UPDATE has room for.
+fn announced<A: Allocator + Copy>(
+    rt: &impl Abort,
+    alloc: A,
+    family: Family,
+    mark: u32,
+) -> Result<Changes<A>, AllocError> {
+    let mut put = Vec::new(alloc);
+    put.push(Put {
+        path: path(alloc, mark)?,
+        prefixes: most(rt, alloc, family)?,
+    })?;
+    Ok(Changes {
+        remove: Vec::new(alloc),
+        put,
+    })
+}
 
 #[test]
 fn ample_memory(rt: HostRuntime) -> Result<(), Fail> {
     let alloc = rt.alloc();
     let mut rib = RibIn::new(alloc);
-    rib.apply(&changes(&rt, alloc, &[], &[(1, &["10.0.0.0/8"])])?)?;
+    rib.apply(&announced(&rt, alloc, Family::V6, 6)?)?;
+    rib.apply(&announced(&rt, alloc, Family::V4, 4)?)?;
+    assert_eq!(rt; rib.len(), 2026);
+    let both = [(Family::V4, 4), (Family::V6, 6)];
+    assert!(rt; are_most(&rt, &rib, &both));
     let copy = rib.copy()?;
     assert!(rt; copy == rib);
-    assert_eq!(rt; copy.len(), 1);
+    assert!(rt; are_most(&rt, &copy, &both));
+    rib.apply(&Changes {
+        remove: most(&rt, alloc, Family::V4)?,
+        put: Vec::new(alloc),
+    })?;
+    assert!(rt; are_most(&rt, &rib, &[(Family::V6, 6)]));
+    assert!(rt; are_most(&rt, &copy, &both));
     Ok(())
 }
 
@@ -74,7 +108,8 @@ fn ballast<'a>(
     Ok(pieces)
 }
 
-/// Whether a change was done with so many octets left. Refused it leaves all, and again, with memory, it is done.
+/// Whether a change was done with so many octets left. Refused it leaves all, and again, with
+/// memory, it is done.
 fn applies<'a>(
     rt: &impl Abort,
     heap: &'a LocalHeap,
@@ -99,7 +134,8 @@ fn applies<'a>(
     Ok(is_done)
 }
 
-/// Whether a copy was made with so many octets left. Refused it leaves all, and again, with memory, it is equal.
+/// Whether a copy was made with so many octets left. Refused it leaves all, and again, with memory,
+/// it is equal.
 fn copies<'a>(
     rt: &impl Abort,
     heap: &'a LocalHeap,
@@ -148,9 +184,9 @@ fn a_refused_growth_changes_nothing(rt: HostRuntime) -> Result<(), Fail> {
     let mut met = [Met::default(); 2];
     for step in 0..128 {
         let ample = LocalHeap::new(rt.alloc(), 1 << 16)?;
-        let one = LocalHeap::new(rt.alloc(), 1 << 12)?;
+        let one = LocalHeap::new(rt.alloc(), 1 << 13)?;
         met[0].note(applies(&rt, &one, &ample, 16 * step)?);
-        let other = LocalHeap::new(rt.alloc(), 1 << 12)?;
+        let other = LocalHeap::new(rt.alloc(), 1 << 13)?;
         met[1].note(copies(&rt, &other, &ample, 16 * step)?);
     }
     for met in met {
@@ -160,14 +196,139 @@ fn a_refused_growth_changes_nothing(rt: HostRuntime) -> Result<(), Fail> {
     Ok(())
 }
 
+/// So many routes, from the first on, each to the prefix of its number.
+fn routes_from<'a>(
+    rt: &impl Abort,
+    heap: &'a LocalHeap,
+    first: u32,
+    count: u32,
+) -> Result<Vec<(Prefix, u32), &'a LocalHeap>, Fail> {
+    let mut routes = Vec::new(heap);
+    for index in first..first.saturating_add(count) {
+        routes.push((nth(rt, Family::V4, index), index))?;
+    }
+    Ok(routes)
+}
+
+/// A table of the first so many routes.
+fn table_of<'a>(
+    rt: &impl Abort,
+    heap: &'a LocalHeap,
+    ample: &'a LocalHeap,
+    count: u32,
+) -> Result<Table<u32, &'a LocalHeap>, Fail>
+    ensures full { IfOk result (λ table. HasNoRoom prefix_cmp table.entries) }
+{
+    let mut table = BTreeMap::new(heap);
+    change(ample, &mut table, &[], routes_from(rt, ample, 0, count)?)?;
+    Ok(table)
+}
+
+/// Whether a change is done of a table of so many routes: it takes the first away, and puts so many
+/// behind the last. Nothing more can be had for the table, or else for the log of the change, and
+/// where that is wanted the table stays.
+fn changes_without<'a>(
+    rt: &impl Abort,
+    one: &'a LocalHeap,
+    ample: &'a LocalHeap,
+    (count, more): (u32, u32),
+    is_for_log: bool,
+) -> Result<bool, Fail> {
+    let (log, kept) = if is_for_log {
+        (one, ample)
+    } else {
+        (ample, one)
+    };
+    let mut table = table_of(rt, kept, ample, count)?;
+    let same = table_of(rt, ample, ample, count)?;
+    let put = routes_from(rt, ample, count, more)?;
+    let ballast = ballast(one, ample, 0)?;
+    let is_done = change(log, &mut table, &[nth(rt, Family::V4, 0)], put).is_ok();
+    drop(ballast);
+    assert!(rt; is_done || table == same, "what was refused left a trace");
+    Ok(is_done)
+}
+
+// A leaf of the map has 15 entries, so an empty map grows at its first route, and one of 14 at the
+// second: what is written by then, and what is taken away, has to be written back.
 #[test]
-fn a_table_is_made_and_emptied_without_memory(rt: HostRuntime) -> Result<(), Fail> {
-    let heap = LocalHeap::new(rt.alloc(), 1 << 14)?;
-    let mut rib = RibIn::new(&heap);
+fn each_growth_of_a_change_may_be_refused(rt: HostRuntime) -> Result<(), Fail> {
+    let cases = [
+        ((0, 1), false, false),
+        ((14, 1), false, true),
+        ((14, 2), false, false),
+        ((15, 1), false, false),
+        ((15, 1), true, false),
+    ];
+    for (sizes, is_for_log, is_done) in cases {
+        let ample = LocalHeap::new(rt.alloc(), 1 << 15)?;
+        let one = LocalHeap::new(rt.alloc(), 1 << 12)?;
+        assert_eq!(rt;
+            changes_without(&rt, &one, &ample, sizes, is_for_log)?,
+            is_done
+        );
+    }
+    Ok(())
+}
+
+/// A known prefix is put where there is nothing left of a heap: the map has room for its route, but
+/// the list of the change's routes is refused.
+fn refuses_the_list<'a>(
+    rt: &impl Abort,
+    heap: &'a LocalHeap,
+    ample: &'a LocalHeap,
+) -> Result<(), Fail> {
+    let again = changes(rt, ample, &[], &[(4, &["10.0.0.0/8"])])?;
+    let mut rib = RibIn::new(heap);
+    rib.apply(&before(rt, ample)?)?;
+    let ballast = ballast(heap, ample, 0)?;
+    assert!(rt; rib.apply(&again).is_err());
+    drop(ballast);
+    let told = [("10.0.0.0/8", 1), ("10.1.0.0/16", 1), ("2001:db8::/32", 1)];
+    assert!(rt; are(rt, rib.routes(), &told));
+    Ok(())
+}
+
+#[test]
+fn the_list_of_routes_may_be_refused(rt: HostRuntime) -> Result<(), Fail> {
+    let ample = LocalHeap::new(rt.alloc(), 1 << 15)?;
+    let heap = LocalHeap::new(rt.alloc(), 1 << 12)?;
+    refuses_the_list(&rt, &heap, &ample)
+}
+
+/// Makes tables, asks them and empties them where there is nothing left of their heap.
+fn needs_no_memory<'a>(
+    rt: &impl Abort,
+    heap: &'a LocalHeap,
+    ample: &'a LocalHeap,
+) -> Result<(), Fail> {
+    let mut rib = RibIn::new(heap);
+    let mut other = RibIn::new(heap);
     assert_eq!(rt; heap.used(), 0);
-    rib.disable(Family::V4);
+    rib.apply(&then(rt, ample)?)?;
+    other.apply(&before(rt, ample)?)?;
+    let ballast = ballast(heap, ample, 0)?;
+    let used = heap.used();
+    assert!(rt; rib != other);
+    assert_eq!(rt; rib.len(), 10);
+    assert!(rt; rib.routes().next().is_some());
+    assert!(rt; rib.routes_without(NONE).next().is_some());
+    assert!(rt; !rib.disabled().v4 && !rib.disabled().v6);
+    assert_eq!(rt; heap.used(), used);
+    rib.disable(Family::V6);
+    assert_eq!(rt; rib.len(), 9);
+    assert!(rt; heap.used() <= used);
     rib.clear();
-    assert!(rt; rib == RibIn::new(&heap));
+    other.clear();
+    assert!(rt; rib == RibIn::new(heap));
+    drop(ballast);
     assert_eq!(rt; heap.used(), 0);
     Ok(())
+}
+
+#[test]
+fn a_table_is_made_asked_and_emptied_without_memory(rt: HostRuntime) -> Result<(), Fail> {
+    let ample = LocalHeap::new(rt.alloc(), 1 << 16)?;
+    let heap = LocalHeap::new(rt.alloc(), 1 << 13)?;
+    needs_no_memory(&rt, &heap, &ample)
 }

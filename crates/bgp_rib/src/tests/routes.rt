@@ -2,7 +2,7 @@
 
 use super::*;
 use bgp_open::{Config, ConfigParts, Link, negotiate, read_open};
-use bgp_prefix::{Address, Session};
+use bgp_prefix::Session;
 use bgp_update::read_update;
 use bgp_wire::vectors::OPEN_B;
 
@@ -58,16 +58,14 @@ fn ipv4_comes_first_then_addresses_then_lengths(rt: HostRuntime) -> Result<(), F
         ("2001:db8::/48", 7),
         ("ff00::/8", 7),
     ];
-    let (no_v4, no_v6) = (
-        Families {
-            v4: true,
-            v6: false,
-        },
-        Families {
-            v4: false,
-            v6: true,
-        },
-    );
+    let no_v4 = Families {
+        v4: true,
+        v6: false,
+    };
+    let no_v6 = Families {
+        v4: false,
+        v6: true,
+    };
     assert!(rt; are(&rt, rib.routes_without(no_v6), &v4));
     assert!(rt; are(&rt, rib.routes_without(no_v4), &v6));
     let mut all = Vec::from_slice(rt.alloc(), &v4)?;
@@ -198,19 +196,62 @@ fn an_announcement_without_attributes_withdraws(rt: HostRuntime) -> Result<(), F
     Ok(())
 }
 
+/// Three attributes of 20 octets: ORIGIN IGP, an AS_PATH of AS 65002 and NEXT_HOP 192.0.2.2
+/// (RFC 4271, 4.3).
+const ATTRIBUTES: [u8; 20] =
+    *b"\x40\x01\x01\x00\x40\x02\x06\x02\x01\x00\x00\xfd\xea\x40\x03\x04\xc0\x00\x02\x02";
+
+/// The path that they tell of.
+fn told_path(alloc: Global) -> Result<Path, Fail> {
+    let numbers = Vec::from_slice(alloc, &[65002])?;
+    let mut as_path = AsPath::new(alloc);
+    as_path.push(Segment::new(SegmentKind::Sequence, numbers).ok_or(AllocError)?)?;
+    let parts = PathParts {
+        origin: Origin::Igp,
+        as_path,
+        next_hop: NextHop::V4(0xc000_0202),
+        multi_exit_disc: None,
+        local_pref: None,
+        atomic_aggregate: false,
+        aggregator: None,
+        communities: Items::new(alloc),
+        originator_id: None,
+        cluster_list: Items::new(alloc),
+        extended_communities: Items::new(alloc),
+    };
+    Ok(Path::new(alloc, parts)?)
+}
+
 // RFC 4271, 4.3: the same prefix in both fields is to be taken as not withdrawn.
 #[test]
 fn an_update_that_withdraws_and_announces_a_prefix_announces_it(
     rt: HostRuntime,
 ) -> Result<(), Fail> {
     let mut rib = RibIn::new(rt.alloc());
-    let update =
-        b"\x00\x2f\x02\x00\x02\x08\x0a\x00\x14\x40\x01\x01\x00\x40\x02\x06\x02\x01\x00\x00\xfd\xea\x40\x03\x04\xc0\x00\x02\x02\x08\x0a";
-    apply_update(&rt, &mut rib, update)?;
+    let mut update = Vec::from_slice(rt.alloc(), b"\x00\x2f\x02\x00\x02\x08\x0a\x00\x14")?;
+    update.extend_from_slice(&ATTRIBUTES)?;
+    update.extend_from_slice(b"\x08\x0a")?;
+    apply_update(&rt, &mut rib, &update)?;
     assert_eq!(rt; rib.len(), 1);
     for (found, path) in rib.routes() {
         assert!(rt; *found == prefix(&rt, "10.0.0.0/8"));
-        assert!(rt; path.parts().next_hop == NextHop::V4(0xc000_0202));
+        assert!(rt; *path == told_path(rt.alloc())?);
     }
+    Ok(())
+}
+
+// RFC 4271, 4.1: a message has at most 4096 octets. This one has 4095.
+#[test]
+fn all_routes_of_a_long_update_are_put(rt: HostRuntime) -> Result<(), Fail> {
+    let mut update = Vec::from_slice(rt.alloc(), b"\x0f\xff\x02\x00\x00\x00\x14")?;
+    update.extend_from_slice(&ATTRIBUTES)?;
+    for prefix in most(&rt, rt.alloc(), Family::V4)? {
+        prefix.write(&mut update)?;
+    }
+    assert_eq!(rt; update.len(), 4095 - 16);
+    let mut rib = RibIn::new(rt.alloc());
+    apply_update(&rt, &mut rib, &update)?;
+    assert!(rt; are_most(&rt, &rib, &[(Family::V4, 0)]));
+    assert_eq!(rt; rib.len(), 1013);
     Ok(())
 }

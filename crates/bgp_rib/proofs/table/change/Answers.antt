@@ -1,8 +1,34 @@
-use Rattle.std.proofs.Common.{All, subst}
-use Rattle.std.specs.BTreeMap.{ContainsKey}
+use Rattle.std.proofs.Common.{sym, subst, ap, ◌∙◌}
+use Rattle.std.proofs.Math.Logic.{⊎_elim}
+use Rattle.std.proofs.lemmas.List.Elements.{All-nil}
 use Rattle.bgp_prefix.specs.PrefixOrder.{prefix_cmp}
+use Rattle.bgp_rib.specs.Rooms.{routes_in, route_to, undone, HasRoom, HasEach}
+use Rattle.bgp_rib.proofs.MapLaws.{one_map}
+use Rattle.bgp_rib.proofs.PrefixKeys.{prefixes_total, exact_prefixes}
+use Rattle.bgp_rib.proofs.RoomLemmas.{found_route, ordered_routes}
+use Rattle.bgp_rib.proofs.Turns.{among}
 use Rattle.bgp_rib.proofs.table.change.Goals as goal
 
-pub replace-requires-clause-room : goal.replace-requires-clause-room
-replace-requires-clause-room g c =
-    subst (All (λ e. ContainsKey prefix_cmp c.reserve.new.table e.0)) c.deref.ensures.value c.in_ok-reserve.ensures.room
+pub undo-requires : goal.undo-requires
+undo-requires g c = record {
+  noted = c.write_all.ensures.noted (subst (λ l. HasEach l c.args.table.now.entries) (sym c.in_ok-log.ensures.items) (All-nil _));
+}
+
+pub returns-then-is_err-clause-err : goal.returns-then-is_err-clause-err
+returns-then-is_err-clause-err g c =
+    let ds = c.args.table.now.entries in
+    let es = c.undo.new.table.entries in
+    one_map prefixes_total exact_prefixes (routes_in es) (routes_in ds)
+    (ordered_routes prefixes_total exact_prefixes es c.undo.ensures.ordered)
+    (ordered_routes prefixes_total exact_prefixes ds c.len.ensures.ordered)
+    (λ q. found_route prefixes_total exact_prefixes q es c.undo.ensures.ordered
+    ∙ c.undo.ensures.back q
+    ∙ c.write_all.ensures.back q
+    ∙ ap (λ l. undone l (route_to ds) q) c.in_ok-log.ensures.items
+    ∙ sym (found_route prefixes_total exact_prefixes q ds c.len.ensures.ordered))
+
+pub returns-clause-full : goal.returns-clause-full
+returns-clause-full g c = λ q h.
+    ⊎_elim (c.requires.full q)
+    (λ t. among (λ p. HasRoom prefix_cmp c.sweep_all.new.table.entries p → ⊥) c.args.remove.now q c.sweep_all.ensures.swept t h)
+    (c.write_all.ensures.rooms q (c.sweep_all.ensures.rooms q h))

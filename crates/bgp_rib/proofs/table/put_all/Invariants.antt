@@ -1,8 +1,7 @@
-use Rattle.std.proofs.Common.{◌≡◌, All}
-use Rattle.std.specs.BTreeMap.{ContainsKey}
+use Rattle.std.proofs.Common.{◌≡◌}
 use Rattle.bgp_prefix.specs.Prefix.{PrefixBits}
 use Rattle.bgp_prefix.specs.PrefixOrder.{prefix_cmp}
-use Rattle.bgp_rib.specs.Rooms.{routes_in, HasRoom}
+use Rattle.bgp_rib.specs.Rooms.{routes_in, HasRoom, LeadsBack, HasEach}
 use Rattle.bgp_rib.specs.Routes.{entries_with}
 use Rattle.bgp_rib.proofs.table.put_all.Given as goal
 
@@ -11,7 +10,7 @@ invariant-loop-prefix g l = record {
   can_next : (goal.iterator-loop-prefix g).can_next l.prefix-iterator;
   is_finite : (goal.iterator-loop-prefix g).is_finite l.prefix-iterator;
   routes : routes_in l.table.entries ≡ entries_with l.yielded (routes_in l.fn.table.entries);
-  others : (q : PrefixBits) → ContainsKey prefix_cmp l.fn.table q → ContainsKey prefix_cmp l.table q;
   rooms : (q : PrefixBits) → HasRoom prefix_cmp l.table.entries q → HasRoom prefix_cmp l.fn.table.entries q;
-  filled : All (λ e. HasRoom prefix_cmp l.table.entries e.0 → ⊥) l.yielded;
+  back : LeadsBack l.log.items l.table.entries l.fn.log.items l.fn.table.entries;
+  noted : HasEach l.fn.log.items l.fn.table.entries → HasEach l.log.items l.table.entries;
 }
