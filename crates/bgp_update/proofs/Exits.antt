@@ -1,5 +1,6 @@
 -- What `read_update` answers at each of its exits is the set of all outcomes.
-use Rattle.std.proofs.Common.{◌≡◌, ◌↔◌, ◌⊎◌, ◌++◌, ℕ, List, [], Bool, true, false, None, Some, IsTrue, MatchBool, refl, sym, subst, inl, inr}
+use Rattle.std.proofs.Common.{◌≡◌, ◌∙◌, ◌↔◌, ◌⊎◌, ◌++◌, ℕ, List, [], Bool, true, false, None, Some, IsTrue, MatchBool, refl, sym, subst, inl, inr}
+use Rattle.std.proofs.lemmas.Bool.{cases_Bool}
 use Rattle.bgp_prefix.specs.declared.family.Family.{Family}
 use Rattle.bgp_open.specs.declared.families.Families.{Families}
 use Rattle.bgp_open.specs.declared.link.Link.{Link}
@@ -62,7 +63,7 @@ module _ (link : Link) (octets : List ℕ) (s : Sections) (is : IsUpdate octets 
 
   pub applied : {X : Type 0} (o : Outcomes X) (c : Changes X) → ¬ HasReset (found link s) → o.changes ≡ Some c
       → AreChanges (found link s) (withdrawals link (found link s)) (announcements link (found link s) (attributes_of s.attributes)) (changes_value c)
-      → ((f : Family) → IsTrue (contains o.certain f) ↔ IsCertain (found link s) f) → ((f : Family) → IsTrue (contains o.optional f) ↔ IsOptional (found link s) f)
+      → ((f : Family) → IsTrue (contains o.certain f) ↔ IsCertain (found link s) f) → ((f : Family) → IsTrue (contains o.optional f) ↔ (IsOptional (found link s) f × ¬ IsCertain (found link s) f))
       → ((n : ℕ) → HasSubcode o.reset n ↔ IsMereSubcode (found link s) n)
       → (x : Outcome) → Allows o x ↔ IsOutcome link octets x
   applied o c none some are certain optional mere (Applied d f) = (
@@ -74,11 +75,14 @@ module _ (link : Link) (octets : List ℕ) (s : Sections) (is : IsUpdate octets 
         rw some (same_changes (found link s) _ _ d (changes_value c) b.1 are, enabled b.2),
   )
     where
+      unsure : (g : Family) → contains o.certain g ≡ false → ¬ IsTrue (contains o.certain g)
+      unsure g off is = absurd (let e = sym off ∙ is in cc)
+
       disabled : IsDisabled (λ f. IsTrue (contains o.certain f)) (λ f. IsTrue (contains o.optional f)) f → IsDisabled (IsCertain (found link s)) (IsOptional (found link s)) f
-      disabled h g = (λ is_certain. (h g).0 ((certain g).1 is_certain), λ on. elim ((h g).1 on) [ inl e ↦ inl ((certain g).0 e) | inr e ↦ inr ((optional g).0 e) ])
+      disabled h g = (λ is_certain. (h g).0 ((certain g).1 is_certain), λ on. elim ((h g).1 on) [ inl e ↦ inl ((certain g).0 e) | inr e ↦ inr ((optional g).0 e).0 ])
 
       enabled : IsDisabled (IsCertain (found link s)) (IsOptional (found link s)) f → IsDisabled (λ f. IsTrue (contains o.certain f)) (λ f. IsTrue (contains o.optional f)) f
-      enabled h g = (λ is_certain. (h g).0 ((certain g).0 is_certain), λ on. elim ((h g).1 on) [ inl e ↦ inl ((certain g).1 e) | inr e ↦ inr ((optional g).1 e) ])
+      enabled h g = (λ is_certain. (h g).0 ((certain g).0 is_certain), λ on. elim ((h g).1 on) [ inl e ↦ inl ((certain g).1 e) | inr e ↦ elim (cases_Bool (contains o.certain g)) [ inl sure ↦ inl sure | inr off ↦ inr ((optional g).1 (e, λ is. unsure g off ((certain g).1 is))) ] ])
   applied o c none some are certain optional mere (Reset n) = (
     λ a. (by_split (Reset n)).0 (inr ((mere n).0 a)),
     λ u. elim ((by_split (Reset n)).1 u) [ inl r ↦ absurd (none (n, r)) | inr m ↦ (mere n).1 m ],

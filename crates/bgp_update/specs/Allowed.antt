@@ -1,6 +1,9 @@
 -- The outcomes that a value of `Outcomes` stands for.
-use Rattle.std.specs.Prelude.{◌≡◌, List, [], Option, None, Some, IsTrue, MatchOption}
+use Rattle.std.specs.Prelude.{◌≡◌, ◌≤◌, List, [], length, Option, None, Some, IsTrue, IsFalse}
+use Rattle.std.specs.Prelude.{MatchOption}
 use Rattle.std.specs.List.{flat_map}
+use Rattle.bgp_prefix.specs.declared.family.Family.{Family}
+use Rattle.bgp_open.specs.declared.families.Families.{Families}
 use Rattle.bgp_open.specs.Families.{contains}
 use Rattle.bgp_update.specs.declared.outcomes.Changes.{Changes}
 use Rattle.bgp_update.specs.declared.outcomes.Outcomes.{Outcomes}
@@ -31,3 +34,12 @@ Allows o (Applied changes disabled) =
     MatchOption o.changes ⊥ (λ c. (changes ≡ changes_value c)
     × IsDisabled (λ f. IsTrue (contains o.certain f))
     (λ f. IsTrue (contains o.optional f)) disabled)
+
+-- no family is both certain and optional
+abbrev pub AreApart : Families → Families → Type 0
+AreApart certain optional =
+    (family : Family) → IsTrue (contains optional family) → IsFalse (contains certain family)
+
+-- the routes of the NLRI field are one group at most, and those of MP_REACH_NLRI another
+abbrev pub HasTwoGroups : {X : Type 0} → Changes X → Type 0
+HasTwoGroups changes = length changes.put.items ≤ 2

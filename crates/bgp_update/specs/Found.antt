@@ -1,5 +1,5 @@
 -- What the fields of an UPDATE come to, before it is decided what to do about it: the facts that
--- the rules of `MpFaults` and `Faults` speak of.
+-- the rules of `MpFaults`, `WithdrawFaults` and `ResetFaults` speak of.
 use Rattle.std.specs.Prelude.{ℕ, ◌==◌, ◌&&◌, Bool, true, false, not, List, [], ◌∷◌, Option, Some}
 use Rattle.std.specs.Prelude.{is_some, if◌then◌else◌}
 use Rattle.std.specs.List.{list_any}

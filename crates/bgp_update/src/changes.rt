@@ -1,12 +1,17 @@
 //! What an UPDATE changes where it is applied (RFC 4271, 3.1; RFC 7606, 2).
 
-ghost use Rattle.std.specs.Prelude.{◌≡◌, ◌++◌, IfOk, OnOk, List};
+ghost use Rattle.std.specs.Prelude.{◌≡◌, ◌≤◌, ◌+◌, ◌++◌, IfOk, OnOk, List, length};
 ghost use Rattle.std.specs.List.{flat_map};
 ghost use Rattle.bgp_attr.specs.declared.types.AttrType.TheVariants as types;
 ghost use Rattle.bgp_attr.specs.Field.{Attribute};
 ghost use Rattle.bgp_attr.specs.First.{first_at, first_by_type, value_by_type};
 ghost use Rattle.bgp_attr.specs.PathFrom.{next_hop_from, path_from};
-ghost use Rattle.bgp_update.specs.Allowed.{changes_value, group_routes, put_routes};
+ghost use Rattle.bgp_update.specs.Allowed.{
+  HasTwoGroups,
+  changes_value,
+  group_routes,
+  put_routes,
+};
 ghost use Rattle.bgp_update.specs.Changes.{
   AreChanges,
   announcements,
@@ -43,10 +48,11 @@ pub(crate) fn changes_of<A: Allocator + Copy>(
     link: &Link,
     found: &Survey<'_>,
 ) -> Result<Changes<A>, AllocError>
-    ensures { IfOk result (λ changes. (attributes : List Attribute)
+    ensures are { IfOk result (λ changes. (attributes : List Attribute)
         → first_at found.now.first ≡ first_by_type attributes
         → AreChanges (found_by found.now) (withdrawals link.now (found_by found.now))
         (announcements link.now (found_by found.now) attributes) (changes_value changes)) }
+    ensures groups { IfOk result HasTwoGroups }
 {
     let mut remove = Vec::new(alloc);
     push_withdrawn(&mut remove, link, found)?;
@@ -122,11 +128,12 @@ fn push_base_routes<A: Allocator + Copy>(
     link: &Link,
     found: &Survey<'_>,
 ) -> Result<(), AllocError>
-    ensures { OnOk result (flat_map put_routes put.new.items ≡ flat_map put_routes put.old.items
-        ++ routes_with (path_from (side_of link.now)
+    ensures routes { OnOk result (flat_map put_routes put.new.items
+        ≡ flat_map put_routes put.old.items ++ routes_with (path_from (side_of link.now)
         (value_by_type (side_of link.now) (first_at found.now.first))
         (next_hop_from (value_by_type (side_of link.now) (first_at found.now.first) types.NextHop)))
         (base_prefixes link.now (prefixes_of V4 found.now.nlri.now))) }
+    ensures groups { OnOk result (length put.new.items ≤ length put.old.items + 1) }
 {
     if !link.families.contains(Family::V4) {
         return Ok(());
@@ -144,11 +151,12 @@ fn push_mp_routes<A: Allocator + Copy>(
     link: &Link,
     found: &Survey<'_>,
 ) -> Result<(), AllocError>
-    ensures { OnOk result (flat_map put_routes put.new.items ≡ flat_map put_routes put.old.items
-        ++ routes_with (path_from (side_of link.now)
+    ensures routes { OnOk result (flat_map put_routes put.new.items
+        ≡ flat_map put_routes put.old.items ++ routes_with (path_from (side_of link.now)
         (value_by_type (side_of link.now) (first_at found.now.first))
         (mp_hop (state_of found.now.reach.state)))
         (mp_prefixes (state_of found.now.reach.state))) }
+    ensures groups { OnOk result (length put.new.items ≤ length put.old.items + 1) }
 {
     let MpState::Sound(family, contents) = found.reach.state else {
         return Ok(());
@@ -209,8 +217,9 @@ fn push_group<A: Allocator>(
     put: &mut Vec<Put<A>, A>,
     group: Option<Put<A>>,
 ) -> Result<(), AllocError>
-    ensures { OnOk result (flat_map put_routes put.new.items
+    ensures routes { OnOk result (flat_map put_routes put.new.items
         ≡ flat_map put_routes put.old.items ++ group_routes group) }
+    ensures groups { OnOk result (length put.new.items ≤ length put.old.items + 1) }
 {
     if let Some(group) = group {
         put.push(group)?;

@@ -36,14 +36,14 @@ impl Survey<'_> {
         }
     }
 
-    /// The families that an Apply may disable.
+    /// The families that an Apply may disable, and needn't.
     pub(crate) fn optional_families(&self) -> Families
-        ensures { (family : Family)
-            → IsTrue (contains result family) ↔ IsOptional (found_by self.now) family }
+        ensures { (family : Family) → IsTrue (contains result family)
+            ↔ (IsOptional (found_by self.now) family × ¬ IsCertain (found_by self.now) family) }
     {
         Families {
-            v4: self.is_optional(Family::V4),
-            v6: self.is_optional(Family::V6),
+            v4: self.is_optional(Family::V4) && !self.is_certain(Family::V4),
+            v6: self.is_optional(Family::V6) && !self.is_certain(Family::V6),
         }
     }
 }

@@ -23,7 +23,8 @@ pub struct Put<A: Allocator = Global> {
 pub struct Changes<A: Allocator = Global> {
     /// The prefixes to remove.
     pub remove: Vec<Prefix, A>,
-    /// The routes to put, as groups: those of the NLRI field and those of MP_REACH_NLRI.
+    /// The routes to put, as groups, two at most: those of the NLRI field and those of
+    /// MP_REACH_NLRI.
     pub put: Vec<Put<A>, A>,
 }
 
@@ -34,9 +35,9 @@ pub struct Changes<A: Allocator = Global> {
 pub struct Outcomes<A: Allocator = Global> {
     /// What it changes wherever it is applied; `None` where the session has to be reset.
     pub changes: Option<Changes<A>>,
-    /// The families that are disabled wherever it is applied.
+    /// The families that are disabled wherever it is applied; none where it isn't.
     pub certain: Families,
-    /// The families that may be disabled, or not, where it is applied.
+    /// The other families that may be disabled, or not, where it is applied.
     pub optional: Families,
     /// The subcodes of UPDATE Message Error by which the session may be reset, instead or because
     /// it has to.

@@ -1,7 +1,8 @@
 //! Reading an UPDATE.
 
-ghost use Rattle.std.specs.Prelude.{◌≡◌, ◌↔◌, None, IfOk, IsOk};
-ghost use Rattle.bgp_update.specs.Allowed.{Allows};
+ghost use Rattle.std.specs.Prelude.{◌≡◌, ◌↔◌, None, IfOk, IfSome, IfNone, IsOk};
+ghost use Rattle.bgp_update.specs.Allowed.{Allows, AreApart, HasTwoGroups};
+ghost use Rattle.bgp_update.specs.Laws.{no_families};
 ghost use Rattle.bgp_update.specs.Outcome.{Outcome, IsOutcome, IsOnlyReset};
 
 use crate::changes::changes_of;
@@ -24,6 +25,15 @@ pub fn read_update<A: Allocator + Copy>(
 ) -> Result<Outcomes<A>, AllocError>
     ensures exact { IfOk result (λ outcomes. (x : Outcome)
         → Allows outcomes x ↔ IsOutcome link.now octets.now x) }
+
+    // The value has nothing twice: no family is named twice, none where nothing is applied, and
+    // prefixes share their path.
+    ensures apart { IfOk result (λ outcomes. AreApart outcomes.certain outcomes.optional) }
+    ensures certain { IfOk result (λ outcomes. IfNone outcomes.changes
+        (outcomes.certain ≡ no_families)) }
+    ensures optional { IfOk result (λ outcomes. IfNone outcomes.changes
+        (outcomes.optional ≡ no_families)) }
+    ensures groups { IfOk result (λ outcomes. IfSome outcomes.changes HasTwoGroups) }
 
     // It doesn't answer that memory was refused where the only outcome is a reset.
     ensures memory { IsOnlyReset link.now octets.now → IsOk result }
@@ -49,6 +59,8 @@ pub fn read_update<A: Allocator + Copy>(
 /// The session has to be reset, with one of these subcodes.
 fn only_reset<A: Allocator>(reset: Subcodes) -> Outcomes<A>
     ensures changes { result.changes ≡ None }
+    ensures certain { result.certain ≡ no_families }
+    ensures optional { result.optional ≡ no_families }
     ensures reset { result.reset ≡ reset }
 {
     let none = Families {

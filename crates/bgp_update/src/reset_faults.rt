@@ -90,7 +90,8 @@ impl Survey<'_> {
         }
     }
 
-    /// A fault asks for more than to discard an attribute. ATOMIC_AGGREGATE and AGGREGATOR apart.
+    /// MP_UNREACH_NLRI is broken, or there is a withdraw-class fault other than the class of an
+    /// ATOMIC_AGGREGATE or AGGREGATOR.
     fn has_fault_that_hides(&self) -> bool
         ensures { IsTrue result ↔ (IsBroken (mp_found_by self.now.unreach)
             ⊎ IsTrue self.now.pass.classes.plain_withdraw ⊎ HasFormFault (found_by self.now)) }

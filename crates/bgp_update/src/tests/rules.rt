@@ -289,6 +289,21 @@ fn broken_mp_attribute(rt: HostRuntime) -> Result<(), Fail> {
                     ..APPLIES_NOTHING
                 },
             ),
+            // What is disabled for sure isn't merely optional, though its bits are in conflict too.
+            announcing(
+                &[
+                    &[0x80, 0x0e, 0x05, 0x00, 0x02, 0x01, 0x10, 1],
+                    &[0xc0, 0x0f, 0x03, 0x00, 0x02, 0x01],
+                    &ORIGIN,
+                    &AS_PATH,
+                ],
+                &[],
+                Allowed {
+                    certain: V6,
+                    reset: &ANY,
+                    ..APPLIES_NOTHING
+                },
+            ),
         ],
     )
 }
@@ -355,7 +370,7 @@ fn missing_attributes(rt: HostRuntime) -> Result<(), Fail> {
             announcing(&[&ORIGIN, &AS_PATH], &TEN, removes_ten(&[])),
             announcing(&[&MP_REACH, &AS_PATH], &[], withdraws_v6()),
             announcing(&[&MP_REACH, &ORIGIN], &[], withdraws_v6()),
-            // A wrong value isn't missing, and NEXT_HOP isn't needed for MP_REACH_NLRI.
+            // NEXT_HOP isn't needed for MP_REACH_NLRI.
             announcing(
                 &[&MP_REACH, &ORIGIN, &AS_PATH],
                 &[],

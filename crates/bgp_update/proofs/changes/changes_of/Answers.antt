@@ -7,8 +7,8 @@ use Rattle.bgp_update.specs.Surveyed.{found_by}
 use Rattle.bgp_update.proofs.Routes.{withdrawn_changes, sound_changes, from_nothing, appended, never, base_by, mp_by}
 use Rattle.bgp_update.proofs.changes.changes_of.Goals as goal
 
-pub returns-then-has_withdraw_fault : goal.returns-then-has_withdraw_fault
-returns-then-has_withdraw_fault g c = λ attributes e.
+pub returns-then-has_withdraw_fault-clause-are : goal.returns-then-has_withdraw_fault-clause-are
+returns-then-has_withdraw_fault-clause-are g c = λ attributes e.
     let x = found_by c.args.found.now in
     withdrawn_changes x (withdrawals c.args.link.now x) (announcements c.args.link.now x attributes) c.push_withdrawn.new.out.items c.push_announced.new.out.items _
     (c.has_withdraw_fault.ensures.0 c.if-has_withdraw_fault.true)
@@ -16,12 +16,12 @@ returns-then-has_withdraw_fault g c = λ attributes e.
     (c.in_ok-push_announced.ensures attributes)
     (ap (flat_map put_routes) c.new-put.ensures.items)
 
-pub returns : goal.returns
-returns g c = λ attributes e.
+pub returns-clause-are : goal.returns-clause-are
+returns-clause-are g c = λ attributes e.
     let x = found_by c.args.found.now in
     let link = c.args.link.now in
     sound_changes x (withdrawals link x) (base_by link x (first_by_type attributes)) (mp_by link x (first_by_type attributes)) c.push_withdrawn.new.out.items (flat_map put_routes c.push_base_routes.new.put.items) (flat_map put_routes c.push_mp_routes.new.put.items)
     (λ fault. absurd (never (c.has_withdraw_fault.ensures.1 fault) c.if-has_withdraw_fault.false))
     (from_nothing _ _ _ _ c.in_ok-push_withdrawn.ensures c.new-remove.ensures.items refl)
-    (from_nothing _ _ _ _ c.in_ok-push_base_routes.ensures (ap (flat_map put_routes) c.new-put.ensures.items) (ap (base_by link x) e))
-    (appended _ _ _ _ c.in_ok-push_mp_routes.ensures (ap (mp_by link x) e))
+    (from_nothing _ _ _ _ c.in_ok-push_base_routes.ensures.routes (ap (flat_map put_routes) c.new-put.ensures.items) (ap (base_by link x) e))
+    (appended _ _ _ _ c.in_ok-push_mp_routes.ensures.routes (ap (mp_by link x) e))

@@ -36,8 +36,8 @@ returns-clause-exact g c =
     let r = subst (λ (x : Found). (n : ℕ) → HasSubcode c.reset_subcodes-resets.result n ↔ IsResetSubcode x n) e c.reset_subcodes-resets.ensures in
     let m = subst (λ (x : Found). (n : ℕ) → HasSubcode c.mere_subcodes-mere.result n ↔ IsMereSubcode x n) e c.mere_subcodes-mere.ensures in
     let certain = subst (λ (x : Found). (f : Family) → IsTrue (contains c.certain_families.result f) ↔ IsCertain x f) e c.certain_families.ensures in
-    let optional = subst (λ (x : Found). (f : Family) → IsTrue (contains c.optional_families.result f) ↔ IsOptional x f) e c.optional_families.ensures in
-    let are = subst (λ (x : Found). AreChanges x (withdrawals c.args.link.now x) (announcements c.args.link.now x (attributes_of s.attributes)) (changes_value c.in_ok-changes.changes)) e (c.in_ok-changes.ensures (attributes_of s.attributes) c.survey_of-found.ensures.first) in
+    let optional = subst (λ (x : Found). (f : Family) → IsTrue (contains c.optional_families.result f) ↔ (IsOptional x f × ¬ IsCertain x f)) e c.optional_families.ensures in
+    let are = subst (λ (x : Found). AreChanges x (withdrawals c.args.link.now x) (announcements c.args.link.now x (attributes_of s.attributes)) (changes_value c.in_ok-changes.changes)) e (c.in_ok-changes.ensures.are (attributes_of s.attributes) c.survey_of-found.ensures.first) in
     applied c.args.link.now c.args.octets.now s c.in-Some.ensures.some
     (record { changes = Some c.in_ok-changes.changes; certain = c.certain_families.result; optional = c.optional_families.result; reset = c.mere_subcodes-mere.result })
     c.in_ok-changes.changes
