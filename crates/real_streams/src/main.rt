@@ -1,11 +1,19 @@
-//! Decodes the streams of real routers that lie in the folder where it runs, one after another.
+//! Decodes the streams of real routers that lie in the folder where it runs, one after another, and
+//! tells of each whether its UPDATEs are clean.
+//!
+//! Given the name of a file, it reads that file as a stream and counts the outcomes of its UPDATEs.
 #![tactic(auto)]
+
+mod outcomes;
+mod sessions;
 
 use bgp_tool::{Status, decode_raw};
 use mrt::{FromRead, FromWrite};
+use outcomes::print_outcomes;
+use sessions::print_sessions;
 use std::process::ExitCode;
-use std::rt::Files;
-use std::{fs, io};
+use std::rt::{Env, Files};
+use std::{env, fs, io};
 
 /// The streams by session and direction; `examples/README.md` tells what the sessions are.
 const STREAMS: [&str; 14] = [
@@ -26,13 +34,26 @@ const STREAMS: [&str; 14] = [
 ];
 
 fn main(rt: HostRuntime) -> ExitCode {
-    for name in STREAMS {
-        if let Err(error) = print_stream(&rt, name) {
-            let _ = eprintln!(rt; "{name}: {error}");
-            return ExitCode::from(Status::Device.code());
+    match run(&rt) {
+        Ok(true) => ExitCode::SUCCESS,
+        Ok(false) => ExitCode::FAILURE,
+        Err(error) => {
+            let _ = eprintln!(rt; "{error}");
+            ExitCode::from(Status::Device.code())
         }
     }
-    ExitCode::SUCCESS
+}
+
+/// Decodes all streams, or reads the one that is named. Answers whether all UPDATEs are clean.
+fn run<R: Files + Env + Print + AllocGlobal>(rt: &R) -> io::Result<bool> {
+    if let Some(name) = env::args(rt)?.nth(1) {
+        print_outcomes(rt, name.as_str())?;
+        return Ok(true);
+    }
+    for name in STREAMS {
+        print_stream(rt, name)?;
+    }
+    print_sessions(rt)
 }
 
 /// Prints a stream's name, its text, and the status that decoding it answers.
