@@ -1,0 +1,24 @@
+#!/usr/bin/env bash
+# How fast UPDATEs are read into their outcomes, as a ratio to `md5sum` over the same octets: the
+# UPDATEs of the mix of bench/decode.sh alone, read in blocks. Wants bash, coreutils and the program
+# that `rt run` built in crates/real_streams/out/real_streams. Prints figures; it is no test.
+set -euo pipefail
+
+here=$(cd "$(dirname "$0")" && pwd)
+. "$here/measure.sh"
+. "$here/mix.sh"
+program=${1:-$here/../crates/real_streams/out/real_streams}
+[[ -x $program ]] ||
+    { echo "build the program first: (cd crates/real_streams && rt run)" >&2; exit 1; }
+
+work=$(mktemp -d)
+trap 'rm -rf "$work"' EXIT
+
+printf "$(updates)" > "$work/updates"
+"$program" "$work/updates"
+grow "$work/updates" 200000000
+
+read=$(best "$program" "$work/updates")
+md5=$(best md5sum "$work/updates")
+echo "updates: $(stat -c %s "$work/updates") octets, cores: $(nproc)"
+echo "read into outcomes: $read ms, md5sum: $md5 ms, ratio: $((read * 100 / md5))/100"
