@@ -1,9 +1,10 @@
 //! Files and standard streams as readers and writers of `bgp_tool`'s calls.
 
-use bgp_tool::{Outcome, decode_opened};
+use bgp_prefix::Session;
+use bgp_tool::{Outcome, decode_opened, decode_opened_capture};
 use mrt::FromWrite;
 use std::fs::OpenFile;
-use std::io::ErrorKind;
+use std::io::{BufReader, ErrorKind};
 use std::rt::Files;
 use std::{fs, io};
 
@@ -17,6 +18,30 @@ pub fn decode<R: Files + Input + Print + Eprint + AllocGlobal>(rt: &R, file: &st
     };
     tell(rt, &outcome);
     outcome.status
+}
+
+/// Runs `decode --mrt` on a file, or on standard input for `-`, and answers the exit status. The
+/// file is read through a buffer, since a record is asked for in two pieces.
+pub fn decode_capture<R: Files + Input + Print + Eprint + AllocGlobal>(
+    rt: &R,
+    session: &Session,
+    file: &str,
+) -> u8 {
+    let mut sink = FromWrite::new(io::writer(rt));
+    let outcome = if file == "-" {
+        let reader = BufReader::new(rt.alloc(), rt.reader());
+        decode_opened_capture(rt.alloc(), session, file, reader, &mut sink)
+    } else {
+        let reader = buffered(rt, file);
+        decode_opened_capture(rt.alloc(), session, file, reader, &mut sink)
+    };
+    tell(rt, &outcome);
+    outcome.status
+}
+
+/// Opens a file to read through a buffer.
+fn buffered<R: Files + AllocGlobal>(rt: &R, file: &str) -> io::Result<BufReader<R::File>> {
+    BufReader::new(rt.alloc(), open(rt, file)?)
 }
 
 /// Opens a file to read, and refuses a folder, which can be opened and not read.

@@ -4,6 +4,7 @@ use Rattle.bgp_prefix.specs.declared.session.Session.{Session}
 use Rattle.mrt.specs.declared.fault.CaptureFault.{CaptureFault}
 use Rattle.mrt.specs.declared.sink.Sink as sinks
 use Rattle.mrt.specs.Progress.{failures_of}
+use Rattle.mrt.specs.Reader.{ReaderState}
 use Rattle.bgp_tool.specs.declared.lines.Lines.{Lines}
 use Rattle.bgp_tool.specs.Outlet.{IsKept}
 use Rattle.bgp_tool.specs.Lines.{Writes}
@@ -20,15 +21,16 @@ sticky failures old new left held false after kept is = absurd (cc)
 
 module _ {R W : Type 0} {sinks' : sinks.Ghosts W} (law : Joins sinks') (gives : R → R → List ℕ → Type 0) (has_ended : R → Bool) (counts : R → ℕ)
     (session : Session) (source source' : R) (lines middle lines' : Lines W sinks') (sink sink' : W) (fresh : IsFresh lines)
-    (first : lines.outlet.sink.now ≡ sink) (last : sink' ≡ lines'.outlet.sink.now) where
-  pub decodes_capture : (answer : Result (Unit {0}) CaptureFault) (status : ℕ) → PutsRecords gives has_ended session source source' lines middle answer
+    (reader' : ReaderState) (first : lines.outlet.sink.now ≡ sink) (last : sink' ≡ lines'.outlet.sink.now) where
+  pub decodes_capture : (answer : Result (Unit {0}) CaptureFault) (status : ℕ) → PutsRecords gives has_ended session source source' lines middle reader' answer
       → Finishes middle lines' answer status → counts source' ≡ counts source + failures_of answer
-      → DecodesCapture gives has_ended sinks'.takes counts sinks'.failures session source source' sink sink' status
+      → DecodesCapture gives has_ended sinks'.takes counts sinks'.failures session source source' sink sink' reader' status
   decodes_capture answer status puts ends counted =
       let wrote : Writes lines lines' (puts.text ++ last_line_for answer) = and_then law puts.wrote ends.wrote in
       let text = puts.text ++ last_line_for answer in record {
         pieces = puts.pieces;
         rest = puts.rest;
+        knows = puts.knows;
         answer = answer;
         gave = puts.gave;
         each = puts.each;

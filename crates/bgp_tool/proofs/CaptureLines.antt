@@ -1,10 +1,11 @@
 -- The records of a capture, read one after another, and their lines.
-use Rattle.std.proofs.Common.{◌≡◌, ◌∙◌, ℕ, Bool, false, ◌+◌, ◌<◌, List, [], ◌∷◌, ◌++◌, length, refl, sym, ap, subst, arith, inl, inr, append_assoc, append-nil, length-append, Option, None, Result, Ok, Err}
+use Rattle.std.proofs.Common.{◌≡◌, ◌∙◌, ℕ, Bool, false, ◌+◌, ◌<◌, List, [], ◌∷◌, ◌++◌, length, refl, sym, ap, subst, arith, inl, inr, append_assoc, append-nil, length-append, Option, None, Some, Result, Ok, Err}
 use Rattle.bgp_prefix.specs.Shown.{ShownRecord}
 use Rattle.bgp_prefix.specs.declared.session.Session.{Session}
 use Rattle.mrt.specs.declared.record.Record.{Record}
 use Rattle.mrt.specs.declared.fault.CaptureFault.{CaptureFault}
-use Rattle.mrt.specs.Capture.{Piece, Shown, ArePieces, last_of, joined, records_of, shown_of}
+use Rattle.mrt.specs.declared.record.Endpoints.{Endpoints}
+use Rattle.mrt.specs.Capture.{Piece, Other, OtherEnds, Shown, ArePieces, last_of, joined, records_of, shown_of, first_other}
 use Rattle.mrt.specs.Reading.{IsRefused}
 use Rattle.mrt.specs.Reader.{ReaderState, fresh_reader, Answers, Ends, Fails, IsAnswer, NextBy, IsNext}
 use Rattle.mrt.specs.Written.{IsAllowed}
@@ -12,7 +13,7 @@ use Rattle.mrt.proofs.Advancing.{joined_more}
 use Rattle.mrt.proofs.AllowedRecord.{each_allowed}
 use Rattle.mrt.proofs.Chains.{joined_chain, records_chain, last_chain, pieces_chain, one_record, last_piece}
 use Rattle.bgp_tool.specs.Capture.{IsRecordLine, AreRecordLines}
-use Rattle.bgp_tool.specs.CaptureDecoding.{EndsAt}
+use Rattle.bgp_tool.specs.CaptureDecoding.{EndsAt, Knows}
 
 -- one line more
 lines_more : (records : List ShownRecord) (text : List ℕ) (shown : ShownRecord) (line : List ℕ) → AreRecordLines records text → IsRecordLine shown line
@@ -20,6 +21,14 @@ lines_more : (records : List ShownRecord) (text : List ℕ) (shown : ShownRecord
 lines_more [] text shown line are is = (line, [], is, refl, ap (λ (t : List ℕ). t ++ line) are ∙ sym (append-nil line))
 lines_more (one ∷ records) text shown line are is =
     (are.0, are.1 ++ line, are.2, lines_more records are.1 shown line are.3 is, ap (λ (t : List ℕ). t ++ line) are.4 ∙ append_assoc are.0 are.1 line)
+
+-- the first of the addresses, of pieces behind others
+other_chain : (ends : Option Endpoints) (first second : List Piece) → first_other ends (first ++ second) ≡ first_other (first_other ends first) second
+other_chain (Some e) first second = refl
+other_chain None [] second = refl
+other_chain None (Other o ∷ first) second = other_chain None first second
+other_chain None (OtherEnds o ∷ first) second = refl
+other_chain None (Shown o ∷ first) second = other_chain None first second
 
 no_length : (xs : List ℕ) → length xs ≡ 0 → xs ≡ []
 no_length [] none = refl
@@ -36,6 +45,7 @@ module _ {R : Type 0} (gives : R → R → List ℕ → Type 0) (has_ended : R �
     pub gave : gives source now (joined pieces)
     pub passed : state.passed ≡ length (joined pieces)
     pub last : state.last ≡ last_of None pieces
+    pub other : state.other ≡ first_other None pieces
     pub calm : state.fault ≡ None
     pub going : state.is_ended ≡ false
     pub are_lines : AreRecordLines (records_of pieces) text
@@ -47,6 +57,7 @@ module _ {R : Type 0} (gives : R → R → List ℕ → Type 0) (has_ended : R �
     gave = nothing;
     passed = ap (λ (s : ReaderState). s.passed) fresh;
     last = ap (λ (s : ReaderState). s.last) fresh;
+    other = ap (λ (s : ReaderState). s.other) fresh;
     calm = ap (λ (s : ReaderState). s.fault) fresh;
     going = ap (λ (s : ReaderState). s.is_ended) fresh;
     are_lines = refl;
@@ -89,6 +100,11 @@ module _ {R : Type 0} (gives : R → R → List ℕ → Type 0) (has_ended : R �
   last_behind now state text so_far more =
       ap (λ (l : Option ℕ). last_of l more) so_far.last ∙ sym (last_chain None so_far.pieces more)
 
+  other_behind : (now : R) (state : ReaderState) (text : List ℕ) (so_far : SoFar now state text) (more : List Piece)
+      → first_other state.other more ≡ first_other None (so_far.pieces ++ more)
+  other_behind now state text so_far more =
+      ap (λ (o : Option Endpoints). first_other o more) so_far.other ∙ sym (other_chain None so_far.pieces more)
+
   given_behind : (now next : R) (state : ReaderState) (text : List ℕ) (so_far : SoFar now state text) (more : List Piece) → gives now next (joined more)
       → gives source next (joined (so_far.pieces ++ more))
   given_behind now next state text so_far more given =
@@ -112,6 +128,7 @@ module _ {R : Type 0} (gives : R → R → List ℕ → Type 0) (has_ended : R �
         gave = given_behind now next state text so_far more answer.exactly;
         passed = ap (λ (s : ReaderState). s.passed) answer.stands ∙ count_behind now state text so_far more;
         last = ap (λ (s : ReaderState). s.last) answer.stands ∙ last_behind now state text so_far more;
+        other = ap (λ (s : ReaderState). s.other) answer.stands ∙ other_behind now state text so_far more;
         calm = ap (λ (s : ReaderState). s.fault) answer.stands ∙ so_far.calm;
         going = ap (λ (s : ReaderState). s.is_ended) answer.stands ∙ so_far.going;
         are_lines = subst (λ (r : List ShownRecord). AreRecordLines r (text ++ line)) (sym records)
@@ -126,19 +143,24 @@ module _ {R : Type 0} (gives : R → R → List ℕ → Type 0) (has_ended : R �
       (sym (records_chain so_far.pieces more ∙ ap (λ (r : List ShownRecord). records_of so_far.pieces ++ r) only ∙ append-nil (records_of so_far.pieces))) so_far.are_lines
 
   -- how it ends
-  pub record Stops {X : Type 0} (next : R) (text : List ℕ) (answer : Result X CaptureFault) : Type 0 where
+  pub record Stops {X : Type 0} (next : R) (after : ReaderState) (text : List ℕ) (answer : Result X CaptureFault) : Type 0 where
     pub pieces : List Piece
     pub rest : List ℕ
+    pub knows : Knows after pieces
     pub gave : gives source next (joined pieces ++ rest)
     pub each : ArePieces session None pieces
     pub ends : EndsAt has_ended session next pieces rest answer
     pub are_lines : AreRecordLines (records_of pieces) text
 
   pub stops_at_end : {X : Type 0} (x : X) (now next : R) (state after : ReaderState) (text : List ℕ) → SoFar now state text
-      → Ends gives has_ended session now next state after → Stops next text (Ok x)
+      → Ends gives has_ended session now next state after → Stops next after text (Ok x)
   stops_at_end x now next state after text so_far ends = record {
     pieces = so_far.pieces ++ ends.skipped;
     rest = [];
+    knows = (
+      ap (λ (s : ReaderState). s.last) ends.stands ∙ last_behind now state text so_far ends.skipped,
+      ap (λ (s : ReaderState). s.other) ends.stands ∙ other_behind now state text so_far ends.skipped,
+    );
     gave = subst (λ (o : List ℕ). gives source next o) (sym (append-nil (joined (so_far.pieces ++ ends.skipped)))) (given_behind now next state text so_far ends.skipped ends.exactly);
     each = behind now next state text so_far ends.skipped ends.pieces;
     ends = (refl, ends.ended);
@@ -153,10 +175,14 @@ module _ {R : Type 0} (gives : R → R → List ℕ → Type 0) (has_ended : R �
       let long = length-append xs rest in no_length rest (omega arith)
 
   pub stops_at_fault : {X : Type 0} (now next : R) (state after : ReaderState) (text : List ℕ) (fault : CaptureFault) → SoFar now state text
-      → Fails gives has_ended session now next state after fault → Stops {X = X} next text (Err fault)
+      → Fails gives has_ended session now next state after fault → Stops {X = X} next after text (Err fault)
   stops_at_fault now next state after text fault so_far fails = record {
     pieces = so_far.pieces ++ fails.skipped;
     rest = fails.rest;
+    knows = (
+      ap (λ (s : ReaderState). s.last) fails.stands ∙ last_behind now state text so_far fails.skipped,
+      ap (λ (s : ReaderState). s.other) fails.stands ∙ other_behind now state text so_far fails.skipped,
+    );
     gave = subst (λ (o : List ℕ). gives source next o)
         (sym (append_assoc (joined so_far.pieces) (joined fails.skipped) fails.rest) ∙ ap (λ (o : List ℕ). o ++ fails.rest) (sym (joined_chain so_far.pieces fails.skipped)))
         (gives_joined source now next (joined so_far.pieces) (joined fails.skipped ++ fails.rest) so_far.gave fails.taken);

@@ -14,6 +14,7 @@ pub mod WholeTexts
 pub mod CaptureMessages
 pub mod CaptureLines
 pub mod CaptureDecoded
+pub mod DecodeValues
 pub mod SpelledCommand
 pub mod Fronts
 pub mod FaultRows

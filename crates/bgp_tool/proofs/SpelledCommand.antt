@@ -1,5 +1,5 @@
 -- The command that a parse met, by its name and its values; and the words of `decode`.
-use Rattle.std.proofs.Common.{rules, ◌≡◌, ◌≢◌, ◌∙◌, ℕ, List, [], ◌∷◌, Option, Some, None, Result, Ok, Err, refl, sym, ap, ap₂, subst, inl, inr, true, false, Bool, codes, option_map}
+use Rattle.std.proofs.Common.{rules, ◌≡◌, ◌≢◌, ◌∙◌, ℕ, List, [], ◌∷◌, length, arith, Option, Some, None, Result, Ok, Err, refl, sym, ap, ap₂, subst, inl, inr, true, false, Bool, codes, option_map}
 use Rattle.std.specs.Prelude.{MatchResult, IfErr, IsErr, IsErrAnd, ◌⊎◌, Box, slice_get, unwrap_or, if◌then◌else◌, ◌==◌}
 use Rattle.std.specs.Box.{box_value}
 use Rattle.std.specs.Str.{bytes_eq}
@@ -18,8 +18,9 @@ use Rattle.clap.specs.declared.parser.matches.ArgMatches.TheViews.{out-SubComman
 use Rattle.clap.specs.declared.parser.matches.SubCommand.{SubCommand}
 use Rattle.clap.proofs.OnLiterals.{clap_on_literals}
 use Rattle.bgp_tool.specs.declared.words.Command.{Command}
-use Rattle.bgp_tool.specs.declared.words.Command.TheVariants.{Decode}
-use Rattle.bgp_tool.specs.Words.{program_words, IsUsed, Names, NamesDecode, IsFileWord, IsDecode, IsDecodeOf, IsDecodeOrMemory}
+use Rattle.bgp_prefix.specs.declared.session.Session.{Session}
+use Rattle.bgp_tool.specs.declared.words.Command.TheVariants.{Decode, Capture}
+use Rattle.bgp_tool.specs.Words.{program_words, IsStream, IsCapture, IsCommand, IsUsed, Names, NamesDecode, IsFileWord, IsDecode, IsDecodeOf, IsDecodeOrMemory}
 
 -- the name of a met subcommand is that of its rows
 pub same_name : {Z : Type 0} (o : Option (Box SubCommand Z))
@@ -42,12 +43,23 @@ module _ (name : Text) (values : List Row → Type 0) (rows : List Row) where
 pub one_file : (used : Option (Text × List Row)) (file : Text) (command : Command)
     → NamesDecode file used → Names used command → IsDecodeOf file command
 one_file None file (Decode name) first second = absurd first
-one_file (Some p) file (Decode name) first second = same_Some _ _ (sym second.1 ∙ first.1)
+one_file (Some p) file (Decode name) first second =
+    let (_first, is) = first in
+    let (_second, also) = second in
+    let (here, _mrt, _peer, _local) = is in
+    let (there, _mrt, _peer, _local) = also in same_Some _ _ (sym there ∙ here)
+one_file None file (Capture session name) first second = absurd first
+one_file (Some p) file (Capture session name) first second =
+    let (_first, is) = first in
+    let (_second, also) = second in
+    let (_here, not_mrt, _peer, _local) = is in
+    let (_there, mrt, _peer, _local, _refresh) = also in absurd (not_mrt mrt)
 
--- where no file is named, no command is
-pub unspelled : (used : Option (Text × List Row)) (command : Command) → ((file : Text) → NamesDecode file used → ⊥)
-    → Names used command → ⊥
-unspelled used (Decode file) none named = none file.now named
+-- where the values of `decode` are neither, no command is named
+pub uncommanded : (rows : List Row) (command : Command) → ((file : Text) → IsStream file rows → ⊥)
+    → ((session : Session) (file : Text) → IsCapture session file rows → ⊥) → IsCommand command rows → ⊥
+uncommanded rows (Decode file) no_stream no_capture is = no_stream file.now is
+uncommanded rows (Capture session file) no_stream no_capture is = no_capture session file.now is
 
 -- an error that is handed on
 pub handed_on : {T E : Type 0} (r : Result T E) (e : E) (P : E → Type 0) → IsErrAnd r (λ y. y ≡ e) → P e → IfErr r P
@@ -87,17 +99,21 @@ abbrev pub IsSpelled : List Text → Text → Type 0
 IsSpelled words file =
     (fault_of program_words words ≡ []) × NamesDecode file (subcommand_of program_words words)
 
+-- the flag isn't given
+no_flag : Some (codes "false") ≡ Some (codes "true") → ⊥
+no_flag same = let bad : 102 ≡ 116 = ap (λ (o : Option Text). unwrap_or (slice_get (unwrap_or o []) 0) 0) same in absurd (omega (arith, bad))
+
 pub behind_dashes : (name file : Text) → IsSpelled (name ∷ codes "decode" ∷ codes "--" ∷ file ∷ []) file
 unfolding clap_on_literals
-behind_dashes name file = (refl, (refl, refl))
+behind_dashes name file = (refl, (refl, (refl, no_flag, refl, refl)))
 
 pub a_dash : (name : Text) → IsSpelled (name ∷ codes "decode" ∷ codes "-" ∷ []) (codes "-")
 unfolding clap_on_literals
-a_dash name = (refl, (refl, refl))
+a_dash name = (refl, (refl, (refl, no_flag, refl, refl)))
 
 pub no_word : (name : Text) → IsSpelled (name ∷ codes "decode" ∷ [] ∷ []) []
 unfolding clap_on_literals
-no_word name = (refl, (refl, refl))
+no_word name = (refl, (refl, (refl, no_flag, refl, refl)))
 
 -- what `decode` reads, once the program is built
 abbrev decode_shape : Shape
@@ -124,8 +140,8 @@ module _ (w : Text) where
       (or_else (defaults_fault (settled decode_shape.rules (held_after m)).rows decode_shape.rules)
       (check_fault decode_shape (finished decode_shape.rules (held_after m)) false))))
 
-  abbrev file_by : Held × Step → Option Text
-  file_by m = first_of (codes "FILE") (finished decode_shape.rules (held_after m))
+  abbrev stream_by : Held × Step → Type 0
+  stream_by m = IsStream w (finished decode_shape.rules (held_after m))
 
   -- the fault of the whole, by that of `decode`
   abbrev whole_by : Kinds → Kinds
@@ -154,9 +170,9 @@ module _ (w : Text) where
     unfolding clap_on_literals
     level_passes = refl
 
-    file_is : file_by (nothing_held, value) ≡ Some w
+    stream_is : stream_by (nothing_held, value)
     unfolding clap_on_literals
-    file_is = refl
+    stream_is = (refl, no_flag, refl, refl)
 
     whole_passes : (name : Text) → fault_of program_words (name ∷ codes "decode" ∷ w ∷ [])
         ≡ whole_by (level_fault decode_shape [] nothing_held (w ∷ []) false [])
@@ -167,7 +183,7 @@ module _ (w : Text) where
     unfolding clap_on_literals
     none_above = refl
 
-    named_so : (name : Text) → file_by word_is ≡ Some w
+    named_so : (name : Text) → stream_by word_is
         → NamesDecode w (subcommand_of program_words (name ∷ codes "decode" ∷ w ∷ []))
     unfolding clap_on_literals
     named_so name is = (refl, is)
@@ -175,7 +191,7 @@ module _ (w : Text) where
     pub plain_word_spells : (name : Text) → IsSpelled (name ∷ codes "decode" ∷ w ∷ []) w
     plain_word_spells name = (
       whole_passes name ∙ ap whole_by (by_level ∙ ap₂ level_by met_as none_wrong ∙ level_passes) ∙ none_above,
-      named_so name (ap file_by met_as ∙ file_is),
+      named_so name (subst (λ (m : Held × Step). stream_by m) (sym met_as) stream_is),
     )
 
 pub a_word : (name : Text) (x : ℕ) (xs : Text) → (x == 45) ≡ false

@@ -3,6 +3,8 @@ use Rattle.std.specs.Prelude.{◌≡◌, ◌⊎◌, ◌++◌, ◌+◌, ℕ, Bool
 use Rattle.std.specs.Prelude.{None, Result, Ok, Err, IsOk}
 use Rattle.bgp_prefix.specs.declared.session.Session.{Session}
 use Rattle.mrt.specs.Capture.{Piece, ArePieces, IsBegun, joined, last_of, records_of}
+use Rattle.mrt.specs.Capture.{first_other}
+use Rattle.mrt.specs.Reader.{ReaderState}
 use Rattle.mrt.specs.Progress.{failures_of}
 use Rattle.mrt.specs.Reading.{IsRefused}
 use Rattle.mrt.specs.declared.fault.CaptureFault.{CaptureFault}
@@ -47,14 +49,21 @@ module _ {R : Type 0} (has_ended : R → Bool) (session : Session) where
       ⊎ ((fault.kind ≡ kinds.Device) × IsBegun rest)
       ⊎ ((fault.kind ≡ kinds.Memory) × (rest ≡ [])))
 
+-- The reader tells the second of the session's last record, if there was one, and the addresses of
+-- the first record that was skipped for its addresses.
+abbrev pub Knows : ReaderState → List Piece → Type 0
+Knows reader pieces =
+    (reader.last ≡ last_of None pieces) × (reader.other ≡ first_other None pieces)
+
 -- What was given is pieces of a capture and a rest, and the lines of the pieces' records were put.
 -- They are read to where the octets end, or until the sink has failed.
 pub record PutsRecords {R W X : Type 0} {sink : sinks.Ghosts W} (gives : R → R → List ℕ → Type 0)
     (has_ended : R → Bool) (session : Session) (source source' : R) (lines lines' : Lines W sink)
-    (answer : Result X CaptureFault) : Type 0 where
+    (reader' : ReaderState) (answer : Result X CaptureFault) : Type 0 where
   pub pieces : List Piece
   pub rest : List ℕ
   pub text : List ℕ
+  pub knows : Knows reader' pieces
   pub gave : gives source source' (joined pieces ++ rest)
   pub each : ArePieces session None pieces
   pub ends : EndsAt has_ended session source' pieces rest answer
@@ -67,9 +76,11 @@ pub record PutsRecords {R W X : Type 0} {sink : sinks.Ghosts W} (gives : R → R
 -- all of it, if the sink didn't fail, and then the status is that of how the octets end, and else 5.
 pub record DecodesCapture {R W : Type 0} (gives : R → R → List ℕ → Type 0) (has_ended : R → Bool)
     (takes : W → W → List ℕ → Type 0) (source_failures : R → ℕ) (failures : W → ℕ)
-    (session : Session) (source source' : R) (sink sink' : W) (status : ℕ) : Type 0 where
+    (session : Session) (source source' : R) (sink sink' : W) (reader' : ReaderState) (status : ℕ)
+    : Type 0 where
   pub pieces : List Piece
   pub rest : List ℕ
+  pub knows : Knows reader' pieces
   pub answer : Result (Unit {0}) CaptureFault
   pub gave : gives source source' (joined pieces ++ rest)
   pub each : ArePieces session None pieces

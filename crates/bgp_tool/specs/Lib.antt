@@ -12,3 +12,4 @@ pub mod Opened
 pub mod Capture
 pub mod CaptureDecoding
 pub mod Words
+pub mod OpenedCapture

@@ -26,7 +26,7 @@ fn put_records<R: Source, W: Sink, A: Allocator + Copy>(
     requires fresh { reader.old ≡ fresh_reader }
     requires failures { R.failures source.old < u64.MAX }
     ensures puts { PutsRecords R.gives R.has_ended session.now source.old source.new
-        lines.old lines.new result }
+        lines.old lines.new reader.new result }
     ensures failures { R.failures source.new ≡ R.failures source.old + failures_of result }
 {
     loop {
@@ -108,7 +108,7 @@ pub fn decode_capture<R: Source, W: Sink, A: Allocator + Copy>(
     requires source { R.failures source.old < 2 ^ 63 }
     requires sink { W.failures sink.old < 2 ^ 63 }
     ensures { DecodesCapture R.gives R.has_ended W.takes R.failures W.failures session.now
-        source.old source.new sink.old sink.new result }
+        source.old source.new sink.old sink.new reader.new result }
 {
     let mut lines = Lines::new(sink);
     let read = put_records(reader, session, source, &mut lines);

@@ -15,6 +15,7 @@ mod laws;
 mod lines;
 mod note;
 mod opened;
+mod opened_capture;
 mod outlet;
 mod status;
 #[cfg(test)]
@@ -29,6 +30,7 @@ pub use headline::text_and_status;
 pub use laws::each_stream_has_one_text;
 pub use note::Note;
 pub use opened::{Outcome, decode_opened};
+pub use opened_capture::decode_opened_capture;
 pub use status::Status;
 pub use text::routes::write_route;
 pub use words::{Command, command_line, words_status};

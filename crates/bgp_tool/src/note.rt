@@ -1,6 +1,7 @@
 //! What the program tells on standard error.
 
 use crate::front::Form;
+use mrt::Endpoints;
 use std::fmt;
 use std::io::ErrorKind;
 
@@ -36,6 +37,13 @@ pub enum Note<'a> {
         file: &'a str,
         /// How many of its octets were read.
         octet: u64,
+    },
+    /// No record of the capture is one of the session.
+    NoSession {
+        /// Its name, or `-` for standard input.
+        file: &'a str,
+        /// The addresses of the first record of another session, if there was one.
+        other: Option<Endpoints>,
     },
     /// The file is no raw stream.
     NoStream {
@@ -75,6 +83,17 @@ impl fmt::Display for Note<'_> {
                 let file = told(file);
                 write!(f, "{file}: memory was refused at octet {octet}")
             }
+            Note::NoSession { file, other } => {
+                let file = told(file);
+                match other {
+                    Some(Endpoints { peer, local }) => write!(
+                        f,
+                        "{file} has no record of this session; its first record of another one \
+                         has the peer {peer} and the local address {local}"
+                    ),
+                    None => write!(f, "{file} has no record of this session"),
+                }
+            }
             Note::NoStream { file, form } => {
                 let file = told(file);
                 write!(f, "{file} {form}")
@@ -91,8 +110,8 @@ impl fmt::Display for Form {
                  Wireshark's \"Follow TCP Stream\" does, and save them raw"
             }
             Form::Mrt => {
-                "seems to be a capture of MRT records, which this program doesn't read: give it \
-                 the raw octets of one direction of a connection"
+                "seems to be a capture of MRT records: name one session of it, as in `bgp decode \
+                 --mrt --peer 192.0.2.2 --local 192.0.2.1 FILE`"
             }
             Form::Text => {
                 "seems to be text: give the raw octets of one direction of a connection, and not \

@@ -112,7 +112,7 @@ fn note_of<'a, R: Read, W: Write>(
 }
 
 /// What to tell of a sink that failed: nothing, where a pipe was closed.
-fn unwritten<'a, W: Write>(sink: &FromWrite<W>) -> Option<Note<'a>>
+pub(crate) fn unwritten<'a, W: Write>(sink: &FromWrite<W>) -> Option<Note<'a>>
     ensures { TellsWriter (writer_state sink.now) result }
 {
     match sink.last_error() {

@@ -103,10 +103,10 @@ fn words_spell_a_command_or_have_a_status(rt: HostRuntime) -> Result<(), Fail> {
 }
 
 /// What help has to tell: the statuses, each form of line with an example, where the manual is.
-const IN_HELP: [&str; 17] = [
+const IN_HELP: [&str; 21] = [
     "\n  0   all octets were whole messages",
     "\n  2   the stream ends inside a message\n",
-    "\n  3   the stream stops being BGP\n",
+    "\n  3   the stream stops being BGP, or the capture is refused\n",
     "\n  4   memory was refused\n",
     "\n  5   a file can't be opened or read, or output can't be written\n",
     "\n  64  the command line is none that the program knows\n",
@@ -118,6 +118,10 @@ const IN_HELP: [&str; 17] = [
     "\n  keepalive\n",
     "rest 10",
     "fault at 19 1/2",
+    "@1500000000 received keepalive\n",
+    "@1500000000 sent notification 6/2 -\n",
+    "@1500000000 change 5 6\n",
+    "capture refused: 1 Truncated at 36\n",
     "A dash stands for nothing.",
     "The manual is README.md",
     "Usage: bgp",
@@ -220,8 +224,8 @@ fn each_note_has_its_words(rt: HostRuntime) -> Result<(), Fail> {
                 file: "a.mrt",
                 form: Form::Mrt,
             },
-            "a.mrt seems to be a capture of MRT records, which this program doesn't read: give it \
-             the raw octets of one direction of a connection",
+            "a.mrt seems to be a capture of MRT records: name one session of it, as in `bgp \
+             decode --mrt --peer 192.0.2.2 --local 192.0.2.1 FILE`",
         ),
         (
             Note::NoStream {

@@ -11,5 +11,5 @@ returns g c =
     let ends = c.finish-status.ensures in
     let same = ends.wrote.same_sink ∙ c.put_records-read.ensures.puts.wrote.same_sink ∙ c.new-lines.ensures.same in
     rw c.code.ensures (decodes_capture law g.R.Source.gives g.R.Source.has_ended g.R.Source.failures c.args.session.now c.args.source.now c.put_records-read.new.source
-    c.new-lines.result c.put_records-read.new.lines c.finish-status.new.lines c.args.sink.now _ fresh c.new-lines.ensures.now (search rules)
+    c.new-lines.result c.put_records-read.new.lines c.finish-status.new.lines c.args.sink.now _ fresh c.put_records-read.new.reader c.new-lines.ensures.now (search rules)
     c.put_records-read.result _ c.put_records-read.ensures.puts ends c.put_records-read.ensures.failures)

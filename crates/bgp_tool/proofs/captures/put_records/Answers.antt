@@ -53,6 +53,7 @@ returns-in-Ok-None-clause-puts g c =
     let stops = stops_at_end g.R.Source.gives g.R.Source.has_ended g.met.R.Source.joined g.R.Source.given_count g.met.R.Source.counted c.args.session.now c.args.source.now {X = Unit {0}} (tt {0}) _ _ _ _ text so is in record {
       pieces = stops.pieces;
       rest = stops.rest;
+      knows = stops.knows;
       text = text;
       gave = stops.gave;
       each = stops.each;
@@ -70,6 +71,7 @@ returns-in-Err-clause-puts g c =
     let stops = stops_at_fault g.R.Source.gives g.R.Source.has_ended g.met.R.Source.joined g.R.Source.given_count g.met.R.Source.counted c.args.session.now c.args.source.now {X = Unit {0}} _ _ _ _ text c.in-Err.fault so is in record {
       pieces = stops.pieces;
       rest = stops.rest;
+      knows = stops.knows;
       text = text;
       gave = stops.gave;
       each = stops.each;
@@ -89,6 +91,7 @@ returns-then-has_failed-clause-puts g c =
     let done = answered g.R.Source.gives g.R.Source.has_ended g.met.R.Source.joined g.R.Source.given_count g.met.R.Source.counted c.args.session.now c.args.source.now _ _ _ _ text line _ so is is_line in record {
       pieces = done.pieces;
       rest = [];
+      knows = (done.last, done.other);
       text = text ++ line;
       gave = subst (λ (o : List ℕ). g.R.Source.gives c.args.source.now c.next_record.new.source o) (sym (append-nil (joined done.pieces))) done.gave;
       each = done.each;

@@ -4,7 +4,7 @@ use Rattle.clap.specs.Kinds.{or_else}
 use Rattle.clap.specs.declared.error.Error.{Error}
 use Rattle.clap.specs.declared.error.kind.ErrorKind.TheVariants.{MissingSubcommand, OutOfMemory}
 use Rattle.bgp_tool.specs.Words.{program_words, word_faults, Names, NamesDecode}
-use Rattle.bgp_tool.proofs.SpelledCommand.{handed_on, memory_handed_on, known_kind, only_memory, one_file, spelled_decode, unspelled}
+use Rattle.bgp_tool.proofs.SpelledCommand.{handed_on, memory_handed_on, known_kind, only_memory, one_file, spelled_decode}
 use Rattle.bgp_tool.proofs.FaultRows.{each_row, fault_handed_on, memory_is_fault, no_row}
 use Rattle.bgp_tool.proofs.words.command_line.Goals as goal
 
@@ -57,15 +57,14 @@ returns-clause-decode g c file is =
     let words = map g.S.AsStr.text c.args.words.now in
     let app = c.in_ok-program.ensures in
     let subs = (c.in_ok-matches.ensures.matches (ap is_simple app)).1 ∙ ap (λ (a : App). subcommand_of a words) app in
-    absurd (c.in-None.ensures.none refl file (subst (NamesDecode file) (sym subs) (spelled_decode words file is).1))
+    absurd (c.in-None.ensures.no_stream refl file (subst (NamesDecode file) (sym subs) (spelled_decode words file is).1))
 
 pub returns-clause-none : goal.returns-clause-none
 returns-clause-none g c other command spelled =
     let words = map g.S.AsStr.text c.args.words.now in
     let app = c.in_ok-program.ensures in
     let subs = (c.in_ok-matches.ensures.matches (ap is_simple app)).1 ∙ ap (λ (a : App). subcommand_of a words) app in
-    unspelled (subcommand_rows_of c.in_ok-matches.matches) command (c.in-None.ensures.none refl)
-    (subst (λ used. Names used command) (sym subs) spelled.1)
+    c.in-None.ensures.none refl command (subst (λ used. Names used command) (sym subs) spelled.1)
 
 pub returns-in_err-matches-clause-rows : goal.returns-in_err-matches-clause-rows
 returns-in_err-matches-clause-rows g c name =

@@ -1,0 +1,57 @@
+#!/usr/bin/env bash
+# How fast `bgp decode --mrt` reads a capture, beside `md5sum` over the same octets and, where it is
+# installed, `bgpdump -m`; and how much memory it needs for a short capture and for a long one. The
+# capture is a recorded session of one second, again and again: 13 records, 71 octets in the mean.
+# Wants bash, coreutils and the program that `rt run` built in crates/bgp/out/bgp. Prints figures; it
+# is no test. Words: the program, if it is another one, and how many octets the long capture has.
+set -euo pipefail
+
+here=$(cd "$(dirname "$0")" && pwd)
+. "$here/measure.sh"
+bgp=${1:-$here/../crates/bgp/out/bgp}
+size=${2:-200000000}
+[[ -x $bgp ]] ||
+    { echo "build the program first: (cd crates/bgp && rt run -- --version)" >&2; exit 1; }
+
+work=$(mktemp -d)
+trap 'rm -rf "$work"' EXIT
+
+session=(decode --mrt --peer 192.0.2.2 --local 192.0.2.1)
+
+# A capture of at least so many octets.
+capture() {
+    cp "$here/../crates/real_captures/data/openbgpd-gobgp.a.up.mrt" "$work/$1"
+    grow "$work/$1" "$2"
+}
+
+capture short 2000000
+capture long "$size"
+
+# The greatest resident memory of a decoding in KiB, looked at once all octets are handed over and
+# before the capture ends.
+peak() {
+    local pid
+    mkfifo "$work/pipe"
+    "$bgp" "${session[@]}" - < "$work/pipe" > /dev/null &
+    pid=$!
+    exec 3> "$work/pipe"
+    cat "$1" >&3
+    sed -n 's/^VmHWM:[^0-9]*\([0-9]*\).*/\1/p' "/proc/$pid/status"
+    exec 3>&-
+    wait "$pid" || true
+    rm "$work/pipe"
+}
+
+echo "cores: $(nproc)"
+decode=$(best "$bgp" "${session[@]}" "$work/long")
+md5=$(best md5sum "$work/long")
+echo "$(stat -c %s "$work/long") octets, decode --mrt: $decode ms, md5sum: $md5 ms," \
+    "decode to md5sum: $((decode * 100 / md5))/100"
+if command -v bgpdump > /dev/null; then
+    dump=$(best bgpdump -m "$work/long")
+    echo "bgpdump -m: $dump ms, bgpdump to decode: $((dump * 100 / decode))/100"
+else
+    echo "bgpdump isn't installed"
+fi
+echo "peak memory: $(peak "$work/short") KiB at $(stat -c %s "$work/short") octets," \
+    "$(peak "$work/long") KiB at $(stat -c %s "$work/long") octets"
