@@ -36,6 +36,7 @@ pub use listing::MOST_STEPS;
 pub use meeting::meets;
 pub use messages::{MessageSteps, message_steps};
 pub use rows::{HiddenRow, ReceivedRow};
+pub use sameness::{same_change, same_head, same_link, same_wants};
 pub use silent::silent_steps;
 pub use state::{Head, HoldTimer, State};
 pub use step::{After, Owed, Routes, Step};

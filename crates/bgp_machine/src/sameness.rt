@@ -1,4 +1,4 @@
-//! Whether two steps are one.
+//! Whether two steps, or two of their parts, are one.
 
 ghost use Rattle.std.specs.Prelude.{◌≡◌, ◌↔◌, IsTrue};
 
@@ -22,7 +22,8 @@ fn same_families(a: Families, b: Families) -> bool
     a == b
 }
 
-fn same_link(a: Link, b: Link) -> bool
+/// Whether both are one link.
+pub fn same_link(a: Link, b: Link) -> bool
     ensures { IsTrue result ↔ (a ≡ b) }
 {
     if a.hold != b.hold {
@@ -37,7 +38,8 @@ fn same_link(a: Link, b: Link) -> bool
     same_families(a.families, b.families)
 }
 
-fn same_head(a: Head, b: Head) -> bool
+/// Whether both are one head.
+pub fn same_head(a: Head, b: Head) -> bool
     ensures { IsTrue result ↔ (a ≡ b) }
 {
     match (a, b) {
@@ -182,7 +184,8 @@ fn same_want(a: Want, b: Want) -> bool
     }
 }
 
-fn same_wants(a: Wants, b: Wants) -> bool
+/// Whether both are the same messages in the same order.
+pub fn same_wants(a: Wants, b: Wants) -> bool
     ensures { IsTrue result ↔ (a ≡ b) }
 {
     match (a, b) {
@@ -204,7 +207,8 @@ fn same_fsm(a: Fsm, b: Fsm) -> bool
     a == b
 }
 
-fn same_change(a: Option<(Fsm, Fsm)>, b: Option<(Fsm, Fsm)>) -> bool
+/// Whether both are one change of state, or none.
+pub fn same_change(a: Option<(Fsm, Fsm)>, b: Option<(Fsm, Fsm)>) -> bool
     ensures { IsTrue result ↔ (a ≡ b) }
 {
     match (a, b) {
