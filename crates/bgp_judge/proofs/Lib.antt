@@ -1,0 +1,11 @@
+pub mod Joining
+pub mod Paying
+pub mod FirstShown
+pub mod OneRecordMore
+pub mod Standing
+pub mod KeptSteps
+pub mod Gaining
+pub mod NextMembers
+pub mod PlainStanding
+pub mod EndLists
+pub mod Verdicts

@@ -1,0 +1,11 @@
+use Rattle.std.proofs.Common.{map, take}
+use Rattle.bgp_machine.specs.Run.{Begins}
+use Rattle.mrt.specs.Reader.{shown_of}
+use Rattle.bgp_judge.proofs.judging.judge_records.Given as goal
+
+-- the tracker stands for the records so far, which begin a run
+abbrev pub invariant-loop-count : goal.invariant-loop-count
+invariant-loop-count g l = record {
+  stands : g.T.Tracker.stands_for l.tracker l.config (map shown_of (take l.count l.records));
+  begins : Begins l.config (map shown_of (take l.count l.records));
+}

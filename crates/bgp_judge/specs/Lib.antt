@@ -1,0 +1,9 @@
+pub mod Member
+pub mod Next
+pub mod Stands
+pub mod Image
+pub mod Unshown
+pub mod Openings
+pub mod Ends
+pub mod Verdict
+pub mod Plain

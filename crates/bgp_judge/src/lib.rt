@@ -1,0 +1,33 @@
+//! The judge: whether a session's records are those of a run of the session machine
+//! (RFC 4271, 8.2.2), exactly: yes, with every possible end; no; or unfinished.
+//!
+//! ```text
+//! match judge_records::<A, PlainTracker<A>>(alloc, &config, &records)? {
+//!     Verdict::Yes(ends) => print(ends),
+//!     Verdict::No(count) => print(count + 1), // the first impossible record
+//!     Verdict::Unfinished => print("unfinished"),
+//! }
+//! ```
+#![tactic(auto)]
+
+mod end;
+mod ending;
+mod judging;
+mod member;
+mod members;
+mod opening;
+mod plain;
+mod tracker;
+mod unshown;
+mod verdict;
+
+pub use end::End;
+pub use judging::judge_records;
+pub use opening::{OpenedSteps, openings};
+pub use plain::PlainTracker;
+pub use tracker::Tracker;
+pub use unshown::{Unshown, pay};
+pub use verdict::Verdict;
+
+#[cfg(test)]
+mod tests;

@@ -1,0 +1,129 @@
+//! The steps that a record opens.
+
+ghost use Rattle.std.specs.Prelude.{◌≡◌, ◌<◌, ◌≤◌, ◌+◌, IfOk, IsErr, MatchOption, length};
+ghost use Rattle.arrayvec.specs.ArrayVec.{array_vec_len};
+ghost use Rattle.bgp_prefix.specs.Shown.{second_of};
+ghost use Rattle.bgp_machine.specs.Listed.{ListsHidden, TakesMemory, changes_of, no_changes};
+ghost use Rattle.bgp_machine.specs.State.{link_at};
+ghost use Rattle.mrt.specs.Reader.{shown_of};
+ghost use Rattle.bgp_judge.specs.Openings.{ListsOpenings, IsOpened, IsOwn, Keeps, unshown_of};
+ghost use Rattle.bgp_judge.specs.Unshown.{PaysNothing};
+
+use crate::unshown::{Unshown, pay};
+use arrayvec::ArrayVec;
+use bgp_machine::{Head, MOST_STEPS, Step, hidden_steps, message_steps};
+use bgp_open::Config;
+use bgp_prefix::Seconds;
+use bgp_update::Changes;
+use mrt::Record;
+use std::alloc::{AllocError, Allocator, Global};
+
+/// The steps that a record opens: it is the first that they show.
+#[derive(Drop)]
+pub struct OpenedSteps<A: Allocator = Global> {
+    /// The steps, with what each has left to show behind the record.
+    pub steps: ArrayVec<Step, MOST_STEPS>,
+    /// The changes of the record's UPDATE, which each step makes whose routes are
+    /// [given](bgp_machine::Routes::Given); `None` where there is no such step.
+    pub changes: Option<Changes<A>>,
+}
+
+/// The step with what is left to show behind the record, if the record opens it.
+fn opened(config: &Config, head: Head, step: Step, shown: &Record<'_>) -> Option<Step>
+    ensures { MatchOption result
+        (PaysNothing config.now (link_at head) (shown_of shown.now) (unshown_of step))
+        (λ left. IsOpened config.now head (shown_of shown.now) step left) }
+{
+    let unshown = Unshown {
+        wants: step.wants,
+        change: step.change,
+    };
+    let left = pay(config, head.link(), unshown, shown)?;
+    Some(Step {
+        wants: left.wants,
+        change: left.change,
+        after: step.after,
+    })
+}
+
+/// Adds the step as the record leaves it, if the record opens it.
+fn add_opened(
+    config: &Config,
+    head: Head,
+    step: Step,
+    shown: &Record<'_>,
+    steps: &mut ArrayVec<Step, MOST_STEPS>,
+)
+    requires { array_vec_len steps.old < 8 }
+    ensures kept { Keeps config.now head (shown_of shown.now) step steps.old.items steps.new.items }
+    ensures count { array_vec_len steps.new ≤ array_vec_len steps.old + 1 }
+{
+    if let Some(left) = opened(config, head, step, shown) {
+        steps.push(left);
+    }
+}
+
+/// Those of a state's own steps that the record opens.
+fn own_openings(
+    config: &Config,
+    head: Head,
+    t: Seconds,
+    steps: &[Step],
+    shown: &Record<'_>,
+) -> ArrayVec<Step, MOST_STEPS>
+    requires few { length steps.now ≤ 8 }
+    requires hidden { ListsHidden config.now head t steps.now }
+    requires own { IsOwn (shown_of shown.now) }
+    requires second { second_of (shown_of shown.now) ≡ t }
+    ensures { ListsOpenings config.now head (shown_of shown.now) no_changes result.items }
+{
+    let mut openings = ArrayVec::new();
+    for step in steps {
+        add_opened(config, head, *step, shown, &mut openings);
+    }
+    openings
+}
+
+/// The steps that the record opens and that aren't about a message.
+fn hidden_openings<A: Allocator>(
+    config: &Config,
+    head: Head,
+    t: Seconds,
+    shown: &Record<'_>,
+) -> OpenedSteps<A>
+    requires own { IsOwn (shown_of shown.now) }
+    requires second { second_of (shown_of shown.now) ≡ t }
+    ensures { ListsOpenings config.now head (shown_of shown.now) (changes_of result.changes)
+        result.steps.items }
+{
+    let steps = hidden_steps(config, head, t);
+    OpenedSteps {
+        steps: own_openings(config, head, t, steps.as_slice(), shown),
+        changes: None,
+    }
+}
+
+/// The steps of a session that a record opens: just those of which it is the first record, with
+/// what each has left to show behind it. Only for an UPDATE received in Established that may be
+/// applied does it take memory.
+pub fn openings<A: Allocator + Copy>(
+    alloc: A,
+    config: &Config,
+    head: Head,
+    shown: &Record<'_>,
+) -> Result<OpenedSteps<A>, AllocError>
+    ensures { IfOk result (λ o. ListsOpenings config.now head (shown_of shown.now)
+        (changes_of o.changes) o.steps.items) }
+{
+    match *shown {
+        Record::In(t, octets) => {
+            let about = message_steps(alloc, config, head, t, octets)?;
+            Ok(OpenedSteps {
+                steps: about.steps,
+                changes: about.changes,
+            })
+        }
+        Record::Out(t, _) => Ok(hidden_openings(config, head, t, shown)),
+        Record::Change(t, _, _) => Ok(hidden_openings(config, head, t, shown)),
+    }
+}

@@ -1,0 +1,127 @@
+//! Memory: enough of it, and growths that are refused.
+
+use super::*;
+use crate::{Tracker, openings};
+use bgp_machine::Head;
+use bgp_wire::vectors::{ANNOUNCES_10, KEEPALIVE, MP_REACH_TRANSITIVE, OPEN_A, OPEN_B};
+use linked_list_allocator::LocalHeap;
+use mrt::Record::{Change, In, Out};
+
+/// A session whose last UPDATE may disable IPv6 or not.
+const TWO_ENDS: [Record<'static>; 10] = [
+    Change(100, 1, 2),
+    Out(100, &OPEN_A),
+    Change(100, 2, 4),
+    In(101, &OPEN_B),
+    Out(101, &KEEPALIVE),
+    Change(101, 4, 5),
+    In(101, &KEEPALIVE),
+    Change(101, 5, 6),
+    In(102, &ANNOUNCES_10),
+    In(103, &MP_REACH_TRANSITIVE),
+];
+
+/// Its ends.
+const ENDS: [Expected<'static>; 2] = [
+    (Fsm::Established, NONE, &["10.0.0.0/8"]),
+    (Fsm::Established, V6, &["10.0.0.0/8"]),
+];
+
+#[test]
+fn ample_memory(rt: HostRuntime) -> Result<(), Fail> {
+    let config = router_a(false)?;
+    let opened = openings(rt.alloc(), &config, Head::Idle, &Change(100, 1, 2))?;
+    assert_eq!(rt; opened.steps.len(), 1);
+    let mut tracker: PlainTracker<Global> = PlainTracker::start(rt.alloc(), &config)?;
+    for shown in &TWO_ENDS {
+        assert!(rt; tracker.take(shown)?);
+    }
+    assert_eq!(rt; tracker.ends()?.len(), 2);
+    let verdict = judged(rt.alloc(), &config, &TWO_ENDS)?;
+    assert!(rt; is_yes(&verdict, &ENDS));
+    Ok(())
+}
+
+/// Whether the session was judged with a heap of this size: with less memory there is no verdict.
+fn judges(rt: &impl Abort, alloc: Global, size: usize) -> Result<bool, Fail> {
+    let heap = LocalHeap::new(alloc, size)?;
+    let Ok(verdict) = judged(&heap, &router_a(false)?, &TWO_ENDS) else {
+        return Ok(false);
+    };
+    assert!(rt; is_yes(&verdict, &ENDS));
+    Ok(true)
+}
+
+#[test]
+fn a_refused_growth_gives_no_verdict(rt: HostRuntime) -> Result<(), Fail> {
+    let mut refused = 0;
+    let mut done = 0;
+    for step in 1..256 {
+        if judges(&rt, rt.alloc(), 64 * step)? {
+            done = u32::saturating_add(done, 1);
+        } else {
+            refused = u32::saturating_add(refused, 1);
+        }
+    }
+    assert!(rt; refused > 0, "nothing was refused");
+    assert!(rt; done > 0, "a growth was refused to the end");
+    Ok(())
+}
+
+/// Takes all but so many octets of a heap, in small pieces, so that what is left lies together.
+fn ballast<'a>(
+    heap: &'a LocalHeap,
+    ample: &'a LocalHeap,
+    left: usize,
+) -> Result<Vec<Vec<u8, &'a LocalHeap>, &'a LocalHeap>, AllocError> {
+    let mut pieces = Vec::new(ample);
+    for _ in 0..heap.size() / 16 {
+        if heap.free() <= left {
+            break;
+        }
+        let Ok(piece) = Vec::with_capacity(heap, 16) else {
+            break;
+        };
+        pieces.push(piece)?;
+    }
+    Ok(pieces)
+}
+
+/// Whether the last record was taken with so many octets left. Refused it is taken again, with
+/// memory, and the ends are the same.
+fn takes(rt: &impl Abort, alloc: Global, left: usize) -> Result<bool, Fail> {
+    let ample = LocalHeap::new(alloc, 1 << 16)?;
+    let heap = LocalHeap::new(alloc, 1 << 14)?;
+    let config = router_a(false)?;
+    let mut tracker: PlainTracker<&LocalHeap> = PlainTracker::start(&heap, &config)?;
+    let (last, others) = TWO_ENDS.split_last().ok_or("no record")?;
+    for shown in others {
+        assert!(rt; tracker.take(shown)?);
+    }
+    let ballast = ballast(&heap, &ample, left)?;
+    let taken: Result<_, _> = tracker.take(last);
+    drop(ballast);
+    let is_done = taken.is_ok();
+    if !is_done {
+        assert_eq!(rt; tracker.ends()?.len(), 1);
+        assert!(rt; tracker.take(last)?);
+    }
+    assert!(rt; is_yes(&Verdict::Yes(tracker.ends()?), &ENDS));
+    Ok(is_done)
+}
+
+#[test]
+fn a_refused_record_can_be_taken_again(rt: HostRuntime) -> Result<(), Fail> {
+    let mut refused = 0;
+    let mut done = 0;
+    for step in 0..128 {
+        if takes(&rt, rt.alloc(), 32 * step)? {
+            done = u32::saturating_add(done, 1);
+        } else {
+            refused = u32::saturating_add(refused, 1);
+        }
+    }
+    assert!(rt; refused > 0, "nothing was refused");
+    assert!(rt; done > 0, "a growth was refused to the end");
+    Ok(())
+}

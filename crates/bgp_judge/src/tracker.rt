@@ -1,0 +1,46 @@
+//! What keeps the explanations of a session's records, one record after another.
+
+ghost use Rattle.std.specs.Prelude.{◌↔◌, ◌++◌, ◌∷◌, [], List, IsTrue, IfOk, OnErr, map};
+ghost use Rattle.bgp_prefix.specs.Shown.{ShownRecord};
+ghost use Rattle.bgp_open.specs.declared.config.Config.{Config as TheConfig};
+ghost use Rattle.bgp_machine.specs.Run.{Begins};
+ghost use Rattle.mrt.specs.Reader.{shown_of};
+ghost use Rattle.bgp_judge.specs.Ends.{ListsEnds, end_value};
+
+use crate::end::End;
+use bgp_open::Config;
+use mrt::Record;
+use std::alloc::{AllocError, Allocator};
+
+/// What keeps the explanations of a session's records, one record after another.
+pub trait Tracker<A: Allocator + Copy>: Drop {
+    /// For which configuration and which records it stands, by what it holds now.
+    ghost stands_for: { Self → TheConfig → List ShownRecord → Type 0 };
+
+    /// A tracker that stands for no record.
+    fn start(alloc: A, config: &Config) -> Result<Self, AllocError>
+        ensures { IfOk result (λ tracker. stands_for tracker config.now []) };
+
+    /// Takes one record more, and answers whether the records begin a run of the session machine.
+    /// Where they don't, nothing more is said of the tracker. Refused for memory, it stands for
+    /// what it stood for.
+    fn take(&mut self, shown: &Record<'_>) -> Result<bool, AllocError>
+        ensures alive { (config : TheConfig) (records : List ShownRecord)
+            → stands_for self.old config records
+            → IfOk result (λ alive. IsTrue alive
+            ↔ Begins config (records ++ shown_of shown.now ∷ [])) }
+        ensures next { (config : TheConfig) (records : List ShownRecord)
+            → stands_for self.old config records
+            → IfOk result (λ alive. IsTrue alive
+            → stands_for self.new config (records ++ shown_of shown.now ∷ [])) }
+        ensures err { (config : TheConfig) (records : List ShownRecord)
+            → stands_for self.old config records
+            → OnErr result (stands_for self.new config records) };
+
+    /// All ends of the runs that show just the records, none twice, in the order of their disabled
+    /// families: none, IPv4, IPv6, both.
+    fn ends(&self) -> Result<Vec<End<A>, A>, AllocError>
+        ensures { (config : TheConfig) (records : List ShownRecord)
+            → stands_for self.now config records
+            → IfOk result (λ ends. ListsEnds config records (map end_value ends.items)) };
+}

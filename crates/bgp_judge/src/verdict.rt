@@ -1,0 +1,16 @@
+//! The verdict on a session's records.
+
+use crate::end::End;
+use std::alloc::{Allocator, Global};
+
+/// What is answered of a session's records. Of each list of them one of the three holds.
+#[derive(Drop)]
+pub enum Verdict<A: Allocator = Global> {
+    /// Some run of the session machine shows just the records. These are all the ends of such
+    /// runs, none twice, in the order of their disabled families: none, IPv4, IPv6, both.
+    Yes(Vec<End<A>, A>),
+    /// So many records begin a run, and with the next one they begin none.
+    No(u64),
+    /// The records begin a run, and none shows just them: they stop within a step.
+    Unfinished,
+}
