@@ -215,11 +215,14 @@ fn session_of(peer: &str, local: &str) -> Option<Session>
     })
 }
 
-/// Says that no command was named.
+/// Says that the words of a session are not all there, or not right.
 fn no_command(alloc: Global) -> Result<Error, AllocError>
     ensures { IfOk result (λ error. kind_of error ≡ ErrorKind.MissingSubcommand) }
 {
-    program(alloc)?.error(ErrorKind::MissingSubcommand, "no command was given")
+    program(alloc)?.error(
+        ErrorKind::MissingSubcommand,
+        "--mrt, --peer and --local go together, and both take an address",
+    )
 }
 
 /// The status of words that are no command: 0 where help or the version was asked for.
