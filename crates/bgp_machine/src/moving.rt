@@ -23,7 +23,8 @@ impl<A: Allocator + Copy> State<A> {
     /// was, and called again it does what it would have done.
     pub fn take(&mut self, after: After, changes: Option<&Changes<A>>) -> Result<(), AllocError>
         ensures ok { let given = changes_of (option_copied changes.entry) in
-            OnOk result (state_value self.new ≡ moved (state_value self.old) (turn_of given after)) }
+            OnOk result (state_value self.new
+            ≡ moved (state_value self.old) (turn_of given after)) }
         ensures err { OnErr result (state_value self.new ≡ state_value self.old) }
         ensures memory { IsErr result
             → (families : TheFamilies) × (after.routes ≡ turns.Given families) }
