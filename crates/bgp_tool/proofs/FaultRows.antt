@@ -1,5 +1,5 @@
 -- Each row of words that spell no command.
-use Rattle.std.proofs.Common.{rules, ◌≡◌, ◌∙◌, List, [], ◌∷◌, Result, Ok, Err, All, refl, sym, subst, inl, inr}
+use Rattle.std.proofs.Common.{rules, ◌≡◌, List, [], ◌∷◌, Result, Ok, Err, All, refl, sym, subst, inl, inr}
 use Rattle.std.specs.Prelude.{◌⊎◌, IsErrAnd}
 use Rattle.std.proofs.lemmas.List.Elements.{All-cons, All-nil, All-weaker}
 use Rattle.clap.specs.Words.{Kinds, Text, HasKind, fault_of, kind_of}

@@ -1,5 +1,5 @@
 -- A text that was put into fresh `Lines` and handed over, told by what the sink took.
-use Rattle.std.proofs.Common.{◌≡◌, ◌∙◌, ◌<◌, ◌+◌, [], ℕ, List, Result, Ok, Err, OnOk, OnErr, refl, sym, ap, subst}
+use Rattle.std.proofs.Common.{◌≡◌, ◌∙◌, ◌+◌, [], ℕ, List, Result, Ok, Err, OnOk, OnErr, sym, ap, subst}
 use Rattle.std.specs.Prelude.{IsTrue, IsFalse}
 use Rattle.mrt.specs.declared.failure.Failed.{Failed}
 use Rattle.mrt.specs.declared.sink.Sink as sinks

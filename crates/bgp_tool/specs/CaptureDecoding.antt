@@ -73,7 +73,8 @@ pub record PutsRecords {R W X : Type 0} {sink : sinks.Ghosts W} (gives : R → R
 
 -- What was given is pieces of a capture and a rest, to where the octets end or until the sink has
 -- failed. What was written is a beginning of the lines of the pieces' records and of the last line;
--- all of it, if the sink didn't fail, and then the status is that of how the octets end, and else 5.
+-- all of it, if the sink didn't fail, and then the status is that of how the octets end, and else
+-- 5.
 pub record DecodesCapture {R W : Type 0} (gives : R → R → List ℕ → Type 0) (has_ended : R → Bool)
     (takes : W → W → List ℕ → Type 0) (source_failures : R → ℕ) (failures : W → ℕ)
     (session : Session) (source source' : R) (sink sink' : W) (reader' : ReaderState) (status : ℕ)

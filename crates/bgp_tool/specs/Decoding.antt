@@ -49,6 +49,11 @@ IsBeginning stream text =
     (whole : List ℕ) × (status : ℕ) × IsDecoded stream whole status
     × ((more : List ℕ) × (whole ≡ text ++ more))
 
+-- a beginning of the text of what was read of the stream
+abbrev pub IsBegun : List ℕ → List ℕ → Type 0
+IsBegun stream text =
+    (given : List ℕ) × (left : List ℕ) × (stream ≡ given ++ left) × IsBeginning given text
+
 -- Which device failed: the source or the sink once more, and then the status is 5; or neither, and
 -- then it isn't.
 abbrev pub CountsFailures : ℕ → ℕ → ℕ → ℕ → ℕ → Type 0

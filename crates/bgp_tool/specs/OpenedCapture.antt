@@ -31,8 +31,8 @@ pub record TellsCapture {R W : Type 0} (file : Bor (List ℕ)) (source : ReaderS
       note ≡ Some (Unread file source.given source.last_error)
   pub writer : status ≡ 5 → source.failures ≡ 0 → TellsWriter sink note
 
--- From one state of a writer to another a reader's octets were decoded, from a source that had given
--- nothing, and it is told how that ended.
+-- From one state of a writer to another a reader's octets were decoded, from a source that had
+-- given nothing, and it is told how that ended.
 pub record DecodesOpened {R W : Type 0} (remaining : R → Option (List ℕ))
     (contents : W → Option (List ℕ)) (session : Session) (file : Bor (List ℕ)) (reader : R)
     (old new : WriterState W) (outcome : Outcome) : Type 0 where

@@ -88,8 +88,8 @@ fn hand_over<W: Sink>(lines: &mut Lines<'_, W>, status: Status) -> Status
 /// Decodes a capture of one session: writes one line a record of the session
 /// (`specs/Capture.antt`), and a last one where the capture is refused.
 ///
-/// It reads with a reader that has read nothing, which tells afterwards whether it found a record of
-/// the session; it takes no memory but the reader's.
+/// It reads with a reader that has read nothing, which tells afterwards whether it found a record
+/// of the session; it takes no memory but the reader's.
 ///
 /// Answers the exit status:
 ///

@@ -1,7 +1,7 @@
 //! The page to show: what `decode_raw` promises, with no argument to look up.
 
-ghost use Rattle.std.specs.Prelude.{◌<◌};
-ghost use Rattle.bgp_tool.specs.Decoding.{IsDecoded};
+ghost use Rattle.std.specs.Prelude.{◌<◌, ◌≤◌};
+ghost use Rattle.bgp_tool.specs.Decoding.{IsDecoded, IsBegun};
 
 use crate::decoding::decode_raw;
 use mrt::{MemSink, MemSource};
@@ -11,9 +11,13 @@ use std::alloc::Allocator;
 ///
 /// Where the status is 0, 2 or 3, the text is exactly the lines of the stream's one framing, with
 /// the last line that tells how it ends, and the status says which end it is
-/// ([`each_stream_has_one_text`](crate::each_stream_has_one_text)). Else memory was refused.
+/// ([`each_stream_has_one_text`](crate::each_stream_has_one_text)). Else memory was refused, to the
+/// splitter (4) or to the text (5), and the text is a beginning of that of the octets that were
+/// read.
 pub fn text_and_status<A: Allocator + Copy>(alloc: A, stream: Vec<u8, A>) -> (Vec<u8, A>, u8)
-    ensures { result.1 < 4 → IsDecoded stream.items result.0.items result.1 }
+    ensures text { result.1 < 4 → IsDecoded stream.items result.0.items result.1 }
+    ensures begun { IsBegun stream.items result.0.items }
+    ensures statuses { result.1 ≤ 5 }
 {
     let mut source = MemSource::new(stream);
     let mut sink = MemSink::new(alloc);

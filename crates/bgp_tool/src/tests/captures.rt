@@ -1,5 +1,5 @@
-//! What decoding a capture does where a device fails or memory is refused. Its lines are compared by
-//! the program `real_captures`.
+//! What decoding a capture does where a device fails or memory is refused. Its lines are compared
+//! by the program `real_captures`.
 
 use super::*;
 use crate::{Command, Note, command_line, decode_capture, decode_opened_capture, words_status};

@@ -1,4 +1,4 @@
-use Rattle.std.proofs.Common.{rules, arith, ◌∙◌}
+use Rattle.std.proofs.Common.{rules, arith}
 use Rattle.bgp_tool.proofs.Fronts.{kept_is}
 use Rattle.bgp_tool.proofs.front.WithFront.keep.Goals as goal
 
