@@ -38,7 +38,7 @@ pub enum Note<'a> {
         /// How many of its octets were read.
         octet: u64,
     },
-    /// No record of the capture is one of the session.
+    /// No record of the session was read: the capture has none, or is refused before.
     NoSession {
         /// Its name, or `-` for standard input.
         file: &'a str,
@@ -88,10 +88,10 @@ impl fmt::Display for Note<'_> {
                 match other {
                     Some(Endpoints { peer, local }) => write!(
                         f,
-                        "{file} has no record of this session; its first record of another one \
-                         has the peer {peer} and the local address {local}"
+                        "{file}: no record of this session was read; the first of another one has \
+                         the peer {peer} and the local address {local}"
                     ),
-                    None => write!(f, "{file} has no record of this session"),
+                    None => write!(f, "{file}: no record of this session was read"),
                 }
             }
             Note::NoStream { file, form } => {

@@ -145,14 +145,14 @@ fn a_capture_without_the_session_is_told(rt: HostRuntime) -> Result<(), Fail> {
             exchanged,
             capture.as_slice(),
             Some(Some(first)),
-            "a has no record of this session; its first record of another one has the peer \
+            "a: no record of this session was read; the first of another one has the peer \
              192.0.2.2 and the local address 192.0.2.1",
         ),
         (
             SESSION,
             b"".as_slice(),
             Some(None),
-            "a has no record of this session",
+            "a: no record of this session was read",
         ),
     ] {
         let mut sink = FromWrite::new(Vec::new(rt.alloc()));
