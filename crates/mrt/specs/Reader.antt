@@ -5,7 +5,8 @@ use Rattle.std.specs.Prelude.{◌∷◌, length}
 use Rattle.std.specs.Prelude.{Option, None, Some, Result, Ok, Err, IsTrue, is_some, if◌then◌else◌}
 use Rattle.bgp_prefix.specs.Shown.{ShownRecord, Received, Sent, Changed}
 use Rattle.bgp_prefix.specs.declared.session.Session.{Session}
-use Rattle.mrt.specs.Capture.{Piece, Shown, ArePieces, IsBegun, last_of, joined, records_of, first_other}
+use Rattle.mrt.specs.Capture.{Piece, Shown, ArePieces, IsBegun, last_of, joined, records_of}
+use Rattle.mrt.specs.Capture.{first_other}
 use Rattle.mrt.specs.Capture as capture
 use Rattle.mrt.specs.Fault.{fault_number}
 use Rattle.mrt.specs.Reading.{IsRefused}

@@ -21,8 +21,8 @@ pub(crate) struct Case {
 }
 
 /// Reads a block of lines: `case` and what it teaches; `args` and the words of the command;
-/// `refresh`, where the session may have route refresh; `octets` and a piece of the capture; `>` and
-/// a line that is printed for it; `status` and a number.
+/// `refresh`, where the session may have route refresh; `octets` and a piece of the capture; `>`
+/// and a line that is printed for it; `status` and a number.
 pub(crate) fn read_case(alloc: Global, block: &str) -> io::Result<Case> {
     let mut case = Case {
         session: Session {

@@ -5,8 +5,8 @@ use super::*;
 use bgp_prefix::{Address, Session};
 use bgp_wire::vectors::KEEPALIVE;
 
-/// The first octets of a KEEPALIVE that is sent over IPv6 at second 7, up to its message: Timestamp,
-/// BGP4MP and MESSAGE_AS4_LOCAL, Length; AS numbers; interface index and AFI; peer, local.
+/// The first octets of a KEEPALIVE that is sent over IPv6 at second 7, up to its message:
+/// Timestamp, BGP4MP and MESSAGE_AS4_LOCAL, Length; AS numbers; interface index and AFI; peer, local.
 const SENT: &str = "00000007 00100007 0000003f \
     0000fdea 0000fde9 00000002 \
     20010db8000000000000000000000002 20010db8000000000000000000000001";
