@@ -5,12 +5,12 @@ use Rattle.mrt.specs.declared.fault.CaptureFault.{CaptureFault}
 use Rattle.mrt.specs.declared.sink.Sink as sinks
 use Rattle.mrt.specs.Progress.{failures_of}
 use Rattle.mrt.specs.Reader.{ReaderState}
-use Rattle.bgp_tool.specs.declared.lines.Lines.{Lines}
-use Rattle.bgp_tool.specs.Outlet.{IsKept}
-use Rattle.bgp_tool.specs.Lines.{Writes}
+use Rattle.bgp_text.specs.declared.lines.Lines.{Lines}
+use Rattle.bgp_text.specs.Outlet.{IsKept}
+use Rattle.bgp_text.specs.Lines.{Writes}
 use Rattle.bgp_tool.specs.CaptureDecoding.{PutsRecords, Finishes, DecodesCapture, last_line_for}
-use Rattle.bgp_tool.proofs.Pieces.{Joins, and_then}
-use Rattle.bgp_tool.proofs.Raw.{IsFresh, put_is, nothing_left, none_counted, one_counted}
+use Rattle.bgp_text.proofs.Pieces.{Joins, and_then}
+use Rattle.bgp_text.proofs.Fresh.{IsFresh, put_is, nothing_left, none_counted, one_counted}
 
 -- a sink that has failed stays so
 sticky : {W : Type 0} (failures : W → ℕ) (old new : W) (left held : List ℕ) (before after : Bool) → IsKept failures old new left held before after

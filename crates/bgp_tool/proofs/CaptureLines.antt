@@ -12,7 +12,7 @@ use Rattle.mrt.specs.Written.{IsAllowed}
 use Rattle.mrt.proofs.Advancing.{joined_more}
 use Rattle.mrt.proofs.AllowedRecord.{each_allowed}
 use Rattle.mrt.proofs.Chains.{joined_chain, records_chain, last_chain, pieces_chain, one_record, last_piece}
-use Rattle.bgp_tool.specs.Capture.{IsRecordLine, AreRecordLines}
+use Rattle.bgp_text.specs.Capture.{IsRecordLine, AreRecordLines}
 use Rattle.bgp_tool.specs.CaptureDecoding.{EndsAt, Knows}
 
 -- one line more

@@ -6,11 +6,11 @@ use Rattle.bgp_wire.specs.Framing.{IsShort, IsFaulty, joined}
 use Rattle.bgp_wire.proofs.EachFraming.{each_faults, each_framing}
 use Rattle.bgp_tool.specs.declared.decoding.End.{End}
 use Rattle.bgp_tool.specs.declared.decoding.End.TheVariants as ends
-use Rattle.bgp_tool.specs.Text.{rest_line, fault_line}
+use Rattle.bgp_text.specs.Text.{rest_line, fault_line}
 use Rattle.bgp_tool.specs.Decoding.{lines_of, IsLastLine, IsDecoded, IsSoFar, IsBeginning}
 use Rattle.bgp_tool.specs.Ending.{AreLines, HasText}
 use Rattle.bgp_tool.proofs.LinesOfFrames.{no_lines, more_lines}
-use Rattle.bgp_tool.proofs.EachMessage.{each_say}
+use Rattle.bgp_text.proofs.EachMessage.{each_say}
 
 -- where the last frame ends
 behind_frames : (stream rest lines : List ℕ) → (so_far : AreLines stream rest lines)

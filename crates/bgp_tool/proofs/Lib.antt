@@ -1,17 +1,9 @@
-pub mod EachMessage
 pub mod LinesOfFrames
-pub mod Pieces
-pub mod HexDigits
 pub mod Decoded
 pub mod Reached
 pub mod Raw
 pub mod WholeStream
 pub mod OneText
-pub mod Joined
-pub mod ZeroRuns
-pub mod ListTexts
-pub mod WholeTexts
-pub mod CaptureMessages
 pub mod CaptureLines
 pub mod CaptureDecoded
 pub mod DecodeValues

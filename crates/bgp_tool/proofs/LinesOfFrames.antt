@@ -5,8 +5,8 @@ use Rattle.std.proofs.lemmas.List.Elements.{All-nil, All-push, All-append}
 use Rattle.std.proofs.lemmas.Grind.{flat_map-append}
 use Rattle.bgp_wire.specs.declared.header.Limit.TheVariants.{Plain}
 use Rattle.bgp_wire.specs.Framing.{IsFrame, joined}
-use Rattle.bgp_tool.specs.Message.{Message, Says, Say}
-use Rattle.bgp_tool.specs.Text.{line_of}
+use Rattle.bgp_text.specs.Message.{Message, Says, Say}
+use Rattle.bgp_text.specs.Text.{line_of}
 use Rattle.bgp_tool.specs.Decoding.{lines_of}
 use Rattle.bgp_tool.specs.Ending.{AreLines}
 

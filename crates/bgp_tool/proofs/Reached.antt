@@ -5,12 +5,12 @@ use Rattle.bgp_wire.specs.declared.header.Limit.TheVariants.{Plain}
 use Rattle.bgp_wire.specs.Framing.{IsShort}
 use Rattle.bgp_tool.specs.declared.decoding.End.{End}
 use Rattle.bgp_tool.specs.declared.decoding.End.TheVariants as ends
-use Rattle.bgp_tool.specs.declared.lines.Lines.{Lines}
-use Rattle.bgp_tool.specs.Lines.{Writes}
-use Rattle.bgp_tool.specs.Text.{rest_line}
+use Rattle.bgp_text.specs.declared.lines.Lines.{Lines}
+use Rattle.bgp_text.specs.Lines.{Writes}
+use Rattle.bgp_text.specs.Text.{rest_line}
 use Rattle.bgp_tool.specs.Ending.{AreLines, HasText, has_sink_failed, HandsOver, PutsRest, Reaches}
 use Rattle.bgp_tool.proofs.Decoded.{begins, decoded}
-use Rattle.bgp_tool.proofs.Pieces.{Joins, and_then, and_nothing}
+use Rattle.bgp_text.proofs.Pieces.{Joins, and_then, and_nothing}
 
 -- nothing has no octets
 empty_of : (octets : List ℕ) → length octets ≡ 0 → octets ≡ []

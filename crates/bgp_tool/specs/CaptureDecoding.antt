@@ -11,9 +11,9 @@ use Rattle.mrt.specs.declared.fault.CaptureFault.{CaptureFault}
 use Rattle.mrt.specs.declared.fault.FaultKind.{FaultKind}
 use Rattle.mrt.specs.declared.fault.FaultKind.TheVariants as kinds
 use Rattle.mrt.specs.declared.sink.Sink as sinks
-use Rattle.bgp_tool.specs.declared.lines.Lines.{Lines}
-use Rattle.bgp_tool.specs.Lines.{Writes}
-use Rattle.bgp_tool.specs.Capture.{AreRecordLines, refused_line}
+use Rattle.bgp_text.specs.declared.lines.Lines.{Lines}
+use Rattle.bgp_text.specs.Lines.{Writes}
+use Rattle.bgp_text.specs.Capture.{AreRecordLines, refused_line}
 
 -- the exit status of a capture that is refused
 abbrev pub status_by : FaultKind → ℕ

@@ -6,8 +6,8 @@ use Rattle.bgp_wire.specs.declared.header.HeaderFaults.{HeaderFaults}
 use Rattle.bgp_wire.specs.Header.{header_of}
 use Rattle.bgp_wire.specs.Verdict.{AreFaults}
 use Rattle.bgp_wire.specs.Framing.{IsFraming, IsShort, IsFaulty, joined}
-use Rattle.bgp_tool.specs.Message.{Message, Say}
-use Rattle.bgp_tool.specs.Text.{line_of, rest_line, fault_line}
+use Rattle.bgp_text.specs.Message.{Message, Say}
+use Rattle.bgp_text.specs.Text.{line_of, rest_line, fault_line}
 
 -- the lines of messages, one after another
 abbrev pub lines_of : List Message → List ℕ

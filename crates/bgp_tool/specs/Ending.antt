@@ -7,10 +7,10 @@ use Rattle.bgp_wire.specs.Framing.{IsFrame, IsShort, joined}
 use Rattle.bgp_wire.specs.Held.{Held}
 use Rattle.bgp_tool.specs.declared.decoding.End.{End}
 use Rattle.bgp_tool.specs.declared.decoding.End.TheVariants as ends
-use Rattle.bgp_tool.specs.declared.lines.Lines.{Lines}
-use Rattle.bgp_tool.specs.Lines.{Writes}
-use Rattle.bgp_tool.specs.Message.{Message, Say}
-use Rattle.bgp_tool.specs.Text.{rest_line}
+use Rattle.bgp_text.specs.declared.lines.Lines.{Lines}
+use Rattle.bgp_text.specs.Lines.{Writes}
+use Rattle.bgp_text.specs.Message.{Message, Say}
+use Rattle.bgp_text.specs.Text.{rest_line}
 use Rattle.bgp_tool.specs.Decoding.{lines_of, IsLastLine, IsDecoded, IsSoFar, IsBeginning}
 
 -- the exit status

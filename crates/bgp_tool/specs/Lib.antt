@@ -1,15 +1,9 @@
-pub mod Message
-pub mod Text
-pub mod RouteText
 pub mod Status
-pub mod Outlet
-pub mod Lines
 pub mod Decoding
 pub mod Ending
 pub mod Front
 pub mod FrontLaws
 pub mod Opened
-pub mod Capture
 pub mod CaptureDecoding
 pub mod Words
 pub mod OpenedCapture

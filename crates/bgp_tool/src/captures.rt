@@ -1,17 +1,16 @@
 //! `bgp decode --mrt`: the records of one session in a capture (RFC 6396).
 
 ghost use Rattle.std.specs.Prelude.{◌≡◌, ◌<◌, ◌+◌, ◌^◌, ◌⊎◌, [], IsTrue, IsFalse};
-ghost use Rattle.bgp_tool.specs.Lines.{Writes};
+ghost use Rattle.bgp_text.specs.Lines.{Writes};
 ghost use Rattle.mrt.specs.Progress.{failures_of};
 ghost use Rattle.mrt.specs.Reader.{fresh_reader};
 ghost use Rattle.bgp_tool.specs.Status.{code_of};
 ghost use Rattle.bgp_tool.specs.CaptureDecoding.{status_by, PutsRecords, Finishes};
 ghost use Rattle.bgp_tool.specs.CaptureDecoding.{DecodesCapture};
 
-use crate::lines::Lines;
 use crate::status::Status;
-use crate::text::records::{put_record, put_refused};
 use bgp_prefix::Session;
+use bgp_text::{Lines, put_record, put_refused};
 use mrt::{CaptureFault, FaultKind, Reader, Sink, Source};
 use std::alloc::Allocator;
 

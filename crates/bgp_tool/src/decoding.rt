@@ -6,9 +6,8 @@ ghost use Rattle.bgp_tool.specs.Decoding.{CountsFailures, Decodes};
 ghost use Rattle.bgp_tool.specs.Ending.{PutsFrames, PutsRest, HandsOver};
 ghost use Rattle.bgp_tool.specs.Ending.{Reaches, IsAtEnd, source_failures};
 
-use crate::lines::Lines;
 use crate::status::Status;
-use crate::text::messages;
+use bgp_text::{Lines, put_fault, put_message};
 use bgp_wire::{Frames, Limit, Next};
 use mrt::{Sink, Source};
 use std::alloc::Allocator;
@@ -69,11 +68,11 @@ fn put_frames<W: Sink, A: Allocator + Copy>(
 {
     loop {
         match frames.next() {
-            Next::Frame(kind, frame) => messages::put_message(lines, kind, frame),
+            Next::Frame(kind, frame) => put_message(lines, kind, frame),
             Next::More => return false,
             Next::Fault(faults, _) => {
                 let offset = offset_of_held(given, frames.len());
-                messages::put_fault(lines, offset, faults);
+                put_fault(lines, offset, faults);
                 return true;
             }
         }
@@ -87,7 +86,7 @@ fn put_rest<W: Sink>(lines: &mut Lines<'_, W>, count: usize) -> End
     if count == 0 {
         return End::BetweenMessages;
     }
-    messages::put_rest(lines, count);
+    bgp_text::put_rest(lines, count);
     End::InsideMessage
 }
 

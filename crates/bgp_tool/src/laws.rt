@@ -3,7 +3,7 @@
 ghost use Rattle.std.specs.Prelude.{◌≡◌, ℕ, List};
 ghost use Rattle.bgp_wire.specs.declared.header.Limit.TheVariants.{Plain};
 ghost use Rattle.bgp_wire.specs.Framing.{IsFrame};
-ghost use Rattle.bgp_tool.specs.Message.{Message, Says};
+ghost use Rattle.bgp_text.specs.Message.{Message, Says};
 ghost use Rattle.bgp_tool.specs.Decoding.{IsDecoded};
 
 /// Laws: each frame says one thing, by which its line is known; and each stream has one text and

@@ -12,15 +12,12 @@ mod decoding;
 mod front;
 mod headline;
 mod laws;
-mod lines;
 mod note;
 mod opened;
 mod opened_capture;
-mod outlet;
 mod status;
 #[cfg(test)]
 mod tests;
-mod text;
 mod words;
 
 pub use captures::decode_capture;
@@ -32,5 +29,4 @@ pub use note::Note;
 pub use opened::{Outcome, decode_opened};
 pub use opened_capture::decode_opened_capture;
 pub use status::Status;
-pub use text::routes::write_route;
 pub use words::{Command, command_line, words_status};

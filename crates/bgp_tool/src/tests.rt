@@ -3,7 +3,6 @@
 mod captures;
 mod commands;
 mod great;
-mod routes;
 mod updates;
 
 use super::*;

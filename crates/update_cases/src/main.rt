@@ -9,7 +9,7 @@
 use bgp_open::{Config, ConfigParts, Families, Link, negotiate, read_open};
 use bgp_path::Path;
 use bgp_prefix::{Address, Prefix, Session};
-use bgp_tool::write_route;
+use bgp_text::write_route;
 use bgp_update::{Changes, Outcomes, is_clean, read_update};
 use hex::FromHexError;
 use mrt::MemSink;

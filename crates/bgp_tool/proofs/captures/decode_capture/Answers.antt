@@ -1,6 +1,6 @@
 use Rattle.std.proofs.Common.{rules, ◌∙◌}
-use Rattle.bgp_tool.proofs.Pieces.{Joins}
-use Rattle.bgp_tool.proofs.Raw.{IsFresh}
+use Rattle.bgp_text.proofs.Pieces.{Joins}
+use Rattle.bgp_text.proofs.Fresh.{IsFresh}
 use Rattle.bgp_tool.proofs.CaptureDecoded.{decodes_capture}
 use Rattle.bgp_tool.proofs.captures.decode_capture.Goals as goal
 

@@ -1,5 +1,5 @@
 use Rattle.std.proofs.Common.{◌≡◌, ◌∙◌, ◌⊎◌, ℕ, Bool, IsTrue, IsFalse, inl, inr}
-use Rattle.bgp_tool.proofs.Pieces.{Joins, and_nothing}
+use Rattle.bgp_text.proofs.Pieces.{Joins, and_nothing}
 use Rattle.bgp_tool.proofs.captures.finish.Goals as goal
 
 told_as : (failed : Bool) (status one wanted : ℕ) → (IsFalse failed × (status ≡ one)) ⊎ (IsTrue failed × (status ≡ 5)) → one ≡ wanted

@@ -1,7 +1,7 @@
 use Rattle.std.proofs.Common.{◌++◌, ℕ, List, [], refl, sym, ap, subst, append-nil, inl, inr, arith, rules}
 use Rattle.mrt.specs.Capture.{joined}
 use Rattle.mrt.specs.Reader.{ReaderState}
-use Rattle.bgp_tool.proofs.Pieces.{Joins, nothing_yet, and_then}
+use Rattle.bgp_text.proofs.Pieces.{Joins, nothing_yet, and_then}
 use Rattle.bgp_tool.proofs.CaptureLines.{nothing_read, answer_of, allowed_answer, answered, stops_at_end, stops_at_fault}
 use Rattle.bgp_tool.proofs.captures.put_records.Goals as goal
 

@@ -1,5 +1,5 @@
 use Rattle.std.proofs.Common.{◌≡◌, ◌≤◌, ◌-◌, ◌^◌, ℕ, List}
-use Rattle.bgp_tool.specs.Lines.{Writes}
+use Rattle.bgp_text.specs.Lines.{Writes}
 use Rattle.bgp_tool.proofs.CaptureLines.{SoFar}
 use Rattle.bgp_tool.proofs.captures.put_records.Given as goal
 

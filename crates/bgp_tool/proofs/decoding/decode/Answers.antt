@@ -7,7 +7,7 @@ use Rattle.bgp_tool.specs.Decoding.{IsLastLine, IsDecoded}
 use Rattle.bgp_tool.specs.Ending.{AreLines}
 use Rattle.bgp_tool.proofs.LinesOfFrames.{no_lines, lines_fed, more_lines}
 use Rattle.bgp_tool.proofs.Decoded.{decoded, beginning, so_far}
-use Rattle.bgp_tool.proofs.Pieces.{Joins, nothing_yet, and_then, and_nothing}
+use Rattle.bgp_text.proofs.Pieces.{Joins, nothing_yet, and_then, and_nothing}
 use Rattle.bgp_tool.proofs.Reached.{finished, ended}
 use Rattle.bgp_tool.proofs.decoding.decode.Goals as goal
 

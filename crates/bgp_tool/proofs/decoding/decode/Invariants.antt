@@ -1,7 +1,7 @@
 use Rattle.std.proofs.Common.{◌≡◌, ◌-◌, ◌^◌, ℕ, List, length, false}
 use Rattle.bgp_wire.specs.declared.header.Limit.TheVariants.{Plain}
 use Rattle.bgp_wire.specs.Framing.{IsShort}
-use Rattle.bgp_tool.specs.Lines.{Writes}
+use Rattle.bgp_text.specs.Lines.{Writes}
 use Rattle.bgp_tool.specs.Ending.{AreLines}
 use Rattle.bgp_tool.proofs.decoding.decode.Given as goal
 

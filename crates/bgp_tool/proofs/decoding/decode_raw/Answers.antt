@@ -1,5 +1,6 @@
 use Rattle.std.proofs.Common.{rules, ◌∙◌}
-use Rattle.bgp_tool.proofs.Raw.{IsFresh, decodes_raw, counts_raw}
+use Rattle.bgp_text.proofs.Fresh.{IsFresh}
+use Rattle.bgp_tool.proofs.Raw.{decodes_raw, counts_raw}
 use Rattle.bgp_tool.proofs.decoding.decode_raw.Goals as goal
 
 pub returns-clause-text : goal.returns-clause-text

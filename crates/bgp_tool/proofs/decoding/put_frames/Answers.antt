@@ -5,12 +5,12 @@ use Rattle.bgp_wire.specs.Header.{header_of}
 use Rattle.bgp_wire.specs.Verdict.{AreFaults}
 use Rattle.bgp_wire.specs.Framing.{IsFrame, IsShort, IsFaulty}
 use Rattle.bgp_wire.specs.Held.{Held}
-use Rattle.bgp_tool.specs.Text.{line_of, fault_line}
+use Rattle.bgp_text.specs.Text.{line_of, fault_line}
 use Rattle.bgp_tool.specs.Decoding.{IsLastLine}
 use Rattle.bgp_tool.specs.Ending.{AreLines}
 use Rattle.bgp_tool.proofs.LinesOfFrames.{no_lines, one_line_more}
-use Rattle.bgp_tool.proofs.EachMessage.{each_message}
-use Rattle.bgp_tool.proofs.Pieces.{Joins, nothing_yet, and_then}
+use Rattle.bgp_text.proofs.EachMessage.{each_message}
+use Rattle.bgp_text.proofs.Pieces.{Joins, nothing_yet, and_then}
 use Rattle.bgp_tool.proofs.decoding.put_frames.Goals as goal
 
 -- octets that are taken away leave the rest of the state

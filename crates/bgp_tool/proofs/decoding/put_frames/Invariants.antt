@@ -1,5 +1,5 @@
 use Rattle.std.proofs.Common.{◌≡◌, List, ℕ, length}
-use Rattle.bgp_tool.specs.Lines.{Writes}
+use Rattle.bgp_text.specs.Lines.{Writes}
 use Rattle.bgp_tool.specs.Ending.{AreLines}
 use Rattle.bgp_tool.proofs.decoding.put_frames.Given as goal
 

@@ -1,6 +1,7 @@
-use Rattle.bgp_tool.proofs.EachMessage.{each_message}
+use Rattle.bgp_text.proofs.EachMessage.{each_message}
 use Rattle.bgp_tool.proofs.Decoded.{each_text}
-use Rattle.bgp_tool.proofs.OneText.{one_message, one_text}
+use Rattle.bgp_text.proofs.OneMessage.{one_message}
+use Rattle.bgp_tool.proofs.OneText.{one_text}
 use Rattle.bgp_tool.proofs.laws.each_stream_has_one_text.Goals as goal
 
 pub returns : goal.returns

@@ -1,0 +1,10 @@
+pub mod Pieces
+pub mod Fresh
+pub mod WholeTexts
+pub mod HexDigits
+pub mod ZeroRuns
+pub mod EachMessage
+pub mod OneMessage
+pub mod CaptureMessages
+pub mod Joined
+pub mod ListTexts

@@ -1,0 +1,133 @@
+//! One line a message (RFC 4271, 4), and one for what is no message.
+
+ghost use Rattle.std.specs.Prelude.{◌≡◌};
+ghost use Rattle.bgp_wire.specs.Header.{header_of, type_of};
+ghost use Rattle.bgp_wire.specs.Verdict.{type_code};
+ghost use Rattle.bgp_open.specs.Capability.{capability_of};
+ghost use Rattle.bgp_text.specs.Lines.{Writes};
+ghost use Rattle.bgp_text.specs.Message.{Message, Says};
+ghost use Rattle.bgp_text.specs.Text.{line_of, capability_text, capabilities_text, open_line};
+ghost use Rattle.bgp_text.specs.Text.{malformed_open_line, notification_line};
+ghost use Rattle.bgp_text.specs.Text.{subcode_text, fault_line, rest_line};
+
+use crate::lines::Lines;
+use crate::updates::put_update;
+use bgp_open::{
+    Capabilities, Capability, Notification, Open, OpenFault, read_notification, read_open,
+};
+use bgp_update::read_parts;
+use bgp_wire::{HeaderFaults, MessageType};
+use mrt::Sink;
+
+/// A capability after a blank.
+fn put_capability<W: Sink>(lines: &mut Lines<'_, W>, capability: Capability<'_>)
+    ensures { Writes lines.old lines.new (capability_text (capability_of capability.entry)) }
+{
+    lines.put(b" ");
+    lines.put_decimal(capability.code);
+    lines.put(b":");
+    lines.put_hex(capability.value);
+}
+
+/// Capabilities in their order, or a dash for none.
+fn put_capabilities<W: Sink>(lines: &mut Lines<'_, W>, mut capabilities: Capabilities<'_>)
+    ensures { Writes lines.old lines.new (capabilities_text capabilities.entry) }
+{
+    let Some(first) = capabilities.next() else {
+        return lines.put(b" -");
+    };
+    put_capability(lines, first);
+    for another in capabilities {
+        put_capability(lines, another);
+    }
+}
+
+/// The line of an OPEN.
+fn put_open<W: Sink>(lines: &mut Lines<'_, W>, message: &Open<'_>)
+    ensures { Writes lines.old lines.new (open_line message.now) }
+{
+    lines.put(b"open as ");
+    lines.put_decimal(message.my_as());
+    lines.put(b" hold ");
+    lines.put_decimal(message.hold());
+    lines.put(b" id ");
+    lines.put_ipv4(message.id());
+    lines.put(b" caps");
+    put_capabilities(lines, message.caps());
+    lines.put(b"\n");
+}
+
+/// The line of an OPEN whose form is wrong.
+fn put_malformed_open<W: Sink>(lines: &mut Lines<'_, W>, fault: OpenFault)
+    ensures { Writes lines.old lines.new (malformed_open_line fault) }
+{
+    lines.put(b"open malformed ");
+    lines.put_decimal(fault.number());
+    lines.put(b"\n");
+}
+
+/// The line of a NOTIFICATION.
+fn put_notification<W: Sink>(lines: &mut Lines<'_, W>, message: Notification<'_>)
+    ensures { Writes lines.old lines.new
+        (notification_line message.entry.code message.entry.subcode message.entry.detail.now) }
+{
+    lines.put(b"notification ");
+    lines.put_decimal(message.code);
+    lines.put(b"/");
+    lines.put_decimal(message.subcode);
+    lines.put(b" ");
+    lines.put_hex(message.detail);
+    lines.put(b"\n");
+}
+
+/// The line of a frame whose header says this type.
+pub fn put_message<W: Sink>(lines: &mut Lines<'_, W>, kind: MessageType, frame: &[u8])
+    requires kind { type_code kind ≡ type_of (header_of frame.now) }
+    requires says { (message : Message) × Says frame.now message }
+    ensures { (message : Message) → Says frame.now message
+        → Writes lines.old lines.new (line_of message) }
+{
+    match kind {
+        MessageType::Open => match read_open(frame) {
+            Ok(message) => put_open(lines, &message),
+            Err(fault) => put_malformed_open(lines, fault),
+        },
+        MessageType::Update => match read_parts(frame) {
+            Some(parts) => put_update(lines, parts),
+            None => lines.put(b"update malformed\n"),
+        },
+        MessageType::Notification => match read_notification(frame) {
+            Some(message) => put_notification(lines, message),
+            None => unreachable!(),
+        },
+        MessageType::Keepalive => lines.put(b"keepalive\n"),
+    }
+}
+
+/// A text where something is so, and nothing where it isn't.
+pub fn text_if(is_so: bool, text: &str) -> &str
+    ensures { result.now ≡ subcode_text is_so text.entry.now }
+{
+    if is_so { text } else { "" }
+}
+
+/// The line of a header with faults, which stands at this offset of the stream.
+pub fn put_fault<W: Sink>(lines: &mut Lines<'_, W>, offset: u64, faults: HeaderFaults)
+    ensures { Writes lines.old lines.new (fault_line offset faults) }
+{
+    lines.put(b"fault at ");
+    lines.put_decimal(offset);
+    lines.put(text_if(faults.marker, " 1/1").as_bytes());
+    lines.put(text_if(faults.length.is_some(), " 1/2").as_bytes());
+    lines.put(text_if(faults.kind.is_some(), " 1/3").as_bytes());
+    lines.put(b"\n");
+}
+
+/// The line of a stream that ends this many octets after its last whole message.
+pub fn put_rest<W: Sink>(lines: &mut Lines<'_, W>, count: usize)
+    ensures { Writes lines.old lines.new (rest_line count) }
+{
+    lines.put(b"rest ");
+    lines.put_decimal(count);
+    lines.put(b"\n");
+}

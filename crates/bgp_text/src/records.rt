@@ -1,0 +1,95 @@
+//! One line a record of a capture (RFC 6396, 4.4), and one where the capture is refused.
+
+ghost use Rattle.std.specs.Prelude.{◌≤◌, ℕ, List, Option, length};
+ghost use Rattle.bgp_prefix.specs.declared.session.Session.{Session};
+ghost use Rattle.mrt.specs.Reader.{shown_of};
+ghost use Rattle.mrt.specs.Rules.{HasOtherLength};
+ghost use Rattle.mrt.specs.Written.{IsAllowed};
+ghost use Rattle.bgp_text.specs.Lines.{Writes};
+ghost use Rattle.bgp_text.specs.Capture.{faulty_line, IsMessageText, change_line, IsRecordLine};
+ghost use Rattle.bgp_text.specs.Capture.{message_line, refused_line};
+
+use crate::lines::Lines;
+use crate::messages::{put_message, text_if};
+use bgp_prefix::Seconds;
+use bgp_wire::{HeaderFaults, HeaderVerdict, Limit, check_header, header_at};
+use mrt::{CaptureFault, Record, Sink};
+
+/// The line of a header with faults.
+fn put_faulty<W: Sink>(lines: &mut Lines<'_, W>, faults: HeaderFaults)
+    ensures { Writes lines.old lines.new (faulty_line faults) }
+{
+    lines.put(b"fault");
+    lines.put(text_if(faults.marker, " 1/1").as_bytes());
+    lines.put(text_if(faults.length.is_some(), " 1/2").as_bytes());
+    lines.put(text_if(faults.kind.is_some(), " 1/3").as_bytes());
+    lines.put(b"\n");
+}
+
+/// The line of a message that a record holds.
+fn put_octets<W: Sink>(lines: &mut Lines<'_, W>, octets: &[u8])
+    requires long { 19 ≤ length octets.now }
+    requires whole { ¬ HasOtherLength octets.now }
+    ensures { (text : List ℕ) × IsMessageText octets.now text × Writes lines.old lines.new text }
+{
+    let Some(header) = header_at(octets) else {
+        unreachable!();
+    };
+    match check_header(header, Limit::Plain) {
+        HeaderVerdict::Whole(_, kind) => put_message(lines, kind, octets),
+        HeaderVerdict::Faulty(faults) => put_faulty(lines, faults),
+    }
+}
+
+/// A message behind its second and how it went.
+fn put_message_of<W: Sink>(lines: &mut Lines<'_, W>, second: Seconds, went: &str, octets: &[u8])
+    requires long { 19 ≤ length octets.now }
+    requires whole { ¬ HasOtherLength octets.now }
+    ensures { (text : List ℕ) × IsMessageText octets.now text
+        × Writes lines.old lines.new (message_line second went.now text) }
+{
+    lines.put(b"@");
+    lines.put_decimal(second);
+    lines.put(went.as_bytes());
+    put_octets(lines, octets);
+}
+
+/// The line of a change of state.
+fn put_change<W: Sink>(lines: &mut Lines<'_, W>, second: Seconds, old: u16, new: u16)
+    ensures { Writes lines.old lines.new (change_line second old new) }
+{
+    lines.put(b"@");
+    lines.put_decimal(second);
+    lines.put(b" change ");
+    lines.put_decimal(old);
+    lines.put(b" ");
+    lines.put_decimal(new);
+    lines.put(b"\n");
+}
+
+/// The line of a record that a capture of a session may have.
+pub fn put_record<W: Sink>(lines: &mut Lines<'_, W>, shown: &Record<'_>)
+    requires { (session : Session) × ((last : Option ℕ)
+        × IsAllowed session last (shown_of shown.now)) }
+    ensures { (line : List ℕ) × IsRecordLine (shown_of shown.now) line
+        × Writes lines.old lines.new line }
+{
+    match shown {
+        Record::In(second, octets) => put_message_of(lines, *second, " received ", octets),
+        Record::Out(second, octets) => put_message_of(lines, *second, " sent ", octets),
+        Record::Change(second, old, new) => put_change(lines, *second, *old, *new),
+    }
+}
+
+/// The line of a capture that is refused.
+pub fn put_refused<W: Sink>(lines: &mut Lines<'_, W>, fault: CaptureFault)
+    ensures { Writes lines.old lines.new (refused_line fault.kind fault.offset) }
+{
+    lines.put(b"capture refused: ");
+    lines.put_decimal(fault.kind.number());
+    lines.put(b" ");
+    lines.put(fault.kind.name().as_bytes());
+    lines.put(b" at ");
+    lines.put_decimal(fault.offset);
+    lines.put(b"\n");
+}

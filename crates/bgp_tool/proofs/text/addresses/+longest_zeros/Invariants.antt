@@ -1,4 +1,0 @@
-use Rattle.bgp_tool.proofs.text.addresses.+longest_zeros.Given as goal
-
-abbrev pub decreases-longest_zeros : goal.decreases-longest_zeros
-decreases-longest_zeros l = l.most

@@ -1,9 +1,0 @@
-use Rattle.bgp_tool.specs.Text.{capability_text}
-use Rattle.bgp_tool.proofs.Pieces.{Joins, and_then}
-use Rattle.bgp_tool.proofs.text.messages.put_capability.Goals as goal
-
-pub returns : goal.returns
-unfolding capability_text
-returns g c =
-    let law : Joins g.W.Sink = record { joined = g.met.W.Sink.joined } in
-    and_then law c.put.ensures (and_then law c.put_decimal.ensures (and_then law c.put-2.ensures c.put_hex.ensures))

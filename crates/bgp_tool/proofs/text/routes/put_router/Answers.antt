@@ -1,9 +1,0 @@
-use Rattle.bgp_tool.specs.RouteText.{router_text}
-use Rattle.bgp_tool.proofs.Pieces.{Joins, and_then}
-use Rattle.bgp_tool.proofs.text.routes.put_router.Goals as goal
-
-pub returns-in-Some : goal.returns-in-Some
-unfolding router_text
-returns-in-Some g c =
-    let law : Joins g.W.Sink = record { joined = g.met.W.Sink.joined } in
-    rw c.in-Some.is (and_then law c.put.ensures c.put_ipv4.ensures)
