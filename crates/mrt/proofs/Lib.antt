@@ -5,6 +5,7 @@ pub mod Places
 pub mod Advancing
 pub mod Refusing
 pub mod OneReading
+pub mod SomeReading
 pub mod WrittenBody
 pub mod WrittenRecord
 pub mod Parts

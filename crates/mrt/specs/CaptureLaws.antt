@@ -38,6 +38,14 @@ NeverBoth =
     (offset : ℕ) →
     Spells session octets records → ¬ IsFirstFault session octets also kind offset
 
+-- and always one of them: that there is neither leads to a contradiction
+abbrev pub NeverNone : Type 0
+NeverNone =
+    (session : Session) (octets : List ℕ) →
+    ((records : List ShownRecord) → ¬ Spells session octets records) →
+    ((records : List ShownRecord) (kind : FaultKind) (offset : ℕ) →
+    ¬ IsFirstFault session octets records kind offset) → ⊥
+
 -- what is written reads as the record, wherever a capture may have it
 abbrev pub ReadsBack : Type 0
 ReadsBack =

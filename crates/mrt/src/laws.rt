@@ -1,14 +1,16 @@
 //! Laws of captures, each on a function that does nothing.
 
-ghost use Rattle.mrt.specs.CaptureLaws.{OneText, OneSpelling, OneFault, NeverBoth};
+ghost use Rattle.mrt.specs.CaptureLaws.{OneText, OneSpelling, OneFault, NeverBoth, NeverNone};
 ghost use Rattle.mrt.specs.CaptureLaws.{EachAllowed, ReadsBack};
 
-/// Octets spell one list of records of a session or have one first fault, and never both.
+/// Octets spell one list of records of a session or have one first fault, never both, and always
+/// one of them.
 pub fn each_capture_has_one_reading()
     ensures text { OneText }
     ensures spelling { OneSpelling }
     ensures fault { OneFault }
     ensures never_both { NeverBoth }
+    ensures never_none { NeverNone }
 {}
 
 /// What [`write_record`](crate::write_record) writes reads as the record, wherever a capture may
