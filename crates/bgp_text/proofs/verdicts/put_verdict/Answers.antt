@@ -1,0 +1,8 @@
+use Rattle.bgp_text.proofs.Pieces.{Joins, and_then}
+use Rattle.bgp_text.proofs.verdicts.put_verdict.Goals as goal
+
+pub returns-in-Yes : goal.returns-in-Yes
+returns-in-Yes g c =
+    let law : Joins g.W.Sink = record { joined = g.met.W.Sink.joined } in
+    let ends = rw c.as_slice.ensures.value at c.put_ends.ensures in
+    rw c.in-Yes.is (and_then law c.put.ensures ends)
