@@ -7,7 +7,7 @@ use Rattle.bgp_machine.specs.declared.fsm.Fsm.{Fsm}
 use Rattle.bgp_machine.specs.declared.state.Head.{Head}
 use Rattle.bgp_machine.specs.declared.step.Step.{Step}
 use Rattle.bgp_machine.specs.declared.want.Want.{Want}
-use Rattle.bgp_machine.specs.Listed.{IsStep, turn_of}
+use Rattle.bgp_machine.specs.Listed.{IsStep, TakesMemory, turn_of}
 use Rattle.bgp_machine.specs.Lists.{Has, Each}
 use Rattle.bgp_machine.specs.State.{Turn, link_at}
 use Rattle.bgp_machine.specs.Want.{wants_of}
@@ -45,3 +45,9 @@ abbrev pub IsOwn : ShownRecord → Type 0
 IsOwn (Received t octets) = ⊥
 IsOwn (Sent t octets) = Unit {0}
 IsOwn (Changed t old new) = Unit {0}
+
+-- to list them takes memory: for an UPDATE received in Established that may be applied
+abbrev pub ListTakesMemory : Head → ShownRecord → Type 0
+ListTakesMemory head (Received t octets) = TakesMemory head octets
+ListTakesMemory head (Sent t octets) = ⊥
+ListTakesMemory head (Changed t old new) = ⊥

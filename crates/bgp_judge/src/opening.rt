@@ -3,10 +3,11 @@
 ghost use Rattle.std.specs.Prelude.{◌≡◌, ◌<◌, ◌≤◌, ◌+◌, IfOk, IsErr, MatchOption, length};
 ghost use Rattle.arrayvec.specs.ArrayVec.{array_vec_len};
 ghost use Rattle.bgp_prefix.specs.Shown.{second_of};
-ghost use Rattle.bgp_machine.specs.Listed.{ListsHidden, TakesMemory, changes_of, no_changes};
+ghost use Rattle.bgp_machine.specs.Listed.{ListsHidden, changes_of, no_changes};
 ghost use Rattle.bgp_machine.specs.State.{link_at};
 ghost use Rattle.mrt.specs.Reader.{shown_of};
-ghost use Rattle.bgp_judge.specs.Openings.{ListsOpenings, IsOpened, IsOwn, Keeps, unshown_of};
+ghost use Rattle.bgp_judge.specs.Openings.{IsOpened, IsOwn, Keeps, ListTakesMemory, ListsOpenings};
+ghost use Rattle.bgp_judge.specs.Openings.{unshown_of};
 ghost use Rattle.bgp_judge.specs.Unshown.{PaysNothing};
 
 use crate::unshown::{Unshown, pay};
@@ -112,8 +113,9 @@ pub fn openings<A: Allocator + Copy>(
     head: Head,
     shown: &Record<'_>,
 ) -> Result<OpenedSteps<A>, AllocError>
-    ensures { IfOk result (λ o. ListsOpenings config.now head (shown_of shown.now)
+    ensures exact { IfOk result (λ o. ListsOpenings config.now head (shown_of shown.now)
         (changes_of o.changes) o.steps.items) }
+    ensures memory { IsErr result → ListTakesMemory head (shown_of shown.now) }
 {
     match *shown {
         Record::In(t, octets) => {

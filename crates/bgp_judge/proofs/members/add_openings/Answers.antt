@@ -25,7 +25,7 @@ returns g c =
     let changes : RouteChanges = changes_of (option_copied c.as_ref-changes.result) in
     let lists : ListsOpenings c.args.config.now c.args.head (shown_of c.args.shown.now) changes c.as_slice-step-items.result.now =
     subst (λ (v : List Step). ListsOpenings c.args.config.now c.args.head (shown_of c.args.shown.now) changes v) (sym c.as_slice-step-items.ensures.value)
-    (subst (λ (v : RouteChanges). ListsOpenings c.args.config.now c.args.head (shown_of c.args.shown.now) v c.in_ok-opened.opened.steps.items) (ap changes_of (sym c.as_ref-changes.ensures.value)) c.in_ok-opened.ensures) in
+    (subst (λ (v : RouteChanges). ListsOpenings c.args.config.now c.args.head (shown_of c.args.shown.now) v c.in_ok-opened.opened.steps.items) (ap changes_of (sym c.as_ref-changes.ensures.value)) c.in_ok-opened.ensures.exact) in
     openings_gain c.args.config.now (shown_of c.args.shown.now) (state_value c.args.state.now) c.args.head changes c.as_slice-step-items.result.now
     c.args.members.now.items c.loop-step.members.items lists
     (gains_all c.args.members.now.items c.loop-step.members.items (λ x m. m ≡ opened_member (state_value c.args.state.now) c.args.head changes x)
