@@ -9,3 +9,5 @@ pub mod NextMembers
 pub mod PlainStanding
 pub mod EndLists
 pub mod Verdicts
+pub mod CaptureSoFar
+pub mod CaptureEnds

@@ -6,4 +6,5 @@ pub mod Unshown
 pub mod Openings
 pub mod Ends
 pub mod Verdict
+pub mod Judging
 pub mod Plain

@@ -1,7 +1,12 @@
 //! The verdict on a list of records.
 
-ghost use Rattle.std.specs.Prelude.{◌↔◌, ◌≢◌, [], IfOk, IsTrue, map};
+ghost use Rattle.std.specs.Prelude.{◌↔◌, ◌≢◌, ◌≡◌, ◌++◌, ◌∷◌, [], List, IfOk, OnErr, IsTrue, None};
+ghost use Rattle.std.specs.Prelude.{length, map};
+ghost use Rattle.bgp_prefix.specs.Shown.{ShownRecord};
+ghost use Rattle.bgp_open.specs.declared.config.Config.{Config as TheConfig};
+ghost use Rattle.bgp_machine.specs.Run.{Begins};
 ghost use Rattle.mrt.specs.Reader.{shown_of};
+ghost use Rattle.bgp_judge.specs.Judging.{IsAt};
 ghost use Rattle.bgp_judge.specs.Verdict.{IsVerdict};
 
 use crate::end::End;
@@ -16,6 +21,46 @@ fn is_some<A: Allocator>(ends: &[End<A>]) -> bool
     ensures { IsTrue result ↔ (ends.now ≢ []) }
 {
     !ends.is_empty()
+}
+
+/// The verdict on records that begin a run.
+pub(crate) fn verdict_of<A: Allocator + Copy, T: Tracker<A>>(
+    tracker: &T,
+) -> Result<Verdict<A>, AllocError>
+    ensures { (config : TheConfig) (records : List ShownRecord)
+        → T.stands_for tracker.now config records → Begins config records
+        → IfOk result (IsVerdict config records) }
+{
+    let ends = tracker.ends()?;
+    if is_some(ends.as_slice()) {
+        Ok(Verdict::Yes(ends))
+    } else {
+        Ok(Verdict::Unfinished)
+    }
+}
+
+/// Lets the tracker take one record more, behind so many, if none of them is impossible. Answers
+/// the first impossible one.
+pub(crate) fn advance<A: Allocator + Copy, T: Tracker<A>>(
+    tracker: &mut T,
+    impossible: Option<u64>,
+    count: u64,
+    shown: &Record<'_>,
+) -> Result<Option<u64>, AllocError>
+    ensures next { (config : TheConfig) (records : List ShownRecord) → length records ≡ count
+        → IsAt (T.stands_for tracker.old) config records impossible
+        → IfOk result (IsAt (T.stands_for tracker.new) config
+        (records ++ shown_of shown.now ∷ [])) }
+    ensures err { OnErr result (impossible ≡ None) }
+{
+    if impossible.is_some() {
+        return Ok(impossible);
+    }
+    if tracker.take(shown)? {
+        Ok(None)
+    } else {
+        Ok(Some(count))
+    }
 }
 
 /// The verdict on these records of a session: yes with every possible end, no, or unfinished.
@@ -35,10 +80,5 @@ pub fn judge_records<A: Allocator + Copy, T: Tracker<A>>(
             return Ok(Verdict::No(count as u64));
         }
     }
-    let ends = tracker.ends()?;
-    if is_some(ends.as_slice()) {
-        Ok(Verdict::Yes(ends))
-    } else {
-        Ok(Verdict::Unfinished)
-    }
+    verdict_of(&tracker)
 }

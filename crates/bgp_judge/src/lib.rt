@@ -2,7 +2,7 @@
 //! (RFC 4271, 8.2.2), exactly: yes, with every possible end; no; or unfinished.
 //!
 //! ```text
-//! match judge_records::<A, PlainTracker<A>>(alloc, &config, &records)? {
+//! match judge::<A, PlainTracker<A>, _>(alloc, &config, &mut source)? {
 //!     Verdict::Yes(ends) => print(ends),
 //!     Verdict::No(count) => print(count + 1), // the first impossible record
 //!     Verdict::Unfinished => print("unfinished"),
@@ -10,6 +10,7 @@
 //! ```
 #![tactic(auto)]
 
+mod capture;
 mod end;
 mod ending;
 mod judging;
@@ -21,6 +22,7 @@ mod tracker;
 mod unshown;
 mod verdict;
 
+pub use capture::judge;
 pub use end::End;
 pub use judging::judge_records;
 pub use opening::{OpenedSteps, openings};

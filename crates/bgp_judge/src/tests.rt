@@ -1,14 +1,16 @@
-//! The verdict on sessions of two routers, A and B: each table of records with the answer that was
-//! written down by hand. Records of messages are by the names of `bgp_wire::vectors`.
+//! The verdict on sessions of two routers, A and B: each table of records, as a capture, with the
+//! answer that was written down by hand. Records of messages are by the names of
+//! `bgp_wire::vectors`.
 
+mod captures;
 mod memory;
 mod sessions;
 
-use crate::{PlainTracker, Verdict, judge_records};
+use crate::{PlainTracker, Verdict, judge, judge_records};
 use bgp_machine::Fsm;
 use bgp_open::{Config, ConfigParts, Families};
 use bgp_prefix::{Address, Session, read_prefix};
-use mrt::Record;
+use mrt::{CaptureFault, MemSink, MemSource, Record, Sink, is_writable, write_record};
 use std::alloc::{AllocError, Allocator, Global};
 use std::process::Abort;
 use std::test::Fail;
@@ -81,13 +83,48 @@ fn is_yes<A: Allocator>(verdict: &Verdict<A>, expected: &[Expected<'_>]) -> bool
     true
 }
 
-/// The verdict of the plain tracker.
+/// What is expected of a session.
+#[derive(Drop)]
+enum Answer {
+    Yes(&'static [Expected<'static>]),
+    No(u64),
+    Unfinished,
+}
+
+/// Whether the verdict is that.
+fn is<A: Allocator>(verdict: &Verdict<A>, answer: &Answer) -> bool {
+    match (verdict, answer) {
+        (Verdict::Yes(_), Answer::Yes(ends)) => is_yes(verdict, ends),
+        (Verdict::No(count), Answer::No(expected)) => count == expected,
+        (Verdict::Unfinished, Answer::Unfinished) => true,
+        _ => false,
+    }
+}
+
+/// A capture of these records.
+fn capture_of(alloc: Global, config: &Config, records: &[Record<'_>]) -> Result<Vec<u8>, Fail> {
+    let session = &config.parts.session;
+    let mut sink = MemSink::new(alloc);
+    for record in records {
+        if sink.failures() == u64::MAX || !is_writable(session, record) {
+            return Err(Fail::from("not writable"));
+        }
+        if write_record(&mut sink, session, 65002, 65001, record).is_err() {
+            return Err(Fail::from("not written"));
+        }
+    }
+    let mut capture = Vec::new(alloc);
+    capture.extend_from_slice(sink.octets())?;
+    Ok(capture)
+}
+
+/// The verdict of the plain tracker on a capture.
 fn judged<A: Allocator + Copy>(
     alloc: A,
     config: &Config,
-    records: &[Record<'_>],
-) -> Result<Verdict<A>, AllocError> {
-    judge_records::<A, PlainTracker<A>>(alloc, config, records)
+    capture: Vec<u8>,
+) -> Result<Verdict<A>, CaptureFault> {
+    judge::<A, PlainTracker<A>, _>(alloc, config, &mut MemSource::new(capture))
 }
 
 /// These records, and then those.

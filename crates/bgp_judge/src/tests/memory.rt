@@ -5,6 +5,7 @@ use crate::{Tracker, openings};
 use bgp_machine::Head;
 use bgp_wire::vectors::{ANNOUNCES_10, KEEPALIVE, MP_REACH_TRANSITIVE, OPEN_A, OPEN_B};
 use linked_list_allocator::LocalHeap;
+use mrt::FaultKind;
 use mrt::Record::{Change, In, Out};
 
 /// A session whose last UPDATE may disable IPv6 or not.
@@ -37,34 +38,58 @@ fn ample_memory(rt: HostRuntime) -> Result<(), Fail> {
         assert!(rt; tracker.take(shown)?);
     }
     assert_eq!(rt; tracker.ends()?.len(), 2);
-    let verdict = judged(rt.alloc(), &config, &TWO_ENDS)?;
+    let verdict = judge_records::<_, PlainTracker>(rt.alloc(), &config, &TWO_ENDS)?;
     assert!(rt; is_yes(&verdict, &ENDS));
+    let capture = capture_of(rt.alloc(), &config, &TWO_ENDS)?;
+    assert!(rt; judged(rt.alloc(), &config, capture).is_ok_and(|v| is_yes(&v, &ENDS)));
     Ok(())
 }
 
-/// Whether the session was judged with a heap of this size: with less memory there is no verdict.
-fn judges(rt: &impl Abort, alloc: Global, size: usize) -> Result<bool, Fail> {
+/// Judges the session with a heap of this size, and answers the octet where memory was refused.
+/// With less memory there is no verdict.
+fn refused_at(rt: &impl Abort, alloc: Global, size: usize) -> Result<Option<u64>, Fail> {
     let heap = LocalHeap::new(alloc, size)?;
-    let Ok(verdict) = judged(&heap, &router_a(false)?, &TWO_ENDS) else {
-        return Ok(false);
-    };
-    assert!(rt; is_yes(&verdict, &ENDS));
-    Ok(true)
+    let config = router_a(false)?;
+    match judged(&heap, &config, capture_of(alloc, &config, &TWO_ENDS)?) {
+        Ok(verdict) => {
+            assert!(rt; is_yes(&verdict, &ENDS));
+            Ok(None)
+        }
+        Err(fault) => {
+            assert_eq!(rt; fault.kind, FaultKind::Memory);
+            Ok(Some(fault.offset))
+        }
+    }
+}
+
+/// Whether a record of the session begins there, or the capture ends.
+fn is_a_place(alloc: Global, offset: u64) -> Result<bool, Fail> {
+    let config = router_a(false)?;
+    for count in 0..=TWO_ENDS.len() {
+        let before = capture_of(alloc, &config, &TWO_ENDS[..count])?;
+        if before.len() as u64 == offset {
+            return Ok(true);
+        }
+    }
+    Ok(false)
 }
 
 #[test]
 fn a_refused_growth_gives_no_verdict(rt: HostRuntime) -> Result<(), Fail> {
-    let mut refused = 0;
-    let mut done = 0;
+    let mut last = Some(0);
+    let mut places = 0;
     for step in 1..256 {
-        if judges(&rt, rt.alloc(), 64 * step)? {
-            done = u32::saturating_add(done, 1);
-        } else {
-            refused = u32::saturating_add(refused, 1);
+        let refused = refused_at(&rt, rt.alloc(), 128 * step)?;
+        if refused != last {
+            places = u32::saturating_add(places, 1);
+            if let Some(offset) = refused {
+                assert!(rt; is_a_place(rt.alloc(), offset)?, "{offset}");
+            }
         }
+        last = refused;
     }
-    assert!(rt; refused > 0, "nothing was refused");
-    assert!(rt; done > 0, "a growth was refused to the end");
+    assert_eq!(rt; last, None, "a growth was refused to the end");
+    assert!(rt; places > 2, "no growth was refused behind the first record");
     Ok(())
 }
 

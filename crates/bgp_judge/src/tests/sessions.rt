@@ -30,25 +30,7 @@ const UP_WITH_TEN: Expected<'static> = (Fsm::Established, NONE, TEN);
 
 const UP_WITHOUT_V6: Expected<'static> = (Fsm::Established, V6, &[]);
 
-const DOWN: Expected<'static> = (Fsm::Idle, NONE, &[]);
-
-/// What is expected of records.
-#[derive(Drop)]
-enum Answer {
-    Yes(&'static [Expected<'static>]),
-    No(u64),
-    Unfinished,
-}
-
-/// Whether the verdict is that.
-fn is<A: Allocator>(verdict: &Verdict<A>, answer: &Answer) -> bool {
-    match (verdict, answer) {
-        (Verdict::Yes(_), Answer::Yes(ends)) => is_yes(verdict, ends),
-        (Verdict::No(count), Answer::No(expected)) => count == expected,
-        (Verdict::Unfinished, Answer::Unfinished) => true,
-        _ => false,
-    }
-}
+pub(super) const DOWN: Expected<'static> = (Fsm::Idle, NONE, &[]);
 
 /// Whether it is that of the opening and these records.
 fn after_opening(alloc: Global, more: &[Record<'_>], answer: &Answer) -> Result<bool, Fail> {
@@ -63,8 +45,11 @@ fn of(
     records: &[Record<'_>],
     answer: &Answer,
 ) -> Result<bool, Fail> {
-    let verdict = judged(alloc, &router_a(delay_open)?, records)?;
-    Ok(is(&verdict, answer))
+    let config = router_a(delay_open)?;
+    match judged(alloc, &config, capture_of(alloc, &config, records)?) {
+        Ok(verdict) => Ok(is(&verdict, answer)),
+        Err(_) => Ok(false),
+    }
 }
 
 #[test]
@@ -195,7 +180,11 @@ fn a_broken_next_hop_disables_its_family_or_resets(rt: HostRuntime) -> Result<()
     assert!(rt; after_opening(rt.alloc(), &more, &Answer::Yes(&[UP_WITHOUT_V6]))?);
     let six: [Expected<'static>; 1] = [(Fsm::Established, NONE, &["2001:db8::/32"])];
     let records = joined(rt.alloc(), &OPENING, &[In(102, &ANNOUNCES_2001_DB8)])?;
-    assert!(rt; is_yes(&judged(rt.alloc(), &router_a(false)?, &records)?, &six));
+    let config = router_a(false)?;
+    let verdict = judge_records::<_, PlainTracker>(rt.alloc(), &config, &records)?;
+    assert!(rt; is_yes(&verdict, &six));
+    let capture = capture_of(rt.alloc(), &config, &records)?;
+    assert!(rt; judged(rt.alloc(), &config, capture).is_ok_and(|v| is_yes(&v, &six)));
     Ok(())
 }
 

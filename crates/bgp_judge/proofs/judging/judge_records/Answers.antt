@@ -1,9 +1,9 @@
-use Rattle.std.proofs.Common.{IsTrue, List, map, take, sym, ap, subst, ◌∙◌, rules}
+use Rattle.std.proofs.Common.{IfOk, List, map, take, subst, rules}
 use Rattle.bgp_prefix.specs.Shown.{ShownRecord}
 use Rattle.bgp_machine.specs.Run.{Begins}
 use Rattle.mrt.specs.Reader.{shown_of}
-use Rattle.bgp_judge.specs.Ends.{ListsEnds, end_value}
-use Rattle.bgp_judge.proofs.Verdicts.{no_record_begins, shown_more, shown_all, first_impossible, map_none, empty, no_end}
+use Rattle.bgp_judge.specs.Verdict.{IsVerdict}
+use Rattle.bgp_judge.proofs.Verdicts.{no_record_begins, shown_more, shown_all, first_impossible}
 use Rattle.bgp_judge.proofs.judging.judge_records.Goals as goal
 
 pub loop-count-init : goal.loop-count-init
@@ -27,22 +27,8 @@ loop-count-preserved g c =
           ((c.in_ok-take.ensures.alive c.args.config.now so_far c.loop-count.invariant.stands).0 c.if-not-branch.false);
     }
 
-pub returns-then-is_some : goal.returns-then-is_some
-returns-then-is_some g c =
-    let all = shown_all c.args.records.now c.loop-count.count c.loop-count-test.false in
-    let ends = map end_value c.in_ok-ends.ends.items in
-    let lists = subst (λ (v : List ShownRecord). ListsEnds c.args.config.now v ends) all
-    (c.in_ok-ends.ensures c.args.config.now (map shown_of (take c.loop-count.count c.args.records.now)) c.loop-count.invariant.stands) in
-    (λ none. c.is_some.ensures.0 c.if-is_some.true (c.as_slice.ensures.value ∙ map_none end_value c.in_ok-ends.ends.items none), lists)
-
 pub returns : goal.returns
 returns g c =
     let all = shown_all c.args.records.now c.loop-count.count c.loop-count-test.false in
-    let ends = map end_value c.in_ok-ends.ends.items in
-    let lists = subst (λ (v : List ShownRecord). ListsEnds c.args.config.now v ends) all
-    (c.in_ok-ends.ensures c.args.config.now (map shown_of (take c.loop-count.count c.args.records.now)) c.loop-count.invariant.stands) in
-    let none = sym c.as_slice.ensures.value ∙ empty c.as_slice.result.now
-    (λ some. let h : IsTrue c.is_some.result = c.is_some.ensures.1 some in cc) in
-    let begins = subst (λ (v : List ShownRecord). Begins c.args.config.now v) all c.loop-count.invariant.begins in
-    let no_complete = no_end c.args.config.now (map shown_of c.args.records.now) ends lists (ap (λ v. map end_value v) none) in
-    search rules
+    subst (λ (v : List ShownRecord). IfOk c.verdict_of.result (IsVerdict c.args.config.now v)) all
+    (c.verdict_of.ensures c.args.config.now (map shown_of (take c.loop-count.count c.args.records.now)) c.loop-count.invariant.stands c.loop-count.invariant.begins)

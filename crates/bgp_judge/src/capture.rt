@@ -1,0 +1,90 @@
+//! The verdict on one session of a capture (RFC 6396), read in one pass.
+
+ghost use Rattle.std.specs.Prelude.{◌≡◌, ◌<◌, ◌+◌, []};
+ghost use Rattle.mrt.specs.declared.fault.FaultKind.TheVariants.{Memory};
+ghost use Rattle.mrt.specs.Progress.{failures_of};
+ghost use Rattle.mrt.specs.Reader.{fresh_reader};
+ghost use Rattle.bgp_judge.specs.Judging.{Follows, Judges};
+
+use crate::judging::{advance, verdict_of};
+use crate::tracker::Tracker;
+use crate::verdict::Verdict;
+use bgp_open::Config;
+use mrt::{CaptureFault, FaultKind, Reader, Source};
+use std::alloc::Allocator;
+
+/// No memory at this octet.
+fn out_of_memory(offset: u64) -> CaptureFault
+    ensures { result ≡ record { kind = Memory; offset = offset } }
+{
+    CaptureFault {
+        kind: FaultKind::Memory,
+        offset,
+    }
+}
+
+/// Reads the records of the session, to the end of the capture or to its first fault, and lets the
+/// tracker take them, to the first impossible one. Answers which that is.
+fn follow<A: Allocator + Copy, T: Tracker<A>, S: Source>(
+    tracker: &mut T,
+    reader: &mut Reader<A>,
+    config: &Config,
+    source: &mut S,
+) -> Result<Option<u64>, CaptureFault>
+    requires stands { T.stands_for tracker.old config.now [] }
+    requires fresh { reader.old ≡ fresh_reader }
+    requires failures { S.failures source.old < u64.MAX }
+    ensures follows { Follows S.gives S.has_ended config.now source.old source.new
+        (T.stands_for tracker.new) reader.new.place result }
+    ensures failures { S.failures source.new ≡ S.failures source.old + failures_of result }
+{
+    let mut impossible = None;
+    let mut count: u64 = 0;
+    loop {
+        let advanced = match reader.next_record(source, &config.parts.session) {
+            Ok(Some(shown)) => advance(tracker, impossible, count, &shown),
+            Ok(None) => return Ok(impossible),
+            Err(fault) => return Err(fault),
+        };
+        match advanced {
+            Ok(first) => impossible = first,
+            Err(_) => return Err(out_of_memory(reader.place())),
+        }
+        count += 1;
+    }
+}
+
+/// The verdict on the session's records in a capture, over any tracker: yes with every possible
+/// end, no at the first impossible record, or unfinished. A capture that is refused has none, also
+/// where its fault stands behind an impossible record.
+///
+/// It reads in one pass to the end or to the first fault, and holds one record at a time; the
+/// tracker takes no record behind an impossible one. It asks for few octets at a time: put a buffer
+/// before a file.
+///
+/// A fault's offset is that of the first octet of the record in which it was found. Faults 1 to 8
+/// are what is wrong in the octets; 9, `Device`, is answered where the source failed; and 10,
+/// `Memory`, where memory was refused: at offset 0 to begin with, at a record's offset where the
+/// tracker takes it, at the capture's length where the ends are listed.
+pub fn judge<A: Allocator + Copy, T: Tracker<A>, S: Source>(
+    alloc: A,
+    config: &Config,
+    source: &mut S,
+) -> Result<Verdict<A>, CaptureFault>
+    requires { S.failures source.old < u64.MAX }
+    ensures judged { Judges S.gives S.has_ended config.now source.old source.new result }
+    ensures failures { S.failures source.new ≡ S.failures source.old + failures_of result }
+{
+    let started: Result<T, _> = T::start(alloc, config);
+    let Ok(mut tracker) = started else {
+        return Err(out_of_memory(0));
+    };
+    let mut reader = Reader::new(alloc);
+    if let Some(count) = follow(&mut tracker, &mut reader, config, source)? {
+        return Ok(Verdict::No(count));
+    }
+    match verdict_of(&tracker) {
+        Ok(verdict) => Ok(verdict),
+        Err(_) => Err(out_of_memory(reader.place())),
+    }
+}
