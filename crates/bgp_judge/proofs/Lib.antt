@@ -11,3 +11,4 @@ pub mod EndLists
 pub mod Verdicts
 pub mod CaptureSoFar
 pub mod CaptureEnds
+pub mod Telling

@@ -7,4 +7,5 @@ pub mod Openings
 pub mod Ends
 pub mod Verdict
 pub mod Judging
+pub mod Told
 pub mod Plain

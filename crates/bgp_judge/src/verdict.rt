@@ -7,7 +7,8 @@ use std::alloc::{Allocator, Global};
 #[derive(Drop)]
 pub enum Verdict<A: Allocator = Global> {
     /// Some run of the session machine shows just the records. These are all the ends of such
-    /// runs, none twice, in the order of their disabled families: none, IPv4, IPv6, both.
+    /// runs, in the order of their disabled families: none, IPv4, IPv6, both. There is one at the
+    /// most for each ([law](crate::one_end_for_each_disabled_set)), so the order is strict.
     Yes(Vec<End<A>, A>),
     /// So many records begin a run, and with the next one they begin none.
     No(u64),
