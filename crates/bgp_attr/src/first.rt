@@ -47,28 +47,35 @@ impl<'a> Model for FirstAttrs<'a> {
 }
 
 impl<'a> FirstAttrs<'a> {
-    ghost use Rattle.std.specs.Prelude.{IfSome};
+    ghost use Rattle.std.specs.Prelude.{IfSome, None};
     ghost use Rattle.bgp_attr.specs.declared.classes.AttrVerdict.TheVariants.{Good};
     ghost use Rattle.bgp_attr.specs.Class.{strongest, value_rows};
     ghost use Rattle.bgp_attr.specs.First.{first_at, first_by_type, value_by_type, with_next};
     ghost use Rattle.bgp_attr.specs.declared.types.AttrType.{AttrType};
     ghost use Rattle.bgp_attr.specs.Types.{type_number};
 
+    /// Of no attribute yet.
+    pub fn none() -> FirstAttrs<'a>
+        ensures none { (t : AttrType) → first_at result t ≡ None }
+    {
+        FirstAttrs {
+            places: [None; PLACES],
+        }
+    }
+
     /// Those of this field.
     pub fn new(field: &'a [u8]) -> FirstAttrs<'a>
         ensures first { first_at result ≡ first_by_type (attributes_of field.entry.now) }
     {
-        let mut first = FirstAttrs {
-            places: [None; PLACES],
-        };
+        let mut first = FirstAttrs::none();
         for attr in Attrs::new(field) {
             first.note(attr);
         }
         first
     }
 
-    /// Notes the next attribute of the field.
-    fn note(&mut self, attr: Attr<'a>)
+    /// Notes the next attribute of the field: it counts where none of its type was noted before.
+    pub fn note(&mut self, attr: Attr<'a>)
         ensures next { (t : AttrType)
             → first_at self.new t ≡ with_next (first_at self.old) (attribute_of attr.entry) t }
     {

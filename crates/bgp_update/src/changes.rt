@@ -47,9 +47,10 @@ pub(crate) fn changes_of<A: Allocator + Copy>(
     alloc: A,
     link: &Link,
     found: &Survey<'_>,
+    first: &FirstAttrs<'_>,
 ) -> Result<Changes<A>, AllocError>
     ensures are { IfOk result (λ changes. (attributes : List Attribute)
-        → first_at found.now.first ≡ first_by_type attributes
+        → first_at first.now ≡ first_by_type attributes
         → AreChanges (found_by found.now) (withdrawals link.now (found_by found.now))
         (announcements link.now (found_by found.now) attributes) (changes_value changes)) }
     ensures groups { IfOk result HasTwoGroups }
@@ -62,8 +63,8 @@ pub(crate) fn changes_of<A: Allocator + Copy>(
         push_announced(&mut remove, link, found)?;
         return Ok(Changes { remove, put });
     }
-    push_base_routes(&mut put, alloc, link, found)?;
-    push_mp_routes(&mut put, alloc, link, found)?;
+    push_base_routes(&mut put, alloc, link, found, first)?;
+    push_mp_routes(&mut put, alloc, link, found, first)?;
     Ok(Changes { remove, put })
 }
 
@@ -127,11 +128,12 @@ fn push_base_routes<A: Allocator + Copy>(
     alloc: A,
     link: &Link,
     found: &Survey<'_>,
+    first: &FirstAttrs<'_>,
 ) -> Result<(), AllocError>
     ensures routes { OnOk result (flat_map put_routes put.new.items
         ≡ flat_map put_routes put.old.items ++ routes_with (path_from (side_of link.now)
-        (value_by_type (side_of link.now) (first_at found.now.first))
-        (next_hop_from (value_by_type (side_of link.now) (first_at found.now.first) types.NextHop)))
+        (value_by_type (side_of link.now) (first_at first.now))
+        (next_hop_from (value_by_type (side_of link.now) (first_at first.now) types.NextHop)))
         (base_prefixes link.now (prefixes_of V4 found.now.nlri.now))) }
     ensures groups { OnOk result (length put.new.items ≤ length put.old.items + 1) }
 {
@@ -139,8 +141,8 @@ fn push_base_routes<A: Allocator + Copy>(
         return Ok(());
     }
     let side = side(link);
-    let next_hop = base_hop(side, &found.first);
-    let group = read_group(alloc, side, &found.first, next_hop, Family::V4, found.nlri)?;
+    let next_hop = base_hop(side, first);
+    let group = read_group(alloc, side, first, next_hop, Family::V4, found.nlri)?;
     push_group(put, group)
 }
 
@@ -150,10 +152,11 @@ fn push_mp_routes<A: Allocator + Copy>(
     alloc: A,
     link: &Link,
     found: &Survey<'_>,
+    first: &FirstAttrs<'_>,
 ) -> Result<(), AllocError>
     ensures routes { OnOk result (flat_map put_routes put.new.items
         ≡ flat_map put_routes put.old.items ++ routes_with (path_from (side_of link.now)
-        (value_by_type (side_of link.now) (first_at found.now.first))
+        (value_by_type (side_of link.now) (first_at first.now))
         (mp_hop (state_of found.now.reach.state)))
         (mp_prefixes (state_of found.now.reach.state))) }
     ensures groups { OnOk result (length put.new.items ≤ length put.old.items + 1) }
@@ -165,7 +168,7 @@ fn push_mp_routes<A: Allocator + Copy>(
     let group = read_group(
         alloc,
         side(link),
-        &found.first,
+        first,
         next_hop,
         family,
         contents.prefixes,

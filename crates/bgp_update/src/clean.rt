@@ -20,6 +20,7 @@ ghost use Rattle.bgp_update.specs.Surveyed.{found_by};
 use crate::fields::split_update;
 use crate::mp::MpState;
 use crate::survey::{Survey, survey_of};
+use bgp_attr::FirstAttrs;
 use bgp_open::Link;
 use bgp_prefix::Family;
 
@@ -31,7 +32,7 @@ pub fn is_clean(link: &Link, octets: &[u8]) -> bool
     let Some(fields) = split_update(octets) else {
         return false;
     };
-    survey_of(link, &fields).is_clean(link)
+    survey_of(link, &fields, &mut FirstAttrs::none()).is_clean(link)
 }
 
 impl Survey<'_> {

@@ -12,6 +12,7 @@ ghost use Rattle.bgp_update.specs.Prefixes.{ReadsPrefixes};
 
 use crate::fields::split_update;
 use crate::survey::survey_of;
+use bgp_attr::FirstAttrs;
 use bgp_open::Link;
 
 /// An UPDATE has its three fields in one way.
@@ -34,7 +35,7 @@ pub fn some_outcome(link: &Link, octets: &[u8])
     let Some(fields) = split_update(octets) else {
         return;
     };
-    let found = survey_of(link, &fields);
+    let found = survey_of(link, &fields, &mut FirstAttrs::none());
     if !found.reset_subcodes().is_empty() {
         return;
     }

@@ -1,13 +1,15 @@
 //! One walk over the attributes of an UPDATE: what the first of each type is, and which are there.
 
 ghost use Rattle.std.specs.Prelude.{◌≡◌, ◌<◌};
+ghost use Rattle.std.specs.Option.{option_or};
 ghost use Rattle.bgp_attr.specs.Field.{attribute_of};
-ghost use Rattle.bgp_attr.specs.First.{firsts};
-ghost use Rattle.bgp_attr.specs.Split.{attributes_of};
+ghost use Rattle.bgp_attr.specs.First.{first_at, first_by_type, firsts};
+ghost use Rattle.bgp_attr.specs.Split.{attributes_of, rest_of, tail_at};
+ghost use Rattle.bgp_attr.specs.declared.types.AttrType.{AttrType};
 ghost use Rattle.bgp_update.specs.Found.{classes_found, types_found, is_repeated};
 ghost use Rattle.bgp_update.specs.Noted.{classes_of, noted_with, types_of};
 
-use bgp_attr::{Attr, AttrVerdict, Attrs, Side, class};
+use bgp_attr::{Attr, AttrVerdict, Attrs, FirstAttrs, Side, Tail, class};
 
 /// Whether some first attribute of a type is of a class. Those of types 14 and 15 are judged apart.
 #[derive(Clone, Copy)]
@@ -71,17 +73,27 @@ fn index_of(kind: u8) -> usize
     usize::from(kind)
 }
 
-/// Walks over the attributes of a field. It takes no memory.
-pub(crate) fn pass_over(side: Side, field: &[u8]) -> Pass
-    ensures classes { classes_of result.classes
-        ≡ classes_found side (firsts (attributes_of field.now)) }
-    ensures types { types_of result.types ≡ types_found (attributes_of field.now) }
+/// Walks over the attributes of a field, and notes the first of each type. Answers too what stands
+/// behind the last of them. It takes no memory.
+pub(crate) fn pass_over<'a>(
+    side: Side,
+    field: &'a [u8],
+    first: &mut FirstAttrs<'a>,
+) -> (Pass, Option<Tail>)
+    ensures classes { classes_of result.0.classes
+        ≡ classes_found side (firsts (attributes_of field.entry.now)) }
+    ensures types { types_of result.0.types ≡ types_found (attributes_of field.entry.now) }
+    ensures tail { result.1 ≡ tail_at (rest_of field.entry.now) }
+    ensures first { (t : AttrType) → first_at first.new t
+        ≡ option_or (first_at first.old t) (first_by_type (attributes_of field.entry.now) t) }
 {
     let mut seen = [false; 256];
     let mut classes = Classes::NONE;
     let mut other = false;
     let mut has_repeats = false;
-    for attr in Attrs::new(field) {
+    let mut attrs = Attrs::new(field);
+    while let Some(attr) = attrs.next() {
+        first.note(attr);
         let index = index_of(attr.kind);
         other |= attr.kind != 15;
         if seen[index] {
@@ -98,7 +110,7 @@ pub(crate) fn pass_over(side: Side, field: &[u8]) -> Pass
         other,
         has_repeats,
     };
-    Pass { classes, types }
+    (Pass { classes, types }, attrs.tail())
 }
 
 /// Whether a type stands more than once.

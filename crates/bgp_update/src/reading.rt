@@ -10,6 +10,7 @@ use crate::fields::split_update;
 use crate::outcomes::Outcomes;
 use crate::subcodes::Subcodes;
 use crate::survey::survey_of;
+use bgp_attr::FirstAttrs;
 use bgp_open::{Families, Link};
 use std::alloc::{AllocError, Allocator};
 
@@ -41,13 +42,14 @@ pub fn read_update<A: Allocator + Copy>(
     let Some(fields) = split_update(octets) else {
         return Ok(only_reset(Subcodes::MALFORMED_ATTRIBUTE_LIST)); // Rule "bad lengths".
     };
-    let found = survey_of(link, &fields);
+    let mut first = FirstAttrs::none();
+    let found = survey_of(link, &fields, &mut first);
     let resets = found.reset_subcodes();
     let mere = found.mere_subcodes();
     if !resets.is_empty() {
         return Ok(only_reset(resets.union(mere)));
     }
-    let changes = changes_of(alloc, link, &found)?;
+    let changes = changes_of(alloc, link, &found, &first)?;
     Ok(Outcomes {
         changes: Some(changes),
         certain: found.certain_families(),

@@ -1,8 +1,9 @@
 //! What an UPDATE comes to, before it is decided what to do about it.
 
-ghost use Rattle.std.specs.Prelude.{◌≡◌};
+ghost use Rattle.std.specs.Prelude.{◌≡◌, None};
 ghost use Rattle.bgp_attr.specs.First.{first_at, first_by_type, has_repeats};
 ghost use Rattle.bgp_attr.specs.Split.{attributes_of};
+ghost use Rattle.bgp_attr.specs.declared.types.AttrType.{AttrType};
 ghost use Rattle.bgp_update.specs.Fields.{sections_of};
 ghost use Rattle.bgp_update.specs.Found.{found, is_repeated, mp_found};
 ghost use Rattle.bgp_update.specs.MpShown.{contents_read, type_of_mp};
@@ -12,7 +13,7 @@ use crate::fields::Fields;
 use crate::link_side::side;
 use crate::mp::{MpState, MpType, has_other_bits, mp_state};
 use crate::pass::{Pass, is_repeated, pass_over};
-use bgp_attr::{Attrs, FirstAttrs, Tail};
+use bgp_attr::{FirstAttrs, Tail};
 use bgp_open::Link;
 
 /// An MP attribute, by its first occurrence.
@@ -25,9 +26,8 @@ pub(crate) struct MpSurvey<'a> {
     pub(crate) is_repeated: bool,
 }
 
-/// The facts that the rules speak of, and the attributes. It borrows all octets, and takes no
-/// memory.
-#[derive(Drop)]
+/// The facts that the rules speak of. It borrows all octets, and takes no memory.
+#[derive(Clone, Copy)]
 pub(crate) struct Survey<'a> {
     /// The Withdrawn Routes field.
     pub(crate) withdrawn: &'a [u8],
@@ -41,27 +41,30 @@ pub(crate) struct Survey<'a> {
     pub(crate) pass: Pass,
     /// What stands behind the last whole attribute.
     pub(crate) tail: Option<Tail>,
-    /// The first attribute of each type.
-    pub(crate) first: FirstAttrs<'a>,
 }
 
-/// Surveys an UPDATE.
-pub(crate) fn survey_of<'a>(link: &Link, fields: &Fields<'a>) -> Survey<'a>
+/// Surveys an UPDATE, and notes the first attribute of each type.
+///
+/// Those have many octets, so the caller lends the room for them.
+pub(crate) fn survey_of<'a>(
+    link: &Link,
+    fields: &Fields<'a>,
+    first: &mut FirstAttrs<'a>,
+) -> Survey<'a>
+    requires none { (t : AttrType) → first_at first.old t ≡ None }
     ensures found { found_by result ≡ found link.now (sections_of fields.now) }
-    ensures first { first_at result.first
+    ensures first { first_at first.new
         ≡ first_by_type (attributes_of (sections_of fields.now).attributes) }
 {
     let field = fields.attributes;
-    let pass = pass_over(side(link), field);
-    let first = FirstAttrs::new(field);
+    let (pass, tail) = pass_over(side(link), field, first);
     Survey {
         withdrawn: fields.withdrawn,
         nlri: fields.nlri,
-        reach: mp_survey(link, MpType::Reach, field, &first, pass.types.has_repeats),
-        unreach: mp_survey(link, MpType::Unreach, field, &first, pass.types.has_repeats),
+        reach: mp_survey(link, MpType::Reach, field, first, pass.types.has_repeats),
+        unreach: mp_survey(link, MpType::Unreach, field, first, pass.types.has_repeats),
         pass,
-        tail: Attrs::new(field).tail(),
-        first,
+        tail,
     }
 }
 
