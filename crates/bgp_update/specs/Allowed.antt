@@ -1,5 +1,5 @@
 -- The outcomes that a value of `Outcomes` stands for.
-use Rattle.std.specs.Prelude.{◌≡◌, ◌≤◌, List, [], length, Option, None, Some, IsTrue, IsFalse}
+use Rattle.std.specs.Prelude.{◌≡◌, List, [], Option, None, Some, IsTrue, IsFalse}
 use Rattle.std.specs.Prelude.{MatchOption}
 use Rattle.std.specs.List.{flat_map}
 use Rattle.bgp_prefix.specs.declared.family.Family.{Family}
@@ -39,7 +39,3 @@ Allows o (Applied changes disabled) =
 abbrev pub AreApart : Families → Families → Type 0
 AreApart certain optional =
     (family : Family) → IsTrue (contains optional family) → IsFalse (contains certain family)
-
--- the routes of the NLRI field are one group at most, and those of MP_REACH_NLRI another
-abbrev pub HasTwoGroups : {X : Type 0} → Changes X → Type 0
-HasTwoGroups changes = length changes.put.items ≤ 2

@@ -15,6 +15,7 @@ pub mod WithdrawFaults
 pub mod ResetFaults
 pub mod Disabled
 pub mod Changes
+pub mod Groups
 pub mod Outcome
 pub mod Clean
 pub mod Subcodes

@@ -1,17 +1,12 @@
 //! What an UPDATE changes where it is applied (RFC 4271, 3.1; RFC 7606, 2).
 
-ghost use Rattle.std.specs.Prelude.{◌≡◌, ◌≤◌, ◌+◌, ◌++◌, IfOk, OnOk, List, length};
+ghost use Rattle.std.specs.Prelude.{◌≡◌, ◌++◌, IfOk, OnOk, List, map};
 ghost use Rattle.std.specs.List.{flat_map};
 ghost use Rattle.bgp_attr.specs.declared.types.AttrType.TheVariants as types;
 ghost use Rattle.bgp_attr.specs.Field.{Attribute};
 ghost use Rattle.bgp_attr.specs.First.{first_at, first_by_type, value_by_type};
 ghost use Rattle.bgp_attr.specs.PathFrom.{next_hop_from, path_from};
-ghost use Rattle.bgp_update.specs.Allowed.{
-  HasTwoGroups,
-  changes_value,
-  group_routes,
-  put_routes,
-};
+ghost use Rattle.bgp_update.specs.Allowed.{changes_value, group_routes, put_routes};
 ghost use Rattle.bgp_update.specs.Changes.{
   AreChanges,
   announcements,
@@ -25,6 +20,13 @@ ghost use Rattle.bgp_update.specs.Changes.{
 };
 ghost use Rattle.bgp_prefix.specs.declared.family.Family.TheVariants.{V4};
 ghost use Rattle.bgp_update.specs.Found.{side_of};
+ghost use Rattle.bgp_update.specs.Groups.{
+  AreGroupsBy,
+  group_if,
+  group_prefixes,
+  group_with,
+  groups_of,
+};
 ghost use Rattle.bgp_update.specs.Listed.{listed};
 ghost use Rattle.bgp_update.specs.MpShown.{state_of};
 ghost use Rattle.bgp_update.specs.Prefixes.{prefixes_of};
@@ -53,7 +55,8 @@ pub(crate) fn changes_of<A: Allocator + Copy>(
         → first_at first.now ≡ first_by_type attributes
         → AreChanges (found_by found.now) (withdrawals link.now (found_by found.now))
         (announcements link.now (found_by found.now) attributes) (changes_value changes)) }
-    ensures groups { IfOk result HasTwoGroups }
+    ensures groups { IfOk result
+        (λ changes. AreGroupsBy link.now (found_by found.now) (groups_of changes)) }
 {
     let mut remove = Vec::new(alloc);
     push_withdrawn(&mut remove, link, found)?;
@@ -135,7 +138,9 @@ fn push_base_routes<A: Allocator + Copy>(
         (value_by_type (side_of link.now) (first_at first.now))
         (next_hop_from (value_by_type (side_of link.now) (first_at first.now) types.NextHop)))
         (base_prefixes link.now (prefixes_of V4 found.now.nlri.now))) }
-    ensures groups { OnOk result (length put.new.items ≤ length put.old.items + 1) }
+    ensures groups { OnOk result (map group_prefixes put.new.items
+        ≡ map group_prefixes put.old.items
+        ++ group_with (base_prefixes link.now (prefixes_of V4 found.now.nlri.now))) }
 {
     if !link.families.contains(Family::V4) {
         return Ok(());
@@ -159,7 +164,9 @@ fn push_mp_routes<A: Allocator + Copy>(
         (value_by_type (side_of link.now) (first_at first.now))
         (mp_hop (state_of found.now.reach.state)))
         (mp_prefixes (state_of found.now.reach.state))) }
-    ensures groups { OnOk result (length put.new.items ≤ length put.old.items + 1) }
+    ensures groups { OnOk result (map group_prefixes put.new.items
+        ≡ map group_prefixes put.old.items
+        ++ group_with (mp_prefixes (state_of found.now.reach.state))) }
 {
     let MpState::Sound(family, contents) = found.reach.state else {
         return Ok(());
@@ -202,9 +209,11 @@ fn read_group<A: Allocator + Copy>(
     family: Family,
     field: &[u8],
 ) -> Result<Option<Put<A>>, AllocError>
-    ensures { IfOk result (λ group. group_routes group
+    ensures routes { IfOk result (λ group. group_routes group
         ≡ routes_with (path_from side (value_by_type side (first_at first.now)) next_hop)
         (listed (prefixes_of family field.now))) }
+    ensures groups { IfOk result
+        (λ group. group_if group ≡ group_with (listed (prefixes_of family field.now))) }
 {
     let mut prefixes = Vec::new(alloc);
     push_prefixes(&mut prefixes, family, field)?;
@@ -222,7 +231,8 @@ fn push_group<A: Allocator>(
 ) -> Result<(), AllocError>
     ensures routes { OnOk result (flat_map put_routes put.new.items
         ≡ flat_map put_routes put.old.items ++ group_routes group) }
-    ensures groups { OnOk result (length put.new.items ≤ length put.old.items + 1) }
+    ensures groups { OnOk result (map group_prefixes put.new.items
+        ≡ map group_prefixes put.old.items ++ group_if group) }
 {
     if let Some(group) = group {
         put.push(group)?;

@@ -1,7 +1,8 @@
 //! Reading an UPDATE.
 
 ghost use Rattle.std.specs.Prelude.{◌≡◌, ◌↔◌, None, IfOk, IfSome, IfNone, IsOk};
-ghost use Rattle.bgp_update.specs.Allowed.{Allows, AreApart, HasTwoGroups};
+ghost use Rattle.bgp_update.specs.Allowed.{Allows, AreApart};
+ghost use Rattle.bgp_update.specs.Groups.{AreGroups, groups_of};
 ghost use Rattle.bgp_update.specs.Laws.{no_families};
 ghost use Rattle.bgp_update.specs.Outcome.{Outcome, IsOutcome, IsOnlyReset};
 
@@ -27,14 +28,15 @@ pub fn read_update<A: Allocator + Copy>(
     ensures exact { IfOk result (λ outcomes. (x : Outcome)
         → Allows outcomes x ↔ IsOutcome link.now octets.now x) }
 
-    // The value has nothing twice: no family is named twice, none where nothing is applied, and
-    // prefixes share their path.
+    // The value has nothing twice: no family is named twice, none where nothing is applied. The
+    // routes of the NLRI field are a group and those of MP_REACH_NLRI another; no group is empty.
     ensures apart { IfOk result (λ outcomes. AreApart outcomes.certain outcomes.optional) }
     ensures certain { IfOk result (λ outcomes. IfNone outcomes.changes
         (outcomes.certain ≡ no_families)) }
     ensures optional { IfOk result (λ outcomes. IfNone outcomes.changes
         (outcomes.optional ≡ no_families)) }
-    ensures groups { IfOk result (λ outcomes. IfSome outcomes.changes HasTwoGroups) }
+    ensures groups { IfOk result (λ outcomes. IfSome outcomes.changes
+        (λ changes. AreGroups link.now octets.now (groups_of changes))) }
 
     // It doesn't answer that memory was refused where the only outcome is a reset.
     ensures memory { IsOnlyReset link.now octets.now → IsOk result }

@@ -8,4 +8,4 @@ pub returns-clause-routes : goal.returns-clause-routes
 returns-clause-routes g c =
     let used = sym c.contains.ensures ∙ c.if-not-contains.false in
     let same = same_routes (λ (side : Side). value_by_type side (first_at c.args.first.now)) c.side-side.result _ c.base_hop-next_hop.result _ _ c.side-side.ensures c.base_hop-next_hop.ensures (base_listed c.args.link.now _ used) in
-    on_ok c.push_group.result _ _ (λ e. appended _ _ _ _ e (c.in_ok-group.ensures ∙ same)) c.push_group.ensures.routes
+    on_ok c.push_group.result _ _ (λ e. appended _ _ _ _ e (c.in_ok-group.ensures.routes ∙ same)) c.push_group.ensures.routes

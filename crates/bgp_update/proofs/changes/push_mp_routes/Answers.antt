@@ -11,4 +11,4 @@ returns-clause-routes g c =
     let is = ap state_of c.in-Sound.is in
     let same = mp_routes (λ (side : Side). value_by_type side (first_at c.args.first.now)) c.side.result _ c.hop_or_none-next_hop.result _ (state_of c.args.found.now.reach.state) c.side.ensures
     (c.hop_or_none-next_hop.ensures ∙ sym (ap mp_hop is)) (sym (ap mp_prefixes is)) in
-    on_ok c.push_group.result _ _ (λ e. appended _ _ _ _ e (c.in_ok-group.ensures ∙ same)) c.push_group.ensures.routes
+    on_ok c.push_group.result _ _ (λ e. appended _ _ _ _ e (c.in_ok-group.ensures.routes ∙ same)) c.push_group.ensures.routes
