@@ -1,5 +1,5 @@
 -- What a change is to routes and their families.
-use Rattle.std.proofs.Common.{◌≡◌, ◌++◌, ◌||◌, Option, Bool, true, false, not, List, [], ◌∷◌, All, IsFalse, filter, map, refl, ap, ◌∙◌}
+use Rattle.std.proofs.Common.{◌≡◌, ◌++◌, ◌||◌, Option, Bool, true, false, not, List, [], ◌∷◌, All, IsFalse, filter, map, refl, sym, ap, ◌∙◌}
 use Rattle.std.proofs.lemmas.List.{map-append}
 use Rattle.std.proofs.lemmas.List.Elements.{filter-append, All-nil, All-cons, All-head, All-tail}
 use Rattle.std.proofs.lemmas.Map.Views.{All-keys-insert_entry}
@@ -14,7 +14,7 @@ use Rattle.bgp_open.specs.declared.families.Families.{Families}
 use Rattle.bgp_open.specs.Families.{contains}
 use Rattle.bgp_path.specs.Path.{PathValue}
 use Rattle.bgp_update.specs.Changes.{Route, RouteChanges, routes_with}
-use Rattle.bgp_rib.specs.Routes.{entries_outside, entries_with, entries_without, entry_of, union, AreOutside, AreRoutes, routes_after, routes_without}
+use Rattle.bgp_rib.specs.Routes.{entries_outside, entries_with, entries_without, entry_of, only, union, AreOutside, AreRoutes, routes_after, routes_without}
 use Rattle.std.specs.List.Sorted.{IsStrictlySortedBy}
 use Rattle.bgp_rib.specs.Rooms.{routes_in}
 use Rattle.bgp_rib.proofs.PrefixKeys.{prefixes_total, exact_prefixes}
@@ -113,3 +113,41 @@ pub seen_dropped : (d f : Families) (es new : List (PrefixBits × PathValue)) �
     → record { entries = new; disabled = union d f } ≡ routes_without f (record { entries = es; disabled = d })
 unfolding routes_without
 seen_dropped d f es new e = λ i. record { entries = e i; disabled = union d f }
+
+-- what is disabled has nothing to lose
+or_true : (b : Bool) → (b || true) ≡ true
+or_true true = refl
+or_true false = refl
+
+or_false : (b : Bool) → b ≡ (b || false)
+or_false true = refl
+or_false false = refl
+
+union_has : (d : Families) (f : Family) → contains d f ≡ true → d ≡ union d (only f)
+union_has d V4 has = λ i. record { v4 = (has ∙ sym (or_true d.v4)) i; v6 = or_false d.v6 i }
+union_has d V6 has = λ i. record { v4 = or_false d.v4 i; v6 = (has ∙ sym (or_true d.v6)) i }
+
+only_is : (f g : Family) → contains (only f) g ≡ true → g ≡ f
+only_is V4 V4 e = refl
+only_is V4 V6 e = absurd cc
+only_is V6 V4 e = absurd cc
+only_is V6 V6 e = refl
+
+not_both : {b : Bool} → b ≡ true → b ≡ false → ⊥
+not_both h k = absurd cc
+
+nothing_by : {V : Type 0} (d : Families) (f : Family) (e : PrefixBits × V) (es : List (PrefixBits × V)) (b : Bool) → contains (only f) e.0.family ≡ b
+    → contains d f ≡ true → IsFalse (contains d e.0.family) → es ≡ entries_outside (only f) es → e ∷ es ≡ entries_outside (only f) (e ∷ es)
+nothing_by d f e es true t has off more = absurd (not_both (ap (contains d) (only_is f e.0.family t) ∙ has) off)
+nothing_by {V} d f e es false t has off more = rw t (ap (λ (l : List (PrefixBits × V)). e ∷ l) more)
+
+nothing_left : {V : Type 0} (d : Families) (f : Family) (es : List (PrefixBits × V)) → contains d f ≡ true → AreOutside d (keys_of es) → es ≡ entries_outside (only f) es
+nothing_left d f [] has h = refl
+nothing_left d f (e ∷ es) has h =
+    nothing_by d f e es (contains (only f) e.0.family) refl has (All-head (λ p. IsFalse (contains d p.family)) e.0 (keys_of es) h)
+    (nothing_left d f es has (All-tail (λ p. IsFalse (contains d p.family)) e.0 (keys_of es) h))
+
+pub disabled_before : (d : Families) (f : Family) (es : List (PrefixBits × PathValue)) → contains d f ≡ true → AreOutside d (keys_of es)
+    → record { entries = es; disabled = d } ≡ routes_without (only f) (record { entries = es; disabled = d })
+unfolding routes_without
+disabled_before d f es has h = λ i. record { entries = nothing_left d f es has h i; disabled = union_has d f has i }

@@ -87,10 +87,14 @@ impl<A: Allocator> RibIn<A> {
         change(self.alloc, &mut self.table, &changes.remove, put)
     }
 
-    /// Disables a family: its routes go, and it takes none from now on. It takes no memory.
+    /// Disables a family: its routes go, and it takes none from now on. It takes no memory, and where
+    /// the family is disabled already it doesn't look at the routes.
     pub fn disable(&mut self, family: Family)
         ensures routes { self.new ≡ routes_without (only family) self.old }
     {
+        if self.disabled.contains(family) {
+            return;
+        }
         let gone = only(family);
         self.disabled = union(self.disabled, gone);
         drop_families(&mut self.table, gone);

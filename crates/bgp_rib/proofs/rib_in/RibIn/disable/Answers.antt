@@ -1,9 +1,9 @@
-use Rattle.std.proofs.Common.{◌∙◌, sym, subst}
+use Rattle.std.proofs.Common.{◌∙◌, sym, ap, subst}
 use Rattle.std.specs.Map.{keys_of}
 use Rattle.bgp_open.specs.declared.families.Families.{Families}
 use Rattle.bgp_rib.specs.Rooms.{routes_in}
-use Rattle.bgp_rib.specs.Routes.{AreOutside, routes_without, union}
-use Rattle.bgp_rib.proofs.RouteLemmas.{outside_both, seen_dropped}
+use Rattle.bgp_rib.specs.Routes.{AreOutside, only, routes_without, union}
+use Rattle.bgp_rib.proofs.RouteLemmas.{disabled_before, outside_both, seen_dropped}
 use Rattle.bgp_rib.proofs.rib_in.RibIn.disable.Goals as goal
 
 pub invariant_of-self : goal.invariant_of-self
@@ -24,4 +24,12 @@ returns g c =
       routes = (λ i. record { entries = new; disabled = c.union-self-inside.ensures i })
           ∙ seen_dropped d c.only-gone.result es new c.drop_families.ensures.routes
           ∙ (λ i. routes_without (c.only-gone.ensures i) (c.self.view_is i));
+    }
+
+pub returns-then-contains : goal.returns-then-contains
+returns-then-contains g c =
+    let f = c.args.family in
+    record {
+      routes = sym c.self.view_is ∙ disabled_before c.self.inside.disabled f (routes_in c.self.inside.table.entries) (sym c.contains.ensures ∙ c.if-contains.true) c.self.invariant.1
+          ∙ ap (routes_without (only f)) c.self.view_is;
     }
