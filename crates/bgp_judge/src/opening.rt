@@ -1,9 +1,11 @@
 //! The steps that a record opens.
 
-ghost use Rattle.std.specs.Prelude.{◌≡◌, ◌<◌, ◌≤◌, ◌+◌, IfOk, IsErr, MatchOption, length};
+ghost use Rattle.std.specs.Prelude.{◌≡◌, ◌<◌, ◌≤◌, ◌+◌, IfOk, IsErr, IsSome, MatchOption, None};
+ghost use Rattle.std.specs.Prelude.{length};
 ghost use Rattle.arrayvec.specs.ArrayVec.{array_vec_len};
 ghost use Rattle.bgp_prefix.specs.Shown.{second_of};
-ghost use Rattle.bgp_machine.specs.Listed.{ListsHidden, changes_of, no_changes};
+ghost use Rattle.bgp_machine.specs.Listed.{ListsHidden, MakesChanges, changes_of, no_changes};
+ghost use Rattle.bgp_machine.specs.Lists.{Has};
 ghost use Rattle.bgp_machine.specs.State.{link_at};
 ghost use Rattle.mrt.specs.Reader.{shown_of};
 ghost use Rattle.bgp_judge.specs.Openings.{IsOpened, IsOwn, Keeps, ListTakesMemory, ListsOpenings};
@@ -94,8 +96,9 @@ fn hidden_openings<A: Allocator>(
 ) -> OpenedSteps<A>
     requires own { IsOwn (shown_of shown.now) }
     requires second { second_of (shown_of shown.now) ≡ t }
-    ensures { ListsOpenings config.now head (shown_of shown.now) (changes_of result.changes)
+    ensures exact { ListsOpenings config.now head (shown_of shown.now) (changes_of result.changes)
         result.steps.items }
+    ensures none { result.changes ≡ None }
 {
     let steps = hidden_steps(config, head, t);
     OpenedSteps {
@@ -115,6 +118,7 @@ pub fn openings<A: Allocator + Copy>(
 ) -> Result<OpenedSteps<A>, AllocError>
     ensures exact { IfOk result (λ o. ListsOpenings config.now head (shown_of shown.now)
         (changes_of o.changes) o.steps.items) }
+    ensures given { IfOk result (λ o. IsSome o.changes → Has MakesChanges o.steps.items) }
     ensures memory { IsErr result → ListTakesMemory head (shown_of shown.now) }
 {
     match *shown {
