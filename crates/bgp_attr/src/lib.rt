@@ -35,6 +35,3 @@ pub use peer::is_for_peer;
 pub use reading::read_path;
 pub use types::{AttrType, TypeRow};
 pub use writing::{is_writable, path_len, put_attribute_header, put_path, write_path};
-
-#[cfg(test)]
-mod tests;

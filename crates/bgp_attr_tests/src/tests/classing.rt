@@ -1,7 +1,6 @@
 //! The attribute table and the class of an attribute (RFC 7606, 3 and 7; RFC 6793, 4.1 and 6).
 
 use super::*;
-use std::process::Abort;
 
 const INTERNAL: Side = Side {
     as4: true,
@@ -53,13 +52,13 @@ fn the_table_is_the_standards(rt: HostRuntime) {
     ];
     for ((number, name, bits), attr_type) in rows.iter().zip(&AttrType::ALL) {
         let row = attr_type.row();
-        assert_eq!(rt; row.number, *number);
-        assert_eq!(rt; row.name, *name);
-        assert_eq!(rt; row.bits, *bits);
-        assert_eq!(rt; AttrType::of(*number), Some(*attr_type));
+        same(&rt, row.number, *number);
+        same(&rt, row.name, *name);
+        same(&rt, row.bits, *bits);
+        same(&rt, AttrType::of(*number), Some(*attr_type));
     }
     for number in [0, 11, 12, 13, 19, 32, 255] {
-        assert_eq!(rt; AttrType::of(number), None);
+        same(&rt, AttrType::of(number), None);
     }
 }
 

@@ -4,7 +4,6 @@ use super::SegmentKind::{Sequence, Set};
 use super::*;
 use linked_list_allocator::LocalHeap;
 use std::alloc::Global;
-use std::process::Abort;
 
 const HOP: NextHop = NextHop::V4(0xc000_0202);
 
@@ -78,25 +77,27 @@ fn the_first_of_a_type_counts(rt: HostRuntime) -> Result<(), Fail> {
     says(&rt, rt.alloc(), WIDE, &field, parts)?;
     let first = FirstAttrs::new(&field);
     let origin = first.get(AttrType::Origin).ok_or("no ORIGIN")?;
-    assert_eq!(rt;
+    same(
+        &rt,
         origin,
         Attr {
             flags: 0x40,
             kind: 1,
-            value: &[1]
-        }
+            value: &[1],
+        },
     );
-    assert_eq!(rt; first_of(&field, 1), Some(origin));
-    assert_eq!(rt; first.good(WIDE, AttrType::Origin), Some(origin));
-    assert_eq!(rt;
+    same(&rt, first_of(&field, 1), Some(origin));
+    same(&rt, first.good(WIDE, AttrType::Origin), Some(origin));
+    same(
+        &rt,
         first
             .get(AttrType::MultiExitDisc)
             .map(|attr| attr.value.len()),
-        Some(3)
+        Some(3),
     );
-    assert_eq!(rt; first.good(WIDE, AttrType::MultiExitDisc), None);
-    assert_eq!(rt; first.get(AttrType::AsPath), None);
-    assert_eq!(rt; first_of(&field, 2), None);
+    same(&rt, first.good(WIDE, AttrType::MultiExitDisc), None);
+    same(&rt, first.get(AttrType::AsPath), None);
+    same(&rt, first_of(&field, 2), None);
     Ok(())
 }
 
@@ -182,13 +183,13 @@ fn the_bits_of_a_type_are_told(rt: HostRuntime) {
             kind: 1,
             value: &[0],
         };
-        assert_eq!(rt; attr.has_bits_of(AttrType::Origin), holds);
+        same(&rt, attr.has_bits_of(AttrType::Origin), holds);
     }
     let multiprotocol = AttrType::ALL
         .iter()
         .filter(|t| t.is_multiprotocol())
         .count();
-    assert_eq!(rt; multiprotocol, 2);
+    same(&rt, multiprotocol, 2);
     assert!(rt; AttrType::MpReachNlri.is_multiprotocol());
 }
 
@@ -198,11 +199,16 @@ fn reads(rt: &impl Abort, heap: &LocalHeap, whole: &Path) -> Result<bool, Fail> 
         return Ok(false);
     };
     let (path, whole) = (path.parts(), whole.parts());
-    assert_eq!(rt;
+    same(
+        rt,
         path.as_path.segments().len(),
-        whole.as_path.segments().len()
+        whole.as_path.segments().len(),
     );
-    assert_eq!(rt; path.communities.as_slice(), whole.communities.as_slice());
+    same(
+        rt,
+        path.communities.as_slice(),
+        whole.communities.as_slice(),
+    );
     Ok(true)
 }
 
@@ -240,7 +246,7 @@ fn ample_memory_for_the_greatest_values(rt: HostRuntime) -> Result<(), Fail> {
         field.extend_from_slice(&[0, 0, 0, 7])?;
     }
     let path = read_path(alloc, WIDE, &FirstAttrs::new(&field), HOP)?;
-    assert_eq!(rt; path.parts().as_path.count(), 64 * 255);
-    assert_eq!(rt; path.parts().communities.as_slice().len(), 16383);
+    same(&rt, path.parts().as_path.count(), 64 * 255);
+    same(&rt, path.parts().communities.as_slice().len(), 16383);
     Ok(())
 }

@@ -1,21 +1,20 @@
 //! The attribute field (RFC 4271, 4.3).
 
 use super::*;
-use std::process::Abort;
 
 /// The field has just these attributes, as flags, type and value, and this tail: before and after
 /// they are taken.
 fn shows(rt: &impl Abort, field: &[u8], attributes: &[(u8, u8, &[u8])], tail: Option<Tail>) {
     let mut attrs = Attrs::new(field);
-    assert_eq!(rt; attrs.tail(), tail);
+    same(rt, attrs.tail(), tail);
     for (flags, kind, value) in attributes {
         let attr = attrs.next().expect(rt, "an attribute is missing");
-        assert_eq!(rt; attr.flags, *flags);
-        assert_eq!(rt; attr.kind, *kind);
-        assert_eq!(rt; attr.value, *value);
+        same(rt, attr.flags, *flags);
+        same(rt, attr.kind, *kind);
+        same(rt, attr.value, *value);
     }
     assert!(rt; attrs.next().is_none());
-    assert_eq!(rt; attrs.tail(), tail);
+    same(rt, attrs.tail(), tail);
 }
 
 #[test]

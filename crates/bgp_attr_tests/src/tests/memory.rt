@@ -3,26 +3,21 @@
 use super::SegmentKind::{Sequence, Set};
 use super::*;
 use linked_list_allocator::LocalHeap;
-use std::process::Abort;
 
 /// A path that takes memory for each of its parts.
 fn parts<A: Allocator + Copy>(alloc: A) -> Result<PathParts<A>, AllocError> {
-    Ok(PathParts {
-        origin: Origin::Egp,
-        as_path: as_path(alloc, &[(Sequence, &[65001, 70000]), (Set, &[1, 2])])?,
-        next_hop: NextHop::V4(0xc000_0202),
-        multi_exit_disc: Some(7),
-        local_pref: None,
-        atomic_aggregate: true,
-        aggregator: Some(Aggregator {
-            as_number: 70000,
-            address: 1,
-        }),
-        communities: Items::from(Vec::from_slice(alloc, &[1, 2])?),
-        originator_id: None,
-        cluster_list: Items::from(Vec::from_slice(alloc, &[3])?),
-        extended_communities: Items::from(Vec::from_slice(alloc, &[4])?),
-    })
+    let mut parts = plain(alloc, &[(Sequence, &[65001, 70000]), (Set, &[1, 2])])?;
+    parts.origin = Origin::Egp;
+    parts.multi_exit_disc = Some(7);
+    parts.atomic_aggregate = true;
+    parts.aggregator = Some(Aggregator {
+        as_number: 70000,
+        address: 1,
+    });
+    parts.communities = Items::from(Vec::from_slice(alloc, &[1, 2])?);
+    parts.cluster_list = Items::from(Vec::from_slice(alloc, &[3])?);
+    parts.extended_communities = Items::from(Vec::from_slice(alloc, &[4])?);
+    Ok(parts)
 }
 
 /// What that path is written as in two octets.
@@ -48,23 +43,17 @@ fn ample_memory(rt: HostRuntime) -> Result<(), Fail> {
     let mut out = vec![in alloc; 9u8]?;
     assert!(rt; is_writable(NARROW, &path));
     write_path(NARROW, &path, &mut out)?;
-    assert_eq!(rt; out.get(..1), Some([9].as_slice()));
-    assert_eq!(rt; out.get(1..), Some(WRITTEN.as_slice()));
+    same(&rt, out.get(..1), Some([9].as_slice()));
+    same(&rt, out.get(1..), Some(WRITTEN.as_slice()));
     Ok(())
 }
 
 /// A path of many segments, each as long as one can be, and 16000 communities.
 fn large_parts<A: Allocator + Copy>(alloc: A) -> Result<PathParts<A>, AllocError> {
-    Ok(PathParts {
-        as_path: as_path(alloc, &[(Sequence, [1; 255].as_slice()); 8])?,
-        communities: Items::from(vec![in alloc; 7u32; 16000]?),
-        cluster_list: Items::new(alloc),
-        extended_communities: Items::new(alloc),
-        multi_exit_disc: None,
-        atomic_aggregate: false,
-        aggregator: None,
-        ..parts(alloc)?
-    })
+    let mut parts = plain(alloc, &[(Sequence, [1; 255].as_slice()); 8])?;
+    parts.origin = Origin::Egp;
+    parts.communities = Items::from(vec![in alloc; 7u32; 16000]?);
+    Ok(parts)
 }
 
 #[test]
@@ -75,7 +64,7 @@ fn ample_memory_for_large_values(rt: HostRuntime) -> Result<(), Fail> {
     assert!(rt; is_writable(NARROW, &path));
     write_path(NARROW, &path, &mut out)?;
     // ORIGIN 4, AS_PATH 4 and 8 times 512, NEXT_HOP 7, COMMUNITIES 4 and 64000 octets
-    assert_eq!(rt; out.len(), 4 + 4 + 4096 + 7 + 4 + 64000);
+    same(&rt, out.len(), 4 + 4 + 4096 + 7 + 4 + 64000);
     Ok(())
 }
 
@@ -90,8 +79,8 @@ fn writes(rt: &impl Abort, heap: &LocalHeap, ample: &LocalHeap) -> Result<bool, 
     }
     let wrote = write_path(NARROW, &path, &mut out).is_ok();
     let rest = if wrote { WRITTEN.as_slice() } else { &[] };
-    assert_eq!(rt; out.get(..1), Some([9].as_slice()));
-    assert_eq!(rt; out.get(1..), Some(rest));
+    same(rt, out.get(..1), Some([9].as_slice()));
+    same(rt, out.get(1..), Some(rest));
     Ok(wrote)
 }
 

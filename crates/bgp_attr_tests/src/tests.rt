@@ -7,10 +7,17 @@ mod memory;
 mod reading;
 mod writing;
 
-use crate::*;
+use bgp_attr::*;
 use bgp_path::{Aggregator, AsPath, Items, NextHop, Origin, Path, PathParts, Segment, SegmentKind};
 use std::alloc::{AllocError, Allocator};
+use std::fmt::Debug;
+use std::process::Abort;
 use std::test::Fail;
+
+/// The two are equal. A call of this is proved more quickly than `assert_eq!`.
+fn same<T: Copy + PartialEq + Debug>(rt: &impl Abort, value: T, wanted: T) {
+    assert_eq!(rt; value, wanted);
+}
 
 /// An external peer, and AS numbers of four octets.
 const WIDE: Side = Side {

@@ -3,7 +3,6 @@
 use super::SegmentKind::{Sequence, Set};
 use super::*;
 use std::alloc::Global;
-use std::process::Abort;
 
 /// What is written for these parts.
 fn written(rt: &impl Abort, alloc: Global, side: Side, parts: PathParts) -> Result<Vec<u8>, Fail> {
@@ -22,9 +21,10 @@ fn the_least_path_is_three_attributes(rt: HostRuntime) -> Result<(), Fail> {
         0x40, 2, 6, 2, 1, 0, 0, 0xfd, 0xea, // AS_PATH: 65002
         0x40, 3, 4, 192, 0, 2, 2, // NEXT_HOP: 192.0.2.2
     ];
-    assert_eq!(rt;
+    same(
+        &rt,
         written(&rt, rt.alloc(), WIDE, parts)?.as_slice(),
-        octets.as_slice()
+        octets.as_slice(),
     );
     Ok(())
 }
@@ -38,9 +38,10 @@ fn a_large_number_is_said_twice_in_two_octets(rt: HostRuntime) -> Result<(), Fai
         0x40, 3, 4, 192, 0, 2, 2, // NEXT_HOP: 192.0.2.2
         0xc0, 17, 6, 2, 1, 0, 1, 0x11, 0x70, // AS4_PATH: 70000
     ];
-    assert_eq!(rt;
+    same(
+        &rt,
         written(&rt, rt.alloc(), NARROW, parts)?.as_slice(),
-        octets.as_slice()
+        octets.as_slice(),
     );
     Ok(())
 }
@@ -54,15 +55,17 @@ fn a_path_without_segments_has_an_as_path_too(rt: HostRuntime) -> Result<(), Fai
         0x40, 1, 1, 0, // ORIGIN: IGP
         0x40, 2, 0, // AS_PATH
     ];
-    assert_eq!(rt;
+    same(
+        &rt,
         written(&rt, rt.alloc(), WIDE, parts)?.as_slice(),
-        octets.as_slice()
+        octets.as_slice(),
     );
     let mut parts = plain(rt.alloc(), &[])?;
     parts.next_hop = NextHop::V6WithLinkLocal(1, 2);
-    assert_eq!(rt;
+    same(
+        &rt,
         written(&rt, rt.alloc(), WIDE, parts)?.as_slice(),
-        octets.as_slice()
+        octets.as_slice(),
     );
     Ok(())
 }
@@ -72,7 +75,11 @@ fn a_real_announcement_is_written_as_it_came(rt: HostRuntime) -> Result<(), Fail
     let parts = announced(rt.alloc())?;
     // All but the last 15 octets, of a type that a path doesn't keep.
     let octets = &FOUR_OCTET_FIELD[..FOUR_OCTET_FIELD.len() - 15];
-    assert_eq!(rt; written(&rt, rt.alloc(), WIDE, parts)?.as_slice(), octets);
+    same(
+        &rt,
+        written(&rt, rt.alloc(), WIDE, parts)?.as_slice(),
+        octets,
+    );
     Ok(())
 }
 
@@ -92,9 +99,9 @@ fn two_octets_say_what_a_real_router_says(rt: HostRuntime) -> Result<(), Fail> {
     let mut ours = Attrs::new(&octets);
     for attr in theirs {
         let mine = ours.next().ok_or("an attribute is missing")?;
-        assert_eq!(rt; mine.flags, attr.flags & 0xef);
-        assert_eq!(rt; mine.kind, attr.kind);
-        assert_eq!(rt; mine.value, attr.value);
+        same(&rt, mine.flags, attr.flags & 0xef);
+        same(&rt, mine.kind, attr.kind);
+        same(&rt, mine.value, attr.value);
     }
     assert!(rt; ours.next().is_none());
     Ok(())
@@ -114,9 +121,10 @@ fn an_internal_path_has_its_preference_and_reflection(rt: HostRuntime) -> Result
         0x80, 9, 4, 192, 0, 2, 1, // ORIGINATOR_ID: 192.0.2.1
         0x80, 10, 8, 0, 0, 0, 1, 0, 0, 0, 2, // CLUSTER_LIST: 0.0.0.1 0.0.0.2
     ];
-    assert_eq!(rt;
+    same(
+        &rt,
         written(&rt, rt.alloc(), WIDE, parts)?.as_slice(),
-        octets.as_slice()
+        octets.as_slice(),
     );
     Ok(())
 }
@@ -131,9 +139,9 @@ fn with_communities(alloc: Global, count: usize) -> Result<PathParts, AllocError
 #[test]
 fn extended_length_is_for_more_than_255_octets(rt: HostRuntime) -> Result<(), Fail> {
     let short = written(&rt, rt.alloc(), WIDE, with_communities(rt.alloc(), 63)?)?;
-    assert_eq!(rt; short.get(14..17), Some([0xc0, 8, 252].as_slice()));
+    same(&rt, short.get(14..17), Some([0xc0, 8, 252].as_slice()));
     let long = written(&rt, rt.alloc(), WIDE, with_communities(rt.alloc(), 64)?)?;
-    assert_eq!(rt; long.get(14..18), Some([0xd0, 8, 1, 0].as_slice()));
+    same(&rt, long.get(14..18), Some([0xd0, 8, 1, 0].as_slice()));
     Ok(())
 }
 
@@ -141,7 +149,7 @@ fn extended_length_is_for_more_than_255_octets(rt: HostRuntime) -> Result<(), Fa
 fn a_value_has_at_most_65535_octets(rt: HostRuntime) -> Result<(), Fail> {
     for (count, holds) in [(16383, true), (16384, false)] {
         let path = Path::new(rt.alloc(), with_communities(rt.alloc(), count)?)?;
-        assert_eq!(rt; is_writable(WIDE, &path), holds);
+        same(&rt, is_writable(WIDE, &path), holds);
     }
     Ok(())
 }
@@ -151,7 +159,7 @@ fn a_path_is_measured_before_it_is_written(rt: HostRuntime) -> Result<(), Fail> 
     let path = Path::new(rt.alloc(), plain(rt.alloc(), &[(Sequence, &[65002])])?)?;
     // ORIGIN 4, AS_PATH 9 and NEXT_HOP 7 octets
     for (most, len) in [(20, Some(20)), (65535, Some(20)), (19, None), (0, None)] {
-        assert_eq!(rt; path_len(WIDE, &path, most), len);
+        same(&rt, path_len(WIDE, &path, most), len);
     }
     Ok(())
 }
@@ -184,9 +192,13 @@ fn a_path_is_put_where_there_is_room(rt: HostRuntime) -> Result<(), Fail> {
     let len = path_len(WIDE, &path, 65535).ok_or("too long")?;
     out.reserve(usize::from(len))?;
     put_path(&mut out, WIDE, &path);
-    assert_eq!(rt; out.len(), 21);
-    assert_eq!(rt; out.get(..5), Some([9, 0x40, 1, 1, 0].as_slice()));
-    assert_eq!(rt; out.get(14..), Some([0x40, 3, 4, 192, 0, 2, 2].as_slice()));
+    same(&rt, out.len(), 21);
+    same(&rt, out.get(..5), Some([9, 0x40, 1, 1, 0].as_slice()));
+    same(
+        &rt,
+        out.get(14..),
+        Some([0x40, 3, 4, 192, 0, 2, 2].as_slice()),
+    );
     Ok(())
 }
 
@@ -202,7 +214,7 @@ fn a_header_says_a_length_of_one_octet_or_two(rt: HostRuntime) -> Result<(), Fai
         let mut out = Vec::new(rt.alloc());
         out.reserve(4)?;
         put_attribute_header(&mut out, AttrType::MpReachNlri, len);
-        assert_eq!(rt; out.as_slice(), octets);
+        same(&rt, out.as_slice(), octets);
     }
     Ok(())
 }
