@@ -132,8 +132,9 @@ fn established_step(
     }
 }
 
-/// What a row makes.
-pub(crate) fn hidden_step(config: &Config, head: Head, t: Seconds, row: HiddenRow) -> Option<Step>
+/// The step that one row of the table makes at a second: none where the row isn't the state's, or
+/// doesn't hold then.
+pub fn hidden_step(config: &Config, head: Head, t: Seconds, row: HiddenRow) -> Option<Step>
     ensures { MakesHidden config.now head t row result }
 {
     match head {

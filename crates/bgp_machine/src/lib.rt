@@ -30,7 +30,7 @@ mod want;
 
 pub use fsm::Fsm;
 pub use hearing::{Heard, hear};
-pub use hidden::hidden_steps;
+pub use hidden::{hidden_step, hidden_steps};
 pub use laws::{a_note_keeps_the_state, each_owed_want_can_be_met, each_record_goes_one_way};
 pub use listing::MOST_STEPS;
 pub use meeting::meets;
@@ -41,6 +41,3 @@ pub use silent::silent_steps;
 pub use state::{Head, HoldTimer, State};
 pub use step::{After, Owed, Routes, Step};
 pub use want::{FaultSet, Unexpected, Want, Wants};
-
-#[cfg(test)]
-mod tests;

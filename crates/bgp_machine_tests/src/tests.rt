@@ -11,7 +11,7 @@ mod received;
 mod silent;
 mod updates;
 
-use crate::{After, Head, HoldTimer, Routes, Step, Wants};
+use bgp_machine::{After, Head, HoldTimer, Routes, Step, Wants};
 use bgp_open::{Config, ConfigParts, Families, Link, negotiate, read_open};
 use bgp_prefix::{Address, Session};
 use bgp_wire::vectors::OPEN_B;

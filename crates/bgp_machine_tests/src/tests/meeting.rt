@@ -1,7 +1,7 @@
 //! Which messages meet a want.
 
 use super::*;
-use crate::{FaultSet, Unexpected, Want, meets};
+use bgp_machine::{FaultSet, Unexpected, Want, meets};
 use bgp_open::OpenSubcodes;
 use bgp_update::Subcodes;
 use bgp_wire::vectors::{

@@ -1,9 +1,8 @@
 //! What a state does by itself.
 
 use super::*;
-use crate::hidden::hidden_step;
-use crate::{Fsm, HiddenRow, Want, hidden_steps};
 use HiddenRow::*;
+use bgp_machine::{Fsm, HiddenRow, Want, hidden_step, hidden_steps};
 
 /// Where a row is asked: a state, and a second.
 #[derive(Clone, Copy)]
@@ -259,11 +258,17 @@ fn each_state_has_as_many_steps_as_its_rows_say(rt: HostRuntime) -> Result<(), F
     let link = link_of_a_and_b(&config)?;
     let up = Head::Established(link, TIMER);
     let stopped = Head::Established(link, STOPPED);
-    assert_eq!(rt; hidden_steps(&config, Head::Idle, 100).len(), 3);
-    assert_eq!(rt; hidden_steps(&config, CONNECT, 100).len(), 3);
-    assert_eq!(rt; hidden_steps(&delayed, ACTIVE_DELAYED, 100).len(), 5);
-    assert_eq!(rt; hidden_steps(&config, up, 191).len(), 5);
-    assert_eq!(rt; hidden_steps(&config, up, 192).len(), 6);
-    assert_eq!(rt; hidden_steps(&config, stopped, 192).len(), 4);
+    let rows = [
+        (&config, Head::Idle, 100, 3),
+        (&config, CONNECT, 100, 3),
+        (&delayed, ACTIVE_DELAYED, 100, 5),
+        (&config, up, 191, 5),
+        (&config, up, 192, 6),
+        (&config, stopped, 192, 4),
+    ];
+    for (config, head, second, count) in rows {
+        let steps = hidden_steps(config, head, second);
+        assert_eq!(rt; steps.len(), count, "{head:?} at {second}");
+    }
     Ok(())
 }

@@ -1,8 +1,8 @@
 //! Steps that show no record: the rows DelayBegins, and RetryExpires in Connect.
 
 use super::*;
-use crate::{HiddenRow, silent_steps};
 use HiddenRow::*;
+use bgp_machine::{HiddenRow, silent_steps};
 
 const CONNECT: Head = Head::Connect(false);
 

@@ -2,8 +2,8 @@
 //! disabled, and `NamesFault`.
 
 use super::*;
-use crate::{FaultSet, ReceivedRow, Want, message_steps};
 use ReceivedRow::*;
+use bgp_machine::{FaultSet, ReceivedRow, Want, message_steps};
 use bgp_update::Subcodes;
 use bgp_wire::vectors::{
     ANNOUNCES_10, KEEPALIVE, MP_REACH_TRANSITIVE, MP_UNREACH_TWICE, NEXT_HOP_OF_5, ORIGIN_OF_3,
