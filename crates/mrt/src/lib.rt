@@ -26,8 +26,6 @@ mod reading;
 mod record;
 mod sink;
 mod source;
-#[cfg(test)]
-mod tests;
 mod writer;
 
 pub use failure::Failed;

@@ -4,7 +4,6 @@
 use super::*;
 use bgp_prefix::{Address, Session};
 use bgp_wire::vectors::KEEPALIVE;
-use std::process::Abort;
 
 /// The session of 192.0.2.1 with 192.0.2.2, which may have route refresh.
 pub(crate) const SESSION: Session = Session {
@@ -74,24 +73,24 @@ fn compare(
     let mut reader = Reader::new(alloc);
     for _ in 0..changes {
         let answer = next(&mut reader, &mut source, &SESSION)?;
-        assert_eq!(rt; answer, Ok(Some(Record::Change(100, 1, 2))));
+        same(rt, answer, Ok(Some(Record::Change(100, 1, 2))));
     }
     let wanted = match fault {
         Some(fault) => Err(fault),
         None => Ok(None),
     };
     let answer = next(&mut reader, &mut source, &SESSION)?;
-    assert_eq!(rt; answer, wanted);
+    same(rt, answer, wanted);
     let given = source.given();
     let failures = source.failures();
     for _ in 0..2 {
         let answer = next(&mut reader, &mut source, &SESSION)?;
-        assert_eq!(rt; answer, wanted);
-        assert_eq!(rt; source.given(), given);
-        assert_eq!(rt; source.failures(), failures);
+        same(rt, answer, wanted);
+        same(rt, source.given(), given);
+        same(rt, source.failures(), failures);
     }
     if let Some(fault) = fault {
-        assert_eq!(rt; reader.place(), fault.offset);
+        same(rt, reader.place(), fault.offset);
     }
     Ok(())
 }
@@ -119,19 +118,19 @@ fn a_capture_is_read_to_its_end_or_its_first_fault(rt: HostRuntime) -> Result<()
 fn no_octet_beyond_the_record_is_taken(rt: HostRuntime) -> Result<(), Fail> {
     let mut source = MemSource::new(capture_of(rt.alloc(), &[CHANGE, RECEIVED])?);
     let mut reader = Reader::new(rt.alloc());
-    assert_eq!(rt; reader.place(), 0);
+    same(&rt, reader.place(), 0);
     let answer = next(&mut reader, &mut source, &SESSION)?;
-    assert_eq!(rt; answer, Ok(Some(Record::Change(100, 1, 2))));
-    assert_eq!(rt; source.given(), 36);
+    same(&rt, answer, Ok(Some(Record::Change(100, 1, 2))));
+    same(&rt, source.given(), 36);
     let answer = next(&mut reader, &mut source, &SESSION)?;
-    assert_eq!(rt; answer, Ok(Some(Record::In(101, &KEEPALIVE))));
-    assert_eq!(rt; reader.place(), 36);
-    assert_eq!(rt; source.given(), 87);
+    same(&rt, answer, Ok(Some(Record::In(101, &KEEPALIVE))));
+    same(&rt, reader.place(), 36);
+    same(&rt, source.given(), 87);
     let answer = next(&mut reader, &mut source, &SESSION)?;
-    assert_eq!(rt; answer, Ok(None));
-    assert_eq!(rt; reader.place(), 87);
-    assert_eq!(rt; reader.has_answered(), true);
-    assert_eq!(rt; reader.first_other(), None);
+    same(&rt, answer, Ok(None));
+    same(&rt, reader.place(), 87);
+    same(&rt, reader.has_answered(), true);
+    same(&rt, reader.first_other(), None);
     Ok(())
 }
 
@@ -145,13 +144,13 @@ fn the_first_other_session_is_kept(rt: HostRuntime) -> Result<(), Fail> {
     let mut source = MemSource::new(capture_of(rt.alloc(), &[CHANGE, RECEIVED])?);
     let mut reader = Reader::new(rt.alloc());
     let answer = next(&mut reader, &mut source, &exchanged)?;
-    assert_eq!(rt; answer, Ok(None));
-    assert_eq!(rt; reader.has_answered(), false);
+    same(&rt, answer, Ok(None));
+    same(&rt, reader.has_answered(), false);
     let ends = Endpoints {
         peer: SESSION.peer,
         local: SESSION.local,
     };
-    assert_eq!(rt; reader.first_other(), Some(ends));
+    same(&rt, reader.first_other(), Some(ends));
     Ok(())
 }
 
@@ -209,9 +208,9 @@ fn ample_memory(rt: HostRuntime) -> Result<(), Fail> {
     let passed = reader.passed();
     if source.failures() < u64::MAX && passed <= source.given() as u64 {
         let answer = reader.next_record(&mut source, &SESSION);
-        assert_eq!(rt; answer, Ok(Some(Record::Change(100, 1, 2))));
+        same(&rt, answer, Ok(Some(Record::Change(100, 1, 2))));
     }
-    assert_eq!(rt; source.given(), 36);
+    same(&rt, source.given(), 36);
     Ok(())
 }
 
@@ -221,10 +220,10 @@ fn faults_have_numbers_and_names(rt: HostRuntime) -> Result<(), Fail> {
         kind: FaultKind::TimeBack,
         offset: 36,
     };
-    assert_eq!(rt; fault.kind.number(), 6);
-    assert_eq!(rt; fault.kind.name(), "TimeBack");
+    same(&rt, fault.kind.number(), 6);
+    same(&rt, fault.kind.name(), "TimeBack");
     let text = format!(in rt.alloc(); "{fault}")?;
     let wanted = "the time of a record is before that of the record before (at octet 36)";
-    assert_eq!(rt; text.as_str(), wanted);
+    same(&rt, text.as_str(), wanted);
     Ok(())
 }

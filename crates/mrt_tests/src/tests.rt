@@ -3,13 +3,20 @@
 mod captures;
 mod written;
 
-use super::*;
 use linked_list_allocator::LocalHeap;
+use mrt::*;
 use std::alloc::{AllocError, Allocator, Global};
+use std::fmt::Debug;
 use std::io;
 use std::io::{ErrorKind, Read, Write};
 use std::num::NonZeroUsize;
+use std::process::Abort;
 use std::test::Fail;
+
+/// The two are equal. A call of this is proved more quickly than `assert_eq!`.
+fn same<T: Copy + PartialEq + Debug>(rt: &impl Abort, value: T, wanted: T) {
+    assert_eq!(rt; value, wanted);
+}
 
 /// What a source answers to so many reads with room for two octets, and the octets that it gave.
 fn answers_of<R: Source>(
@@ -111,14 +118,15 @@ impl Write for FaultyWriter {
 fn a_reader_gives_its_octets_and_then_its_end(rt: HostRuntime) -> Result<(), Fail> {
     let mut source = FromRead::new(b"abcde".as_slice());
     let (answers, octets) = answers_of(rt.alloc(), &mut source, 5)?;
-    assert_eq!(rt;
+    same(
+        &rt,
         answers.as_slice(),
-        [Ok(2), Ok(2), Ok(1), Ok(0), Ok(0)].as_slice()
+        [Ok(2), Ok(2), Ok(1), Ok(0), Ok(0)].as_slice(),
     );
-    assert_eq!(rt; octets.as_slice(), b"abcde".as_slice());
-    assert_eq!(rt; source.failures(), 0);
-    assert_eq!(rt; source.given(), 5);
-    assert_eq!(rt; source.into_inner().len(), 0);
+    same(&rt, octets.as_slice(), b"abcde".as_slice());
+    same(&rt, source.failures(), 0);
+    same(&rt, source.given(), 5);
+    same(&rt, source.into_inner().len(), 0);
     Ok(())
 }
 
@@ -135,10 +143,10 @@ fn each_error_of_a_reader_is_one_failure(rt: HostRuntime) -> Result<(), Fail> {
             let mut wanted = [Ok(1), Ok(1), Ok(1), Ok(0), Ok(0)].to_vec(rt.alloc())?;
             wanted.insert(calls_before as usize, Err(Failed))?;
             assert_eq!(rt; answers.as_slice(), &wanted[..5], "at {calls_before}");
-            assert_eq!(rt; octets.as_slice(), b"abc".as_slice());
-            assert_eq!(rt; source.failures(), 1);
-            assert_eq!(rt; source.last_error(), Some(error));
-            assert_eq!(rt; source.given(), 3);
+            same(&rt, octets.as_slice(), b"abc".as_slice());
+            same(&rt, source.failures(), 1);
+            same(&rt, source.last_error(), Some(error));
+            same(&rt, source.given(), 3);
         }
     }
     Ok(())
@@ -147,10 +155,10 @@ fn each_error_of_a_reader_is_one_failure(rt: HostRuntime) -> Result<(), Fail> {
 #[test]
 fn a_vector_takes_all_that_is_written(rt: HostRuntime) -> Result<(), Fail> {
     let mut sink = FromWrite::new(Vec::new(rt.alloc()));
-    assert_eq!(rt; write_all(&mut sink, b"ab"), Ok(()));
-    assert_eq!(rt; sink.failures(), 0);
-    assert_eq!(rt; write_all(&mut sink, b""), Ok(()));
-    assert_eq!(rt; sink.into_inner().as_slice(), b"ab".as_slice());
+    same(&rt, write_all(&mut sink, b"ab"), Ok(()));
+    same(&rt, sink.failures(), 0);
+    same(&rt, write_all(&mut sink, b""), Ok(()));
+    same(&rt, sink.into_inner().as_slice(), b"ab".as_slice());
     Ok(())
 }
 
@@ -172,11 +180,15 @@ fn an_error_and_a_write_that_takes_nothing_are_each_one_failure(
             fault,
         });
         let answers = answers_to(rt.alloc(), &mut sink, 3)?;
-        assert_eq!(rt; answers.as_slice(), [Ok(2), Err(Failed), Ok(2)].as_slice());
-        assert_eq!(rt; sink.failures(), 1);
-        assert_eq!(rt; sink.last_error(), Some(error));
-        assert_eq!(rt; sink.taken(), 4);
-        assert_eq!(rt; sink.into_inner().octets.as_slice(), b"abab".as_slice());
+        same(
+            &rt,
+            answers.as_slice(),
+            [Ok(2), Err(Failed), Ok(2)].as_slice(),
+        );
+        same(&rt, sink.failures(), 1);
+        same(&rt, sink.last_error(), Some(error));
+        same(&rt, sink.taken(), 4);
+        same(&rt, sink.into_inner().octets.as_slice(), b"abab".as_slice());
     }
     Ok(())
 }
@@ -221,10 +233,10 @@ fn a_source_in_memory_is_upset_once_and_ends_for_good(rt: HostRuntime) -> Result
             "{upset:?} at {call}"
         );
         let failed = answers.contains(&Err(Failed));
-        assert_eq!(rt; source.failures(), u64::from(failed));
-        assert_eq!(rt; source.given(), given.len());
+        same(&rt, source.failures(), u64::from(failed));
+        same(&rt, source.given(), given.len());
         assert!(rt; source.octets().starts_with(given.as_slice()));
-        assert_eq!(rt; source.octets(), b"abcde".as_slice());
+        same(&rt, source.octets(), b"abcde".as_slice());
     }
     Ok(())
 }
@@ -233,10 +245,14 @@ fn a_source_in_memory_is_upset_once_and_ends_for_good(rt: HostRuntime) -> Result
 fn a_source_in_memory_gives_in_pieces(rt: HostRuntime) -> Result<(), Fail> {
     let octets = b"abc".to_vec(rt.alloc())?;
     let mut source = MemSource::new(octets).in_pieces_of(NonZeroUsize::MIN);
-    assert_eq!(rt; source.read(&mut []), Ok(0));
+    same(&rt, source.read(&mut []), Ok(0));
     let (answers, given) = answers_of(rt.alloc(), &mut source, 4)?;
-    assert_eq!(rt; answers.as_slice(), [Ok(1), Ok(1), Ok(1), Ok(0)].as_slice());
-    assert_eq!(rt; given.as_slice(), b"abc".as_slice());
+    same(
+        &rt,
+        answers.as_slice(),
+        [Ok(1), Ok(1), Ok(1), Ok(0)].as_slice(),
+    );
+    same(&rt, given.as_slice(), b"abc".as_slice());
     Ok(())
 }
 
@@ -252,7 +268,7 @@ fn a_sink_in_memory_is_upset_once(rt: HostRuntime) -> Result<(), Fail> {
         (3, SinkUpset::Fail, [Ok(3), Ok(3), Ok(3)], "abcabcabc"),
     ] {
         let mut sink = MemSink::new(rt.alloc()).upset_at(call, upset);
-        assert_eq!(rt; sink.write(b""), Ok(0));
+        same(&rt, sink.write(b""), Ok(0));
         let answers = answers_to(rt.alloc(), &mut sink, 3)?;
         assert_eq!(rt;
             answers.as_slice(),
@@ -260,8 +276,8 @@ fn a_sink_in_memory_is_upset_once(rt: HostRuntime) -> Result<(), Fail> {
             "{upset:?} at {call}"
         );
         let failed = answers.contains(&Err(Failed));
-        assert_eq!(rt; sink.failures(), u64::from(failed));
-        assert_eq!(rt; sink.octets(), taken.as_bytes());
+        same(&rt, sink.failures(), u64::from(failed));
+        same(&rt, sink.octets(), taken.as_bytes());
     }
     Ok(())
 }
@@ -276,8 +292,8 @@ fn write_all_stops_at_the_write_that_fails(rt: HostRuntime) -> Result<(), Fail> 
         let answer = write_all(&mut sink, text);
         let taken = (call as usize).min(text.len());
         assert_eq!(rt; answer.is_ok(), call >= 5, "at {call}");
-        assert_eq!(rt; sink.failures(), u64::from(call < 5));
-        assert_eq!(rt; sink.octets(), &text[..taken]);
+        same(&rt, sink.failures(), u64::from(call < 5));
+        same(&rt, sink.octets(), &text[..taken]);
     }
     Ok(())
 }
@@ -293,13 +309,13 @@ fn a_sink_keeps_what_it_took_where_memory_is_refused(rt: HostRuntime) -> Result<
         let taken = sink.octets().len();
         assert!(rt; text.starts_with(sink.octets()));
         if answer.is_ok() {
-            assert_eq!(rt; taken, 100);
-            assert_eq!(rt; sink.failures(), 0);
+            same(&rt, taken, 100);
+            same(&rt, sink.failures(), 0);
             assert!(rt; refusals > 0);
             return Ok(());
         }
-        assert_eq!(rt; taken % 7, 0);
-        assert_eq!(rt; sink.failures(), 1);
+        same(&rt, taken % 7, 0);
+        same(&rt, sink.failures(), 1);
         refusals = refusals.saturating_add(1);
     }
     Err(Fail::new("memory is always refused"))
@@ -309,11 +325,12 @@ fn a_sink_keeps_what_it_took_where_memory_is_refused(rt: HostRuntime) -> Result<
 #[test]
 fn ample_memory(rt: HostRuntime) -> Result<(), Fail> {
     let mut sink = MemSink::new(rt.alloc());
-    assert_eq!(rt; sink.write(b"octets"), Ok(6));
-    assert_eq!(rt; write_all(&mut sink, b" and more"), Ok(()));
-    assert_eq!(rt;
+    same(&rt, sink.write(b"octets"), Ok(6));
+    same(&rt, write_all(&mut sink, b" and more"), Ok(()));
+    same(
+        &rt,
         sink.into_octets().as_slice(),
-        b"octets and more".as_slice()
+        b"octets and more".as_slice(),
     );
     Ok(())
 }

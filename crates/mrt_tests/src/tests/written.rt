@@ -6,7 +6,7 @@ use bgp_prefix::{Address, Session};
 use bgp_wire::vectors::KEEPALIVE;
 
 /// The first octets of a KEEPALIVE that is sent over IPv6 at second 7, up to its message:
-/// Timestamp, BGP4MP and MESSAGE_AS4_LOCAL, Length; AS numbers; interface index and AFI; peer, local.
+/// Timestamp, BGP4MP and MESSAGE_AS4_LOCAL, Length; AS numbers; interface index and AFI; addresses.
 const SENT: &str = "00000007 00100007 0000003f \
     0000fdea 0000fde9 00000002 \
     20010db8000000000000000000000002 20010db8000000000000000000000001";
@@ -35,15 +35,15 @@ fn records_are_written_octet_by_octet(rt: HostRuntime) -> Result<(), Fail> {
     let change = Record::Change(100, 1, 2);
     let received = Record::In(101, &KEEPALIVE);
     let sent = Record::Out(7, &KEEPALIVE);
-    assert_eq!(rt; write(&mut sink, &SESSION, &change)?, Ok(()));
-    assert_eq!(rt; write(&mut sink, &SESSION, &received)?, Ok(()));
-    assert_eq!(rt; write(&mut sink, &OVER_IPV6, &sent)?, Ok(()));
+    same(&rt, write(&mut sink, &SESSION, &change)?, Ok(()));
+    same(&rt, write(&mut sink, &SESSION, &received)?, Ok(()));
+    same(&rt, write(&mut sink, &OVER_IPV6, &sent)?, Ok(()));
     let mut wanted = Vec::new(rt.alloc());
     for record in [CHANGE, RECEIVED, SENT] {
         wanted.extend_from_slice(octets_of(rt.alloc(), record)?.as_slice())?;
     }
     wanted.extend_from_slice(&KEEPALIVE)?;
-    assert_eq!(rt; sink.octets(), wanted.as_slice());
+    same(&rt, sink.octets(), wanted.as_slice());
     Ok(())
 }
 
@@ -59,7 +59,7 @@ fn a_sink_that_fails_has_a_beginning(rt: HostRuntime) -> Result<(), Fail> {
         assert_eq!(rt; answer, Err(WriteFault::Device), "{call}");
         assert_eq!(rt; sink.failures(), 1, "{call}");
         let taken = sink.octets();
-        assert_eq!(rt; taken.len() as u64, call);
+        same(&rt, taken.len() as u64, call);
         assert_eq!(rt; octets.starts_with(taken), true, "{call}");
     }
     Ok(())
@@ -74,7 +74,7 @@ fn a_record_of_two_families_or_too_long_a_body_is_not_writable(
         ..SESSION
     };
     let change = Record::Change(100, 1, 2);
-    assert_eq!(rt; is_writable(&mixed, &change), false);
+    same(&rt, is_writable(&mixed, &change), false);
     for (count, wanted) in [(8172, true), (8173, false)] {
         let message = vec![in rt.alloc(); 0; count]?;
         let received = Record::In(101, message.as_slice());
