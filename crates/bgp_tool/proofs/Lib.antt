@@ -6,6 +6,8 @@ pub mod WholeStream
 pub mod OneText
 pub mod CaptureLines
 pub mod CaptureDecoded
+pub mod CaptureJudged
+pub mod OneVerdict
 pub mod DecodeValues
 pub mod SpelledCommand
 pub mod Fronts

@@ -7,3 +7,5 @@ pub mod Opened
 pub mod CaptureDecoding
 pub mod Words
 pub mod OpenedCapture
+pub mod Answer
+pub mod Judging

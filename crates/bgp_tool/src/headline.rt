@@ -1,11 +1,61 @@
-//! The page to show: what `decode_raw` promises, with no argument to look up.
+//! The page to show: what `bgp judge` promises, and what `decode_raw` does with no argument to look
+//! up.
 
-ghost use Rattle.std.specs.Prelude.{◌<◌, ◌≤◌};
+ghost use Rattle.std.specs.Prelude.{◌<◌, ◌≤◌, ◌^◌};
 ghost use Rattle.bgp_tool.specs.Decoding.{IsDecoded, IsBegun};
+ghost use Rattle.bgp_tool.specs.Judging.{JudgesCapture, HasOneVerdict};
 
+use crate::captures::hand_over;
 use crate::decoding::decode_raw;
-use mrt::{MemSink, MemSource};
+use crate::judging::put_answer;
+use bgp_judge::{Tracker, judge, one_end_for_each_disabled_set};
+use bgp_open::Config;
+use bgp_text::Lines;
+use mrt::{MemSink, MemSource, Sink, Source, each_capture_has_one_reading};
 use std::alloc::Allocator;
+
+/// Judges the capture that a source gives: whether its records are those of a run of the session
+/// machine (RFC 4271, 8.2.2), under this configuration and of the session that it names.
+///
+/// It writes exactly the text of the one verdict on the records that the octets spell, and answers
+/// its exit status:
+///
+/// * 0: `yes`, and each possible end with its routes, and no other.
+/// * 1: `no at record N`: the records before it begin a run, and with it none.
+/// * 2: `unfinished`: the records begin a run, and no run shows just them.
+///
+/// Where the octets spell none, also behind an impossible record, it writes `capture refused: NUMBER
+/// NAME at OFFSET` of their first fault, and answers 3; where memory was refused 4, and where the
+/// source failed 5. Where the sink failed, a beginning of that text is written, and the status is 5.
+///
+/// It rests on the laws of [`Tracker`] alone, and so holds with every tracker.
+pub fn judge_capture<A: Allocator + Copy, T: Tracker<A>, R: Source, W: Sink>(
+    alloc: A,
+    config: &Config,
+    source: &mut R,
+    sink: &mut W,
+) -> u8
+    requires source { R.failures source.old < 2 ^ 63 }
+    requires sink { W.failures sink.old < 2 ^ 63 }
+    ensures { JudgesCapture R.gives R.has_ended W.takes R.failures W.failures config.now
+        source.old source.new sink.old sink.new result }
+{
+    let answer = judge::<A, T, R>(alloc, config, source);
+    let mut lines = Lines::new(sink);
+    let status = put_answer(&mut lines, &answer);
+    let status = hand_over(&mut lines, status);
+    // No effect: it ends the loan of the sink.
+    lines.into_sink();
+    status.code()
+}
+
+/// Law: one verdict holds of each capture, and it has one text and one exit status.
+pub fn each_capture_has_one_verdict()
+    ensures { HasOneVerdict }
+{
+    each_capture_has_one_reading();
+    one_end_for_each_disabled_set();
+}
 
 /// The text of a stream of octets in memory, and the exit status.
 ///

@@ -5,11 +5,13 @@ ghost use Rattle.std.specs.Prelude.{◌≡◌};
 /// Why the program ended.
 #[derive(Clone, Copy, Debug, PartialEq, Eq)]
 pub enum Status {
-    /// All was decoded.
+    /// All was decoded, or the verdict is yes.
     Done = 0,
-    /// The stream ends inside a message.
+    /// The verdict is no.
+    No = 1,
+    /// The stream ends inside a message, or the verdict is unfinished.
     Unfinished = 2,
-    /// The stream was refused.
+    /// The stream or the capture was refused.
     Refused = 3,
     /// Memory was refused.
     Memory = 4,

@@ -1,0 +1,108 @@
+-- A capture's judging that began with a fresh text, told by what the sink took.
+use Rattle.std.proofs.Common.{◌≡◌, ◌∙◌, ◌⊎◌, ◌+◌, ℕ, List, [], Bool, IsTrue, IsFalse, arith, refl, sym, ap, subst, inl, inr, map, Result, Ok, Err}
+use Rattle.bgp_open.specs.declared.config.Config.{Config}
+use Rattle.mrt.specs.declared.fault.CaptureFault.{CaptureFault}
+use Rattle.mrt.specs.declared.sink.Sink as sinks
+use Rattle.mrt.specs.Progress.{failures_of}
+use Rattle.bgp_judge.specs.declared.verdict.Verdict.{Verdict}
+use Rattle.bgp_judge.specs.declared.verdict.Verdict.TheVariants.{Yes, No, Unfinished}
+use Rattle.bgp_judge.specs.Ends.{end_value}
+use Rattle.bgp_judge.specs.Judging.{Judges}
+use Rattle.bgp_text.specs.declared.lines.Lines.{Lines}
+use Rattle.bgp_text.specs.Lines.{Writes}
+use Rattle.bgp_text.proofs.Fresh.{IsFresh, put_is, nothing_left, none_counted, one_counted}
+use Rattle.bgp_tool.specs.Answer.{answer_text, answer_status}
+use Rattle.bgp_tool.specs.Judging.{TellsVerdict, TellsFault, JudgesCapture}
+
+module _ {R : Type 0} (gives : R → R → List ℕ → Type 0) (has_ended : R → Bool) (counts : R → ℕ) (config : Config)
+    (source source' : R) where
+  same_count : counts source' ≡ counts source + 0 → counts source' ≡ counts source
+  same_count counted = omega arith
+
+  -- what is answered is told by its text and status
+  pub tells : {X : Type 0} (answer : Result (Verdict X) CaptureFault) → Judges gives has_ended config source source' answer
+      → counts source' ≡ counts source + failures_of answer
+      → TellsVerdict gives has_ended counts config source source' (answer_text answer) (answer_status answer)
+      ⊎ TellsFault gives has_ended counts config source source' (answer_text answer) (answer_status answer)
+  tells (Ok (Yes ends)) judged counted = inl record {
+    octets = judged.octets;
+    records = judged.records;
+    gave = judged.gave;
+    ended = judged.ended;
+    spells = judged.spells;
+    says = inl record {
+      ends = map end_value ends.items;
+      some = judged.verdict.0;
+      lists = judged.verdict.1;
+      prints = refl;
+      tells = refl;
+    };
+    counted = same_count counted;
+  }
+  tells (Ok (No count)) judged counted = inl record {
+    octets = judged.octets;
+    records = judged.records;
+    gave = judged.gave;
+    ended = judged.ended;
+    spells = judged.spells;
+    says = inr (inl record {
+      count = count;
+      within = judged.verdict.0;
+      before = judged.verdict.1;
+      behind = judged.verdict.2;
+      prints = refl;
+      tells = refl;
+    });
+    counted = same_count counted;
+  }
+  tells (Ok Unfinished) judged counted = inl record {
+    octets = judged.octets;
+    records = judged.records;
+    gave = judged.gave;
+    ended = judged.ended;
+    spells = judged.spells;
+    says = inr (inr record {
+      begins = judged.verdict.0;
+      none = judged.verdict.1;
+      prints = refl;
+      tells = refl;
+    });
+    counted = same_count counted;
+  }
+  tells (Err fault) judged counted = inr record {
+    fault = fault;
+    why = judged;
+    prints = refl;
+    tells = refl;
+    counted = counted;
+  }
+
+module _ {R W : Type 0} {sinks' : sinks.Ghosts W} (gives : R → R → List ℕ → Type 0) (has_ended : R → Bool) (counts : R → ℕ)
+    (config : Config) (source source' : R) (lines lines' : Lines W sinks') (sink sink' : W) (fresh : IsFresh lines)
+    (first : lines.outlet.sink.now ≡ sink) (last : sink' ≡ lines'.outlet.sink.now) where
+  pub judges_capture : {X : Type 0} (answer : Result (Verdict X) CaptureFault) (status : ℕ) → Judges gives has_ended config source source' answer
+      → counts source' ≡ counts source + failures_of answer
+      → Writes lines lines' (answer_text answer) → lines'.held.items ≡ []
+      → (IsFalse lines'.outlet.has_failed × (status ≡ answer_status answer)) ⊎ (IsTrue lines'.outlet.has_failed × (status ≡ 5))
+      → JudgesCapture gives has_ended sinks'.takes counts sinks'.failures config source source' sink sink' status
+  judges_capture answer status judged counted wrote handed_over told =
+      let text = answer_text answer in record {
+        text = text;
+        code = answer_status answer;
+        answer = tells gives has_ended counts config source source' answer judged counted;
+        written = wrote.taken;
+        left = wrote.left;
+        took = subst (λ (w : W). sinks'.takes w sink' wrote.taken) first (subst (λ (w : W). sinks'.takes lines.outlet.sink.now w wrote.taken) (sym last) wrote.took);
+        begun = put_is lines lines' text fresh wrote;
+        all = elim told [
+          | inl calm ↦ inl (
+            ap sinks'.failures last ∙ none_counted lines lines' text fresh wrote calm.0 ∙ ap sinks'.failures first,
+            nothing_left lines lines' text fresh wrote handed_over calm.0,
+            calm.1,
+          )
+          | inr failed ↦ inr (
+            ap sinks'.failures last ∙ one_counted lines lines' text fresh wrote failed.0 ∙ ap (λ (w : W). sinks'.failures w + 1) first,
+            failed.1,
+          )
+        ];
+      }

@@ -1,0 +1,44 @@
+//! What `bgp judge` prints of an answer, and the exit status that it has.
+
+ghost use Rattle.std.specs.Prelude.{◌≡◌};
+ghost use Rattle.bgp_text.specs.Lines.{Writes};
+ghost use Rattle.bgp_tool.specs.Status.{code_of};
+ghost use Rattle.bgp_tool.specs.Answer.{verdict_status, answer_text, answer_status};
+
+use crate::captures;
+use crate::status::Status;
+use bgp_judge::Verdict;
+use bgp_text::{Lines, put_refused, put_verdict};
+use mrt::{CaptureFault, Sink};
+use std::alloc::Allocator;
+
+/// The exit status of a verdict.
+fn status_of<A: Allocator>(verdict: &Verdict<A>) -> Status
+    ensures { code_of result ≡ verdict_status verdict.now }
+{
+    match verdict {
+        Verdict::Yes(_) => Status::Done,
+        Verdict::No(_) => Status::No,
+        Verdict::Unfinished => Status::Unfinished,
+    }
+}
+
+/// Puts the text of what is answered of a capture, and answers its exit status.
+pub(crate) fn put_answer<W: Sink, A: Allocator>(
+    lines: &mut Lines<'_, W>,
+    answer: &Result<Verdict<A>, CaptureFault>,
+) -> Status
+    ensures writes { Writes lines.old lines.new (answer_text answer.now) }
+    ensures status { code_of result ≡ answer_status answer.now }
+{
+    match answer {
+        Ok(verdict) => {
+            put_verdict(lines, verdict);
+            status_of(verdict)
+        }
+        Err(fault) => {
+            put_refused(lines, *fault);
+            captures::status_of(fault.kind)
+        }
+    }
+}
