@@ -5,10 +5,11 @@ use Rattle.std.specs.Prelude.{option_map}
 use Rattle.std.specs.Borrow.{Bor}
 use Rattle.std.specs.Io.KnownBytes.{Consumes, Appends, IsAtEnd}
 use Rattle.std.specs.declared.io.ErrorKind.{ErrorKind}
-use Rattle.std.specs.declared.io.ErrorKind.TheVariants.{BrokenPipe}
+use Rattle.std.specs.declared.io.ErrorKind.TheVariants as errors
 use Rattle.mrt.specs.FromWrite.{WriterState}
 use Rattle.bgp_tool.specs.declared.note.Note.{Note}
-use Rattle.bgp_tool.specs.declared.note.Note.TheVariants.{Unread, Unwritten, OutOfMemory, NoStream}
+use Rattle.bgp_tool.specs.declared.note.Note.TheVariants.{Unopened, Unread, Unwritten}
+use Rattle.bgp_tool.specs.declared.note.Note.TheVariants.{OutOfMemory, NoStream}
 use Rattle.bgp_tool.specs.declared.opened.Outcome.{Outcome}
 use Rattle.bgp_tool.specs.Decoding.{IsDecoded, IsSoFar, IsBeginning}
 use Rattle.bgp_tool.specs.Front.{form_of, kept}
@@ -16,8 +17,8 @@ use Rattle.bgp_tool.specs.Front.{form_of, kept}
 -- what is told of a writer that failed: nothing where a pipe was closed
 abbrev pub TellsWriter : {W : Type 0} → WriterState W → Option Note → Type 0
 TellsWriter writer note =
-    ((writer.last_error ≡ Some BrokenPipe) × (note ≡ None))
-    ⊎ ((writer.last_error ≢ Some BrokenPipe)
+    ((writer.last_error ≡ Some errors.BrokenPipe) × (note ≡ None))
+    ⊎ ((writer.last_error ≢ Some errors.BrokenPipe)
     × (note ≡ Some (Unwritten writer.taken writer.last_error)))
 
 -- what is told of a reader that failed behind so many octets
@@ -59,3 +60,11 @@ pub record DecodesReader {R W : Type 0}
   -- where it ended, the reader has nothing left
   pub ended : ((outcome.status ≡ 0) ⊎ (outcome.status ≡ 2)) → IsAtEnd left
   pub told : Tells file given written old new outcome
+
+-- A file couldn't be opened: a device failed, or memory was refused.
+abbrev pub IsUnopened : Bor (List ℕ) → ErrorKind → Outcome → Type 0
+IsUnopened file kind outcome =
+    ((kind ≡ errors.OutOfMemory) × (outcome.status ≡ 4)
+    × (outcome.note ≡ Some (OutOfMemory file 0)))
+    ⊎ ((kind ≢ errors.OutOfMemory) × (outcome.status ≡ 5)
+    × (outcome.note ≡ Some (Unopened file kind)))

@@ -6,7 +6,7 @@ ghost use Rattle.mrt.specs.FromRead.{reader_state};
 ghost use Rattle.mrt.specs.FromWrite.{writer_state};
 ghost use Rattle.bgp_tool.specs.declared.note.Note.TheVariants as notes;
 ghost use Rattle.bgp_tool.specs.Front.{form_of};
-ghost use Rattle.bgp_tool.specs.Opened.{DecodesReader, TellsWriter};
+ghost use Rattle.bgp_tool.specs.Opened.{DecodesReader, TellsWriter, IsUnopened};
 
 use crate::decoding::decode_raw;
 use crate::front::WithFront;
@@ -41,23 +41,30 @@ pub fn decode_opened<'a, R: Read + Drop, W: Write, A: Allocator + Copy>(
     requires { (writer_state sink.old).failures < 2 ^ 63 }
     ensures decoded { IfOk opened (λ reader. DecodesReader R.remaining W.contents file.entry reader
         (writer_state sink.old) (writer_state sink.new) result) }
-
-    // A file that can't be opened is a device's failure, and nothing is written.
-    ensures unopened { IfErr opened (λ error. (result.status ≡ 5)
-        × (result.note ≡ Some (notes.Unopened file.entry (error_kind error)))
+    ensures unopened { IfErr opened (λ error. IsUnopened file.entry (error_kind error) result
         × (writer_state sink.new ≡ writer_state sink.old)) }
-
     ensures statuses { result.status ≤ 5 }
 {
     match opened {
         Ok(reader) => decode_reader(alloc, file, reader, sink),
-        Err(error) => Outcome {
-            status: Status::Device.code(),
-            note: Some(Note::Unopened {
-                file,
-                error: error.kind(),
-            }),
-        },
+        Err(error) => unopened(file, error.kind()),
+    }
+}
+
+/// How a command ends whose file can't be opened: a device failed, or memory was refused.
+pub(crate) fn unopened<'a>(file: &'a str, error: ErrorKind) -> Outcome<'a>
+    ensures is { IsUnopened file.entry error result }
+    ensures statuses { result.status ≤ 5 }
+{
+    if error == ErrorKind::OutOfMemory {
+        return Outcome {
+            status: Status::Memory.code(),
+            note: Some(Note::OutOfMemory { file, octet: 0 }),
+        };
+    }
+    Outcome {
+        status: Status::Device.code(),
+        note: Some(Note::Unopened { file, error }),
     }
 }
 

@@ -5,23 +5,22 @@ ghost use Rattle.std.specs.IoError.{error_kind};
 ghost use Rattle.mrt.specs.FromRead.{reader_state};
 ghost use Rattle.mrt.specs.FromWrite.{writer_state};
 ghost use Rattle.bgp_tool.specs.declared.note.Note.TheVariants as notes;
-ghost use Rattle.bgp_tool.specs.Opened.{TellsWriter};
-ghost use Rattle.bgp_tool.specs.OpenedCapture.{told_of, TellsCapture, DecodesOpened, IsUnopened};
+ghost use Rattle.bgp_tool.specs.Opened.{IsUnopened};
+ghost use Rattle.bgp_tool.specs.OpenedCapture.{told_of, DecodesOpened};
 
 use crate::captures::decode_capture;
 use crate::note::Note;
-use crate::opened::{Outcome, unwritten};
-use crate::status::Status;
+use crate::opened::{Outcome, unopened, unwritten};
 use bgp_prefix::Session;
-use mrt::{FromRead, FromWrite, Reader, Source};
+use mrt::{FromRead, FromWrite, Reader, Sink};
 use std::alloc::Allocator;
 use std::io;
-use std::io::{ErrorKind, Read, Write};
+use std::io::{Read, Write};
 
 /// Decodes a capture of one session that a reader gives, if it could be opened, as
 /// [`decode_capture`](crate::decode_capture) does, and says what went wrong, if anything did, or
 /// that no record was the session's (`specs/OpenedCapture.antt`). A closed pipe is status 5 and not
-/// told.
+/// told; where the reader failed, too, the writer's failure is told.
 ///
 /// The reader is asked for few octets at a time: put a buffer before a file.
 pub fn decode_opened_capture<'a, R: Read + Drop, W: Write, A: Allocator + Copy>(
@@ -44,23 +43,6 @@ pub fn decode_opened_capture<'a, R: Read + Drop, W: Write, A: Allocator + Copy>(
     }
 }
 
-/// How a command ends that has no file.
-fn unopened<'a>(file: &'a str, kind: ErrorKind) -> Outcome<'a>
-    ensures is { IsUnopened file.entry kind result }
-    ensures statuses { result.status ≤ 5 }
-{
-    if kind == ErrorKind::OutOfMemory {
-        return Outcome {
-            status: Status::Memory.code(),
-            note: Some(Note::OutOfMemory { file, octet: 0 }),
-        };
-    }
-    Outcome {
-        status: Status::Device.code(),
-        note: Some(Note::Unopened { file, error: kind }),
-    }
-}
-
 /// Decodes what a reader gives.
 fn decode_reader<'a, R: Read + Drop, W: Write, A: Allocator + Copy>(
     alloc: A,
@@ -76,31 +58,37 @@ fn decode_reader<'a, R: Read + Drop, W: Write, A: Allocator + Copy>(
 {
     let mut source = FromRead::new(reader);
     let mut records = Reader::new(alloc);
+    let failures = sink.failures();
     let status = decode_capture(&mut records, session, &mut source, sink);
-    let note = note_of(status, file, &source, &records, sink);
+    let note = if sink.failures() > failures {
+        unwritten(sink)
+    } else {
+        note_of(status, file, &source, &records)
+    };
     Outcome { status, note }
 }
 
-/// What to tell of a decoding that ended with this status.
-fn note_of<'a, R: Read, W: Write, A: Allocator + Copy>(
+/// What to tell of a decoding that ended with this status, where the sink took all of its text.
+fn note_of<'a, R: Read, A: Allocator + Copy>(
     status: u8,
     file: &'a str,
     source: &FromRead<R>,
     records: &Reader<A>,
-    sink: &FromWrite<W>,
 ) -> Option<Note<'a>>
-    ensures { TellsCapture file.entry (reader_state source.now) records.now
-        (writer_state sink.now) status result }
+    ensures read { status < 4 → result ≡ told_of file.entry records.now }
+    ensures memory { status ≡ 4 → result
+        ≡ Some (notes.OutOfMemory file.entry (reader_state source.now).given) }
+    ensures reader { status ≡ 5 → result ≡ Some (notes.Unread file.entry
+        (reader_state source.now).given (reader_state source.now).last_error) }
 {
     let octet = source.given();
     match status {
         4 => Some(Note::OutOfMemory { file, octet }),
-        5 if source.failures() > 0 => Some(Note::Unread {
+        5 => Some(Note::Unread {
             file,
             octet,
             error: source.last_error(),
         }),
-        5 => unwritten(sink),
         _ => no_session(file, records),
     }
 }

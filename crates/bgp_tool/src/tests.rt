@@ -2,6 +2,7 @@
 
 mod captures;
 mod commands;
+mod devices;
 mod great;
 mod updates;
 
@@ -267,6 +268,24 @@ fn a_refused_growth_leaves_a_beginning_of_the_text(rt: HostRuntime) -> Result<()
         longest = sink.octets().len().max(longest);
     }
     Err(Fail::new("no heap was large enough"))
+}
+
+/// Memory is refused to the splitter first, and where that has enough to the text.
+#[test]
+fn refused_memory_has_the_status_of_what_wanted_it(rt: HostRuntime) -> Result<(), Fail> {
+    let mut answers = Vec::new(rt.alloc());
+    for size in (16usize..1 << 13).step_by(16) {
+        let heap = LocalHeap::new(rt.alloc(), size)?;
+        let mut stream = Vec::new(&heap);
+        if stream.extend_from_slice(&KEEPALIVE).is_ok() {
+            let (_, answer) = text_and_status(&heap, stream);
+            if answers.last() != Some(&answer) {
+                answers.push(answer)?;
+            }
+        }
+    }
+    assert_eq!(rt; answers.as_slice(), [4, 5, 0].as_slice());
+    Ok(())
 }
 
 #[test]

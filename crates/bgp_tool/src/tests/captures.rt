@@ -1,8 +1,9 @@
 //! What decoding a capture does where a device fails or memory is refused. Its lines are compared
 //! by the program `real_captures`.
 
+use super::devices::{Breaking, Full};
 use super::*;
-use crate::{Command, Note, command_line, decode_capture, decode_opened_capture, words_status};
+use crate::{Note, decode_capture, decode_opened_capture};
 use bgp_prefix::{Address, Session};
 use mrt::{Endpoints, FromWrite, Reader};
 use std::io;
@@ -14,22 +15,24 @@ const SESSION: Session = Session {
     refresh: false,
 };
 
-/// A change from Idle to Connect at second 100: header, AS numbers, interface index and AFI,
-/// addresses, states.
-const CHANGE: &str = "000000640010000500000018\
-    0000fdea0000fde9\
-    00000001\
-    c0000202c0000201\
-    00010002";
+/// A change from Idle to Connect at second 100.
+const CHANGE: [u8; 36] = [
+    0x00, 0x00, 0x00, 0x64, // timestamp: 100
+    0x00, 0x10, 0x00, 0x05, // BGP4MP, BGP4MP_STATE_CHANGE_AS4
+    0x00, 0x00, 0x00, 0x18, // length: 24
+    0x00, 0x00, 0xfd, 0xea, // peer AS number: 65002
+    0x00, 0x00, 0xfd, 0xe9, // local AS number: 65001
+    0x00, 0x00, 0x00, 0x01, // interface index 0, AFI 1
+    0xc0, 0x00, 0x02, 0x02, // peer address: 192.0.2.2
+    0xc0, 0x00, 0x02, 0x01, // local address: 192.0.2.1
+    0x00, 0x01, 0x00, 0x02, // from state 1 to state 2
+];
 
 /// A capture of so many changes.
-fn changes(alloc: Global, count: usize) -> Result<Vec<u8>, Fail> {
-    let Ok(record) = hex::decode(alloc, CHANGE) else {
-        return Err(Fail::from("no hexadecimal digits"));
-    };
+fn changes(alloc: Global, count: usize) -> Result<Vec<u8>, AllocError> {
     let mut capture = Vec::new(alloc);
     for _ in 0..count {
-        capture.extend_from_slice(record.as_slice())?;
+        capture.extend_from_slice(&CHANGE)?;
     }
     Ok(capture)
 }
@@ -79,54 +82,6 @@ fn refused_memory_is_told_and_ample_memory_is_not(rt: HostRuntime) -> Result<(),
     Ok(())
 }
 
-/// Words that name the session in a file `a`.
-const NAMED: [&str; 4] = [
-    "bgp decode --mrt --peer 192.0.2.2 --local 192.0.2.1 a",
-    "bgp decode a --local 192.0.2.1 --peer 192.0.2.2 --mrt",
-    "bgp decode --peer=192.0.2.2 a --mrt --local=192.0.2.1",
-    "bgp decode --mrt --peer 192.0.2.2 --local 192.0.2.1 -- a",
-];
-
-/// Words with a part too few, a part twice, or an address that is none.
-const UNNAMED: [&str; 15] = [
-    "bgp decode --mrt a",
-    "bgp decode --peer 192.0.2.2 a",
-    "bgp decode --local 192.0.2.1 a",
-    "bgp decode --mrt --peer 192.0.2.2 a",
-    "bgp decode --mrt --local 192.0.2.1 a",
-    "bgp decode --peer 192.0.2.2 --local 192.0.2.1 a",
-    "bgp decode --mrt --peer 192.0.2.2 --local 192.0.2.1",
-    "bgp decode --mrt --peer 192.0.2.2 --local 192.0.2.1 a b",
-    "bgp decode --mrt --mrt --peer 192.0.2.2 --local 192.0.2.1 a",
-    "bgp decode --mrt --peer 192.0.2.2 --peer 192.0.2.2 --local 192.0.2.1 a",
-    "bgp decode --mrt --peer 192.0.2.2 --local 192.0.2.1 --local 192.0.2.1 a",
-    "bgp decode --mrt --peer 192.0.2.256 --local 192.0.2.1 a",
-    "bgp decode --mrt --peer 192.0.2.2 --local 192.0.2.1/32 a",
-    "bgp decode --mrt --peer 192.0.2.2 --local a",
-    "bgp decode --mrt=yes --peer 192.0.2.2 --local 192.0.2.1 a",
-];
-
-#[test]
-fn a_session_is_named_by_three_words_or_none(rt: HostRuntime) -> Result<(), Fail> {
-    for (lines, wanted) in [(NAMED.as_slice(), None), (UNNAMED.as_slice(), Some(64))] {
-        for line in lines {
-            let mut words = Vec::new(rt.alloc());
-            for word in line.split(' ') {
-                words.push(word)?;
-            }
-            match command_line(rt.alloc(), words.as_slice()) {
-                Ok(command) => {
-                    let (session, file) = (SESSION, "a");
-                    assert_eq!(rt; command, Command::Capture { session, file }, "{line}");
-                    assert_eq!(rt; wanted, None, "{line}");
-                }
-                Err(error) => assert_eq!(rt; Some(words_status(&error).code()), wanted, "{line}"),
-            }
-        }
-    }
-    Ok(())
-}
-
 #[test]
 fn a_capture_without_the_session_is_told(rt: HostRuntime) -> Result<(), Fail> {
     let capture = changes(rt.alloc(), 1)?;
@@ -165,6 +120,74 @@ fn a_capture_without_the_session_is_told(rt: HostRuntime) -> Result<(), Fail> {
             let text = format!(in rt.alloc(); "{note}")?;
             assert_eq!(rt; text.as_str(), told);
         }
+    }
+    Ok(())
+}
+
+#[test]
+fn a_failing_reader_is_told_with_its_place(rt: HostRuntime) -> Result<(), Fail> {
+    for (octet, text) in [
+        (0, "capture refused: 9 Device at 0\n"),
+        (11, "capture refused: 9 Device at 0\n"),
+        (35, "capture refused: 9 Device at 0\n"),
+        (36, "@100 change 1 2\ncapture refused: 9 Device at 36\n"),
+        (
+            72,
+            "@100 change 1 2\n@100 change 1 2\ncapture refused: 9 Device at 72\n",
+        ),
+        (
+            90,
+            "@100 change 1 2\n@100 change 1 2\ncapture refused: 9 Device at 72\n",
+        ),
+    ] {
+        let mut capture = changes(rt.alloc(), 3)?;
+        capture.truncate(octet);
+        let reader = Breaking {
+            octets: capture.as_slice(),
+            error: ErrorKind::TimedOut,
+        };
+        let mut sink = FromWrite::new(Vec::new(rt.alloc()));
+        let outcome = decode_opened_capture(rt.alloc(), &SESSION, "a", Ok(reader), &mut sink);
+        assert_eq!(rt; outcome.status, 5, "{octet}");
+        let note = Note::Unread {
+            file: "a",
+            octet: octet as u64,
+            error: Some(ErrorKind::TimedOut),
+        };
+        assert_eq!(rt; outcome.note, Some(note), "{octet}");
+        assert_eq!(rt; sink.into_inner().as_slice(), text.as_bytes(), "{octet}");
+    }
+    Ok(())
+}
+
+#[test]
+fn a_full_disk_is_told_and_a_closed_pipe_is_not(rt: HostRuntime) -> Result<(), Fail> {
+    let capture = changes(rt.alloc(), 3)?;
+    for (error, wanted) in [
+        (
+            ErrorKind::StorageFull,
+            Some(Note::Unwritten {
+                octet: 5,
+                error: Some(ErrorKind::StorageFull),
+            }),
+        ),
+        (ErrorKind::BrokenPipe, None),
+    ] {
+        let mut sink = FromWrite::new(Full { room: 5, error });
+        let octets = Ok(capture.as_slice());
+        let outcome = decode_opened_capture(rt.alloc(), &SESSION, "a", octets, &mut sink);
+        assert_eq!(rt; outcome.status, 5);
+        assert_eq!(rt; outcome.note, wanted);
+
+        // Where the reader failed before, it is the same.
+        let mut sink = FromWrite::new(Full { room: 5, error });
+        let reader = Ok(Breaking {
+            octets: &CHANGE,
+            error: ErrorKind::TimedOut,
+        });
+        let outcome = decode_opened_capture(rt.alloc(), &SESSION, "a", reader, &mut sink);
+        assert_eq!(rt; outcome.status, 5);
+        assert_eq!(rt; outcome.note, wanted);
     }
     Ok(())
 }

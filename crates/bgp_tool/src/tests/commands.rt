@@ -1,160 +1,11 @@
-//! The words of a command line, the statuses that commands answer, and what is told of them.
+//! The statuses that commands answer, and what is told of them. Words of command lines are read by
+//! the program `command_words`.
 
+use super::devices::{Breaking, Full, OneByOne};
 use super::*;
-use crate::{Command, Form, Note, command_line, decode_opened, words_status};
+use crate::{Form, Note, decode_opened};
 use mrt::FromWrite;
-use std::io::{self, ErrorKind, Read, Write};
-
-/// A reader that gives octets, and then an error in place of its end.
-#[derive(Drop)]
-struct Breaking<'a> {
-    octets: &'a [u8],
-    error: ErrorKind,
-}
-
-impl Read for Breaking<'_> {
-    fn read(&mut self, buffer: &mut [u8]) -> io::Result<usize> {
-        if self.octets.is_empty() {
-            return Err(io::Error::from(self.error));
-        }
-        self.octets.read(buffer)
-    }
-}
-
-/// A reader that gives one octet at a time.
-#[derive(Drop)]
-struct OneByOne<'a> {
-    octets: &'a [u8],
-}
-
-impl Read for OneByOne<'_> {
-    fn read(&mut self, buffer: &mut [u8]) -> io::Result<usize> {
-        let most = buffer.len().min(1);
-        self.octets.read(&mut buffer[..most])
-    }
-}
-
-/// A writer that takes so many octets, and then answers an error.
-#[derive(Drop)]
-struct Full {
-    room: usize,
-    error: ErrorKind,
-}
-
-impl Write for Full {
-    fn write(&mut self, octets: &[u8]) -> io::Result<usize> {
-        if self.room == 0 {
-            return Err(io::Error::from(self.error));
-        }
-        let count = octets.len().min(self.room);
-        self.room -= count;
-        Ok(count)
-    }
-
-    fn flush(&mut self) -> io::Result<()> {
-        Ok(())
-    }
-}
-
-#[test]
-fn words_spell_a_command_or_have_a_status(rt: HostRuntime) -> Result<(), Fail> {
-    let rows: [(&[&str], Result<Command, Status>); 24] = [
-        (
-            &["bgp", "decode", "a.bgp"],
-            Ok(Command::Decode { file: "a.bgp" }),
-        ),
-        (&["", "decode", "a"], Ok(Command::Decode { file: "a" })),
-        (&["bgp", "decode", "-"], Ok(Command::Decode { file: "-" })),
-        (&["bgp", "decode", ""], Ok(Command::Decode { file: "" })),
-        (
-            &["bgp", "decode", "--", "--help"],
-            Ok(Command::Decode { file: "--help" }),
-        ),
-        (
-            &["bgp", "decode", "a", "--"],
-            Ok(Command::Decode { file: "a" }),
-        ),
-        (&["bgp", "--help"], Err(Status::Done)),
-        (&["bgp", "-h"], Err(Status::Done)),
-        (&["bgp", "help"], Err(Status::Done)),
-        (&["bgp", "help", "decode"], Err(Status::Done)),
-        (&["bgp", "decode", "--help"], Err(Status::Done)),
-        (&["bgp", "decode", "a", "-h"], Err(Status::Done)),
-        (&["bgp", "--version"], Err(Status::Done)),
-        (&["bgp", "-V"], Err(Status::Done)),
-        (&[], Err(Status::Usage)),
-        (&["bgp"], Err(Status::Usage)),
-        (&["bgp", "decode"], Err(Status::Usage)),
-        (&["bgp", "decode", "--"], Err(Status::Usage)),
-        (&["bgp", "decode", "a", "b"], Err(Status::Usage)),
-        (&["bgp", "decode", "-x"], Err(Status::Usage)),
-        (&["bgp", "decode", "--version"], Err(Status::Usage)),
-        (&["bgp", "--", "decode", "a"], Err(Status::Usage)),
-        (&["bgp", "--quiet", "decode", "a"], Err(Status::Usage)),
-        (&["bgp", "encode", "a"], Err(Status::Usage)),
-    ];
-    for (words, wanted) in rows {
-        match command_line(rt.alloc(), words) {
-            Ok(command) => assert_eq!(rt; Ok(command), wanted),
-            Err(error) => assert_eq!(rt; Err(words_status(&error)), wanted),
-        }
-    }
-    Ok(())
-}
-
-/// What help has to tell: the statuses, each form of line with an example, where the manual is.
-const IN_HELP: [&str; 21] = [
-    "\n  0   all octets were whole messages",
-    "\n  2   the stream ends inside a message\n",
-    "\n  3   the stream stops being BGP, or the capture is refused\n",
-    "\n  4   memory was refused\n",
-    "\n  5   a file can't be opened or read, or output can't be written\n",
-    "\n  64  the command line is none that the program knows\n",
-    "open as 65002 hold 90 id 192.0.2.2 caps 1:00010001 65:0000fdea\n",
-    "open malformed 1",
-    "update 10.2.0.0/16 | 64.1:00 | -\n",
-    "update malformed",
-    "notification 6/2 -",
-    "\n  keepalive\n",
-    "rest 10",
-    "fault at 19 1/2",
-    "@1500000000 received keepalive\n",
-    "@1500000000 sent notification 6/2 -\n",
-    "@1500000000 change 5 6\n",
-    "capture refused: 1 Truncated at 36\n",
-    "A dash stands for nothing.",
-    "The manual is README.md",
-    "Usage: bgp",
-];
-
-#[test]
-fn help_tells_statuses_lines_and_the_manual(rt: HostRuntime) -> Result<(), Fail> {
-    let requests: [&[&str]; 3] = [
-        &["bgp", "--help"],
-        &["bgp", "decode", "--help"],
-        &["bgp", "help", "decode"],
-    ];
-    for words in requests {
-        let Err(error) = command_line(rt.alloc(), words) else {
-            return Err(Fail::new("help is a command"));
-        };
-        let told = format!(in rt.alloc(); "{error}")?;
-        for text in IN_HELP {
-            assert!(rt; told.as_str().contains(text), "{text}");
-        }
-    }
-    Ok(())
-}
-
-#[test]
-fn the_version_is_told(rt: HostRuntime) -> Result<(), Fail> {
-    let Err(error) = command_line(rt.alloc(), ["bgp", "--version"].as_slice()) else {
-        return Err(Fail::new("the version is a command"));
-    };
-    let told = format!(in rt.alloc(); "{error}")?;
-    assert_eq!(rt; told.as_str(), "bgp 0.1.0\n");
-    Ok(())
-}
+use std::io::{self, ErrorKind};
 
 #[test]
 fn each_note_has_its_words(rt: HostRuntime) -> Result<(), Fail> {
@@ -376,6 +227,9 @@ fn a_file_that_cannot_be_opened_is_told(rt: HostRuntime) -> Result<(), Fail> {
     };
     let told = format!(in rt.alloc(); "{note}")?;
     assert_eq!(rt; told.as_str(), "a.bgp: entity not found");
+    let opened: io::Result<&[u8]> = Err(io::Error::from(ErrorKind::OutOfMemory));
+    let outcome = decode_opened(rt.alloc(), "a.bgp", opened, &mut sink);
+    assert_eq!(rt; outcome.status, 4);
     Ok(())
 }
 

@@ -1,0 +1,93 @@
+//! Reads command lines of which it is known what they are: a table of words, each with the command
+//! that they spell, or the exit status and what is told.
+#![tactic(auto)]
+
+use bgp_prefix::Session;
+use bgp_tool::{Command, command_line, words_status};
+use std::alloc::Global;
+use std::process::ExitCode;
+use std::rt::Files;
+use std::{fs, io};
+
+fn main(rt: HostRuntime) -> ExitCode {
+    match read_all(&rt) {
+        Ok(true) => ExitCode::SUCCESS,
+        Ok(false) => ExitCode::FAILURE,
+        Err(error) => {
+            let _ = eprintln!(rt; "{error}");
+            ExitCode::FAILURE
+        }
+    }
+}
+
+/// Prints each row that is not so, and then how many there were. Answers whether all are so.
+fn read_all<R: Files + Print + AllocGlobal>(rt: &R) -> io::Result<bool> {
+    let table = fs::read_to_string(rt, "words.txt")?;
+    let mut rows = 0u64;
+    let mut all = true;
+    for block in table.split("\n\n") {
+        let block = block.trim_end();
+        if block.is_empty() {
+            continue;
+        }
+        rows = rows.saturating_add(1);
+        let answer = answer_to(rt.alloc(), block)?;
+        if !is_so(block, &answer) {
+            let Answer { kind, told } = answer;
+            println!(rt; "row {rows} is not so:\n{block}\nbut: {kind}\n{told}")?;
+            all = false;
+        }
+    }
+    println!(rt; "{rows} command lines")?;
+    Ok(all)
+}
+
+/// What the words of a row are: a command or a status, and what is told.
+#[derive(Drop)]
+struct Answer {
+    kind: String,
+    told: String,
+}
+
+/// What the words of a row's first line are. Two quotation marks stand for an empty word.
+fn answer_to(alloc: Global, block: &str) -> io::Result<Answer> {
+    let line = match block.split_once('\n') {
+        Some((line, _)) => line,
+        None => block,
+    };
+    let mut words = Vec::new(alloc);
+    for word in line.split(' ').skip(1) {
+        words.push(if word == "\"\"" { "" } else { word })?;
+    }
+    let mut told = String::new(alloc);
+    let kind = match command_line(alloc, words.as_slice()) {
+        Ok(Command::Decode { file }) => format!(in alloc; "decode {file:?}")?,
+        Ok(Command::Capture { session, file }) => {
+            let Session { peer, local, .. } = session;
+            format!(in alloc; "capture peer {peer} local {local} file {file:?}")?
+        }
+        Err(error) => {
+            told = format!(in alloc; "{error}")?;
+            let code = words_status(&error).code();
+            format!(in alloc; "status {code}")?
+        }
+    };
+    Ok(Answer { kind, told })
+}
+
+/// Whether a row's further lines are so: one says what the words are, and each behind `>` a part of
+/// what is told.
+fn is_so(block: &str, answer: &Answer) -> bool {
+    let mut is_told = false;
+    for line in block.split('\n').skip(1) {
+        let is_this = match line.strip_prefix("> ") {
+            Some(part) => answer.told.as_str().contains(part),
+            None => answer.kind.as_str() == line,
+        };
+        if !is_this {
+            return false;
+        }
+        is_told = true;
+    }
+    is_told
+}
