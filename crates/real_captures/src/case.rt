@@ -63,7 +63,7 @@ fn push_line(pieces: &mut Vec<Piece>, line: &str) -> io::Result<()> {
     Ok(piece.text.push_str("\n")?)
 }
 
-fn malformed() -> io::Error {
+pub(crate) fn malformed() -> io::Error {
     io::Error::from(io::ErrorKind::InvalidData)
 }
 
@@ -77,7 +77,7 @@ fn address_behind(words: &str, option: &str) -> io::Result<Address> {
 }
 
 /// The octets that hexadecimal digits spell, in groups; a dash spells none.
-fn octets_of(alloc: Global, digits: &str) -> io::Result<Vec<u8>> {
+pub(crate) fn octets_of(alloc: Global, digits: &str) -> io::Result<Vec<u8>> {
     let mut octets = Vec::new(alloc);
     for group in digits.split(' ') {
         if group == "-" {

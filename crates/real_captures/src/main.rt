@@ -1,13 +1,21 @@
-//! Decodes captures whose answers are known from elsewhere: those of real routers' sessions, whose
-//! text is this program's; and two tables of captures, whose lines and statuses it compares.
-//! `cases.txt` was answered by another program, `rules.txt` was worked out by hand from RFC 6396.
+//! Decodes and judges captures whose answers are known from elsewhere.
+//!
+//! Decoded are those of real routers' sessions, whose text is this program's; and two tables of
+//! captures, whose lines and statuses it compares. `cases.txt` was answered by another program,
+//! `rules.txt` was worked out by hand from RFC 6396.
+//!
+//! Judged are three tables: `judged.txt`, random captures, and `recordings.txt`, those of real
+//! routers' sessions, were answered by a program that was written apart from this one;
+//! `sessions.txt` was worked out by hand from RFC 4271, one session for each thing that it teaches.
 #![tactic(auto)]
 
 mod case;
+mod judged;
 mod recordings;
 mod runs;
 
 use case::read_case;
+use judged::compare_judged;
 use recordings::{CAPTURES, print_capture};
 use runs::{Answer, is_whole, stops_anywhere};
 use std::alloc::Global;
@@ -33,7 +41,10 @@ fn decode_all<R: Files + Print + AllocGlobal>(rt: &R) -> io::Result<bool> {
     }
     let cases = compare(rt, "cases.txt", false)?;
     let rules = compare(rt, "rules.txt", true)?;
-    Ok(cases && rules)
+    let judged = compare_judged(rt, "judged.txt")?;
+    let sessions = compare_judged(rt, "sessions.txt")?;
+    let recordings = compare_judged(rt, "recordings.txt")?;
+    Ok(cases && rules && judged && sessions && recordings)
 }
 
 /// Prints each case of a table that is not so, and then how many there were. Answers whether all
