@@ -87,8 +87,8 @@ impl<A: Allocator> RibIn<A> {
         change(self.alloc, &mut self.table, &changes.remove, put)
     }
 
-    /// Disables a family: its routes go, and it takes none from now on. It takes no memory, and where
-    /// the family is disabled already it doesn't look at the routes.
+    /// Disables a family: its routes go, and it takes none from now on. It takes no memory, and
+    /// where the family is disabled already it doesn't look at the routes.
     pub fn disable(&mut self, family: Family)
         ensures routes { self.new ≡ routes_without (only family) self.old }
     {

@@ -1,5 +1,5 @@
--- The text of a verdict on a session's records: a word, and behind a yes each possible end (RFC 4271,
--- 8.2.2) with its routes.
+-- The text of a verdict on a session's records: a word, and behind a yes each possible end (RFC
+-- 4271, 8.2.2) with its routes.
 use Rattle.std.specs.Prelude.{◌++◌, ◌+◌, ℕ, Bool, true, false, List, map, codes}
 use Rattle.std.specs.Fmt.{decimal}
 use Rattle.std.specs.List.{flat_map}

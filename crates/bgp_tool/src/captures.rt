@@ -85,7 +85,7 @@ pub(crate) fn hand_over<W: Sink>(lines: &mut Lines<'_, W>, status: Status) -> St
 }
 
 /// Decodes a capture of one session: writes one line a record of the session
-/// (`specs/Capture.antt`), and a last one where the capture is refused.
+/// (bgp_text's `specs/Capture.antt`), and a last one where the capture is refused.
 ///
 /// It reads with a reader that has read nothing, which tells afterwards whether it found a record
 /// of the session; it takes no memory but the reader's.

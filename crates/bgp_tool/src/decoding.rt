@@ -141,7 +141,8 @@ fn decode<R: Source, W: Sink, A: Allocator + Copy>(
 }
 
 /// Decodes a raw stream, the octets of one direction of a BGP connection: writes one line a message
-/// (`specs/Text.antt`), and a last one where the stream ends inside a message or stops being BGP.
+/// (bgp_text's `specs/Text.antt`), and a last one where the stream ends inside a message or stops
+/// being BGP.
 ///
 /// Answers the exit status:
 ///

@@ -1,5 +1,5 @@
-//! The page to show: what `bgp judge` promises, and what `decode_raw` does with no argument to look
-//! up.
+//! The page to show: what judging a capture promises, and what `decode_raw` does with no argument
+//! to look up.
 
 ghost use Rattle.std.specs.Prelude.{◌<◌, ◌≤◌, ◌^◌};
 ghost use Rattle.bgp_tool.specs.Decoding.{IsDecoded, IsBegun};
@@ -24,11 +24,12 @@ use std::alloc::Allocator;
 /// * 1: `no at record N`: the records before it begin a run, and with it none.
 /// * 2: `unfinished`: the records begin a run, and no run shows just them.
 ///
-/// Where the octets spell none, also behind an impossible record, it writes `capture refused: NUMBER
-/// NAME at OFFSET` of their first fault, and answers 3; where memory was refused 4, and where the
-/// source failed 5. Where the sink failed, a beginning of that text is written, and the status is 5.
+/// Where the octets spell none, also behind an impossible record, it writes `capture refused:
+/// NUMBER NAME at OFFSET` of their first fault, and answers 3; where memory was refused 4, and
+/// where the source failed 5. Where the sink failed, a beginning of that text is written, and the
+/// status is 5.
 ///
-/// It rests on the laws of [`Tracker`] alone, and so holds with every tracker.
+/// It rests on the contract of [`Tracker`] alone, and so holds with every tracker.
 pub fn judge_capture<A: Allocator + Copy, T: Tracker<A>, R: Source, W: Sink>(
     alloc: A,
     config: &Config,
@@ -49,7 +50,7 @@ pub fn judge_capture<A: Allocator + Copy, T: Tracker<A>, R: Source, W: Sink>(
     status.code()
 }
 
-/// Law: one verdict holds of each capture, and it has one text and one exit status.
+/// Law: a capture has at most one verdict, by its text and its exit status.
 pub fn each_capture_has_one_verdict()
     ensures { HasOneVerdict }
 {

@@ -1,4 +1,4 @@
-//! What `bgp judge` prints of an answer, and the exit status that it has.
+//! What is printed of an answer, and the exit status that it has.
 
 ghost use Rattle.std.specs.Prelude.{◌≡◌};
 ghost use Rattle.bgp_text.specs.Lines.{Writes};

@@ -1,6 +1,6 @@
 //! The commands of the program `bgp`, each as one function over sources and sinks.
 //!
-//! What a command prints is stated in `specs/Text.antt`, and what it answers is an exit status:
+//! What a command prints is stated in bgp_text's specs, and what it answers is an exit status:
 //!
 //! ```text
 //! let status = decode_raw(alloc, &mut source, &mut sink);

@@ -1,5 +1,5 @@
--- The parts of an UPDATE (RFC 4271, 4.3): prefixes that are withdrawn, path attributes, and prefixes
--- that are announced.
+-- The parts of an UPDATE (RFC 4271, 4.3): prefixes that are withdrawn, path attributes, and
+-- prefixes that are announced.
 use Rattle.std.specs.Prelude.{◌≡◌, ℕ, List, None}
 use Rattle.bgp_prefix.specs.declared.family.Family.TheVariants.{V4}
 use Rattle.bgp_prefix.specs.Prefix.{PrefixBits}

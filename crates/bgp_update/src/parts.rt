@@ -1,4 +1,5 @@
-//! An UPDATE part by part (RFC 4271, 4.3): what a router says, before it is asked what to do about it.
+//! An UPDATE part by part (RFC 4271, 4.3): what a router says, before it is asked what to do about
+//! it.
 
 ghost use Rattle.std.specs.Prelude.{IfSome, IfNone};
 ghost use Rattle.bgp_update.specs.Parts.{LacksParts, SpellsParts, parts_of};
