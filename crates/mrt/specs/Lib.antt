@@ -18,5 +18,6 @@ pub mod Passing
 pub mod Reading
 pub mod Reader
 pub mod Progress
+pub mod ReadBy
 pub mod Written
 pub mod CaptureLaws
