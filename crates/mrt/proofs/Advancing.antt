@@ -15,7 +15,7 @@ use Rattle.mrt.specs.Rules as r
 use Rattle.mrt.specs.Capture.{Piece, Other, OtherEnds, Shown, octets_of, IsPiece, ArePieces, IsBegun, last_after, last_of, joined, shown_by, records_of, first_other, ends_of, shown_of}
 use Rattle.mrt.specs.Found.{shown_as}
 use Rattle.mrt.specs.Reading.{IsFoundIn, IsRefused}
-use Rattle.mrt.specs.Reader.{ReaderState, after_pieces, at_end, at_fault, at_record, device_count, Ends, Fails}
+use Rattle.mrt.specs.Reader.{ReaderState, fresh_reader, after_pieces, at_end, at_fault, at_record, device_count, Ends, Fails}
 use Rattle.mrt.specs.Progress.{after_skipped, after_other, after_record, first_seen, fault_at, shown_from, Finds}
 
 -- ---- one piece more
@@ -211,7 +211,7 @@ module _ {S : Type 0} (gives : S → S → List ℕ → Type 0) (has_ended : S �
   }
 
   pub fails_there : (now next : S) (state after : ReaderState) (rest : List ℕ) (kind : FaultKind) → Passes now state → gives now next rest
-      → (IsRefused session state.last rest (has_ended next) kind ⊎ ((kind ≡ kinds.Device) × IsBegun rest) ⊎ ((kind ≡ kinds.Memory) × (next ≡ source)))
+      → (IsRefused session state.last rest (has_ended next) kind ⊎ ((kind ≡ kinds.Device) × IsBegun rest) ⊎ ((kind ≡ kinds.Memory) × (next ≡ source) × (from ≡ fresh_reader)))
       → after ≡ at_fault state (fault_at state kind) → Fails gives has_ended session source next from after (fault_at state kind)
   fails_there now next state after rest kind so_far given why is = record {
     skipped = so_far.skipped;

@@ -1,5 +1,5 @@
 -- Pieces behind other pieces.
-use Rattle.std.proofs.Common.{◌≡◌, ◌∙◌, ℕ, List, [], ◌∷◌, ◌++◌, refl, ap, Option, None, Some}
+use Rattle.std.proofs.Common.{◌≡◌, ◌∙◌, ℕ, List, [], ◌∷◌, ◌++◌, length, length-append, arith, refl, ap, Option, None, Some}
 use Rattle.std.proofs.lemmas.Grind.{flat_map-append}
 use Rattle.bgp_prefix.specs.Shown.{ShownRecord}
 use Rattle.bgp_prefix.specs.declared.session.Session.{Session}
@@ -38,3 +38,10 @@ pub last_piece : (session : Session) (last : Option ℕ) (first : List Piece) (p
     → ArePieces session (last_of last first) (piece ∷ [])
 last_piece session last [] piece are = are
 last_piece session last (one ∷ first) piece are = last_piece session (last_after last one) first piece are.1
+
+-- pieces without octets are none
+pub no_pieces_there : (session : Session) (last : Option ℕ) (pieces : List Piece) → ArePieces session last pieces → length (joined pieces) ≡ 0 → pieces ≡ []
+no_pieces_there session last [] are none = refl
+no_pieces_there session last (piece ∷ pieces) are none =
+    let long = are.0.whole.header in
+    let many = length-append (octets_of piece) (joined pieces) in absurd (omega (arith, long, many, none))

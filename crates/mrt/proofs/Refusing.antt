@@ -1,5 +1,5 @@
 -- A reader that is neither ended nor refused, and what it answers where it has no memory.
-use Rattle.std.proofs.Common.{◌≡◌, ◌∙◌, ℕ, Bool, false, List, [], refl, sym, ap, subst, inr, Option, None, Some, Result}
+use Rattle.std.proofs.Common.{◌≡◌, ◌∙◌, ◌<◌, ℕ, Bool, false, List, [], refl, sym, ap, subst, arith, inl, inr, IsTrue, is_some, Option, None, Some, Result}
 use Rattle.std.proofs.Math.Nat.{add-zero}
 use Rattle.bgp_prefix.specs.declared.session.Session.{Session}
 use Rattle.mrt.specs.declared.record.Record.{Record}
@@ -7,7 +7,7 @@ use Rattle.mrt.specs.declared.record.Endpoints.{Endpoints}
 use Rattle.mrt.specs.declared.fault.CaptureFault.{CaptureFault}
 use Rattle.mrt.specs.declared.fault.FaultKind.TheVariants as kinds
 use Rattle.mrt.specs.Capture.{first_other}
-use Rattle.mrt.specs.Reader.{ReaderState, after_pieces, at_fault, Fails, IsAnswer, NextBy, IsNext}
+use Rattle.mrt.specs.Reader.{ReaderState, HasRoom, fresh_reader, after_pieces, at_fault, Fails, IsAnswer, NextBy, IsNext}
 use Rattle.mrt.specs.Progress.{fault_at}
 
 pub no_others : (ends : Option Endpoints) → first_other ends [] ≡ ends
@@ -20,6 +20,16 @@ no_pieces from =
     let other = no_others from.other in
     λ i. record { passed = passed i; last = from.last; place = from.place; is_ended = from.is_ended; fault = from.fault; other = other i }
 
+-- one that lacks room, and has found no fault, has read nothing
+pub first_call : (len : ℕ) (state : ReaderState) → HasRoom len state → len < 8192 → state.fault ≡ None → state ≡ fresh_reader
+first_call len state room short none = elim room [
+  | inl full ↦ absurd (omega (arith, full, short))
+  | inr others ↦ elim others [
+    | inl fresh ↦ fresh
+    | inr some ↦ let never : IsTrue false = subst (λ (f : Option CaptureFault). IsTrue (is_some f)) none some in absurd (cc)
+  ]
+]
+
 module _ {S : Type 0} (gives : S → S → List ℕ → Type 0) (has_ended : S → Bool) (session : Session) where
   pub open_next : (old new : S) (from after : ReaderState) (answer : Result (Option Record) CaptureFault) → from.fault ≡ None → from.is_ended ≡ false
       → IsAnswer gives has_ended session old new from after answer → IsNext gives has_ended session old new from after answer
@@ -28,14 +38,14 @@ module _ {S : Type 0} (gives : S → S → List ℕ → Type 0) (has_ended : S �
       (subst (λ (b : Bool). NextBy gives has_ended session None b old new from after answer) (sym not_ended) is)
 
   pub no_memory : (source : S) (from after : ReaderState) (fault : CaptureFault) → gives source source [] → fault ≡ fault_at from kinds.Memory
-      → after ≡ at_fault from fault → Fails gives has_ended session source source from after fault
-  no_memory source from after fault nothing is stands = record {
+      → from ≡ fresh_reader → after ≡ at_fault from fault → Fails gives has_ended session source source from after fault
+  no_memory source from after fault nothing is fresh stands = record {
     skipped = [];
     rest = [];
     only = refl;
     pieces = tt;
     taken = nothing;
-    why = inr (inr (ap (λ (f : CaptureFault). f.kind) is, refl));
+    why = inr (inr (ap (λ (f : CaptureFault). f.kind) is, refl, fresh));
     offset = ap (λ (f : CaptureFault). f.offset) is ∙ sym (ap (λ (s : ReaderState). s.passed) (no_pieces from));
     stands = stands ∙ ap (λ (s : ReaderState). at_fault s fault) (sym (no_pieces from));
   }

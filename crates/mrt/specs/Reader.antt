@@ -39,6 +39,11 @@ abbrev pub fresh_reader : ReaderState
 fresh_reader =
     record { passed = 0; last = None; place = 0; is_ended = false; fault = None; other = None }
 
+-- A reader's buffer, of this length, has room for each body that is read, unless the reader has read
+-- nothing or found a fault.
+abbrev pub HasRoom : ℕ → ReaderState → Type 0
+HasRoom len state = (len ≡ 8192) ⊎ (state ≡ fresh_reader) ⊎ IsTrue (is_some state.fault)
+
 -- one that has passed these pieces
 abbrev pub after_pieces : ReaderState → List Piece → ReaderState
 after_pieces state pieces = record state {
@@ -84,7 +89,7 @@ module _ {S : Type 0} (gives : S → S → List ℕ → Type 0) (has_ended : S �
 
   -- They are those of skipped records and a rest. The place where the rest begins is refused,
   -- whatever follows; or a device failed, and the rest is a record that has begun; or there was no
-  -- memory, and nothing was read.
+  -- memory, and nothing was read, neither in this call nor before.
   pub record Fails (old new : S) (from after : ReaderState) (fault : CaptureFault) : Type 0 where
     pub skipped : List Piece
     pub rest : List ℕ
@@ -92,7 +97,8 @@ module _ {S : Type 0} (gives : S → S → List ℕ → Type 0) (has_ended : S �
     pub pieces : ArePieces session from.last skipped
     pub taken : gives old new (joined skipped ++ rest)
     pub why : IsRefused session (last_of from.last skipped) rest (has_ended new) fault.kind
-        ⊎ ((fault.kind ≡ kinds.Device) × IsBegun rest) ⊎ ((fault.kind ≡ kinds.Memory) × (new ≡ old))
+        ⊎ ((fault.kind ≡ kinds.Device) × IsBegun rest)
+        ⊎ ((fault.kind ≡ kinds.Memory) × (new ≡ old) × (from ≡ fresh_reader))
     pub offset : fault.offset ≡ (after_pieces from skipped).passed
     pub stands : after ≡ at_fault (after_pieces from skipped) fault
 

@@ -1,6 +1,6 @@
 //! Captures, read record by record (RFC 6396).
 
-ghost use Rattle.std.specs.Prelude.{◌≡◌, ◌<◌, ◌≤◌, ◌+◌, length, OnOk, is_some};
+ghost use Rattle.std.specs.Prelude.{◌≡◌, ◌<◌, ◌≤◌, ◌+◌, length, OnOk, OnErr, is_some};
 ghost use Rattle.std.specs.Borrow.{sem};
 ghost use Rattle.std.specs.Io.BufRead.{Rests};
 ghost use Rattle.mrt.specs.Progress.{state_of, shown_from, Advances, failures_of};
@@ -79,20 +79,22 @@ pub struct Reader<A: Allocator = Global> {
 
 impl<A: Allocator> Model for Reader<A> {
     ghost use Rattle.std.specs.Prelude.{◌≤◌, length};
-    ghost use Rattle.mrt.specs.Reader.{ReaderState};
+    ghost use Rattle.mrt.specs.Reader.{ReaderState, HasRoom};
     ghost use Rattle.mrt.specs.Progress.{state_of};
 
     ghost Value = { ReaderState };
 
     ghost view = { λ r. state_of r.progress };
 
-    ghost invariant = { λ r. length r.buffer.items ≤ 8192 };
+    ghost invariant = { λ r. (length r.buffer.items ≤ 8192)
+        × HasRoom (length r.buffer.items) (state_of r.progress) };
 }
 
 /// A buffer for the body of one record, made of an empty or an old one.
 fn make_room<A: Allocator>(buffer: &mut Vec<u8, A>) -> Result<(), AllocError>
     requires { length buffer.old.items ≤ BODY }
     ensures ok { OnOk result (length buffer.new.items ≡ BODY) }
+    ensures err { OnErr result (length buffer.old.items < BODY) }
     ensures bound { length buffer.new.items ≤ BODY }
 {
     if buffer.len() < BODY {
@@ -146,7 +148,7 @@ impl<A: Allocator + Copy> Reader<A> {
     ///
     /// A fault's offset is that of the first octet of the record in which it was found. Faults 1 to
     /// 8 are what is wrong in the octets; 9, `Device`, is answered where the source failed in this
-    /// call, and 10, `Memory`, where the buffer couldn't be made.
+    /// call, and 10, `Memory`, where the first call couldn't make the buffer.
     pub fn next_record<S: Source>(
         &mut self,
         source: &mut S,

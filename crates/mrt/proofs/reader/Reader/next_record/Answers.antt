@@ -1,9 +1,10 @@
-use Rattle.std.proofs.Common.{◌≡◌, ◌∙◌, ℕ, Bool, true, false, ◌+◌, ◌≤◌, refl, sym, ap, subst, arith, None, is_some, if◌then◌else◌}
+use Rattle.std.proofs.Common.{◌≡◌, ◌∙◌, ℕ, Bool, true, false, ◌+◌, ◌≤◌, length, refl, sym, ap, subst, arith, None, Ok, Err, OnErr, Result, is_some, if◌then◌else◌}
+use Rattle.std.specs.Result.{is_err}
 use Rattle.mrt.specs.declared.fault.CaptureFault.{CaptureFault}
 use Rattle.mrt.specs.declared.fault.FaultKind.TheVariants as kinds
 use Rattle.mrt.specs.Progress.{state_of, fault_at}
 use Rattle.mrt.specs.Reader.{ReaderState, at_fault, device_count}
-use Rattle.mrt.proofs.Refusing.{open_next, no_memory}
+use Rattle.mrt.proofs.Refusing.{first_call, open_next, no_memory}
 use Rattle.mrt.proofs.reader.Reader.next_record.Goals as goal
 
 no_failure : (count : ℕ) (fault : Bool) (found : CaptureFault) (state : ReaderState) → found ≡ fault_at state kinds.Memory
@@ -15,11 +16,18 @@ no_failure count fault found state is =
       | false ↦ omega arith
     ]
 
+-- what holds of an error holds where there is one
+of_error : {X E : Type 0} {P : Type 0} (r : Result X E) (b : Bool) → b ≡ is_err r → b ≡ true → OnErr r P → P
+of_error (Ok x) b is so held = absurd cc
+of_error (Err e) b is so held = held
+
 pub returns-then-is_err : goal.returns-then-is_err
 returns-then-is_err g c =
     let v : state_of c.self.inside.progress ≡ c.args.self.now = c.self.view_is in
     let none : c.args.self.now.fault ≡ None = ap (λ (s : ReaderState). s.fault) (sym v) ∙ c.in_default.is in
     let not_ended : c.args.self.now.is_ended ≡ false = ap (λ (s : ReaderState). s.is_ended) (sym v) ∙ c.if-self.false in
+    let short = of_error c.make_room.result c.is_err.result c.is_err.ensures.value c.if-is_err.true c.make_room.ensures.err in
+    let fresh = sym v ∙ first_call (length c.self.inside.buffer.items) (state_of c.self.inside.progress) c.self.invariant.1 short c.in_default.is in
     let fault : c.refuse.result ≡ fault_at c.args.self.now kinds.Memory = c.refuse.ensures.fault ∙ ap (λ (s : ReaderState). fault_at s kinds.Memory) v in
     let state : state_of c.refuse.new.self ≡ at_fault c.args.self.now c.refuse.result =
     c.refuse.ensures.state ∙ ap (λ (s : ReaderState). at_fault s c.refuse.result) v in
@@ -29,7 +37,7 @@ returns-then-is_err g c =
         λ _. tt,
         (
           open_next _ _ _ _ _ _ _ _ none not_ended
-              (no_memory _ _ _ c.args.source.now c.args.self.now _ c.refuse.result (g.met.S.Source.nothing c.args.source.now) fault state),
+              (no_memory _ _ _ c.args.source.now c.args.self.now _ c.refuse.result (g.met.S.Source.nothing c.args.source.now) fault fresh state),
           subst (λ (n : ℕ). n ≤ g.S.Source.given_count c.args.source.now) (sym passed) c.requires.one_source,
         ),
       ),
