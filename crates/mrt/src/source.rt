@@ -108,6 +108,13 @@ impl<R: Read> FromRead<R> {
     }
 
     /// The reader, as the last read left it.
+    pub fn get_ref(&self) -> &R
+        ensures { result.now ≡ (reader_state self.now).reader }
+    {
+        &self.reader
+    }
+
+    /// The reader, as the last read left it.
     pub fn into_inner(self) -> R
         ensures { result ≡ (reader_state self).reader }
     {
