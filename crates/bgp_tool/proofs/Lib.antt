@@ -8,7 +8,4 @@ pub mod CaptureLines
 pub mod CaptureDecoded
 pub mod CaptureJudged
 pub mod OneVerdict
-pub mod DecodeValues
-pub mod SpelledCommand
 pub mod Fronts
-pub mod FaultRows

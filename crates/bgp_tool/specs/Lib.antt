@@ -5,7 +5,6 @@ pub mod Front
 pub mod FrontLaws
 pub mod Opened
 pub mod CaptureDecoding
-pub mod Words
 pub mod OpenedCapture
 pub mod Answer
 pub mod Judging

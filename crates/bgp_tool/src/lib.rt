@@ -21,6 +21,7 @@ mod status;
 mod tests;
 mod words;
 
+pub use bgp_words::{Command, command_line};
 pub use captures::decode_capture;
 pub use decoding::decode_raw;
 pub use front::Form;
@@ -30,4 +31,4 @@ pub use note::Note;
 pub use opened::{Outcome, decode_opened};
 pub use opened_capture::decode_opened_capture;
 pub use status::Status;
-pub use words::{Command, command_line, words_status};
+pub use words::words_status;

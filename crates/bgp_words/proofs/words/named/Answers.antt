@@ -3,9 +3,9 @@ use Rattle.std.specs.Prelude.{IfSome}
 use Rattle.std.proofs.lemmas.Option.{IfSome_then}
 use Rattle.clap.specs.Words.{found_of, rows_of, subcommand_rows_of}
 use Rattle.clap.specs.declared.parser.matches.ArgMatches.TheViews.{out-ArgMatches}
-use Rattle.bgp_tool.specs.Words.{IsStream, IsCommand}
-use Rattle.bgp_tool.proofs.SpelledCommand.{same_name, is_used, is_unused, uncommanded}
-use Rattle.bgp_tool.proofs.words.named.Goals as goal
+use Rattle.bgp_words.specs.Words.{IsStream, IsCommand}
+use Rattle.bgp_words.proofs.SpelledCommand.{same_name, is_used, is_unused, uncommanded}
+use Rattle.bgp_words.proofs.words.named.Goals as goal
 
 pub returns-clause-some : goal.returns-clause-some
 returns-clause-some c =

@@ -2,9 +2,9 @@ use Rattle.std.proofs.Common.{rules, ◌≡◌, ◌∙◌, List, ℕ, true, fals
 use Rattle.std.proofs.lemmas.Option.{none-some, same_Some}
 use Rattle.bgp_prefix.specs.Notation.{IsAddressText}
 use Rattle.clap.specs.Words.{Text, found_of}
-use Rattle.bgp_tool.proofs.DecodeValues.{met_none, met_some, absent, present, mrt_given, mrt_absent}
-use Rattle.bgp_tool.proofs.words.command_of.Goals.{then-is_some-via-then-is_some, then-is_some-via-else-is_some+then-is_some-2}
-use Rattle.bgp_tool.proofs.words.command_of.Goals as goal
+use Rattle.bgp_words.proofs.DecodeValues.{met_none, met_some, absent, present, mrt_given, mrt_absent}
+use Rattle.bgp_words.proofs.words.command_of.Goals.{then-is_some-via-then-is_some, then-is_some-via-else-is_some+then-is_some-2}
+use Rattle.bgp_words.proofs.words.command_of.Goals as goal
 
 pub returns-in_err-file-clause-no_stream : goal.returns-in_err-file-clause-no_stream
 returns-in_err-file-clause-no_stream c none file is =

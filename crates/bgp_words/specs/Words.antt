@@ -14,8 +14,8 @@ use Rattle.clap.specs.declared.error.kind.ErrorKind.TheVariants.{MissingSubcomma
 use Rattle.bgp_prefix.specs.Notation.{IsAddressText}
 use Rattle.bgp_prefix.specs.declared.address.Address.{Address}
 use Rattle.bgp_prefix.specs.declared.session.Session.{Session}
-use Rattle.bgp_tool.specs.declared.words.Command.{Command}
-use Rattle.bgp_tool.specs.declared.words.Command.TheVariants.{Decode, Capture}
+use Rattle.bgp_words.specs.declared.words.Command.{Command}
+use Rattle.bgp_words.specs.declared.words.Command.TheVariants.{Decode, Capture}
 
 -- the file that a command reads
 abbrev pub file_word : Rule

@@ -3,10 +3,10 @@ use Rattle.clap.specs.Words.{App, Kinds, IsAmong, HasKind, app_of, fault_of, is_
 use Rattle.clap.specs.Kinds.{or_else}
 use Rattle.clap.specs.declared.error.Error.{Error}
 use Rattle.clap.specs.declared.error.kind.ErrorKind.TheVariants.{MissingSubcommand, OutOfMemory}
-use Rattle.bgp_tool.specs.Words.{program_words, word_faults, Names, NamesDecode}
-use Rattle.bgp_tool.proofs.SpelledCommand.{handed_on, memory_handed_on, known_kind, only_memory, one_file, spelled_decode}
-use Rattle.bgp_tool.proofs.FaultRows.{each_row, fault_handed_on, memory_is_fault, no_row}
-use Rattle.bgp_tool.proofs.words.command_line.Goals as goal
+use Rattle.bgp_words.specs.Words.{program_words, word_faults, Names, NamesDecode}
+use Rattle.bgp_words.proofs.SpelledCommand.{handed_on, memory_handed_on, known_kind, only_memory, one_file, spelled_decode}
+use Rattle.bgp_words.proofs.FaultRows.{each_row, fault_handed_on, memory_is_fault, no_row}
+use Rattle.bgp_words.proofs.words.command_line.Goals as goal
 
 pub returns-in_err-matches-clause-err : goal.returns-in_err-matches-clause-err
 returns-in_err-matches-clause-err g c =

@@ -7,8 +7,8 @@ use Rattle.clap.specs.declared.error.Error.{Error}
 use Rattle.clap.specs.declared.error.kind.ErrorKind.{ErrorKind}
 use Rattle.clap.specs.declared.error.kind.ErrorKind.TheVariants.{OutOfMemory}
 use Rattle.clap.proofs.OnLiterals.{clap_on_literals}
-use Rattle.bgp_tool.specs.declared.words.Command.{Command}
-use Rattle.bgp_tool.specs.Words.{program_words, fault_rows, IsFault}
+use Rattle.bgp_words.specs.declared.words.Command.{Command}
+use Rattle.bgp_words.specs.Words.{program_words, fault_rows, IsFault}
 
 abbrev IsRow : Text → List Text × ErrorKind → Type 0
 IsRow name row = fault_of program_words (name ∷ row.0) ≡ row.1 ∷ []

@@ -17,10 +17,10 @@ use Rattle.clap.specs.declared.error.kind.ErrorKind.TheVariants.{OutOfMemory}
 use Rattle.clap.specs.declared.parser.matches.ArgMatches.TheViews.{out-SubCommand}
 use Rattle.clap.specs.declared.parser.matches.SubCommand.{SubCommand}
 use Rattle.clap.proofs.OnLiterals.{clap_on_literals}
-use Rattle.bgp_tool.specs.declared.words.Command.{Command}
+use Rattle.bgp_words.specs.declared.words.Command.{Command}
 use Rattle.bgp_prefix.specs.declared.session.Session.{Session}
-use Rattle.bgp_tool.specs.declared.words.Command.TheVariants.{Decode, Capture}
-use Rattle.bgp_tool.specs.Words.{program_words, IsStream, IsCapture, IsCommand, IsUsed, Names, NamesDecode, IsFileWord, IsDecode, IsDecodeOf, IsDecodeOrMemory}
+use Rattle.bgp_words.specs.declared.words.Command.TheVariants.{Decode, Capture}
+use Rattle.bgp_words.specs.Words.{program_words, IsStream, IsCapture, IsCommand, IsUsed, Names, NamesDecode, IsFileWord, IsDecode, IsDecodeOf, IsDecodeOrMemory}
 
 -- the name of a met subcommand is that of its rows
 pub same_name : {Z : Type 0} (o : Option (Box SubCommand Z))

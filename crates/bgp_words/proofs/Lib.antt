@@ -1,0 +1,3 @@
+pub mod DecodeValues
+pub mod SpelledCommand
+pub mod FaultRows

@@ -1,0 +1,12 @@
+//! The command line of the program `bgp`: what its words may be, and the command that they spell.
+//!
+//! ```text
+//! match command_line(alloc, words)? {
+//!     Command::Decode { file } => ..
+//! }
+//! ```
+#![tactic(auto)]
+
+mod words;
+
+pub use words::{Command, command_line};
