@@ -1,30 +1,40 @@
 -- How judging a capture ends.
-use Rattle.std.proofs.Common.{◌≡◌, ◌∙◌, ℕ, Bool, List, [], refl, sym, ap, subst, inl, inr, append-nil, Option}
+use Rattle.std.proofs.Common.{◌≡◌, ◌∙◌, ℕ, Bool, List, [], ◌++◌, refl, sym, ap, subst, inl, inr, append-nil, Option, Result, Ok, Err}
 use Rattle.bgp_open.specs.declared.config.Config.{Config}
 use Rattle.bgp_prefix.specs.Shown.{ShownRecord}
+use Rattle.bgp_prefix.specs.declared.session.Session.{Session}
 use Rattle.mrt.specs.declared.fault.CaptureFault.{CaptureFault}
 use Rattle.mrt.specs.declared.fault.FaultKind.TheVariants as kinds
 use Rattle.mrt.specs.Capture.{joined, records_of}
+use Rattle.mrt.specs.Reader.{ReaderState, fresh_reader}
+use Rattle.mrt.specs.ReadBy.{ReadBy}
 use Rattle.bgp_judge.specs.declared.verdict.Verdict.{Verdict}
-use Rattle.bgp_judge.specs.Judging.{IsJudged, IsRefusal, ReadsAll}
+use Rattle.bgp_judge.specs.Judging.{IsJudged, IsRefusal, Judges, ReadsAll}
 use Rattle.bgp_judge.specs.Verdict.{IsVerdict}
 use Rattle.bgp_judge.proofs.CaptureSoFar.{spelled}
 
-module _ {S : Type 0} (gives : S → S → List ℕ → Type 0) (has_ended : S → Bool) (config : Config) where
+module _ {S : Type 0} (gives : S → S → List ℕ → Type 0) (has_ended : S → Bool) (config : Config) (source new : S) where
   -- nothing was read
-  pub unstarted : (source : S) (fault : CaptureFault) → fault ≡ record { kind = kinds.Memory; offset = 0 } → gives source source []
-      → IsRefusal gives has_ended config source source fault
-  unstarted source fault is nothing = inr (inr (record {
+  pub unstarted : (reader : ReaderState) (fault : CaptureFault) → reader ≡ fresh_reader → fault ≡ record { kind = kinds.Memory; offset = 0 } → gives source source []
+      → ReadBy gives config.parts.session source source reader (λ given. IsRefusal given has_ended config source source fault)
+  unstarted reader fault fresh is nothing = record {
     pieces = [];
     rest = [];
+    knows = (ap (λ (s : ReaderState). s.last) fresh, ap (λ (s : ReaderState). s.other) fresh);
     gave = nothing;
     each = tt;
-    kind = ap (λ (f : CaptureFault). f.kind) is;
-    offset = ap (λ (f : CaptureFault). f.offset) is;
-    place = inl refl;
-  }))
+    holds = inr (inr (record {
+      pieces = [];
+      rest = [];
+      gave = refl;
+      each = tt;
+      kind = ap (λ (f : CaptureFault). f.kind) is;
+      offset = ap (λ (f : CaptureFault). f.offset) is;
+      place = inl refl;
+    }));
+  }
 
-  module _ (source new : S) (stands : Config → List ShownRecord → Type 0) (last : ℕ) (impossible : Option ℕ)
+  module _ (stands : Config → List ShownRecord → Type 0) (last : ℕ) (impossible : Option ℕ)
       (reads : ReadsAll gives has_ended config source new stands last impossible) where
     -- all was read
     pub unlisted : (fault : CaptureFault) → fault ≡ record { kind = kinds.Memory; offset = last } → IsRefusal gives has_ended config source new fault
@@ -47,3 +57,63 @@ module _ {S : Type 0} (gives : S → S → List ℕ → Type 0) (has_ended : S �
       spells = spelled config reads.pieces reads.each;
       verdict = is;
     }
+
+-- what was read is judged otherwise
+pub judged_so : {S : Type 0} {gives : S → S → List ℕ → Type 0} {session : Session} {source new : S} {reader : ReaderState} (P Q : (S → S → List ℕ → Type 0) → Type 0)
+    → (by : ReadBy gives session source new reader P)
+    → (P (λ from to octets. octets ≡ joined by.pieces ++ by.rest) → Q (λ from to octets. octets ≡ joined by.pieces ++ by.rest))
+    → ReadBy gives session source new reader Q
+judged_so P Q by so = record {
+  pieces = by.pieces;
+  rest = by.rest;
+  knows = by.knows;
+  gave = by.gave;
+  each = by.each;
+  holds = so by.holds;
+}
+
+-- what is judged of octets that were given is judged of what was given
+module _ {S : Type 0} (has_ended : S → Bool) (config : Config) (source new : S) (just gives : S → S → List ℕ → Type 0)
+    (given : (octets : List ℕ) → just source new octets → gives source new octets) where
+  pub judges_given : {X : Type 0} (answer : Result (Verdict X) CaptureFault) → Judges just has_ended config source new answer
+      → Judges gives has_ended config source new answer
+  judges_given (Ok verdict) is = record {
+    octets = is.octets;
+    records = is.records;
+    gave = given is.octets is.gave;
+    ended = is.ended;
+    spells = is.spells;
+    verdict = is.verdict;
+  }
+  judges_given (Err fault) (inl is) = inl record {
+    octets = is.octets;
+    records = is.records;
+    gave = given is.octets is.gave;
+    first = is.first;
+  }
+  judges_given (Err fault) (inr (inl is)) = inr (inl record {
+    pieces = is.pieces;
+    rest = is.rest;
+    gave = given (joined is.pieces ++ is.rest) is.gave;
+    each = is.each;
+    kind = is.kind;
+    offset = is.offset;
+    begun = is.begun;
+  })
+  judges_given (Err fault) (inr (inr is)) = inr (inr record {
+    pieces = is.pieces;
+    rest = is.rest;
+    gave = given (joined is.pieces ++ is.rest) is.gave;
+    each = is.each;
+    kind = is.kind;
+    offset = is.offset;
+    place = is.place;
+  })
+
+pub judges_read : {S X : Type 0} (gives : S → S → List ℕ → Type 0) (has_ended : S → Bool) (config : Config) (source new : S) (reader : ReaderState)
+    (answer : Result (Verdict X) CaptureFault)
+    → ReadBy gives config.parts.session source new reader (λ given. Judges given has_ended config source new answer)
+    → Judges gives has_ended config source new answer
+judges_read gives has_ended config source new reader answer by =
+    judges_given has_ended config source new (λ from to octets. octets ≡ joined by.pieces ++ by.rest) gives
+    (λ octets is. subst (λ (o : List ℕ). gives source new o) (sym is) by.gave) answer by.holds

@@ -7,11 +7,13 @@ use Rattle.bgp_machine.specs.Run.{Begins}
 use Rattle.mrt.specs.declared.record.Record.{Record}
 use Rattle.mrt.specs.declared.fault.CaptureFault.{CaptureFault}
 use Rattle.mrt.specs.declared.fault.FaultKind.TheVariants as kinds
-use Rattle.mrt.specs.Capture.{Piece, Shown, ArePieces, IsPiece, Spells, last_after, last_of, joined, records_of}
+use Rattle.mrt.specs.declared.record.Endpoints.{Endpoints}
+use Rattle.mrt.specs.Capture.{Piece, Shown, ArePieces, IsPiece, Spells, last_after, last_of, first_other, joined, records_of}
 use Rattle.mrt.specs.Reading.{IsRefused}
 use Rattle.mrt.specs.Reader.{ReaderState, fresh_reader, Answers, Ends, Fails, IsAnswer, NextBy, IsNext}
+use Rattle.mrt.specs.ReadBy.{Knows, ReadBy}
 use Rattle.mrt.proofs.Advancing.{joined_more}
-use Rattle.mrt.proofs.Chains.{joined_chain, records_chain, last_chain, pieces_chain, one_record, last_piece}
+use Rattle.mrt.proofs.Chains.{joined_chain, records_chain, last_chain, other_chain, pieces_chain, one_record, last_piece}
 use Rattle.bgp_judge.specs.Judging.{IsAt, IsRefusal, ReadsAll}
 
 no_length : (xs : List ℕ) → length xs ≡ 0 → xs ≡ []
@@ -55,6 +57,7 @@ module _ {S : Type 0} (gives : S → S → List ℕ → Type 0) (has_ended : S �
     pub gave : gives source now (joined pieces)
     pub passed : state.passed ≡ length (joined pieces)
     pub last : state.last ≡ last_of None pieces
+    pub other : state.other ≡ first_other None pieces
     pub calm : state.fault ≡ None
     pub going : state.is_ended ≡ false
     pub shown : records_of pieces ≡ records
@@ -66,6 +69,7 @@ module _ {S : Type 0} (gives : S → S → List ℕ → Type 0) (has_ended : S �
     gave = nothing;
     passed = ap (λ (s : ReaderState). s.passed) fresh;
     last = ap (λ (s : ReaderState). s.last) fresh;
+    other = ap (λ (s : ReaderState). s.other) fresh;
     calm = ap (λ (s : ReaderState). s.fault) fresh;
     going = ap (λ (s : ReaderState). s.is_ended) fresh;
     shown = refl;
@@ -86,6 +90,11 @@ module _ {S : Type 0} (gives : S → S → List ℕ → Type 0) (has_ended : S �
       → last_of state.last more ≡ last_of None (so_far.pieces ++ more)
   last_behind now state records so_far more =
       ap (λ (l : Option ℕ). last_of l more) so_far.last ∙ sym (last_chain None so_far.pieces more)
+
+  other_behind : (now : S) (state : ReaderState) (records : List ShownRecord) (so_far : SoFar now state records) (more : List Piece)
+      → first_other state.other more ≡ first_other None (so_far.pieces ++ more)
+  other_behind now state records so_far more =
+      ap (λ (o : Option Endpoints). first_other o more) so_far.other ∙ sym (other_chain None so_far.pieces more)
 
   given_behind : (now next : S) (state : ReaderState) (records : List ShownRecord) (so_far : SoFar now state records) (more : List Piece) → gives now next (joined more)
       → gives source next (joined (so_far.pieces ++ more))
@@ -117,6 +126,7 @@ module _ {S : Type 0} (gives : S → S → List ℕ → Type 0) (has_ended : S �
         gave = given_behind now next state records so_far more answer.exactly;
         passed = ap (λ (s : ReaderState). s.passed) answer.stands ∙ count_behind now state records so_far more;
         last = ap (λ (s : ReaderState). s.last) answer.stands ∙ last_behind now state records so_far more;
+        other = ap (λ (s : ReaderState). s.other) answer.stands ∙ other_behind now state records so_far more;
         calm = ap (λ (s : ReaderState). s.fault) answer.stands ∙ so_far.calm;
         going = ap (λ (s : ReaderState). s.is_ended) answer.stands ∙ so_far.going;
         shown = records_chain so_far.pieces more ∙ ap (λ (r : List ShownRecord). r ++ records_of more) so_far.shown
@@ -145,18 +155,33 @@ module _ {S : Type 0} (gives : S → S → List ℕ → Type 0) (has_ended : S �
       less_by (count now) (count next) (length (joined (answer.skipped ++ Shown answer.octets ∷ [])))
       (counted now next (joined (answer.skipped ++ Shown answer.octets ∷ [])) answer.exactly) (takes_some now next state after shown answer) below
 
+  -- the reader knows the pieces
+  knows_behind : (now next : S) (state after : ReaderState) (records : List ShownRecord) (so_far : SoFar now state records) (more : List Piece)
+      → after.last ≡ last_of state.last more → after.other ≡ first_other state.other more → Knows after (so_far.pieces ++ more)
+  knows_behind now next state after records so_far more last other =
+      (last ∙ last_behind now state records so_far more, other ∙ other_behind now state records so_far more)
+
   -- to the end
   pub reads_all : (now next : S) (state after : ReaderState) (records : List ShownRecord) (stands : Config → List ShownRecord → Type 0) (impossible : Option ℕ)
       → SoFar now state records → IsAt stands config records impossible → Ends gives has_ended config.parts.session now next state after
-      → ReadsAll gives has_ended config source next stands after.place impossible
-  reads_all now next state after records stands impossible so_far at ends = record {
-    pieces = so_far.pieces ++ ends.skipped;
-    gave = given_behind now next state records so_far ends.skipped ends.exactly;
-    ended = ends.ended;
-    each = behind now state records so_far ends.skipped ends.pieces;
-    place = ap (λ (s : ReaderState). s.place) ends.stands ∙ count_behind now state records so_far ends.skipped;
-    tracked = subst (λ (r : List ShownRecord). IsAt stands config r impossible) (sym (shown_behind now state records so_far ends.skipped ends.only)) at;
-  }
+      → ReadBy gives config.parts.session source next after (λ given. ReadsAll given has_ended config source next stands after.place impossible)
+  reads_all now next state after records stands impossible so_far at ends =
+      let pieces = so_far.pieces ++ ends.skipped in
+      let each = behind now state records so_far ends.skipped ends.pieces in record {
+        pieces = pieces;
+        rest = [];
+        knows = knows_behind now next state after records so_far ends.skipped (ap (λ (s : ReaderState). s.last) ends.stands) (ap (λ (s : ReaderState). s.other) ends.stands);
+        gave = subst (λ (o : List ℕ). gives source next o) (sym (append-nil (joined pieces))) (given_behind now next state records so_far ends.skipped ends.exactly);
+        each = each;
+        holds = record {
+          pieces = pieces;
+          gave = sym (append-nil (joined pieces));
+          ended = ends.ended;
+          each = each;
+          place = ap (λ (s : ReaderState). s.place) ends.stands ∙ count_behind now state records so_far ends.skipped;
+          tracked = subst (λ (r : List ShownRecord). IsAt stands config r impossible) (sym (shown_behind now state records so_far ends.skipped ends.only)) at;
+        };
+      }
 
   -- where the source is as before, nothing was given
   nothing_rests : (now next : S) (xs rest : List ℕ) → gives now next (xs ++ rest) → next ≡ now → rest ≡ []
@@ -165,21 +190,19 @@ module _ {S : Type 0} (gives : S → S → List ℕ → Type 0) (has_ended : S �
       let stays = ap count same in
       let long = length-append xs rest in no_length rest (omega arith)
 
-  -- to a fault of the reader
-  pub refused : (now next : S) (state after : ReaderState) (records : List ShownRecord) (fault : CaptureFault) → SoFar now state records
-      → Fails gives has_ended config.parts.session now next state after fault → IsRefusal gives has_ended config source next fault
-  refused now next state after records fault so_far fails =
+  -- a fault of the reader behind these pieces, of which just these octets were given
+  refused_behind : (now next : S) (state after : ReaderState) (records : List ShownRecord) (fault : CaptureFault) (so_far : SoFar now state records)
+      → (fails : Fails gives has_ended config.parts.session now next state after fault)
+      → IsRefusal (λ from to octets. octets ≡ joined (so_far.pieces ++ fails.skipped) ++ fails.rest) has_ended config source next fault
+  refused_behind now next state after records fault so_far fails =
       let pieces = so_far.pieces ++ fails.skipped in
       let each = behind now state records so_far fails.skipped fails.pieces in
       let offset = fails.offset ∙ count_behind now state records so_far fails.skipped in
-      let gave = subst (λ (o : List ℕ). gives source next o)
-      (sym (append_assoc (joined so_far.pieces) (joined fails.skipped) fails.rest) ∙ ap (λ (o : List ℕ). o ++ fails.rest) (sym (joined_chain so_far.pieces fails.skipped)))
-      (gives_joined source now next (joined so_far.pieces) (joined fails.skipped ++ fails.rest) so_far.gave fails.taken) in
       elim fails.why [
         | inl is ↦ inl (record {
           octets = joined pieces ++ fails.rest;
           records = records_of pieces;
-          gave = gave;
+          gave = refl;
           first = λ more ended. record {
             pieces = pieces;
             rest = fails.rest ++ more;
@@ -198,7 +221,7 @@ module _ {S : Type 0} (gives : S → S → List ℕ → Type 0) (has_ended : S �
           | inl device ↦ inr (inl (record {
             pieces = pieces;
             rest = fails.rest;
-            gave = gave;
+            gave = refl;
             each = each;
             kind = device.0;
             offset = offset;
@@ -207,7 +230,7 @@ module _ {S : Type 0} (gives : S → S → List ℕ → Type 0) (has_ended : S �
           | inr memory ↦ inr (inr (record {
             pieces = pieces;
             rest = fails.rest;
-            gave = gave;
+            gave = refl;
             each = each;
             kind = memory.0;
             offset = offset;
@@ -216,10 +239,26 @@ module _ {S : Type 0} (gives : S → S → List ℕ → Type 0) (has_ended : S �
         ]
       ]
 
+  -- to a fault of the reader
+  pub refused : (now next : S) (state after : ReaderState) (records : List ShownRecord) (fault : CaptureFault) → SoFar now state records
+      → Fails gives has_ended config.parts.session now next state after fault
+      → ReadBy gives config.parts.session source next after (λ given. IsRefusal given has_ended config source next fault)
+  refused now next state after records fault so_far fails = record {
+    pieces = so_far.pieces ++ fails.skipped;
+    rest = fails.rest;
+    knows = knows_behind now next state after records so_far fails.skipped (ap (λ (s : ReaderState). s.last) fails.stands) (ap (λ (s : ReaderState). s.other) fails.stands);
+    gave = subst (λ (o : List ℕ). gives source next o)
+        (sym (append_assoc (joined so_far.pieces) (joined fails.skipped) fails.rest) ∙ ap (λ (o : List ℕ). o ++ fails.rest) (sym (joined_chain so_far.pieces fails.skipped)))
+        (gives_joined source now next (joined so_far.pieces) (joined fails.skipped ++ fails.rest) so_far.gave fails.taken);
+    each = behind now state records so_far fails.skipped fails.pieces;
+    holds = refused_behind now next state after records fault so_far fails;
+  }
+
   -- to a record that the tracker has no memory for
   pub untaken : (now next : S) (state after : ReaderState) (records : List ShownRecord) (shown : ShownRecord) (fault : CaptureFault) → SoFar now state records
       → Begins config records → Answers gives has_ended config.parts.session now next state after shown
-      → fault ≡ record { kind = kinds.Memory; offset = after.place } → IsRefusal gives has_ended config source next fault
+      → fault ≡ record { kind = kinds.Memory; offset = after.place }
+      → ReadBy gives config.parts.session source next after (λ given. IsRefusal given has_ended config source next fault)
   untaken now next state after records shown fault so_far begins answer is =
       let pieces = so_far.pieces ++ answer.skipped in
       let more = answer.skipped ++ Shown answer.octets ∷ [] in
@@ -228,15 +267,22 @@ module _ {S : Type 0} (gives : S → S → List ℕ → Type 0) (has_ended : S �
       ∙ ap (λ (o : List ℕ). o ++ answer.octets) (sym (joined_chain so_far.pieces answer.skipped)) in
       let piece = last_piece config.parts.session state.last answer.skipped (Shown answer.octets) answer.pieces in
       let skipped_only = behind now state records so_far answer.skipped (first_pieces config.parts.session state.last answer.skipped (Shown answer.octets) answer.pieces) in
-      inr (inr (record {
-        pieces = pieces;
-        rest = answer.octets;
-        gave = subst (λ (o : List ℕ). gives source next o) all (given_behind now next state records so_far more answer.exactly);
-        each = skipped_only;
-        kind = ap (λ (f : CaptureFault). f.kind) is;
-        offset = ap (λ (f : CaptureFault). f.offset) is ∙ ap (λ (s : ReaderState). s.place) answer.stands ∙ count_behind now state records so_far answer.skipped;
-        place = inr (
-          subst (λ (l : Option ℕ). IsPiece config.parts.session l (Shown answer.octets)) (last_behind now state records so_far answer.skipped) piece.0,
-          subst (λ (r : List ShownRecord). Begins config r) (sym (shown_behind now state records so_far answer.skipped answer.only)) begins,
-        );
-      }))
+      record {
+        pieces = so_far.pieces ++ more;
+        rest = [];
+        knows = knows_behind now next state after records so_far more (ap (λ (s : ReaderState). s.last) answer.stands) (ap (λ (s : ReaderState). s.other) answer.stands);
+        gave = subst (λ (o : List ℕ). gives source next o) (sym (append-nil (joined (so_far.pieces ++ more)))) (given_behind now next state records so_far more answer.exactly);
+        each = behind now state records so_far more answer.pieces;
+        holds = inr (inr (record {
+          pieces = pieces;
+          rest = answer.octets;
+          gave = sym (append-nil (joined (so_far.pieces ++ more)) ∙ all);
+          each = skipped_only;
+          kind = ap (λ (f : CaptureFault). f.kind) is;
+          offset = ap (λ (f : CaptureFault). f.offset) is ∙ ap (λ (s : ReaderState). s.place) answer.stands ∙ count_behind now state records so_far answer.skipped;
+          place = inr (
+            subst (λ (l : Option ℕ). IsPiece config.parts.session l (Shown answer.octets)) (last_behind now state records so_far answer.skipped) piece.0,
+            subst (λ (r : List ShownRecord). Begins config r) (sym (shown_behind now state records so_far answer.skipped answer.only)) begins,
+          );
+        }));
+      }

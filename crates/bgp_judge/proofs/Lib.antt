@@ -12,3 +12,4 @@ pub mod Verdicts
 pub mod CaptureSoFar
 pub mod CaptureEnds
 pub mod Telling
+pub mod OneVerdict

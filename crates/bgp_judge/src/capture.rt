@@ -3,6 +3,7 @@
 ghost use Rattle.std.specs.Prelude.{◌≡◌, ◌<◌, ◌+◌, []};
 ghost use Rattle.mrt.specs.declared.fault.FaultKind.TheVariants.{Memory};
 ghost use Rattle.mrt.specs.Progress.{failures_of};
+ghost use Rattle.mrt.specs.ReadBy.{ReadBy};
 ghost use Rattle.mrt.specs.Reader.{fresh_reader};
 ghost use Rattle.bgp_judge.specs.Judging.{Follows, Judges};
 
@@ -34,8 +35,9 @@ fn follow<A: Allocator + Copy, T: Tracker<A>, S: Source>(
     requires stands { T.stands_for tracker.old config.now [] }
     requires fresh { reader.old ≡ fresh_reader }
     requires failures { S.failures source.old < u64.MAX }
-    ensures follows { Follows S.gives S.has_ended config.now source.old source.new
-        (T.stands_for tracker.new) reader.new.place result }
+    ensures follows { ReadBy S.gives config.now.parts.session source.old source.new reader.new
+        (λ gives. Follows gives S.has_ended config.now source.old source.new
+        (T.stands_for tracker.new) reader.new.place result) }
     ensures failures { S.failures source.new ≡ S.failures source.old + failures_of result }
 {
     let mut impossible = None;
@@ -75,12 +77,29 @@ pub fn judge<A: Allocator + Copy, T: Tracker<A>, S: Source>(
     ensures judged { Judges S.gives S.has_ended config.now source.old source.new result }
     ensures failures { S.failures source.new ≡ S.failures source.old + failures_of result }
 {
+    let mut reader = Reader::new(alloc);
+    judge_with::<A, T, S>(&mut reader, alloc, config, source)
+}
+
+/// The same verdict, or the same fault, by a reader that has read nothing. It tells afterwards
+/// whether it found a record of the session, and the addresses of the first record of another one.
+pub fn judge_with<A: Allocator + Copy, T: Tracker<A>, S: Source>(
+    reader: &mut Reader<A>,
+    alloc: A,
+    config: &Config,
+    source: &mut S,
+) -> Result<Verdict<A>, CaptureFault>
+    requires fresh { reader.old ≡ fresh_reader }
+    requires failures { S.failures source.old < u64.MAX }
+    ensures judged { ReadBy S.gives config.now.parts.session source.old source.new reader.new
+        (λ gives. Judges gives S.has_ended config.now source.old source.new result) }
+    ensures failures { S.failures source.new ≡ S.failures source.old + failures_of result }
+{
     let started: Result<T, _> = T::start(alloc, config);
     let Ok(mut tracker) = started else {
         return Err(out_of_memory(0));
     };
-    let mut reader = Reader::new(alloc);
-    if let Some(count) = follow(&mut tracker, &mut reader, config, source)? {
+    if let Some(count) = follow(&mut tracker, reader, config, source)? {
         return Ok(Verdict::No(count));
     }
     match verdict_of(&tracker) {

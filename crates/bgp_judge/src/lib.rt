@@ -23,10 +23,12 @@ mod tracker;
 mod unshown;
 mod verdict;
 
-pub use capture::judge;
+pub use capture::{judge, judge_with};
 pub use end::End;
 pub use judging::judge_records;
-pub use laws::{one_end_for_each_disabled_set, records_tell_the_state};
+pub use laws::{
+    one_end_for_each_disabled_set, records_have_just_one_verdict, records_tell_the_state,
+};
 pub use opening::{OpenedSteps, openings};
 pub use plain::PlainTracker;
 pub use tracker::Tracker;

@@ -3,7 +3,8 @@
 use crate::end::End;
 use std::alloc::{Allocator, Global};
 
-/// What is answered of a session's records. Of each list of them one of the three holds.
+/// What is answered of a session's records. Of each list of them just one of the three holds
+/// ([law](crate::records_have_just_one_verdict)).
 #[derive(Drop)]
 pub enum Verdict<A: Allocator = Global> {
     /// Some run of the session machine shows just the records. These are all the ends of such

@@ -1,19 +1,20 @@
 -- The records of a capture, read one after another, and their lines.
-use Rattle.std.proofs.Common.{◌≡◌, ◌∙◌, ℕ, Bool, false, ◌+◌, ◌<◌, List, [], ◌∷◌, ◌++◌, length, refl, sym, ap, subst, arith, inl, inr, append_assoc, append-nil, length-append, Option, None, Some, Result, Ok, Err}
+use Rattle.std.proofs.Common.{◌≡◌, ◌∙◌, ℕ, Bool, false, ◌+◌, ◌<◌, List, [], ◌∷◌, ◌++◌, length, refl, sym, ap, subst, arith, inl, inr, append_assoc, append-nil, length-append, Option, None, Result, Ok, Err}
 use Rattle.bgp_prefix.specs.Shown.{ShownRecord}
 use Rattle.bgp_prefix.specs.declared.session.Session.{Session}
 use Rattle.mrt.specs.declared.record.Record.{Record}
 use Rattle.mrt.specs.declared.fault.CaptureFault.{CaptureFault}
 use Rattle.mrt.specs.declared.record.Endpoints.{Endpoints}
-use Rattle.mrt.specs.Capture.{Piece, Other, OtherEnds, Shown, ArePieces, last_of, joined, records_of, shown_of, first_other}
+use Rattle.mrt.specs.Capture.{Piece, Shown, ArePieces, last_of, joined, records_of, shown_of, first_other}
 use Rattle.mrt.specs.Reading.{IsRefused}
 use Rattle.mrt.specs.Reader.{ReaderState, fresh_reader, Answers, Ends, Fails, IsAnswer, NextBy, IsNext}
+use Rattle.mrt.specs.ReadBy.{Knows}
 use Rattle.mrt.specs.Written.{IsAllowed}
 use Rattle.mrt.proofs.Advancing.{joined_more}
 use Rattle.mrt.proofs.AllowedRecord.{each_allowed}
-use Rattle.mrt.proofs.Chains.{joined_chain, records_chain, last_chain, pieces_chain, one_record, last_piece}
+use Rattle.mrt.proofs.Chains.{joined_chain, records_chain, last_chain, other_chain, pieces_chain, one_record, last_piece}
 use Rattle.bgp_text.specs.Capture.{IsRecordLine, AreRecordLines}
-use Rattle.bgp_tool.specs.CaptureDecoding.{EndsAt, Knows}
+use Rattle.bgp_tool.specs.CaptureDecoding.{EndsAt}
 
 -- one line more
 lines_more : (records : List ShownRecord) (text : List ℕ) (shown : ShownRecord) (line : List ℕ) → AreRecordLines records text → IsRecordLine shown line
@@ -21,14 +22,6 @@ lines_more : (records : List ShownRecord) (text : List ℕ) (shown : ShownRecord
 lines_more [] text shown line are is = (line, [], is, refl, ap (λ (t : List ℕ). t ++ line) are ∙ sym (append-nil line))
 lines_more (one ∷ records) text shown line are is =
     (are.0, are.1 ++ line, are.2, lines_more records are.1 shown line are.3 is, ap (λ (t : List ℕ). t ++ line) are.4 ∙ append_assoc are.0 are.1 line)
-
--- the first of the addresses, of pieces behind others
-other_chain : (ends : Option Endpoints) (first second : List Piece) → first_other ends (first ++ second) ≡ first_other (first_other ends first) second
-other_chain (Some e) first second = refl
-other_chain None [] second = refl
-other_chain None (Other o ∷ first) second = other_chain None first second
-other_chain None (OtherEnds o ∷ first) second = refl
-other_chain None (Shown o ∷ first) second = other_chain None first second
 
 no_length : (xs : List ℕ) → length xs ≡ 0 → xs ≡ []
 no_length [] none = refl

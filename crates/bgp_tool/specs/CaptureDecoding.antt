@@ -3,9 +3,9 @@ use Rattle.std.specs.Prelude.{◌≡◌, ◌⊎◌, ◌++◌, ◌+◌, ℕ, Bool
 use Rattle.std.specs.Prelude.{None, Result, Ok, Err, IsOk}
 use Rattle.bgp_prefix.specs.declared.session.Session.{Session}
 use Rattle.mrt.specs.Capture.{Piece, ArePieces, IsBegun, joined, last_of, records_of}
-use Rattle.mrt.specs.Capture.{first_other}
 use Rattle.mrt.specs.Reader.{ReaderState}
 use Rattle.mrt.specs.Progress.{failures_of}
+use Rattle.mrt.specs.ReadBy.{Knows}
 use Rattle.mrt.specs.Reading.{IsRefused}
 use Rattle.mrt.specs.declared.fault.CaptureFault.{CaptureFault}
 use Rattle.mrt.specs.declared.fault.FaultKind.{FaultKind}
@@ -48,12 +48,6 @@ module _ {R : Type 0} (has_ended : R → Bool) (session : Session) where
       × (IsRefused session (last_of None pieces) rest (has_ended source) fault.kind
       ⊎ ((fault.kind ≡ kinds.Device) × IsBegun rest)
       ⊎ ((fault.kind ≡ kinds.Memory) × (rest ≡ [])))
-
--- The reader tells the second of the session's last record, if there was one, and the addresses of
--- the first record that was skipped for its addresses.
-abbrev pub Knows : ReaderState → List Piece → Type 0
-Knows reader pieces =
-    (reader.last ≡ last_of None pieces) × (reader.other ≡ first_other None pieces)
 
 -- What was given is pieces of a capture and a rest, and the lines of the pieces' records were put.
 -- They are read to where the octets end, or until the sink has failed.

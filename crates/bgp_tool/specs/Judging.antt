@@ -82,6 +82,8 @@ pub record JudgesCapture {R W : Type 0} (gives : R → R → List ℕ → Type 0
   pub all : ((failures sink' ≡ failures sink) × (left ≡ []) × (status ≡ code))
       ⊎ ((failures sink' ≡ failures sink + 1) × (status ≡ 5))
 
+-- ---- the law
+
 -- The verdict on a capture has one text and one exit status.
 abbrev pub HasOneVerdict : Type 0
 HasOneVerdict =
@@ -90,3 +92,9 @@ HasOneVerdict =
     → Spells config.parts.session octets records → SaysVerdict config records text status
     → Spells config.parts.session octets also → SaysVerdict config also other code
     → (text ≡ other) × (status ≡ code)
+
+-- It isn't so that no verdict holds of records.
+abbrev pub NeverNone : Type 0
+NeverNone =
+    (config : Config) (records : List ShownRecord)
+    → ¬ ((text : List ℕ) (status : ℕ) → ¬ SaysVerdict config records text status)

@@ -3,12 +3,12 @@
 
 ghost use Rattle.std.specs.Prelude.{◌<◌, ◌≤◌, ◌^◌};
 ghost use Rattle.bgp_tool.specs.Decoding.{IsDecoded, IsBegun};
-ghost use Rattle.bgp_tool.specs.Judging.{JudgesCapture, HasOneVerdict};
+ghost use Rattle.bgp_tool.specs.Judging.{JudgesCapture, HasOneVerdict, NeverNone};
 
 use crate::captures::hand_over;
 use crate::decoding::decode_raw;
 use crate::judging::put_answer;
-use bgp_judge::{Tracker, judge, one_end_for_each_disabled_set};
+use bgp_judge::{Tracker, judge, records_have_just_one_verdict};
 use bgp_open::Config;
 use bgp_text::Lines;
 use mrt::{MemSink, MemSource, Sink, Source, each_capture_has_one_reading};
@@ -50,12 +50,13 @@ pub fn judge_capture<A: Allocator + Copy, T: Tracker<A>, R: Source, W: Sink>(
     status.code()
 }
 
-/// Law: a capture has at most one verdict, by its text and its exit status.
+/// Law: just one verdict holds of a capture's records, by its text and its exit status.
 pub fn each_capture_has_one_verdict()
-    ensures { HasOneVerdict }
+    ensures one { HasOneVerdict }
+    ensures some { NeverNone }
 {
     each_capture_has_one_reading();
-    one_end_for_each_disabled_set();
+    records_have_just_one_verdict();
 }
 
 /// The text of a stream of octets in memory, and the exit status.

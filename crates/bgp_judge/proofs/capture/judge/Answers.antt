@@ -1,25 +1,7 @@
-use Rattle.std.proofs.Common.{◌∙◌, ℕ, None, ap}
-use Rattle.mrt.specs.Capture.{records_of}
-use Rattle.mrt.specs.declared.fault.CaptureFault.{CaptureFault}
-use Rattle.mrt.specs.declared.fault.FaultKind.TheVariants.{Memory}
-use Rattle.bgp_judge.proofs.CaptureEnds.{unstarted, unlisted, judged}
+use Rattle.bgp_judge.proofs.CaptureEnds.{judges_read}
 use Rattle.bgp_judge.proofs.capture.judge.Goals as goal
-
-pub returns-in_default-clause-judged : goal.returns-in_default-clause-judged
-returns-in_default-clause-judged g c =
-    unstarted g.S.Source.gives g.S.Source.has_ended c.args.config.now c.args.source.now c.out_of_memory.result c.out_of_memory.ensures
-    (g.met.S.Source.nothing c.args.source.now)
-
-pub returns-in-Ok-verdict_of-clause-judged : goal.returns-in-Ok-verdict_of-clause-judged
-returns-in-Ok-verdict_of-clause-judged g c =
-    let reads = rw (c.in_default-2.is) at c.in_ok-count.ensures.follows in
-    judged g.S.Source.gives g.S.Source.has_ended c.args.config.now c.args.source.now c.follow.new.source (g.T.Tracker.stands_for c.follow.new.tracker) _ None reads
-    c.in-Ok-verdict_of.verdict
-    (c.in-Ok-verdict_of.ensures c.args.config.now (records_of reads.pieces) reads.tracked.0 reads.tracked.1)
 
 pub returns-clause-judged : goal.returns-clause-judged
 returns-clause-judged g c =
-    let reads = rw (c.in_default-2.is) at c.in_ok-count.ensures.follows in
-    let fault = c.out_of_memory-in-Err.ensures ∙ ap (λ (n : ℕ). let f : CaptureFault = record { kind = Memory; offset = n } in f) c.place.ensures in
-    unlisted g.S.Source.gives g.S.Source.has_ended c.args.config.now c.args.source.now c.follow.new.source (g.T.Tracker.stands_for c.follow.new.tracker) _ None reads
-    c.out_of_memory-in-Err.result fault
+    judges_read g.S.Source.gives g.S.Source.has_ended c.args.config.now c.args.source.now c.judge_with.new.source c.judge_with.new.reader c.judge_with.result
+    c.judge_with.ensures.judged

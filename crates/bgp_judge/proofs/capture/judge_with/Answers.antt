@@ -1,0 +1,28 @@
+use Rattle.std.proofs.Common.{◌∙◌, ℕ, None, ap}
+use Rattle.mrt.specs.Capture.{records_of}
+use Rattle.mrt.specs.declared.fault.CaptureFault.{CaptureFault}
+use Rattle.mrt.specs.declared.fault.FaultKind.TheVariants.{Memory}
+use Rattle.bgp_judge.specs.Judging.{IsJudged, IsRefusal}
+use Rattle.bgp_judge.proofs.CaptureEnds.{unstarted, unlisted, judged, judged_so}
+use Rattle.bgp_judge.proofs.capture.judge_with.Goals as goal
+
+pub returns-in_default-clause-judged : goal.returns-in_default-clause-judged
+returns-in_default-clause-judged g c =
+    unstarted g.S.Source.gives g.S.Source.has_ended c.args.config.now c.args.source.now c.args.source.now c.args.reader.now c.out_of_memory.result c.requires.fresh
+    c.out_of_memory.ensures (g.met.S.Source.nothing c.args.source.now)
+
+pub returns-in-Ok-verdict_of-clause-judged : goal.returns-in-Ok-verdict_of-clause-judged
+returns-in-Ok-verdict_of-clause-judged g c =
+    let reads = rw (c.in_default-2.is) at c.in_ok-count.ensures.follows in
+    judged_so _ (λ given. IsJudged given g.S.Source.has_ended c.args.config.now c.args.source.now c.follow.new.source c.in-Ok-verdict_of.verdict) reads
+    (λ all. judged _ g.S.Source.has_ended c.args.config.now c.args.source.now c.follow.new.source (g.T.Tracker.stands_for c.follow.new.tracker) _ None all
+    c.in-Ok-verdict_of.verdict
+    (c.in-Ok-verdict_of.ensures c.args.config.now (records_of all.pieces) all.tracked.0 all.tracked.1))
+
+pub returns-clause-judged : goal.returns-clause-judged
+returns-clause-judged g c =
+    let reads = rw (c.in_default-2.is) at c.in_ok-count.ensures.follows in
+    let fault = c.out_of_memory-in-Err.ensures ∙ ap (λ (n : ℕ). let f : CaptureFault = record { kind = Memory; offset = n } in f) c.place.ensures in
+    judged_so _ (λ given. IsRefusal given g.S.Source.has_ended c.args.config.now c.args.source.now c.follow.new.source c.out_of_memory-in-Err.result) reads
+    (λ all. unlisted _ g.S.Source.has_ended c.args.config.now c.args.source.now c.follow.new.source (g.T.Tracker.stands_for c.follow.new.tracker) _ None all
+    c.out_of_memory-in-Err.result fault)
