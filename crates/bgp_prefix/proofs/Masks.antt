@@ -1,6 +1,8 @@
 -- The octets that hold the first bits of others: whole ones, one under a mask, and zeros.
-use Rattle.std.proofs.Common.{◌≡◌, ◌≢◌, ℕ, zero, suc, ◌+◌, ◌-◌, ◌*◌, ◌/◌, ◌%◌, ◌^◌, ◌<◌, ◌≤◌, Bool, List, [], ◌∷◌, ◌++◌, length, take, drop, replicate, get_or, set, bit_and, refl, sym, ap, ap₂, ◌∙◌, arith}
-use Rattle.std.proofs.lemmas.List.{append-nil, length-take, length-take-le, take_at, drop_at, take_all, drop_all, take-append-le, drop-replicate, set_at, drop_more}
+use Rattle.std.proofs.Common.{◌≡◌, ◌≢◌, ℕ, zero, suc, ◌+◌, ◌-◌, ◌*◌, ◌/◌, ◌%◌, ◌^◌, ◌<◌, ◌≤◌, Bool, List, [], ◌∷◌, ◌++◌, length, take, drop, replicate, get_or, set, bit_and, refl, sym, ap, ap₂, ◌∙◌, arith, inl, inr}
+use Rattle.std.proofs.lemmas.Bool.{cases_eq}
+use Rattle.std.proofs.Math.ListN.{get_or-append}
+use Rattle.std.proofs.lemmas.List.{append-nil, length-append, length-drop, length-take, length-take-le, nil_from_length, take_at, drop_at, take_all, drop_all, take-append-le, drop-replicate, set_at, drop_more, get_or-take, get_or-append_right, get_or-replicate, get_or-set_same, get_or-set_other}
 use Rattle.std.proofs.lemmas.Nat.Bits.{ones_shl, and_high}
 use Rattle.bgp_prefix.specs.Bits.{bits_of_number, bits_of_octets, number_of_bits, with_zeros, octets_of}
 use Rattle.bgp_prefix.specs.Address.{bit_count}
@@ -108,6 +110,70 @@ leading_whole octets count whole fit is_whole part enough fits =
 pub leading_kept : (octets : List ℕ) (count : ℕ) (leading : List ℕ) → count ≤ 8 * length octets → leading ≡ octets_of 16 (take count (bits_of_octets octets)) → (family : Family) → count ≤ bit_count family → IsKept family count leading
 leading_kept octets count leading enough made family fits =
     is_kept family count (take count (bits_of_octets octets)) leading fits (length-take-le count (bits_of_octets octets) (omega (arith, length-bits_of_octets octets))) made
+
+-- ---- one of the octets
+
+zero_after : (octets : List ℕ) (whole place : ℕ) → whole ≤ length octets → whole ≤ place → place < 16 → get_or (take whole octets ++ drop whole (replicate 16 0)) place 0 ≡ 0
+zero_after octets whole place within after inside =
+    let front = length-take-le whole octets within in
+    let back : place - whole < 16 - whole = omega arith in
+    get_or-append_right (take whole octets) (drop whole (replicate 16 0)) whole place 0 front after
+    ∙ ap (λ (zeros : List ℕ). get_or zeros (place - whole) 0) (drop-replicate whole 16 0)
+    ∙ get_or-replicate (16 - whole) (place - whole) 0 0 back
+
+pub whole_at : (octets : List ℕ) (count whole place : ℕ) → ((k : ℕ) → get_or octets k 0 < 256) → whole ≡ count / 8 → place < whole → count ≤ 8 * length octets → count ≤ 128 → get_or octets place 0 ≡ get_or (octets_of 16 (take count (bits_of_octets octets))) place 0
+whole_at octets count whole place fit is_whole before enough fits =
+    let sum : count ≡ 8 * whole + count % 8 = omega arith in
+    let most : 16 ≡ whole + (16 - whole) = omega arith in
+    let front = length-take-le whole octets (omega arith) in
+    let back = octets_of (16 - whole) (take (count % 8) (bits_of_octets (drop whole octets))) in
+    sym (get_or-take whole octets place 0 before)
+    ∙ sym (get_or-append (take whole octets) back 0 place (omega arith))
+    ∙ ap (λ (made : List ℕ). get_or made place 0) (
+    sym (whole_octets whole (count % 8) (16 - whole) octets fit (omega arith))
+    ∙ ap (λ k. octets_of k (take (8 * whole + count % 8) (bits_of_octets octets))) (sym most)
+    ∙ ap (λ k. octets_of 16 (take k (bits_of_octets octets))) (sym sum)
+    )
+
+pub part_at : (octets : List ℕ) (count whole place : ℕ) → ((k : ℕ) → get_or octets k 0 < 256) → whole ≡ count / 8 → place ≡ whole → count % 8 ≢ 0 → count ≤ 8 * length octets → count ≤ 128 → bit_and (get_or octets whole 0) (255 * 2 ^ (8 - count % 8) % 256) ≡ get_or (octets_of 16 (take count (bits_of_octets octets))) place 0
+part_at octets count whole place fit is_whole here part enough fits =
+    let value = bit_and (get_or octets whole 0) (255 * 2 ^ (8 - count % 8) % 256) in
+    let plain = take whole octets ++ drop whole (replicate 16 0) in
+    let front = length-take-le whole octets (omega arith) in
+    let all : length plain ≡ 16 = length-append (take whole octets) (drop whole (replicate 16 0)) ∙ ap₂ ◌+◌ front (length-drop whole (replicate 16 0)) ∙ omega arith in
+    sym (get_or-set_same plain whole value 0 (omega arith))
+    ∙ ap (λ k. get_or (set plain whole value) k 0) (sym here)
+    ∙ ap (λ (made : List ℕ). get_or made place 0) (leading_masked octets count whole fit is_whole part enough fits)
+
+pub zero_at : (octets : List ℕ) (count whole place : ℕ) → ((k : ℕ) → get_or octets k 0 < 256) → whole ≡ count / 8 → whole < place → place < 16 → count ≤ 8 * length octets → count ≤ 128 → 0 ≡ get_or (octets_of 16 (take count (bits_of_octets octets))) place 0
+zero_at octets count whole place fit is_whole after inside enough fits =
+    let none = zero_after octets whole place (omega arith) (omega arith) inside in
+    elim (cases_eq (count % 8) 0) [
+      | inl even ↦ sym none ∙ ap (λ (made : List ℕ). get_or made place 0) (leading_whole octets count whole fit is_whole even enough fits)
+      | inr part ↦
+          let other : place ≢ whole = omega arith in
+          sym none
+          ∙ sym (get_or-set_other (take whole octets ++ drop whole (replicate 16 0)) whole place _ 0 other)
+          ∙ ap (λ (made : List ℕ). get_or made place 0) (leading_masked octets count whole fit is_whole part enough fits)
+    ]
+
+pub no_part_at : (octets : List ℕ) (count whole place : ℕ) → ((k : ℕ) → get_or octets k 0 < 256) → whole ≡ count / 8 → whole ≤ place → place < 16 → count % 8 ≡ 0 → count ≤ 8 * length octets → count ≤ 128 → 0 ≡ get_or (octets_of 16 (take count (bits_of_octets octets))) place 0
+no_part_at octets count whole place fit is_whole after inside even enough fits =
+    sym (zero_after octets whole place (omega arith) after inside)
+    ∙ ap (λ (made : List ℕ). get_or made place 0) (leading_whole octets count whole fit is_whole even enough fits)
+
+pub ruleset leading_at = (whole_at, part_at, zero_at, no_part_at)
+
+-- at most four of them aren't zeros
+pub few_leading : (bits : List Bool) (a b c d : ℕ) → length bits ≤ 32
+    → a ≡ get_or (octets_of 16 bits) 0 0 → b ≡ get_or (octets_of 16 bits) 1 0 → c ≡ get_or (octets_of 16 bits) 2 0 → d ≡ get_or (octets_of 16 bits) 3 0
+    → a ∷ b ∷ c ∷ d ∷ replicate 12 0 ≡ octets_of 16 bits
+unfolding octets_of
+few_leading bits a b c d few first second third fourth =
+    let rest = drop 8 (drop 8 (drop 8 (drop 8 bits))) in
+    let none : rest ≡ [] = nil_from_length rest (omega (arith, length-drop 8 bits, length-drop 8 (drop 8 bits), length-drop 8 (drop 8 (drop 8 bits)), length-drop 8 (drop 8 (drop 8 (drop 8 bits))))) in
+    let zeros : replicate 12 0 ≡ octets_of 12 rest = sym (none_left 12) ∙ ap (octets_of 12) (sym none) in
+    ap₂ ◌∷◌ first (ap₂ ◌∷◌ second (ap₂ ◌∷◌ third (ap₂ ◌∷◌ fourth zeros)))
 
 -- what stands of the first bits of octets
 pub ruleset leading = (leading_kept, leading_masked, leading_whole)

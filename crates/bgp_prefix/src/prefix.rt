@@ -8,7 +8,8 @@
 //! ```
 
 ghost use Rattle.std.specs.Prelude.{◌≡◌, ◌≤◌, ◌<◌, ◌*◌, ◌+◌, ◌/◌, ◌++◌, ◌↔◌, ℕ};
-ghost use Rattle.std.specs.Prelude.{length, take, IfOk, IfSome, IsSome, OnOk, OnErr, Some};
+ghost use Rattle.std.specs.Prelude.{length, take, slice_index, IfOk, IfSome, IsSome, OnOk, OnErr};
+ghost use Rattle.std.specs.Prelude.{Some};
 ghost use Rattle.std.specs.Prelude.{vec_len, vec_capacity};
 ghost use Rattle.bgp_prefix.specs.Bits.{bits_of_octets, octets_of};
 ghost use Rattle.bgp_prefix.specs.Address.{family_of, bit_count, address_bits};
@@ -234,6 +235,9 @@ fn leading_octets(octets: &[u8], bits: u8) -> [u8; 16]
     ensures octets { result ≡ octets_of 16 (take bits (bits_of_octets octets.now)) }
     ensures kept { (family : Family) → bits ≤ bit_count family → IsKept family bits result }
 {
+    if bits <= 32 {
+        return few_leading_octets(octets, bits); // Most prefixes: no copy of a length that varies.
+    }
     let whole = usize::from(bits / 8);
     let mut leading = [0; 16];
     leading[..whole].copy_from_slice(&octets[..whole]);
@@ -241,6 +245,39 @@ fn leading_octets(octets: &[u8], bits: u8) -> [u8; 16]
         leading[whole] = octets[whole] & (u8::MAX << (8 - bits % 8));
     }
     leading
+}
+
+/// The same of at most 32 bits, which are put together octet by octet.
+fn few_leading_octets(octets: &[u8], bits: u8) -> [u8; 16]
+    requires enough { bits ≤ 8 * length octets.now }
+    requires few { bits ≤ 32 }
+    ensures { result ≡ octets_of 16 (take bits (bits_of_octets octets.now)) }
+{
+    let first = leading_octet(octets, bits, 0);
+    let second = leading_octet(octets, bits, 1);
+    let third = leading_octet(octets, bits, 2);
+    let fourth = leading_octet(octets, bits, 3);
+    [
+        first, second, third, fourth, 0, 0, 0, 0, 0, 0, 0, 0, 0, 0, 0, 0,
+    ]
+}
+
+/// The octet at a place among the first bits and then zeros.
+#[tactic(auto, using(crate::proofs::Masks::leading_at))]
+fn leading_octet(octets: &[u8], bits: u8, place: u8) -> u8
+    requires enough { bits ≤ 8 * length octets.now }
+    requires fits { bits ≤ 128 }
+    requires within { place < 16 }
+    ensures { result ≡ slice_index (octets_of 16 (take bits (bits_of_octets octets.now))) place }
+{
+    let whole = bits / 8;
+    if place < whole {
+        return octets[usize::from(place)];
+    }
+    if place > whole || bits % 8 == 0 {
+        return 0;
+    }
+    octets[usize::from(whole)] & (u8::MAX << (8 - bits % 8))
 }
 
 /// The octets of an address, and then zeros.
