@@ -51,3 +51,7 @@ by_type side a t e = elim (cases_Bool (is_multiprotocol t)) [
 
 pub good_rows : (side : Side) (a : Attribute) (t : AttrType) → a.kind ≡ type_number t → class_of side a ≡ Some Good → strongest (value_rows side t a.value) ≡ Good
 good_rows side a t kind e = by_type side a t (sym (ap (class_by side a) (ap type_of kind ∙ type_back t)) ∙ e)
+
+-- the class of an attribute is that by its type
+pub class_is : (side : Side) (a : Attribute) (t : AttrType) → a.kind ≡ type_number t → class_by side a (Some t) ≡ class_of side a
+class_is side a t kind = sym (ap (class_by side a) (ap type_of kind ∙ type_back t))

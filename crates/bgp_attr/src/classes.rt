@@ -1,9 +1,9 @@
 //! The class of one path attribute: which error handling of RFC 7606, 2 its faults ask for.
 
-ghost use Rattle.std.specs.Prelude.{◌≡◌, ◌==◌, ◌&&◌, ◌<◌, if◌then◌else◌};
+ghost use Rattle.std.specs.Prelude.{◌≡◌, ◌==◌, ◌&&◌, ◌<◌, if◌then◌else◌, Some};
 ghost use Rattle.bgp_attr.specs.Field.{attribute_of};
 ghost use Rattle.bgp_attr.specs.Class.{is_origin, are_items, is_as4_path, value_rows};
-ghost use Rattle.bgp_attr.specs.Class.{strongest, stronger, class_of, as_width};
+ghost use Rattle.bgp_attr.specs.Class.{strongest, stronger, class_by, class_of, as_width};
 ghost use Rattle.bgp_attr.specs.declared.classes.AttrVerdict.TheVariants.{Good};
 
 use crate::field::Attr;
@@ -57,6 +57,14 @@ pub fn class(side: Side, attr: &Attr<'_>) -> Option<AttrVerdict>
         // An attribute that isn't recognised has to be optional (RFC 4271, 6.3).
         return Some(good_if(attr.flags & OPTIONAL == OPTIONAL, Reset));
     };
+    class_as(side, attr_type, attr)
+}
+
+/// The class of an attribute of this type. Where the type is fixed, the rows of the others go.
+#[inline(always)]
+pub(crate) fn class_as(side: Side, attr_type: AttrType, attr: &Attr<'_>) -> Option<AttrVerdict>
+    ensures class { result ≡ class_by side (attribute_of attr.now) (Some attr_type) }
+{
     if attr_type.is_multiprotocol() {
         return None;
     }
@@ -81,6 +89,7 @@ fn good_if(holds: bool, otherwise: AttrVerdict) -> AttrVerdict
 }
 
 /// The class by the value.
+#[inline(always)]
 fn value_class(side: Side, attr_type: AttrType, value: &[u8]) -> AttrVerdict
     ensures value { result ≡ strongest (value_rows side attr_type value.now) }
 {

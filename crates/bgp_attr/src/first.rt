@@ -6,7 +6,7 @@ ghost use Rattle.bgp_attr.specs.Field.{attribute_of};
 ghost use Rattle.bgp_attr.specs.First.{first_of};
 ghost use Rattle.bgp_attr.specs.Split.{attributes_of};
 
-use crate::classes::{AttrVerdict, Side, class};
+use crate::classes::{AttrVerdict, Side, class_as};
 use crate::field::{Attr, Attrs};
 use crate::types::AttrType;
 use std::marker::Model;
@@ -94,6 +94,8 @@ impl<'a> FirstAttrs<'a> {
     }
 
     /// The first attribute of this type, if it is of class Good: its value counts.
+    #[inline(always)]
+    #[tactic(auto, using(crate::proofs::GoodRows::class_is))]
     pub fn good(&self, side: Side, attr_type: AttrType) -> Option<Attr<'a>>
         ensures value { option_map (λ a. a.value.now) result
             ≡ value_by_type side (first_at self.now) attr_type }
@@ -101,7 +103,7 @@ impl<'a> FirstAttrs<'a> {
             (λ a. strongest (value_rows side attr_type a.value.now) ≡ Good) }
     {
         let attr = self.get(attr_type)?;
-        if class(side, &attr) != Some(AttrVerdict::Good) {
+        if class_as(side, attr_type, &attr) != Some(AttrVerdict::Good) {
             return None;
         }
         Some(attr)

@@ -146,7 +146,8 @@ pub(crate) fn read_as_path<A: Allocator + Copy>(
     requires { are_segments 4 (number_width as4) value.now ≡ true }
     ensures path { IfOk result (λ path. path ≡ path_in (number_width as4) value.now) }
 {
-    let mut path = AsPath::new(alloc);
+    // Most paths have one segment.
+    let mut path = AsPath::with_capacity(alloc, value.len().min(1))?;
     let mut rest = value;
     while !rest.is_empty() {
         push_segment(&mut path, read_segment(alloc, as4, rest)?)?;
