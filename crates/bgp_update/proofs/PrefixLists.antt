@@ -1,7 +1,7 @@
 -- A list of prefixes walked from its front, and that the walk reads what the relation says.
-use Rattle.std.proofs.Common.{◌≡◌, ◌↔◌, ◌⊎◌, ℕ, zero, suc, ◌+◌, ◌/◌, ◌≤◌, Bool, true, false, List, [], ◌∷◌, ◌++◌, length, drop, get_or, Option, None, Some, option_map, is_some, IsTrue, refl, sym, ap, subst, ◌∙◌, arith, inl, inr, eqb, append_assoc, append-nil}
+use Rattle.std.proofs.Common.{◌≡◌, ◌↔◌, ◌⊎◌, ℕ, zero, suc, ◌+◌, ◌/◌, ◌≤◌, Bool, true, false, List, [], ◌∷◌, ◌++◌, length, take, drop, get_or, Option, None, Some, option_map, is_some, IsTrue, refl, sym, ap, subst, ◌∙◌, arith, inl, inr, eqb, append_assoc, append-nil}
 use Rattle.std.proofs.lemmas.Bool.{cases_Bool, and_parts, leb-true, le-leb, eqb-true, ne_eqb, eq-eqb}
-use Rattle.std.proofs.lemmas.List.{length-drop, nil_from_length}
+use Rattle.std.proofs.lemmas.List.{length-drop, nil_from_length, take_at}
 use Rattle.bgp_prefix.specs.declared.family.Family.{Family}
 use Rattle.bgp_prefix.specs.Address.{bit_count}
 use Rattle.bgp_prefix.specs.Prefix.{PrefixBits, BeginsWithPrefix}
@@ -186,6 +186,55 @@ all_pushed family octets out all none before = elim (cases_Bool (has_prefix fami
     | inl z ↦ let end : out ++ [] ≡ all = rw (prefixes_end family octets (sym z)) at before.so_far in sym (append-nil out) ∙ end
     | inr z ↦ absurd (none_some (rw (prefixes_stop family octets (sym z) h) at before.whole))
   ]
+]
+
+-- ---- a field read to where no prefix stands
+
+pub record Read (family : Family) (octets rest : List ℕ) (old out : List PrefixBits) : Type 0 where
+  pub front : List PrefixBits
+  pub pushed : out ≡ old ++ front
+  pub left : prefixes_of family octets ≡ option_map (λ prefixes. front ++ prefixes) (prefixes_of family rest)
+
+pub none_read : (family : Family) (octets : List ℕ) (old : List PrefixBits) → Read family octets octets old old
+none_read family octets old = record { front = []; pushed = sym (append-nil old); left = go (prefixes_of family octets) }
+  where
+    go : (all : Option (List PrefixBits)) → all ≡ option_map (λ prefixes. [] ++ prefixes) all
+    go None = refl
+    go (Some prefixes) = refl
+
+joined : (front : List PrefixBits) (p : PrefixBits) (rest : Option (List PrefixBits))
+    → option_map (λ prefixes. front ++ prefixes) (option_map (λ prefixes. p ∷ prefixes) rest) ≡ option_map (λ prefixes. (front ++ p ∷ []) ++ prefixes) rest
+joined front p None = refl
+joined front p (Some prefixes) = ap Some (sym (append_assoc front (p ∷ []) prefixes))
+
+pub one_read : (family : Family) (octets rest after : List ℕ) (p : PrefixBits) (n : ℕ) (old out new : List PrefixBits) → BeginsWithPrefix family rest p n
+    → after ≡ drop n rest → new ≡ out ++ p ∷ [] → Read family octets rest old out → Read family octets after old new
+one_read family octets rest after p n old out new b gone push before =
+    let o = only family rest p n b in
+    let step : prefixes_of family rest ≡ option_map (λ prefixes. p ∷ prefixes) (prefixes_of family after) =
+    prefixes_step family rest o.has ∙ rw (o.first, o.len, gone) refl in
+    record {
+      front = before.front ++ p ∷ [];
+      pushed = push ∙ ap (λ (t : List PrefixBits). t ++ p ∷ []) before.pushed ∙ append_assoc old before.front (p ∷ []);
+      left = before.left ∙ ap (option_map (λ prefixes. before.front ++ prefixes)) step ∙ joined before.front p (prefixes_of family after);
+    }
+
+pub all_read : (family : Family) (octets rest : List ℕ) (old out : List PrefixBits) → true ≡ eqb (length rest) 0 → Read family octets rest old out
+    → out ≡ old ++ listed (prefixes_of family octets)
+all_read family octets rest old out e r =
+    let some : prefixes_of family octets ≡ Some (r.front ++ []) = r.left ∙ ap (option_map (λ prefixes. r.front ++ prefixes)) (prefixes_end family rest e) in
+    let list : listed (prefixes_of family octets) ≡ r.front = ap listed some ∙ append-nil r.front in
+    r.pushed ∙ ap (λ (t : List PrefixBits). old ++ t) (sym list)
+
+pub stopped : (family : Family) (octets rest : List ℕ) (old out new : List PrefixBits) (len : ℕ) → ((p : PrefixBits) (n : ℕ) → ¬ BeginsWithPrefix family rest p n)
+    → false ≡ eqb (length rest) 0 → Read family octets rest old out → len ≡ length old → new ≡ take len out
+    → new ≡ old ++ listed (prefixes_of family octets)
+stopped family octets rest old out new len none some r same cut = elim (cases_Bool (has_prefix family rest)) [
+  | inl h ↦ absurd (none _ _ (front family rest h))
+  | inr h ↦
+      let no : prefixes_of family octets ≡ None = r.left ∙ ap (option_map (λ prefixes. r.front ++ prefixes)) (prefixes_stop family rest some h) in
+      let list : listed (prefixes_of family octets) ≡ [] = ap listed no in
+      cut ∙ ap (take len) r.pushed ∙ take_at old r.front len (sym same) ∙ sym (append-nil old) ∙ ap (λ (t : List PrefixBits). old ++ t) (sym list)
 ]
 
 -- a field of no prefixes is empty

@@ -1,6 +1,6 @@
 -- Routes in groups, and the changes that they make.
 use Rattle.std.proofs.Common.{◌≡◌, ℕ, List, [], ◌∷◌, ◌++◌, Bool, true, false, Option, None, Some, Result, Ok, Err, refl, ap, sym, ◌∙◌, append_assoc, inl, inr}
-use Rattle.std.specs.Prelude.{OnOk}
+use Rattle.std.specs.Prelude.{IfOk, OnOk}
 use Rattle.bgp_prefix.specs.declared.family.Family.{Family}
 use Rattle.bgp_prefix.specs.declared.family.Family.TheVariants.{V4}
 use Rattle.bgp_prefix.specs.Prefix.{PrefixBits}
@@ -25,6 +25,10 @@ use Rattle.bgp_update.specs.WithdrawFaults.{HasWithdrawFault}
 pub on_ok : {T E : Type 0} (result : Result T E) (P Q : Type 0) → (P → Q) → OnOk result P → OnOk result Q
 on_ok (Ok value) P Q f p = f p
 on_ok (Err error) P Q f p = tt
+
+pub if_ok : {T E : Type 0} (result : Result T E) (P Q : T → Type 0) → ((value : T) → P value → Q value) → IfOk result P → IfOk result Q
+if_ok (Ok value) P Q f p = f value p
+if_ok (Err error) P Q f p = tt
 
 -- ---- what is found of an MP attribute
 

@@ -60,14 +60,15 @@ pub(crate) fn changes_of<A: Allocator + Copy>(
 {
     let mut remove = Vec::new(alloc);
     push_withdrawn(&mut remove, link, found)?;
-    let mut put = Vec::new(alloc);
     if found.has_withdraw_fault() {
         // What would be announced is removed: "treat-as-withdraw" (RFC 7606, 2).
         push_announced(&mut remove, link, found)?;
+        let put = Vec::new(alloc);
         return Ok(Changes { remove, put });
     }
-    push_base_routes(&mut put, alloc, link, found, first)?;
-    push_mp_routes(&mut put, alloc, link, found, first)?;
+    let base = base_group(alloc, link, found, first)?;
+    let mp = mp_group(alloc, link, found, first)?;
+    let put = put_of(alloc, base, mp)?;
     Ok(Changes { remove, put })
 }
 
@@ -125,62 +126,50 @@ fn push_mp_prefixes<A: Allocator>(
     }
 }
 
-/// Appends the routes of the NLRI field, with NEXT_HOP.
-fn push_base_routes<A: Allocator + Copy>(
-    put: &mut Vec<Put<A>, A>,
+/// The routes of the NLRI field, with NEXT_HOP.
+fn base_group<A: Allocator + Copy>(
     alloc: A,
     link: &Link,
     found: &Survey<'_>,
     first: &FirstAttrs<'_>,
-) -> Result<(), AllocError>
-    ensures routes { OnOk result (flat_map put_routes put.new.items
-        ≡ flat_map put_routes put.old.items ++ routes_with (path_from (side_of link.now)
+) -> Result<Option<Put<A>>, AllocError>
+    ensures routes { IfOk result (λ group. group_routes group
+        ≡ routes_with (path_from (side_of link.now)
         (value_by_type (side_of link.now) (first_at first.now))
         (next_hop_from (value_by_type (side_of link.now) (first_at first.now) types.NextHop)))
         (base_prefixes link.now (prefixes_of V4 found.now.nlri.now))) }
-    ensures groups { OnOk result (map group_prefixes put.new.items
-        ≡ map group_prefixes put.old.items
-        ++ group_with (base_prefixes link.now (prefixes_of V4 found.now.nlri.now))) }
+    ensures groups { IfOk result (λ group. group_if group
+        ≡ group_with (base_prefixes link.now (prefixes_of V4 found.now.nlri.now))) }
 {
     if !link.families.contains(Family::V4) {
-        return Ok(());
+        return Ok(None);
     }
     let side = side(link);
     let next_hop = base_hop(side, first);
-    let group = read_group(alloc, side, first, next_hop, Family::V4, found.nlri)?;
-    push_group(put, group)
+    read_group(alloc, side, first, next_hop, Family::V4, found.nlri)
 }
 
-/// Appends those of MP_REACH_NLRI, with its own next hop.
-fn push_mp_routes<A: Allocator + Copy>(
-    put: &mut Vec<Put<A>, A>,
+/// Those of MP_REACH_NLRI, with its own next hop.
+fn mp_group<A: Allocator + Copy>(
     alloc: A,
     link: &Link,
     found: &Survey<'_>,
     first: &FirstAttrs<'_>,
-) -> Result<(), AllocError>
-    ensures routes { OnOk result (flat_map put_routes put.new.items
-        ≡ flat_map put_routes put.old.items ++ routes_with (path_from (side_of link.now)
+) -> Result<Option<Put<A>>, AllocError>
+    ensures routes { IfOk result (λ group. group_routes group
+        ≡ routes_with (path_from (side_of link.now)
         (value_by_type (side_of link.now) (first_at first.now))
         (mp_hop (state_of found.now.reach.state)))
         (mp_prefixes (state_of found.now.reach.state))) }
-    ensures groups { OnOk result (map group_prefixes put.new.items
-        ≡ map group_prefixes put.old.items
-        ++ group_with (mp_prefixes (state_of found.now.reach.state))) }
+    ensures groups { IfOk result (λ group. group_if group
+        ≡ group_with (mp_prefixes (state_of found.now.reach.state))) }
 {
     let MpState::Sound(family, contents) = found.reach.state else {
-        return Ok(());
+        return Ok(None);
     };
+    let side = side(link);
     let next_hop = hop_or_none(contents.next_hop);
-    let group = read_group(
-        alloc,
-        side(link),
-        first,
-        next_hop,
-        family,
-        contents.prefixes,
-    )?;
-    push_group(put, group)
+    read_group(alloc, side, first, next_hop, family, contents.prefixes)
 }
 
 /// The next hop that NEXT_HOP names.
@@ -222,6 +211,24 @@ fn read_group<A: Allocator + Copy>(
     }
     let path = read_path(alloc, side, first, next_hop)?;
     Ok(Some(Put { path, prefixes }))
+}
+
+/// The groups of both, in room for just those that are there.
+fn put_of<A: Allocator>(
+    alloc: A,
+    base: Option<Put<A>>,
+    mp: Option<Put<A>>,
+) -> Result<Vec<Put<A>, A>, AllocError>
+    ensures routes { IfOk result
+        (λ put. flat_map put_routes put.items ≡ group_routes base ++ group_routes mp) }
+    ensures groups { IfOk result
+        (λ put. map group_prefixes put.items ≡ group_if base ++ group_if mp) }
+{
+    let count = usize::from(base.is_some()) + usize::from(mp.is_some());
+    let mut put = Vec::with_capacity(alloc, count)?;
+    push_group(&mut put, base)?;
+    push_group(&mut put, mp)?;
+    Ok(put)
 }
 
 /// Appends a group, where there is one.

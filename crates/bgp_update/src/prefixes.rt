@@ -1,6 +1,6 @@
 //! Lists of prefixes (RFC 4271, 4.3; RFC 4760, 5).
 
-ghost use Rattle.std.specs.Prelude.{◌≡◌, ◌≤◌, ◌++◌, true, false, is_some, length};
+ghost use Rattle.std.specs.Prelude.{◌≡◌, ◌≤◌, ◌++◌, true, false, length};
 ghost use Rattle.std.specs.Prelude.{IfSome, IfNone, OnOk};
 ghost use Rattle.std.specs.Option.{option_map};
 ghost use Rattle.bgp_update.specs.Prefixes.{has_prefix, prefix_len, prefixes_of};
@@ -120,27 +120,15 @@ pub(crate) fn push_prefixes<A: Allocator>(
     ensures { OnOk result (out.new.items
         ≡ out.old.items ++ listed (prefixes_of family octets.now)) }
 {
-    let Some(count) = count_prefixes(family, octets) else {
-        return Ok(());
-    };
-    out.reserve(count)?;
-    push_each(out, family, octets)
-}
-
-/// Appends the prefixes of a field that is correct.
-fn push_each<A: Allocator>(
-    out: &mut Vec<Prefix, A>,
-    family: Family,
-    octets: &[u8],
-) -> Result<(), AllocError>
-    requires { is_some (prefixes_of family octets.now) ≡ true }
-    ensures { OnOk result (out.new.items
-        ≡ out.old.items ++ listed (prefixes_of family octets.now)) }
-{
+    let len = out.len();
+    out.reserve(octets.len() / 4)?; // Most prefixes have 24 bits, so 4 octets, or more.
     let mut rest = octets;
     while let Ok((prefix, count)) = Prefix::read(family, rest) {
         out.push(prefix)?;
         rest = rest.split_at(count).1;
+    }
+    if !rest.is_empty() {
+        out.truncate(len); // It stopped at a prefix that is none.
     }
     Ok(())
 }

@@ -3,12 +3,12 @@ use Rattle.bgp_attr.specs.declared.classes.Side.{Side}
 use Rattle.bgp_attr.specs.First.{first_at, value_by_type}
 use Rattle.bgp_update.specs.Changes.{mp_hop, mp_prefixes}
 use Rattle.bgp_update.specs.MpShown.{state_of}
-use Rattle.bgp_update.proofs.Routes.{on_ok, appended, mp_routes}
-use Rattle.bgp_update.proofs.changes.push_mp_routes.Goals as goal
+use Rattle.bgp_update.proofs.Routes.{if_ok, mp_routes}
+use Rattle.bgp_update.proofs.changes.mp_group.Goals as goal
 
 pub returns-clause-routes : goal.returns-clause-routes
 returns-clause-routes g c =
     let is = ap state_of c.in-Sound.is in
-    let same = mp_routes (λ (side : Side). value_by_type side (first_at c.args.first.now)) c.side.result _ c.hop_or_none-next_hop.result _ (state_of c.args.found.now.reach.state) c.side.ensures
+    let same = mp_routes (λ (side : Side). value_by_type side (first_at c.args.first.now)) c.side-side.result _ c.hop_or_none-next_hop.result _ (state_of c.args.found.now.reach.state) c.side-side.ensures
     (c.hop_or_none-next_hop.ensures ∙ sym (ap mp_hop is)) (sym (ap mp_prefixes is)) in
-    on_ok c.push_group.result _ _ (λ e. appended _ _ _ _ e (c.in_ok-group.ensures.routes ∙ same)) c.push_group.ensures.routes
+    if_ok c.read_group.result _ _ (λ group e. e ∙ same) c.read_group.ensures.routes
