@@ -34,6 +34,3 @@ pub use plain::PlainTracker;
 pub use tracker::Tracker;
 pub use unshown::{Unshown, pay};
 pub use verdict::Verdict;
-
-#[cfg(test)]
-mod tests;

@@ -1,12 +1,13 @@
 //! Memory: enough of it, and growths that are refused.
 
 use super::*;
-use crate::{Tracker, openings};
-use bgp_machine::Head;
+use bgp_judge::{Tracker, judge_with, openings};
+use bgp_machine::{Head, HoldTimer};
+use bgp_open::{negotiate, read_open};
 use bgp_wire::vectors::{ANNOUNCES_10, KEEPALIVE, MP_REACH_TRANSITIVE, OPEN_A, OPEN_B};
 use linked_list_allocator::LocalHeap;
-use mrt::FaultKind;
 use mrt::Record::{Change, In, Out};
+use mrt::{FaultKind, Reader};
 
 /// A session whose last UPDATE may disable IPv6 or not.
 const TWO_ENDS: [Record<'static>; 10] = [
@@ -28,20 +29,90 @@ const ENDS: [Expected<'static>; 2] = [
     (Fsm::Established, V6, &["10.0.0.0/8"]),
 ];
 
+/// How many steps that stay in Established the last UPDATE opens.
+fn staying<A: Allocator + Copy>(alloc: A) -> Result<Option<usize>, Fail> {
+    let config = router_a(false)?;
+    let Ok(open) = read_open(&OPEN_B) else {
+        return Err(Fail::from("no OPEN"));
+    };
+    let timer = HoldTimer {
+        since: 102,
+        span: 90,
+    };
+    let up = Head::Established(negotiate(&config, &open), timer);
+    let (last, _) = TWO_ENDS.split_last().ok_or("no record")?;
+    let opened: Result<_, _> = openings(alloc, &config, up, last);
+    let Ok(opened) = opened else {
+        return Ok(None);
+    };
+    let stays = opened
+        .steps
+        .iter()
+        .filter(|step| step.after.head.fsm() == Fsm::Established);
+    Ok(Some(stays.count()))
+}
+
 #[test]
 fn ample_memory(rt: HostRuntime) -> Result<(), Fail> {
     let config = router_a(false)?;
-    let opened = openings(rt.alloc(), &config, Head::Idle, &Change(100, 1, 2))?;
-    assert_eq!(rt; opened.steps.len(), 1);
     let mut tracker: PlainTracker<Global> = PlainTracker::start(rt.alloc(), &config)?;
+    let mut are_alive = staying(rt.alloc())? == Some(2);
     for shown in &TWO_ENDS {
-        assert!(rt; tracker.take(shown)?);
+        are_alive = tracker.take(shown)? && are_alive;
     }
-    assert_eq!(rt; tracker.ends()?.len(), 2);
+    assert!(rt; are_alive && is_yes(&Verdict::Yes(tracker.ends()?), &ENDS));
     let verdict = judge_records::<_, PlainTracker>(rt.alloc(), &config, &TWO_ENDS)?;
-    assert!(rt; is_yes(&verdict, &ENDS));
-    let capture = capture_of(rt.alloc(), &config, &TWO_ENDS)?;
-    assert!(rt; judged(rt.alloc(), &config, capture).is_ok_and(|v| is_yes(&v, &ENDS)));
+    let mut source = MemSource::new(capture_of(rt.alloc(), &config, &TWO_ENDS)?);
+    let mut reader = Reader::new(rt.alloc());
+    let with = judge_with::<_, PlainTracker, _>(&mut reader, rt.alloc(), &config, &mut source);
+    assert!(rt; is_yes(&verdict, &ENDS) && with.is_ok_and(|v| is_yes(&v, &ENDS)));
+    let judged = judged(
+        rt.alloc(),
+        &config,
+        capture_of(rt.alloc(), &config, &TWO_ENDS)?,
+    );
+    assert!(rt; judged.is_ok_and(|v| is_yes(&v, &ENDS)));
+    Ok(())
+}
+
+#[test]
+fn refused_steps_are_no_steps(rt: HostRuntime) -> Result<(), Fail> {
+    let (mut refused, mut done) = (false, false);
+    for step in 1..128 {
+        let heap = LocalHeap::new(rt.alloc(), 16 * step)?;
+        match staying(&heap)? {
+            None => refused = true,
+            Some(count) => {
+                done = true;
+                assert_eq!(rt; count, 2);
+            }
+        }
+    }
+    assert!(rt; refused && done);
+    Ok(())
+}
+
+/// Judges the records with a heap of this size. With less memory there is no verdict.
+fn is_told_of_records(rt: &impl Abort, alloc: Global, size: usize) -> Result<bool, Fail> {
+    let heap = LocalHeap::new(alloc, size)?;
+    let config = router_a(false)?;
+    match judge_records::<_, PlainTracker<&LocalHeap>>(&heap, &config, &TWO_ENDS) {
+        Ok(verdict) => {
+            assert!(rt; is_yes(&verdict, &ENDS));
+            Ok(true)
+        }
+        Err(_) => Ok(false),
+    }
+}
+
+#[test]
+fn refused_records_have_no_verdict(rt: HostRuntime) -> Result<(), Fail> {
+    let (mut refused, mut done) = (false, false);
+    for step in 1..1024 {
+        done = is_told_of_records(&rt, rt.alloc(), 16 * step)?;
+        refused = refused || !done;
+    }
+    assert!(rt; refused && done);
     Ok(())
 }
 
@@ -78,8 +149,8 @@ fn is_a_place(alloc: Global, offset: u64) -> Result<bool, Fail> {
 fn a_refused_growth_gives_no_verdict(rt: HostRuntime) -> Result<(), Fail> {
     let mut last = Some(0);
     let mut places = 0;
-    for step in 1..256 {
-        let refused = refused_at(&rt, rt.alloc(), 128 * step)?;
+    for step in 1..2048 {
+        let refused = refused_at(&rt, rt.alloc(), 16 * step)?;
         if refused != last {
             places = u32::saturating_add(places, 1);
             if let Some(offset) = refused {

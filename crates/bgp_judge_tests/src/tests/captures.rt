@@ -2,8 +2,9 @@
 
 use super::sessions::DOWN;
 use super::*;
+use bgp_judge::judge_with;
 use bgp_wire::vectors::KEEPALIVE;
-use mrt::{FaultKind, SourceUpset};
+use mrt::{Endpoints, FaultKind, Reader, SourceUpset};
 
 /// A change from Idle to Connect at second 100.
 const CHANGE: [u8; 36] = [
@@ -41,34 +42,32 @@ fn is_judged(
     })
 }
 
+/// A capture in parts, and how it is judged.
+type Row<'a> = (&'a [&'a [u8]], Result<Answer, (FaultKind, u64)>);
+
 #[test]
 fn a_capture_has_a_verdict_or_a_first_fault(rt: HostRuntime) -> Result<(), Fail> {
     let cut = &CHANGE[..35];
-    let earlier = [&[0, 0, 0, 99], &CHANGE[4..]];
-    let up = Ok(Answer::Yes(&[CONNECT]));
-    assert!(rt; is_judged(rt.alloc(), &[&CHANGE], &up)?);
-    let truncated = Err((FaultKind::Truncated, 0));
-    assert!(rt; is_judged(rt.alloc(), &[cut], &truncated)?);
-    let back = Err((FaultKind::TimeBack, 36));
-    assert!(rt; is_judged(rt.alloc(), &[&CHANGE, earlier[0], earlier[1]], &back)?);
-    let long = Err((FaultKind::TooLong, 0));
-    assert!(rt; is_judged(rt.alloc(), &[&TOO_LONG], &long)?);
-    let idle = Ok(Answer::Yes(&[DOWN]));
-    assert!(rt; is_judged(rt.alloc(), &[&OTHER_TYPE], &idle)?);
-    Ok(())
-}
-
-#[test]
-fn a_fault_behind_an_impossible_record_is_found(rt: HostRuntime) -> Result<(), Fail> {
+    let earlier = &CHANGE[4..];
     // From Active, where no session begins.
-    let impossible = [&CHANGE[..33], &[3], &CHANGE[34..]];
-    let first = Ok(Answer::No(0));
-    assert!(rt; is_judged(rt.alloc(), &impossible, &first)?);
-    let more = [impossible[0], impossible[1], impossible[2], &CHANGE];
-    assert!(rt; is_judged(rt.alloc(), &more, &first)?);
-    let cut = [impossible[0], impossible[1], impossible[2], &CHANGE[..35]];
-    let truncated = Err((FaultKind::Truncated, 36));
-    assert!(rt; is_judged(rt.alloc(), &cut, &truncated)?);
+    let (front, back) = (&CHANGE[..33], &CHANGE[34..]);
+    let rows: [Row<'_>; 8] = [
+        (&[&CHANGE], Ok(Answer::Yes(&[CONNECT]))),
+        (&[cut], Err((FaultKind::Truncated, 0))),
+        (
+            &[&CHANGE, &[0, 0, 0, 99], earlier],
+            Err((FaultKind::TimeBack, 36)),
+        ),
+        (&[&TOO_LONG], Err((FaultKind::TooLong, 0))),
+        (&[&OTHER_TYPE], Ok(Answer::Yes(&[DOWN]))),
+        (&[front, &[3], back], Ok(Answer::No(0))),
+        (&[front, &[3], back, &CHANGE], Ok(Answer::No(0))),
+        // A fault behind an impossible record is found.
+        (&[front, &[3], back, cut], Err((FaultKind::Truncated, 36))),
+    ];
+    for (count, (parts, answer)) in rows.iter().enumerate() {
+        assert!(rt; is_judged(rt.alloc(), parts, answer)?, "{count}");
+    }
     Ok(())
 }
 
@@ -91,5 +90,49 @@ fn a_failing_source_is_told(rt: HostRuntime) -> Result<(), Fail> {
     let verdict = judge::<_, PlainTracker, _>(rt.alloc(), &router_a(false)?, &mut source);
     let fault = verdict.err().ok_or("a verdict")?;
     assert!(rt; fault.kind == FaultKind::Device && fault.offset == 36);
+    Ok(())
+}
+
+#[test]
+fn a_reader_tells_what_it_found(rt: HostRuntime) -> Result<(), Fail> {
+    // The addresses exchanged, so that the record isn't the session's.
+    let other = [
+        &CHANGE[..24],
+        &CHANGE[28..32],
+        &CHANGE[24..28],
+        &CHANGE[32..],
+    ];
+    let session = PARTS_A.session;
+    let exchanged = Endpoints {
+        peer: session.local,
+        local: session.peer,
+    };
+    let rows: [(&[&[u8]], bool, Option<Endpoints>); 4] = [
+        (&[], false, None),
+        (&[&CHANGE], true, None),
+        (&other, false, Some(exchanged)),
+        (
+            &[&CHANGE, other[0], other[1], other[2], other[3]],
+            true,
+            Some(exchanged),
+        ),
+    ];
+    for (parts, has_answered, first_other) in rows {
+        let mut capture = Vec::new(rt.alloc());
+        for part in parts {
+            capture.extend_from_slice(part)?;
+        }
+        let mut reader = Reader::new(rt.alloc());
+        let mut source = MemSource::new(capture);
+        let config = router_a(false)?;
+        let answer = judge_with::<_, PlainTracker, _>(
+            &mut reader,
+            rt.alloc(),
+            &config,
+            &mut source,
+        );
+        let is_found = reader.has_answered() == has_answered && reader.first_other() == first_other;
+        assert!(rt; answer.is_ok() && is_found);
+    }
     Ok(())
 }

@@ -6,7 +6,7 @@ mod captures;
 mod memory;
 mod sessions;
 
-use crate::{PlainTracker, Verdict, judge, judge_records};
+use bgp_judge::{PlainTracker, Verdict, judge, judge_records};
 use bgp_machine::Fsm;
 use bgp_open::{Config, ConfigParts, Families};
 use bgp_prefix::{Address, Session, read_prefix};
