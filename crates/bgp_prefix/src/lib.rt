@@ -25,6 +25,3 @@ pub use laws::{
 pub use prefix::{Prefix, PrefixFault};
 pub use session::{Seconds, Session};
 pub use text::{read_address, read_prefix};
-
-#[cfg(test)]
-mod tests;

@@ -1,6 +1,6 @@
 //! Values from outside: RFC 4271, 4.3, RFC 4291, 2.2 and 2.3, RFC 5952, 1 to 4, and RFC 5737.
 
-use super::*;
+use bgp_prefix::*;
 use linked_list_allocator::LocalHeap;
 use std::alloc::Allocator;
 use std::hash::{DefaultHasher, Hash, Hasher};
