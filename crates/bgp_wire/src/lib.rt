@@ -33,6 +33,3 @@ pub use laws::{
 };
 pub use message::message_body;
 pub use octets::{put, put_u8, put_u16, put_u32, put_u64};
-
-#[cfg(test)]
-mod tests;

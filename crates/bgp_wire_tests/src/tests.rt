@@ -1,7 +1,7 @@
 //! Outside vectors: the limits of RFC 4271, 4 and 6.1, and streams of the shared messages.
 
-use super::*;
-use crate::vectors::*;
+use bgp_wire::vectors::*;
+use bgp_wire::*;
 use linked_list_allocator::LocalHeap;
 use std::alloc::{AllocError, Allocator};
 use std::process::Abort;
