@@ -20,6 +20,3 @@ pub use fit::path_is_fit;
 pub use items::Items;
 pub use laws::{equality_is_real, merge_keeps_the_count, one_leading_part};
 pub use path::{Aggregator, NextHop, Origin, Path, PathParts};
-
-#[cfg(test)]
-mod tests;

@@ -4,7 +4,7 @@ mod as_paths;
 mod equality;
 mod memory;
 
-use crate::*;
+use bgp_path::*;
 use std::alloc::{AllocError, Allocator};
 use std::test::Fail;
 
