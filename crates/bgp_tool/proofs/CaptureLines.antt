@@ -12,7 +12,7 @@ use Rattle.mrt.specs.ReadBy.{Knows}
 use Rattle.mrt.specs.Written.{IsAllowed}
 use Rattle.mrt.proofs.Advancing.{joined_more}
 use Rattle.mrt.proofs.AllowedRecord.{each_allowed}
-use Rattle.mrt.proofs.Chains.{joined_chain, records_chain, last_chain, other_chain, pieces_chain, one_record, last_piece}
+use Rattle.mrt.proofs.Chains.{joined_chain, records_chain, last_chain, other_chain, pieces_chain, one_record, last_piece, no_pieces_there}
 use Rattle.bgp_text.specs.Capture.{IsRecordLine, AreRecordLines}
 use Rattle.bgp_tool.specs.CaptureDecoding.{EndsAt}
 
@@ -161,11 +161,22 @@ module _ {R : Type 0} (gives : R → R → List ℕ → Type 0) (has_ended : R �
   }
 
   -- where the source is as before, nothing was given
-  nothing_rests : (now next : R) (xs rest : List ℕ) → gives now next (xs ++ rest) → next ≡ now → rest ≡ []
-  nothing_rests now next xs rest given same =
+  same_source : (now next : R) (xs rest : List ℕ) → gives now next (xs ++ rest) → next ≡ now → length xs + length rest ≡ 0
+  same_source now next xs rest given same =
       let many = counted now next (xs ++ rest) given in
       let stays = ap count same in
-      let long = length-append xs rest in no_length rest (omega arith)
+      let long = length-append xs rest in omega arith
+
+  -- nor before the first call
+  nothing_given : (now next : R) (state : ReaderState) (text : List ℕ) (so_far : SoFar now state text) (more : List Piece) (rest : List ℕ)
+      → ArePieces session state.last more → gives now next (joined more ++ rest) → next ≡ now → state ≡ fresh_reader → (so_far.pieces ++ more ≡ []) × (rest ≡ [])
+  nothing_given now next state text so_far more rest are given same fresh =
+      let none = same_source now next (joined more) rest given same in
+      let all = count_behind now state text so_far more in
+      let start = ap (λ (s : ReaderState). s.passed) fresh in (
+        no_pieces_there session None (so_far.pieces ++ more) (behind now next state text so_far more are) (omega (arith, none, all, start)),
+        no_length rest (omega (arith, none)),
+      )
 
   pub stops_at_fault : {X : Type 0} (now next : R) (state after : ReaderState) (text : List ℕ) (fault : CaptureFault) → SoFar now state text
       → Fails gives has_ended session now next state after fault → Stops {X = X} next after text (Err fault)
@@ -186,7 +197,8 @@ module _ {R : Type 0} (gives : R → R → List ℕ → Type 0) (has_ended : R �
         | inl refused ↦ inl (subst (λ (l : Option ℕ). IsRefused session l fails.rest (has_ended next) fault.kind) (last_behind now state text so_far fails.skipped) refused)
         | inr others ↦ elim others [
           | inl device ↦ inr (inl device)
-          | inr memory ↦ inr (inr (memory.0, nothing_rests now next (joined fails.skipped) fails.rest fails.taken memory.1))
+          | inr memory ↦
+              let none = nothing_given now next state text so_far fails.skipped fails.rest fails.pieces fails.taken memory.1 memory.2 in inr (inr (memory.0, none.0, none.1))
         ]
       ],
     );

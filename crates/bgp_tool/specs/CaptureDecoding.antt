@@ -39,7 +39,7 @@ last_line_for (Err fault) = refused_line fault.kind fault.offset
 
 -- How the octets end, which are pieces and a rest: at the end of the source, and the rest is empty;
 -- or at a fault, whose offset is the rest's. It is one of the octets, whatever follows them; or a
--- device's, and the rest is a record that has begun; or one for memory, and the rest is empty.
+-- device's, and the rest is a record that has begun; or one for memory, and nothing was given.
 module _ {R : Type 0} (has_ended : R → Bool) (session : Session) where
   abbrev pub EndsAt : R → List Piece → List ℕ → {X : Type 0} → Result X CaptureFault → Type 0
   EndsAt source pieces rest (Ok x) = (rest ≡ []) × IsTrue (has_ended source)
@@ -47,7 +47,7 @@ module _ {R : Type 0} (has_ended : R → Bool) (session : Session) where
       (fault.offset ≡ length (joined pieces))
       × (IsRefused session (last_of None pieces) rest (has_ended source) fault.kind
       ⊎ ((fault.kind ≡ kinds.Device) × IsBegun rest)
-      ⊎ ((fault.kind ≡ kinds.Memory) × (rest ≡ [])))
+      ⊎ ((fault.kind ≡ kinds.Memory) × (pieces ≡ []) × (rest ≡ [])))
 
 -- What was given is pieces of a capture and a rest, and the lines of the pieces' records were put.
 -- They are read to where the octets end, or until the sink has failed.
