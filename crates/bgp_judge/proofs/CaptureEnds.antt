@@ -3,6 +3,7 @@ use Rattle.std.proofs.Common.{◌≡◌, ◌∙◌, ℕ, Bool, List, [], ◌++�
 use Rattle.bgp_open.specs.declared.config.Config.{Config}
 use Rattle.bgp_prefix.specs.Shown.{ShownRecord}
 use Rattle.bgp_prefix.specs.declared.session.Session.{Session}
+use Rattle.bgp_machine.specs.Run.{Begins}
 use Rattle.mrt.specs.declared.fault.CaptureFault.{CaptureFault}
 use Rattle.mrt.specs.declared.fault.FaultKind.TheVariants as kinds
 use Rattle.mrt.specs.Capture.{joined, records_of}
@@ -30,22 +31,23 @@ module _ {S : Type 0} (gives : S → S → List ℕ → Type 0) (has_ended : S �
       each = tt;
       kind = ap (λ (f : CaptureFault). f.kind) is;
       offset = ap (λ (f : CaptureFault). f.offset) is;
-      place = inl refl;
+      place = inl (refl, refl);
     }));
   }
 
   module _ (stands : Config → List ShownRecord → Type 0) (last : ℕ) (impossible : Option ℕ)
       (reads : ReadsAll gives has_ended config source new stands last impossible) where
     -- all was read
-    pub unlisted : (fault : CaptureFault) → fault ≡ record { kind = kinds.Memory; offset = last } → IsRefusal gives has_ended config source new fault
-    unlisted fault is = inr (inr (record {
+    pub unlisted : (fault : CaptureFault) → fault ≡ record { kind = kinds.Memory; offset = last } → Begins config (records_of reads.pieces)
+        → IsRefusal gives has_ended config source new fault
+    unlisted fault is begins = inr (inr (record {
       pieces = reads.pieces;
       rest = [];
       gave = subst (λ (o : List ℕ). gives source new o) (sym (append-nil (joined reads.pieces))) reads.gave;
       each = reads.each;
       kind = ap (λ (f : CaptureFault). f.kind) is;
       offset = ap (λ (f : CaptureFault). f.offset) is ∙ reads.place;
-      place = inl refl;
+      place = inr (inr (refl, reads.ended, begins));
     }))
 
     pub judged : {X : Type 0} (answer : Verdict X) → IsVerdict config (records_of reads.pieces) answer → IsJudged gives has_ended config source new answer

@@ -13,7 +13,7 @@ use Rattle.mrt.specs.Reading.{IsRefused}
 use Rattle.mrt.specs.Reader.{ReaderState, fresh_reader, Answers, Ends, Fails, IsAnswer, NextBy, IsNext}
 use Rattle.mrt.specs.ReadBy.{Knows, ReadBy}
 use Rattle.mrt.proofs.Advancing.{joined_more}
-use Rattle.mrt.proofs.Chains.{joined_chain, records_chain, last_chain, other_chain, pieces_chain, one_record, last_piece}
+use Rattle.mrt.proofs.Chains.{joined_chain, records_chain, last_chain, other_chain, pieces_chain, one_record, last_piece, no_pieces_there}
 use Rattle.bgp_judge.specs.Judging.{IsAt, IsRefusal, ReadsAll}
 
 no_length : (xs : List ℕ) → length xs ≡ 0 → xs ≡ []
@@ -184,11 +184,23 @@ module _ {S : Type 0} (gives : S → S → List ℕ → Type 0) (has_ended : S �
       }
 
   -- where the source is as before, nothing was given
-  nothing_rests : (now next : S) (xs rest : List ℕ) → gives now next (xs ++ rest) → next ≡ now → rest ≡ []
-  nothing_rests now next xs rest given same =
+  same_source : (now next : S) (xs rest : List ℕ) → gives now next (xs ++ rest) → next ≡ now → length xs + length rest ≡ 0
+  same_source now next xs rest given same =
       let many = counted now next (xs ++ rest) given in
       let stays = ap count same in
-      let long = length-append xs rest in no_length rest (omega arith)
+      let long = length-append xs rest in omega arith
+
+  -- nor before the first call
+  nothing_given : (now next : S) (state : ReaderState) (records : List ShownRecord) (so_far : SoFar now state records) (more : List Piece) (rest : List ℕ)
+      → ArePieces config.parts.session state.last more → gives now next (joined more ++ rest) → next ≡ now → state ≡ fresh_reader
+      → (so_far.pieces ++ more ≡ []) × (rest ≡ [])
+  nothing_given now next state records so_far more rest are given same fresh =
+      let none = same_source now next (joined more) rest given same in
+      let all = count_behind now state records so_far more in
+      let start = ap (λ (s : ReaderState). s.passed) fresh in (
+        no_pieces_there config.parts.session None (so_far.pieces ++ more) (behind now state records so_far more are) (omega (arith, none, all, start)),
+        no_length rest (omega (arith, none)),
+      )
 
   -- a fault of the reader behind these pieces, of which just these octets were given
   refused_behind : (now next : S) (state after : ReaderState) (records : List ShownRecord) (fault : CaptureFault) (so_far : SoFar now state records)
@@ -234,7 +246,7 @@ module _ {S : Type 0} (gives : S → S → List ℕ → Type 0) (has_ended : S �
             each = each;
             kind = memory.0;
             offset = offset;
-            place = inl (nothing_rests now next (joined fails.skipped) fails.rest fails.taken memory.1);
+            place = inl (nothing_given now next state records so_far fails.skipped fails.rest fails.pieces fails.taken memory.1 memory.2);
           }))
         ]
       ]
@@ -280,9 +292,9 @@ module _ {S : Type 0} (gives : S → S → List ℕ → Type 0) (has_ended : S �
           each = skipped_only;
           kind = ap (λ (f : CaptureFault). f.kind) is;
           offset = ap (λ (f : CaptureFault). f.offset) is ∙ ap (λ (s : ReaderState). s.place) answer.stands ∙ count_behind now state records so_far answer.skipped;
-          place = inr (
+          place = inr (inl (
             subst (λ (l : Option ℕ). IsPiece config.parts.session l (Shown answer.octets)) (last_behind now state records so_far answer.skipped) piece.0,
             subst (λ (r : List ShownRecord). Begins config r) (sym (shown_behind now state records so_far answer.skipped answer.only)) begins,
-          );
+          ));
         }));
       }

@@ -43,8 +43,8 @@ module _ {S : Type 0} (gives : S → S → List ℕ → Type 0) (has_ended : S �
     pub offset : fault.offset ≡ length (joined pieces)
     pub begun : IsBegun rest
 
-  -- Memory was refused: behind all that was read; or at a record of the session, and then the
-  -- records before it begin a run.
+  -- Memory was refused: before anything was read; or at a record of the session or at the end, and
+  -- then the records before begin a run.
   pub record LacksMemory (fault : CaptureFault) : Type 0 where
     pub pieces : List Piece
     pub rest : List ℕ
@@ -52,9 +52,10 @@ module _ {S : Type 0} (gives : S → S → List ℕ → Type 0) (has_ended : S �
     pub each : ArePieces config.parts.session None pieces
     pub kind : fault.kind ≡ kinds.Memory
     pub offset : fault.offset ≡ length (joined pieces)
-    pub place : (rest ≡ [])
+    pub place : ((pieces ≡ []) × (rest ≡ []))
         ⊎ (IsPiece config.parts.session (last_of None pieces) (Shown rest)
         × Begins config (records_of pieces))
+        ⊎ ((rest ≡ []) × IsTrue (has_ended new) × Begins config (records_of pieces))
 
   -- why there is no verdict
   abbrev pub IsRefusal : CaptureFault → Type 0

@@ -25,4 +25,4 @@ returns-clause-judged g c =
     let fault = c.out_of_memory-in-Err.ensures ∙ ap (λ (n : ℕ). let f : CaptureFault = record { kind = Memory; offset = n } in f) c.place.ensures in
     judged_so _ (λ given. IsRefusal given g.S.Source.has_ended c.args.config.now c.args.source.now c.follow.new.source c.out_of_memory-in-Err.result) reads
     (λ all. unlisted _ g.S.Source.has_ended c.args.config.now c.args.source.now c.follow.new.source (g.T.Tracker.stands_for c.follow.new.tracker) _ None all
-    c.out_of_memory-in-Err.result fault)
+    c.out_of_memory-in-Err.result fault all.tracked.1)
