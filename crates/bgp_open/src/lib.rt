@@ -18,8 +18,6 @@ mod open;
 mod own_open;
 mod parameters;
 mod subcodes;
-#[cfg(test)]
-mod tests;
 mod triplet;
 mod written_open;
 

@@ -1,7 +1,7 @@
 //! Messages are read.
 
 use super::*;
-use crate::{OpenFault, read_notification, read_open};
+use bgp_open::{OpenFault, read_notification, read_open};
 use bgp_wire::vectors::{
     ADMINISTRATIVE_SHUTDOWN, BAD_LENGTH_18, KEEPALIVE, OPEN_A, OPEN_B, OPEN_WITH_ROUTE_REFRESH,
     OPEN_WITHOUT_PARAMETERS,

@@ -2,7 +2,7 @@
 //! and what both settle is written down from the octets by hand.
 
 use super::*;
-use crate::{Link, is_own_open, negotiate, open_faults, read_open};
+use bgp_open::{Link, is_own_open, negotiate, open_faults, read_open};
 use bgp_wire::vectors::{OPEN_A, OPEN_B};
 use std::test::Fail;
 

@@ -8,7 +8,7 @@ mod negotiation;
 mod reading;
 mod writing;
 
-use crate::{Config, ConfigParts, Families, OpenSubcodes};
+use bgp_open::{Config, ConfigParts, Families, OpenSubcodes};
 use bgp_prefix::{Address, Session};
 use std::alloc::{AllocError, Global};
 use std::process::Abort;

@@ -1,7 +1,7 @@
 //! Messages are written.
 
 use super::*;
-use crate::{
+use bgp_open::{
     Capability, Notification, NotificationWriteFault, OpenFault, OpenWriteFault, is_own_open,
     read_notification, read_open, write_notification, write_open,
 };

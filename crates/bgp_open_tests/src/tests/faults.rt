@@ -1,7 +1,7 @@
 //! The faults of a peer's OPEN.
 
 use super::*;
-use crate::{OpenFaults, open_faults};
+use bgp_open::{OpenFaults, open_faults};
 use bgp_wire::vectors::{KEEPALIVE, OPEN_B};
 use std::test::Fail;
 
