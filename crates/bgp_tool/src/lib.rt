@@ -17,8 +17,6 @@ mod note;
 mod opened;
 mod opened_capture;
 mod status;
-#[cfg(test)]
-mod tests;
 mod words;
 
 pub use bgp_words::{Command, command_line};

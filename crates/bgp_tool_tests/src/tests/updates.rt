@@ -128,8 +128,8 @@ fn each_update_has_its_line(rt: HostRuntime) -> Result<(), Fail> {
     for (octets, line) in rows {
         let mut source = MemSource::new(joined(rt.alloc(), &[octets])?);
         let mut sink = MemSink::new(rt.alloc());
-        assert_eq!(rt; decode_raw(rt.alloc(), &mut source, &mut sink), 0, "{line}");
-        assert_eq!(rt; sink.octets(), line.as_bytes(), "{line}");
+        let answer = decode_raw(rt.alloc(), &mut source, &mut sink);
+        same(&rt, sink.octets(), answer, line.as_bytes(), 0);
     }
     Ok(())
 }

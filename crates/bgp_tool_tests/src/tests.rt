@@ -4,9 +4,10 @@ mod captures;
 mod commands;
 mod devices;
 mod great;
+mod judging;
 mod updates;
 
-use super::*;
+use bgp_tool::*;
 use bgp_wire::vectors::{
     ADMINISTRATIVE_SHUTDOWN, ANNOUNCES_10, BAD_LENGTH_18, KEEPALIVE, KEEPALIVE_OF_18, OPEN_B,
     OPEN_WITH_ROUTE_REFRESH, OPEN_WITHOUT_PARAMETERS,
@@ -15,6 +16,7 @@ use linked_list_allocator::LocalHeap;
 use mrt::{MemSink, MemSource, SinkUpset, SourceUpset};
 use std::alloc::{AllocError, Global};
 use std::num::NonZeroUsize;
+use std::process::Abort;
 use std::test::Fail;
 
 /// An OPEN of another version (RFC 4271, 6.2: Unsupported Version Number).
@@ -76,6 +78,18 @@ keepalive
 rest 5
 ";
 
+/// That was written and answered. A call of this is proved more quickly than `assert_eq!`.
+fn same(rt: &impl Abort, written: &[u8], answer: u8, text: &[u8], status: u8) {
+    assert_eq!(rt; written, text);
+    assert_eq!(rt; answer, status);
+}
+
+/// That is the outcome.
+fn same_outcome(rt: &impl Abort, outcome: Outcome<'_>, status: u8, note: Option<Note<'_>>) {
+    assert_eq!(rt; outcome.status, status);
+    assert_eq!(rt; outcome.note, note);
+}
+
 /// Messages as a stream, one after another.
 fn joined(alloc: Global, messages: &[&[u8]]) -> Result<Vec<u8>, AllocError> {
     let mut octets = Vec::new(alloc);
@@ -127,8 +141,7 @@ fn each_stream_has_its_lines_and_its_status(rt: HostRuntime) -> Result<(), Fail>
             let mut source = MemSource::new(octets).in_pieces_of(most);
             let mut sink = MemSink::new(rt.alloc());
             let answer = decode_raw(rt.alloc(), &mut source, &mut sink);
-            assert_eq!(rt; answer, status, "{text} by {most}");
-            assert_eq!(rt; sink.octets(), text.as_bytes(), "{text} by {most}");
+            same(&rt, sink.octets(), answer, text.as_bytes(), status);
         }
     }
     Ok(())
@@ -139,8 +152,7 @@ fn octets_in_memory_have_their_text_and_their_status(rt: HostRuntime) -> Result<
     for (messages, text, status) in STREAMS {
         let octets = joined(rt.alloc(), messages)?;
         let (written, answer) = text_and_status(rt.alloc(), octets);
-        assert_eq!(rt; answer, status, "{text}");
-        assert_eq!(rt; written.as_slice(), text.as_bytes(), "{text}");
+        same(&rt, written.as_slice(), answer, text.as_bytes(), status);
     }
     Ok(())
 }
@@ -177,8 +189,7 @@ keepalive
                 .upset_at(read, SourceUpset::Fail);
             let mut sink = MemSink::new(rt.alloc()).in_pieces_of(NonZeroUsize::MIN);
             let answer = decode_raw(rt.alloc(), &mut source, &mut sink);
-            assert_eq!(rt; answer, 5, "at read {read}");
-            assert_eq!(rt; sink.octets(), text.as_bytes(), "at read {read}");
+            same(&rt, sink.octets(), answer, text.as_bytes(), 5);
         }
     }
     Ok(())
@@ -194,8 +205,13 @@ fn a_failing_write_leaves_a_beginning_of_the_text(rt: HostRuntime) -> Result<(),
             .in_pieces_of(NonZeroUsize::MIN)
             .upset_at(write as u64, SinkUpset::Fail);
         let answer = decode_raw(rt.alloc(), &mut source, &mut sink);
-        assert_eq!(rt; answer, 5, "at write {write}");
-        assert_eq!(rt; sink.octets(), &SESSION_TEXT.as_bytes()[..write]);
+        same(
+            &rt,
+            sink.octets(),
+            answer,
+            &SESSION_TEXT.as_bytes()[..write],
+            5,
+        );
     }
     Ok(())
 }
@@ -207,8 +223,8 @@ fn a_short_call_changes_nothing(rt: HostRuntime) -> Result<(), Fail> {
         SourceUpset::Short(NonZeroUsize::MIN),
     );
     let mut sink = MemSink::new(rt.alloc()).upset_at(1, SinkUpset::Short(NonZeroUsize::MIN));
-    assert_eq!(rt; decode_raw(rt.alloc(), &mut source, &mut sink), 2);
-    assert_eq!(rt; sink.octets(), SESSION_TEXT.as_bytes());
+    let answer = decode_raw(rt.alloc(), &mut source, &mut sink);
+    same(&rt, sink.octets(), answer, SESSION_TEXT.as_bytes(), 2);
     Ok(())
 }
 
@@ -225,8 +241,7 @@ fn a_stream_that_ends_early_has_a_rest(rt: HostRuntime) -> Result<(), Fail> {
             .upset_at(read, SourceUpset::End);
         let mut sink = MemSink::new(rt.alloc());
         let answer = decode_raw(rt.alloc(), &mut source, &mut sink);
-        assert_eq!(rt; answer, status, "at read {read}");
-        assert_eq!(rt; sink.octets(), text.as_bytes(), "at read {read}");
+        same(&rt, sink.octets(), answer, text.as_bytes(), status);
     }
     Ok(())
 }
@@ -259,8 +274,7 @@ fn a_refused_growth_leaves_a_beginning_of_the_text(rt: HostRuntime) -> Result<()
         let mut sink = MemSink::new(rt.alloc());
         let answer = decode_raw(&heap, &mut source, &mut sink);
         if answer != 4 {
-            assert_eq!(rt; answer, 2, "on a heap of {size}");
-            assert_eq!(rt; sink.octets(), text, "on a heap of {size}");
+            same(&rt, sink.octets(), answer, text, 2);
             assert!(rt; 0 < longest, "no refusal came behind a line");
             return Ok(());
         }
@@ -309,11 +323,10 @@ fn ample_memory(rt: HostRuntime) -> Result<(), Fail> {
     let text = b"notification 6/2 -\nkeepalive\n".as_slice();
     let mut source = MemSource::new(octets.clone()?);
     let mut sink = MemSink::new(rt.alloc());
-    assert_eq!(rt; decode_raw(rt.alloc(), &mut source, &mut sink), 0);
-    assert_eq!(rt; sink.octets(), text);
+    let answer = decode_raw(rt.alloc(), &mut source, &mut sink);
+    same(&rt, sink.octets(), answer, text, 0);
     let (written, status) = text_and_status(rt.alloc(), octets);
-    assert_eq!(rt; status, 0);
-    assert_eq!(rt; written.as_slice(), text);
+    same(&rt, written.as_slice(), status, text, 0);
     Ok(())
 }
 
@@ -321,6 +334,7 @@ fn ample_memory(rt: HostRuntime) -> Result<(), Fail> {
 fn each_status_has_its_number(rt: HostRuntime) {
     for (status, code) in [
         (Status::Done, 0),
+        (Status::No, 1),
         (Status::Unfinished, 2),
         (Status::Refused, 3),
         (Status::Memory, 4),

@@ -67,8 +67,8 @@ fn the_greatest_messages_have_their_lines(rt: HostRuntime) -> Result<(), Fail> {
         for most in [NonZeroUsize::MAX, NonZeroUsize::MIN] {
             let mut source = MemSource::new(octets.clone()?).in_pieces_of(most);
             let mut sink = MemSink::new(alloc).in_pieces_of(most);
-            assert_eq!(rt; decode_raw(alloc, &mut source, &mut sink), 0, "{front}");
-            assert_eq!(rt; sink.octets(), text.as_slice(), "{front}");
+            let answer = decode_raw(alloc, &mut source, &mut sink);
+            same(&rt, sink.octets(), answer, text.as_slice(), 0);
         }
     }
     Ok(())
@@ -121,8 +121,7 @@ fn a_single_message_is_told_whole_or_not_at_all(rt: HostRuntime) -> Result<(), F
                 assert_eq!(rt; sink.octets(), b"".as_slice(), "on a heap of {size}");
                 was_refused = true;
             } else {
-                assert_eq!(rt; answer, status, "on a heap of {size}");
-                assert_eq!(rt; sink.octets(), text.as_bytes(), "on a heap of {size}");
+                same(&rt, sink.octets(), answer, text.as_bytes(), status);
                 was_answered = true;
             }
         }

@@ -3,7 +3,6 @@
 
 use super::devices::{Breaking, Full, OneByOne};
 use super::*;
-use crate::{Form, Note, decode_opened};
 use mrt::FromWrite;
 use std::io::{self, ErrorKind};
 
@@ -103,8 +102,7 @@ fn a_stream_has_its_status_and_nothing_is_told(rt: HostRuntime) -> Result<(), Fa
     ] {
         let mut sink = FromWrite::new(Vec::new(rt.alloc()));
         let outcome = decode_opened(rt.alloc(), "a.bgp", Ok(octets), &mut sink);
-        assert_eq!(rt; outcome.status, status, "{text}");
-        assert_eq!(rt; outcome.note, None, "{text}");
+        same_outcome(&rt, outcome, status, None);
         assert_eq!(rt; sink.into_inner().as_slice(), text.as_bytes());
     }
     Ok(())
@@ -164,13 +162,11 @@ fn a_file_that_is_no_stream_is_told_by_its_front(rt: HostRuntime) -> Result<(), 
         let note = form.map(|form| Note::NoStream { file: "a", form });
         let mut sink = FromWrite::new(Vec::new(rt.alloc()));
         let outcome = decode_opened(rt.alloc(), "a", Ok(octets), &mut sink);
-        assert_eq!(rt; outcome.status, 3);
-        assert_eq!(rt; outcome.note, note);
+        same_outcome(&rt, outcome, 3, note);
         assert!(rt; sink.into_inner().starts_with(b"fault at 0 1/1"));
         let mut sink = FromWrite::new(Vec::new(rt.alloc()));
         let outcome = decode_opened(rt.alloc(), "a", Ok(OneByOne { octets }), &mut sink);
-        assert_eq!(rt; outcome.status, 3);
-        assert_eq!(rt; outcome.note, note);
+        same_outcome(&rt, outcome, 3, note);
     }
     Ok(())
 }
@@ -183,15 +179,12 @@ fn a_failing_reader_is_told_with_its_place(rt: HostRuntime) -> Result<(), Fail> 
         error: ErrorKind::TimedOut,
     };
     let outcome = decode_opened(rt.alloc(), "-", Ok(reader), &mut sink);
-    assert_eq!(rt; outcome.status, 5);
-    let Some(note) = outcome.note else {
-        return Err(Fail::new("nothing is told"));
+    let note = Note::Unread {
+        file: "-",
+        octet: 19,
+        error: Some(ErrorKind::TimedOut),
     };
-    let told = format!(in rt.alloc(); "{note}")?;
-    assert_eq!(rt;
-        told.as_str(),
-        "standard input: read failed at octet 19: timed out"
-    );
+    same_outcome(&rt, outcome, 5, Some(note));
     assert_eq!(rt; sink.into_inner().as_slice(), b"keepalive\n".as_slice());
     Ok(())
 }
@@ -210,8 +203,7 @@ fn a_full_disk_is_told_and_a_closed_pipe_is_not(rt: HostRuntime) -> Result<(), F
     ] {
         let mut sink = FromWrite::new(Full { room: 5, error });
         let outcome = decode_opened(rt.alloc(), "a", Ok(KEEPALIVE.as_slice()), &mut sink);
-        assert_eq!(rt; outcome.status, 5);
-        assert_eq!(rt; outcome.note, wanted);
+        same_outcome(&rt, outcome, 5, wanted);
     }
     Ok(())
 }
@@ -238,13 +230,14 @@ fn refused_memory_is_told_with_its_place(rt: HostRuntime) -> Result<(), Fail> {
     let heap = LocalHeap::new(rt.alloc(), 16)?;
     let mut sink = FromWrite::new(Vec::new(rt.alloc()));
     let outcome = decode_opened(&heap, "a", Ok(KEEPALIVE.as_slice()), &mut sink);
-    assert_eq!(rt; outcome.status, 4);
-    assert_eq!(rt;
-        outcome.note,
+    same_outcome(
+        &rt,
+        outcome,
+        4,
         Some(Note::OutOfMemory {
             file: "a",
-            octet: 19
-        })
+            octet: 19,
+        }),
     );
     Ok(())
 }

@@ -3,7 +3,6 @@
 
 use super::devices::{Breaking, Full};
 use super::*;
-use crate::{Note, decode_capture, decode_opened_capture};
 use bgp_prefix::{Address, Session};
 use mrt::{Endpoints, FromWrite, Reader};
 use std::io;
@@ -44,8 +43,7 @@ fn a_failing_source_is_told(rt: HostRuntime) -> Result<(), Fail> {
     let mut reader = Reader::new(rt.alloc());
     let answer = decode_capture(&mut reader, &SESSION, &mut source, &mut sink);
     let text = b"@100 change 1 2\ncapture refused: 9 Device at 36\n".as_slice();
-    assert_eq!(rt; sink.octets(), text);
-    assert_eq!(rt; answer, 5);
+    same(&rt, sink.octets(), answer, text, 5);
     assert_eq!(rt; reader.has_answered(), true);
     Ok(())
 }
@@ -58,8 +56,7 @@ fn a_failing_sink_ends_the_reading(rt: HostRuntime) -> Result<(), Fail> {
     let mut sink = MemSink::new(rt.alloc()).upset_at(0, SinkUpset::Fail);
     let mut reader = Reader::new(rt.alloc());
     let answer = decode_capture(&mut reader, &SESSION, &mut source, &mut sink);
-    assert_eq!(rt; answer, 5);
-    assert_eq!(rt; sink.octets(), b"".as_slice());
+    same(&rt, sink.octets(), answer, b"".as_slice(), 5);
     assert!(rt; source.given() < whole);
     Ok(())
 }
@@ -76,8 +73,7 @@ fn refused_memory_is_told_and_ample_memory_is_not(rt: HostRuntime) -> Result<(),
         let mut sink = MemSink::new(rt.alloc());
         let mut reader = Reader::new(&heap);
         let answer = decode_capture(&mut reader, &SESSION, &mut source, &mut sink);
-        assert_eq!(rt; sink.octets(), text.as_bytes(), "{size}");
-        assert_eq!(rt; answer, status, "{size}");
+        same(&rt, sink.octets(), answer, text.as_bytes(), status);
     }
     Ok(())
 }
@@ -113,9 +109,8 @@ fn a_capture_without_the_session_is_told(rt: HostRuntime) -> Result<(), Fail> {
         let mut sink = FromWrite::new(Vec::new(rt.alloc()));
         let alloc = rt.alloc();
         let outcome = decode_opened_capture(alloc, &session, "a", Ok(octets), &mut sink);
-        assert_eq!(rt; outcome.status, 0);
         let note = note.map(|other| Note::NoSession { file: "a", other });
-        assert_eq!(rt; outcome.note, note);
+        same_outcome(&rt, outcome, 0, note);
         if let Some(note) = outcome.note {
             let text = format!(in rt.alloc(); "{note}")?;
             assert_eq!(rt; text.as_str(), told);
@@ -148,13 +143,12 @@ fn a_failing_reader_is_told_with_its_place(rt: HostRuntime) -> Result<(), Fail> 
         };
         let mut sink = FromWrite::new(Vec::new(rt.alloc()));
         let outcome = decode_opened_capture(rt.alloc(), &SESSION, "a", Ok(reader), &mut sink);
-        assert_eq!(rt; outcome.status, 5, "{octet}");
         let note = Note::Unread {
             file: "a",
             octet: octet as u64,
             error: Some(ErrorKind::TimedOut),
         };
-        assert_eq!(rt; outcome.note, Some(note), "{octet}");
+        same_outcome(&rt, outcome, 5, Some(note));
         assert_eq!(rt; sink.into_inner().as_slice(), text.as_bytes(), "{octet}");
     }
     Ok(())
@@ -176,8 +170,7 @@ fn a_full_disk_is_told_and_a_closed_pipe_is_not(rt: HostRuntime) -> Result<(), F
         let mut sink = FromWrite::new(Full { room: 5, error });
         let octets = Ok(capture.as_slice());
         let outcome = decode_opened_capture(rt.alloc(), &SESSION, "a", octets, &mut sink);
-        assert_eq!(rt; outcome.status, 5);
-        assert_eq!(rt; outcome.note, wanted);
+        same_outcome(&rt, outcome, 5, wanted);
 
         // Where the reader failed before, it is the same.
         let mut sink = FromWrite::new(Full { room: 5, error });
@@ -186,8 +179,7 @@ fn a_full_disk_is_told_and_a_closed_pipe_is_not(rt: HostRuntime) -> Result<(), F
             error: ErrorKind::TimedOut,
         });
         let outcome = decode_opened_capture(rt.alloc(), &SESSION, "a", reader, &mut sink);
-        assert_eq!(rt; outcome.status, 5);
-        assert_eq!(rt; outcome.note, wanted);
+        same_outcome(&rt, outcome, 5, wanted);
     }
     Ok(())
 }
