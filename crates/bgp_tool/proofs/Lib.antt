@@ -7,5 +7,6 @@ pub mod OneText
 pub mod CaptureLines
 pub mod CaptureDecoded
 pub mod CaptureJudged
+pub mod ToldCapture
 pub mod OneVerdict
 pub mod Fronts

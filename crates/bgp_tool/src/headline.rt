@@ -5,12 +5,10 @@ ghost use Rattle.std.specs.Prelude.{◌<◌, ◌≤◌, ◌^◌};
 ghost use Rattle.bgp_tool.specs.Decoding.{IsDecoded, IsBegun};
 ghost use Rattle.bgp_tool.specs.Judging.{JudgesCapture, HasOneVerdict, NeverNone};
 
-use crate::captures::hand_over;
 use crate::decoding::decode_raw;
-use crate::judging::put_answer;
+use crate::judging::write_answer;
 use bgp_judge::{Tracker, judge, records_have_just_one_verdict};
 use bgp_open::Config;
-use bgp_text::Lines;
 use mrt::{MemSink, MemSource, Sink, Source, each_capture_has_one_reading};
 use std::alloc::Allocator;
 
@@ -42,12 +40,7 @@ pub fn judge_capture<A: Allocator + Copy, T: Tracker<A>, R: Source, W: Sink>(
         source.old source.new sink.old sink.new result }
 {
     let answer = judge::<A, T, R>(alloc, config, source);
-    let mut lines = Lines::new(sink);
-    let status = put_answer(&mut lines, &answer);
-    let status = hand_over(&mut lines, status);
-    // No effect: it ends the loan of the sink.
-    lines.into_sink();
-    status.code()
+    write_answer(sink, &answer)
 }
 
 /// Law: just one verdict holds of a capture's records, by its text and its exit status.

@@ -69,7 +69,7 @@ fn decode_reader<'a, R: Read + Drop, W: Write, A: Allocator + Copy>(
 }
 
 /// What to tell of a decoding that ended with this status, where the sink took all of its text.
-fn note_of<'a, R: Read, A: Allocator + Copy>(
+pub(crate) fn note_of<'a, R: Read, A: Allocator + Copy>(
     status: u8,
     file: &'a str,
     source: &FromRead<R>,

@@ -1,45 +1,11 @@
-use Rattle.std.proofs.Common.{◌≡◌, ◌≤◌, ◌<◌, ◌∙◌, ◌+◌, ◌++◌, ◌⊎◌, ℕ, List, Option, Some, ap, subst, arith, inl, inr}
-use Rattle.std.specs.Borrow.{Bor}
+use Rattle.std.proofs.Common.{◌≡◌, ◌∙◌, ◌+◌, ◌++◌, ap, subst, arith, inl, inr}
 use Rattle.mrt.specs.Capture.{joined}
 use Rattle.mrt.specs.FromRead.{ReaderState, reader_state, fresh_reader, Gives}
-use Rattle.mrt.specs.FromWrite.{WriterState, writer_state}
+use Rattle.mrt.specs.FromWrite.{writer_state}
 use Rattle.mrt.specs.Progress.{failures_of}
-use Rattle.mrt.specs.Reader as records
-use Rattle.bgp_tool.specs.declared.note.Note.{Note}
-use Rattle.bgp_tool.specs.declared.note.Note.TheVariants.{Unread, OutOfMemory}
-use Rattle.bgp_tool.specs.Opened.{TellsWriter}
-use Rattle.bgp_tool.specs.OpenedCapture.{TellsCapture, told_of}
+use Rattle.bgp_tool.proofs.ToldCapture.{of_writer, of_reader}
 use Rattle.bgp_tool.proofs.opened_capture.decode_reader.Goals.{then-failures, else-failures}
 use Rattle.bgp_tool.proofs.opened_capture.decode_reader.Goals as goal
-
-module _ {R W : Type 0} (file : Bor (List ℕ)) (source : ReaderState R) (found : records.ReaderState) (old new : WriterState W)
-    (status : ℕ) (note : Option Note) where
-  -- the writer failed, and it is told
-  of_writer : (new.failures ≡ old.failures) ⊎ (status ≡ 5) → old.failures < new.failures → TellsWriter new note
-      → TellsCapture file source found old new status note
-  of_writer calm more tells = record {
-    writer = λ is. tells;
-    read = λ less. elim calm [
-      | inl same ↦ absurd (omega (arith, same, more))
-      | inr is ↦ absurd (omega (arith, is, less))
-    ];
-    memory = λ four. elim calm [
-      | inl same ↦ absurd (omega (arith, same, more))
-      | inr is ↦ absurd (omega (arith, is, four))
-    ];
-    reader = λ is same. absurd (omega (arith, same, more));
-  }
-
-  -- it took all of the text
-  of_reader : new.failures ≤ old.failures → (status < 4 → note ≡ told_of file found)
-      → (status ≡ 4 → note ≡ Some (OutOfMemory file source.given)) → (status ≡ 5 → note ≡ Some (Unread file source.given source.last_error))
-      → TellsCapture file source found old new status note
-  of_reader none read memory reader = record {
-    writer = λ is. absurd (omega (arith, is, none));
-    read = read;
-    memory = memory;
-    reader = λ is same. reader is;
-  }
 
 pub returns-clause-decoded : goal.returns-clause-decoded
 returns-clause-decoded g c =
