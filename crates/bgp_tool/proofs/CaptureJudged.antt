@@ -1,11 +1,14 @@
 -- A capture's judging that began with a fresh text, told by what the sink took.
-use Rattle.std.proofs.Common.{◌≡◌, ◌∙◌, ◌⊎◌, ◌+◌, ◌≤◌, ℕ, List, [], Bool, IsTrue, IsFalse, arith, refl, sym, ap, subst, inl, inr, map, Result, Ok, Err}
+use Rattle.std.proofs.Common.{◌≡◌, ◌∙◌, ◌⊎◌, ◌+◌, ◌++◌, ◌≤◌, ℕ, List, [], Bool, IsTrue, IsFalse, arith, refl, sym, ap, subst, inl, inr, map, Result, Ok, Err}
 use Rattle.bgp_open.specs.declared.config.Config.{Config}
 use Rattle.mrt.specs.declared.fault.CaptureFault.{CaptureFault}
 use Rattle.mrt.specs.declared.fault.FaultKind.{FaultKind}
 use Rattle.mrt.specs.declared.fault.FaultKind.TheVariants as kinds
 use Rattle.mrt.specs.declared.sink.Sink as sinks
+use Rattle.mrt.specs.Capture.{joined}
 use Rattle.mrt.specs.Progress.{failures_of}
+use Rattle.mrt.specs.ReadBy.{ReadBy}
+use Rattle.mrt.specs.Reader.{ReaderState}
 use Rattle.bgp_judge.specs.declared.verdict.Verdict.{Verdict}
 use Rattle.bgp_judge.specs.declared.verdict.Verdict.TheVariants.{Yes, No, Unfinished}
 use Rattle.bgp_judge.specs.Ends.{end_value}
@@ -95,6 +98,63 @@ module _ {R W : Type 0} (takes : W → W → List ℕ → Type 0) (failures : W 
     took = wrote.took;
     begun = wrote.begun;
     all = wrote.all;
+  }
+
+-- Of a source that is seen as another, what was judged is judged of that one.
+module _ {F R : Type 0} (view : F → R) (has_ended : R → Bool) (config : Config) (source source' : F) (octets : List ℕ) where
+  viewed : {X : Type 0} (answer : Result (Verdict X) CaptureFault) → Judges (λ from to some. some ≡ octets) (λ state. has_ended (view state)) config source source' answer
+      → Judges (λ from to some. some ≡ octets) has_ended config (view source) (view source') answer
+  viewed (Ok verdict) is = record {
+    octets = is.octets;
+    records = is.records;
+    gave = is.gave;
+    ended = is.ended;
+    spells = is.spells;
+    verdict = is.verdict;
+  }
+  viewed (Err fault) (inl is) = inl record {
+    octets = is.octets;
+    records = is.records;
+    gave = is.gave;
+    first = is.first;
+  }
+  viewed (Err fault) (inr (inl is)) = inr (inl record {
+    pieces = is.pieces;
+    rest = is.rest;
+    gave = is.gave;
+    each = is.each;
+    kind = is.kind;
+    offset = is.offset;
+    begun = is.begun;
+  })
+  viewed (Err fault) (inr (inr is)) = inr (inr record {
+    pieces = is.pieces;
+    rest = is.rest;
+    gave = is.gave;
+    each = is.each;
+    kind = is.kind;
+    offset = is.offset;
+    place = is.place;
+  })
+
+-- And it is told of just the octets that a reader of captures knows.
+module _ {F R W : Type 0} (view : F → R) (takes : W → W → List ℕ → Type 0) (failures : W → ℕ) (gives : R → R → List ℕ → Type 0)
+    (has_ended : R → Bool) (counts : R → ℕ) (config : Config) (source source' : F) (sink sink' : W) where
+  pub judges_read : {X : Type 0} (reader : ReaderState) (answer : Result (Verdict X) CaptureFault) (status : ℕ)
+      → ReadBy (λ from to some. gives (view from) (view to) some) config.parts.session source source' reader
+      (λ given. Judges given (λ state. has_ended (view state)) config source source' answer)
+      → counts (view source') ≡ counts (view source) + failures_of answer
+      → IsWritten takes failures (answer_text answer) (answer_status answer) sink sink' status
+      → ReadBy gives config.parts.session (view source) (view source') reader
+      (λ given. JudgesCapture given has_ended takes counts failures config (view source) (view source') sink sink' status)
+  judges_read reader answer status by counted wrote = record {
+    pieces = by.pieces;
+    rest = by.rest;
+    knows = by.knows;
+    gave = by.gave;
+    each = by.each;
+    holds = judges_capture takes failures (λ from to some. some ≡ joined by.pieces ++ by.rest) has_ended counts config (view source) (view source') sink sink' answer status
+        (viewed view has_ended config source source' (joined by.pieces ++ by.rest) answer by.holds) counted wrote;
   }
 
 module _ {W : Type 0} {sinks' : sinks.Ghosts W} (lines lines' : Lines W sinks') (sink sink' : W) (fresh : IsFresh lines)

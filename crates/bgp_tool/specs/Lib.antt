@@ -8,3 +8,4 @@ pub mod CaptureDecoding
 pub mod OpenedCapture
 pub mod Answer
 pub mod Judging
+pub mod OpenedJudging

@@ -16,6 +16,7 @@ mod laws;
 mod note;
 mod opened;
 mod opened_capture;
+mod opened_judging;
 mod status;
 mod words;
 
@@ -28,5 +29,6 @@ pub use laws::each_stream_has_one_text;
 pub use note::Note;
 pub use opened::{Outcome, decode_opened};
 pub use opened_capture::decode_opened_capture;
+pub use opened_judging::judge_opened;
 pub use status::Status;
 pub use words::words_status;

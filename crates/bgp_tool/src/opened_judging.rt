@@ -1,0 +1,69 @@
+//! A capture over any reader and any writer, judged: what stands between a file and the verdict.
+
+ghost use Rattle.std.specs.Prelude.{◌≡◌, ◌≤◌, ◌<◌, ◌^◌, IfOk, IfErr};
+ghost use Rattle.std.specs.IoError.{error_kind};
+ghost use Rattle.mrt.specs.FromWrite.{writer_state};
+ghost use Rattle.bgp_tool.specs.Opened.{IsUnopened};
+ghost use Rattle.bgp_tool.specs.OpenedJudging.{JudgesOpened};
+
+use crate::judging::write_answer;
+use crate::opened::{Outcome, unopened, unwritten};
+use crate::opened_capture::note_of;
+use bgp_judge::{Tracker, judge_with};
+use bgp_open::Config;
+use mrt::{FromRead, FromWrite, Reader, Sink};
+use std::alloc::Allocator;
+use std::io;
+use std::io::{Read, Write};
+
+/// Judges a capture that a reader gives, if it could be opened, as
+/// [`judge_capture`](crate::judge_capture) does, and says what went wrong, if anything did, or that
+/// no record was the session's (`specs/OpenedJudging.antt`). A closed pipe is status 5 and not
+/// told; where the reader failed, too, the writer's failure is told.
+///
+/// The reader is asked for few octets at a time: put a buffer before a file.
+pub fn judge_opened<'a, A: Allocator + Copy, T: Tracker<A>, R: Read + Drop, W: Write>(
+    alloc: A,
+    config: &Config,
+    file: &'a str,
+    opened: io::Result<R>,
+    sink: &mut FromWrite<W>,
+) -> Outcome<'a>
+    requires { (writer_state sink.old).failures < 2 ^ 63 }
+    ensures judged { IfOk opened (λ reader. JudgesOpened R.remaining W.contents config.now
+        file.entry reader (writer_state sink.old) (writer_state sink.new) result) }
+    ensures unopened { IfErr opened (λ error. IsUnopened file.entry (error_kind error) result
+        × (writer_state sink.new ≡ writer_state sink.old)) }
+    ensures statuses { result.status ≤ 5 }
+{
+    match opened {
+        Ok(reader) => judge_reader::<A, T, R, W>(alloc, config, file, reader, sink),
+        Err(error) => unopened(file, error.kind()),
+    }
+}
+
+/// Judges what a reader gives.
+fn judge_reader<'a, A: Allocator + Copy, T: Tracker<A>, R: Read + Drop, W: Write>(
+    alloc: A,
+    config: &Config,
+    file: &'a str,
+    reader: R,
+    sink: &mut FromWrite<W>,
+) -> Outcome<'a>
+    requires { (writer_state sink.old).failures < 2 ^ 63 }
+    ensures judged { JudgesOpened R.remaining W.contents config.now file.entry reader
+        (writer_state sink.old) (writer_state sink.new) result }
+    ensures statuses { result.status ≤ 5 }
+{
+    let mut source = FromRead::new(reader);
+    let mut records = Reader::new(alloc);
+    let failures = sink.failures();
+    let answer = judge_with::<A, T, FromRead<R>>(&mut records, alloc, config, &mut source);
+    let status = write_answer(sink, &answer);
+    let note = if sink.failures() > failures {
+        unwritten(sink)
+    } else {
+        note_of(status, file, &source, &records)
+    };
+    Outcome { status, note }
+}
