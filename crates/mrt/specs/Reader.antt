@@ -39,8 +39,8 @@ abbrev pub fresh_reader : ReaderState
 fresh_reader =
     record { passed = 0; last = None; place = 0; is_ended = false; fault = None; other = None }
 
--- A reader's buffer, of this length, has room for each body that is read, unless the reader has read
--- nothing or found a fault.
+-- A reader's buffer, of this length, has room for each body that is read, unless the reader has
+-- read nothing or found a fault.
 abbrev pub HasRoom : ℕ → ReaderState → Type 0
 HasRoom len state = (len ≡ 8192) ⊎ (state ≡ fresh_reader) ⊎ IsTrue (is_some state.fault)
 

@@ -1,7 +1,8 @@
 //! What gives octets and what takes them: captures of BGP sessions and raw streams of messages are
 //! read from the one and written to the other.
 //!
-//! The captures themselves, as MRT records (RFC 6396), will stand here too.
+//! A capture is MRT records (RFC 6396): `Reader` reads those of one session, `write_record` writes
+//! them.
 //!
 //! ```text
 //! let mut source = FromRead::new(file);
