@@ -1,0 +1,6 @@
+pub mod Disabled
+pub mod Members
+pub mod Table
+pub mod Standing
+pub mod Parts
+pub mod Steps

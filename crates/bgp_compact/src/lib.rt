@@ -1,0 +1,16 @@
+//! The compact tracker: a judge of sessions of any length that holds one table of routes, and a
+//! fixed number of words beside it.
+#![tactic(auto)]
+
+mod base;
+mod beginning;
+mod changing;
+mod compact;
+mod disabled;
+mod ending;
+mod falls;
+mod paying;
+mod taking;
+mod words;
+
+pub use compact::CompactTracker;

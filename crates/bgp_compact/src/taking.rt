@@ -1,0 +1,161 @@
+//! What becomes of the members by one record more.
+
+ghost use Rattle.std.specs.Prelude.{◌≡◌, ◌∷◌, [], false, IfOk, IsSome, MatchOption, OnErr, OnOk};
+ghost use Rattle.bgp_machine.specs.declared.fsm.Fsm.TheVariants as fsms;
+ghost use Rattle.bgp_machine.specs.Going.{shown_after, told, undelayed};
+ghost use Rattle.bgp_machine.specs.Listed.{changes_of};
+ghost use Rattle.bgp_machine.specs.Rows.{silent_heads};
+ghost use Rattle.bgp_machine.specs.Run.{is_delayed};
+ghost use Rattle.bgp_machine.specs.State.{fsm_of};
+ghost use Rattle.bgp_rib.specs.Routes.{Routes, AreRoutes, routes_after};
+ghost use Rattle.mrt.specs.Reader.{shown_of};
+ghost use Rattle.bgp_judge.specs.Image.{IsImage};
+ghost use Rattle.bgp_compact.specs.Members.{IsMember};
+ghost use Rattle.bgp_compact.specs.Parts.{AreFine};
+ghost use Rattle.bgp_compact.specs.Standing.{IsTableOf};
+ghost use Rattle.bgp_compact.specs.Steps.{AreBehind, AreFresh, FromHead, FromLate, Gains, HasSome};
+ghost use Rattle.bgp_compact.specs.Steps.{AreMade, AreMadeAt, table_behind};
+
+use crate::base::{Base, free_base};
+use crate::beginning::with_steps;
+use crate::paying::paid;
+use crate::words::Words;
+use bgp_judge::openings;
+use bgp_machine::{Fsm, Head};
+use bgp_open::Config;
+use bgp_rib::RibIn;
+use bgp_update::Changes;
+use mrt::Record;
+use std::alloc::{AllocError, Allocator, Global};
+
+/// What a record leaves: the words, and the changes that the table is to take.
+#[derive(Drop)]
+pub(crate) struct Left<A: Allocator = Global> {
+    /// The words.
+    pub words: Words,
+    /// The changes.
+    pub changes: Option<Changes<A>>,
+}
+
+/// The head with its OPEN delayed, where that may have begun unseen.
+fn delayed(config: &Config, head: Head) -> Option<Head>
+    requires { is_delayed head ≡ false }
+    ensures { MatchOption result (silent_heads config.now head ≡ head ∷ [])
+        (λ late. silent_heads config.now head ≡ head ∷ late ∷ []) }
+{
+    if !config.parts.delay_open {
+        return None;
+    }
+    match head {
+        Head::Connect(_) => Some(Head::Connect(true)),
+        Head::Active(_) => Some(Head::Active(true)),
+        _ => None,
+    }
+}
+
+/// Adds what the record makes of the members of the base.
+fn add_base<A: Allocator + Copy>(
+    alloc: A,
+    config: &Config,
+    base: Base,
+    shown: &Record<'_>,
+    words: Words,
+) -> Result<Left<A>, AllocError>
+    requires some { HasSome base }
+    requires behind { AreBehind config.now (undelayed base.head) (shown_of shown.now) words }
+    ensures behind { IfOk result (λ left.
+        AreBehind config.now (undelayed base.head) (shown_of shown.now) left.words) }
+    ensures gains { IfOk result (λ left. (table : Routes) → AreRoutes table → AreFresh base table
+        → Gains words left.words (routes_after (changes_of left.changes) table)
+        (FromHead config.now base (shown_of shown.now) table)) }
+    ensures given { IfOk result (λ left. IsSome left.changes
+        → fsm_of base.head ≡ fsms.Established) }
+    ensures made { IfOk result (λ left.
+        AreMadeAt config.now base.head (shown_of shown.now) left.changes) }
+{
+    let opened = openings(alloc, config, base.head, shown)?;
+    Ok(Left {
+        words: with_steps(base, opened.steps.as_slice(), words),
+        changes: opened.changes,
+    })
+}
+
+/// Adds what it makes of them where their OPEN was delayed unseen.
+fn add_delayed<A: Allocator + Copy>(
+    alloc: A,
+    config: &Config,
+    base: Base,
+    shown: &Record<'_>,
+    left: Left<A>,
+) -> Result<Left<A>, AllocError>
+    requires some { HasSome base }
+    requires at_once { is_delayed base.head ≡ false }
+    requires behind { AreBehind config.now (undelayed base.head) (shown_of shown.now) left.words }
+    requires given { IsSome left.changes → fsm_of base.head ≡ fsms.Established }
+    ensures behind { IfOk result (λ next.
+        AreBehind config.now (undelayed base.head) (shown_of shown.now) next.words) }
+    ensures gains { IfOk result (λ next. (table : Routes) → AreRoutes table
+        → Gains left.words next.words (routes_after (changes_of next.changes) table)
+        (FromLate config.now base (shown_of shown.now) table)) }
+    ensures changes { IfOk result (λ next. next.changes ≡ left.changes) }
+{
+    let Some(head) = delayed(config, base.head) else {
+        return Ok(left);
+    };
+    let late = Base {
+        head,
+        sets: base.sets,
+    };
+    let next = add_base(alloc, config, late, shown, left.words)?;
+    Ok(Left {
+        words: next.words,
+        changes: left.changes,
+    })
+}
+
+/// What the record makes of all members.
+pub(crate) fn after_record<A: Allocator + Copy>(
+    alloc: A,
+    config: &Config,
+    words: Words,
+    shown: &Record<'_>,
+) -> Result<Left<A>, AllocError>
+    requires { AreFine words }
+    ensures fine { IfOk result (λ left. AreFine left.words) }
+    ensures shown { IfOk result (λ left.
+        left.words.shown ≡ shown_after words.shown (told (shown_of shown.now))) }
+    ensures made { IfOk result (λ left.
+        AreMade config.now words (shown_of shown.now) left.changes) }
+    ensures image { IfOk result (λ left. (table : Routes) → IsTableOf words table
+        → IsImage config.now (shown_of shown.now) (IsMember words table)
+        (IsMember left.words (routes_after (changes_of left.changes) table))) }
+{
+    let next = paid(config, words, shown);
+    let Some(base) = free_base(words) else {
+        return Ok(Left {
+            words: next,
+            changes: None,
+        });
+    };
+    let left = add_base(alloc, config, base, shown, next)?;
+    add_delayed(alloc, config, base, shown, left)
+}
+
+/// Makes of the table what it is behind the record: a session that ends leaves no route.
+pub(crate) fn follow<A: Allocator + Copy>(
+    table: &mut RibIn<A>,
+    left: &Left<A>,
+) -> Result<(), AllocError>
+    ensures ok { OnOk result (table.new
+        ≡ table_behind left.now.words.shown (changes_of left.now.changes) table.old) }
+    ensures err { OnErr result (table.new ≡ table.old) }
+{
+    if left.words.shown == Fsm::Idle {
+        table.clear();
+        return Ok(());
+    }
+    match &left.changes {
+        Some(changes) => table.apply(changes),
+        None => Ok(()),
+    }
+}

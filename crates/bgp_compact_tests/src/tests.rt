@@ -1,0 +1,108 @@
+//! The verdicts of both trackers on sessions of two routers, A and B. Messages have the names of
+//! `bgp_wire::vectors`.
+
+mod memory;
+mod sessions;
+
+use bgp_compact::CompactTracker;
+use bgp_judge::{PlainTracker, Verdict, judge_records};
+use bgp_machine::Fsm;
+use bgp_open::{Config, ConfigParts, Families};
+use bgp_prefix::{Address, Session, read_prefix};
+use mrt::Record;
+use std::alloc::{AllocError, Allocator, Global};
+use std::process::Abort;
+use std::test::Fail;
+
+/// What router A is configured to do: AS 65001 at 192.0.2.1, with AS 65002 at 192.0.2.2, Hold Time
+/// 90, both families and four-octet AS numbers.
+const PARTS_A: ConfigParts = ConfigParts {
+    local_as: 65001,
+    peer_as: 65002,
+    local_id: 0xc000_0201,
+    hold: 90,
+    families: Families { v4: true, v6: true },
+    as4: true,
+    delay_open: false,
+    large_hold: 240,
+    session: Session {
+        peer: Address::V4(0xc000_0202),
+        local: Address::V4(0xc000_0201),
+        refresh: true,
+    },
+};
+
+/// No family.
+const NONE: Families = Families {
+    v4: false,
+    v6: false,
+};
+
+/// IPv4 alone.
+const V4: Families = Families {
+    v4: true,
+    v6: false,
+};
+
+/// Both families.
+const BOTH: Families = Families { v4: true, v6: true };
+
+/// IPv6 alone.
+const V6: Families = Families {
+    v4: false,
+    v6: true,
+};
+
+/// Router A, which may delay its OPEN or not.
+fn router_a(delay_open: bool) -> Result<Config, Fail> {
+    let parts = ConfigParts {
+        delay_open,
+        ..PARTS_A
+    };
+    Ok(Config::new(parts).ok_or("no configuration")?)
+}
+
+/// An end: the state, the disabled families and the prefixes of its routes.
+type Expected<'a> = (Fsm, Families, &'a [&'a str]);
+
+/// Whether the verdict is yes with just these ends, in this order.
+fn is_yes<A: Allocator>(verdict: &Verdict<A>, expected: &[Expected<'_>]) -> bool {
+    let Verdict::Yes(ends) = verdict else {
+        return false;
+    };
+    if ends.len() != expected.len() {
+        return false;
+    }
+    for (end, (fsm, disabled, texts)) in ends.as_slice().iter().zip(expected) {
+        let mut count = 0;
+        for (prefix, _) in end.rib.routes() {
+            let is_next = texts
+                .get(count)
+                .is_some_and(|text| { read_prefix(text) == Some(*prefix) });
+            if !is_next {
+                return false;
+            }
+            count = count.saturating_add(1);
+        }
+        if end.fsm != *fsm || end.rib.disabled() != *disabled || count != texts.len() {
+            return false;
+        }
+    }
+    true
+}
+
+/// These records, and then those.
+fn joined<'a>(
+    alloc: Global,
+    records: &[Record<'a>],
+    more: &[Record<'a>],
+) -> Result<Vec<Record<'a>>, AllocError> {
+    let mut all = Vec::new(alloc);
+    for record in records {
+        all.push(*record)?;
+    }
+    for record in more {
+        all.push(*record)?;
+    }
+    Ok(all)
+}

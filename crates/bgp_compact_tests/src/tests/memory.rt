@@ -1,0 +1,103 @@
+//! Memory: enough of it, and growths that are refused.
+
+use super::*;
+use bgp_judge::Tracker;
+use bgp_wire::vectors::{ANNOUNCES_10, KEEPALIVE, MP_REACH_TRANSITIVE, OPEN_A, OPEN_B};
+use linked_list_allocator::LocalHeap;
+use mrt::Record::{Change, In, Out};
+
+/// A session whose last UPDATE may disable IPv6 or not.
+const TWO_ENDS: [Record<'static>; 10] = [
+    Change(100, 1, 2),
+    Out(100, &OPEN_A),
+    Change(100, 2, 4),
+    In(101, &OPEN_B),
+    Out(101, &KEEPALIVE),
+    Change(101, 4, 5),
+    In(101, &KEEPALIVE),
+    Change(101, 5, 6),
+    In(102, &ANNOUNCES_10),
+    In(103, &MP_REACH_TRANSITIVE),
+];
+
+/// Its ends.
+const ENDS: [Expected<'static>; 2] = [
+    (Fsm::Established, NONE, &["10.0.0.0/8"]),
+    (Fsm::Established, V6, &["10.0.0.0/8"]),
+];
+
+#[test]
+fn ample_memory(rt: HostRuntime) -> Result<(), Fail> {
+    let config = router_a(false)?;
+    let mut tracker: CompactTracker<Global> = CompactTracker::start(rt.alloc(), &config)?;
+    for shown in &TWO_ENDS {
+        assert!(rt; tracker.take(shown)?);
+    }
+    assert!(rt; is_yes(&Verdict::Yes(tracker.ends()?), &ENDS));
+    Ok(())
+}
+
+/// Takes all but so many octets of a heap, in small pieces, so that what is left lies together.
+fn ballast<'a>(
+    heap: &'a LocalHeap,
+    ample: &'a LocalHeap,
+    left: usize,
+) -> Result<Vec<Vec<u8, &'a LocalHeap>, &'a LocalHeap>, AllocError> {
+    let mut pieces = Vec::new(ample);
+    for _ in 0..heap.size() / 16 {
+        if heap.free() <= left {
+            break;
+        }
+        let Ok(piece) = Vec::with_capacity(heap, 16) else {
+            break;
+        };
+        pieces.push(piece)?;
+    }
+    Ok(pieces)
+}
+
+/// Takes the session with so many octets left at each record. Refused, a record is taken again,
+/// with memory; so are the ends. Answers how often memory was refused.
+fn refusals(rt: &impl Abort, alloc: Global, left: usize) -> Result<usize, Fail> {
+    let ample = LocalHeap::new(alloc, 1 << 16)?;
+    let heap = LocalHeap::new(alloc, 1 << 14)?;
+    let config = router_a(false)?;
+    let mut refused: usize = 0;
+    let mut tracker: CompactTracker<&LocalHeap> = CompactTracker::start(&heap, &config)?;
+    for shown in &TWO_ENDS {
+        let ballast = ballast(&heap, &ample, left)?;
+        let taken: Result<_, _> = tracker.take(shown);
+        drop(ballast);
+        let alive = match taken {
+            Ok(alive) => alive,
+            Err(_) => {
+                refused = refused.saturating_add(1);
+                tracker.take(shown)?
+            }
+        };
+        assert!(rt; alive);
+    }
+    let ballast = ballast(&heap, &ample, left)?;
+    if tracker.ends().is_err() {
+        refused = refused.saturating_add(1);
+    }
+    drop(ballast);
+    assert!(rt; is_yes(&Verdict::Yes(tracker.ends()?), &ENDS));
+    Ok(refused)
+}
+
+#[test]
+fn a_refused_record_can_be_taken_again(rt: HostRuntime) -> Result<(), Fail> {
+    let mut first = 0;
+    let mut last = 0;
+    for step in 0..128 {
+        last = refusals(&rt, rt.alloc(), 32 * step)?;
+        if step == 0 {
+            first = last;
+        }
+    }
+    // The list of ends, and both UPDATEs with their changes.
+    assert!(rt; first > 2, "{first}");
+    assert!(rt; last == 0, "a growth was refused to the end: {last}");
+    Ok(())
+}
