@@ -1,8 +1,11 @@
 //! Files and standard streams as readers and writers of `bgp_tool`'s calls.
 
+use bgp_judge::PlainTracker;
+use bgp_open::Config;
 use bgp_prefix::Session;
-use bgp_tool::{Outcome, decode_opened, decode_opened_capture};
+use bgp_tool::{Outcome, decode_opened, decode_opened_capture, judge_opened};
 use mrt::FromWrite;
+use std::alloc::Global;
 use std::fs::OpenFile;
 use std::io::{BufReader, ErrorKind};
 use std::rt::Files;
@@ -34,6 +37,37 @@ pub fn decode_capture<R: Files + Input + Print + Eprint + AllocGlobal>(
     } else {
         let reader = buffered(rt, file);
         decode_opened_capture(rt.alloc(), session, file, reader, &mut sink)
+    };
+    tell(rt, &outcome);
+    outcome.status
+}
+
+/// Runs `judge` on a file, or on standard input for `-`, and answers the exit status. The file is
+/// read through a buffer, as by [`decode_capture`].
+pub fn judge<R: Files + Input + Print + Eprint + AllocGlobal>(
+    rt: &R,
+    config: &Config,
+    file: &str,
+) -> u8 {
+    let mut sink = FromWrite::new(io::writer(rt));
+    let outcome = if file == "-" {
+        let reader = BufReader::new(rt.alloc(), rt.reader());
+        judge_opened::<Global, PlainTracker<Global>, _, _>(
+            rt.alloc(),
+            config,
+            file,
+            reader,
+            &mut sink,
+        )
+    } else {
+        let reader = buffered(rt, file);
+        judge_opened::<Global, PlainTracker<Global>, _, _>(
+            rt.alloc(),
+            config,
+            file,
+            reader,
+            &mut sink,
+        )
     };
     tell(rt, &outcome);
     outcome.status

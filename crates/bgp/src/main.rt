@@ -24,6 +24,7 @@ fn run<R: Files + Env + Input + Print + Eprint + AllocGlobal>(rt: &R) -> u8 {
     match command_line(rt.alloc(), words.as_slice()) {
         Ok(Command::Decode { file }) => devices::decode(rt, file),
         Ok(Command::Capture { session, file }) => devices::decode_capture(rt, &session, file),
+        Ok(Command::Judge { config, file }) => devices::judge(rt, &config, file),
         Err(error) => told(rt, &error).code(),
     }
 }

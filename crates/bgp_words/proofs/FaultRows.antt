@@ -8,7 +8,8 @@ use Rattle.clap.specs.declared.error.kind.ErrorKind.{ErrorKind}
 use Rattle.clap.specs.declared.error.kind.ErrorKind.TheVariants.{OutOfMemory}
 use Rattle.clap.proofs.OnLiterals.{clap_on_literals}
 use Rattle.bgp_words.specs.declared.words.Command.{Command}
-use Rattle.bgp_words.specs.Words.{program_words, fault_rows, IsFault}
+use Rattle.bgp_words.specs.Words.{program_words}
+use Rattle.bgp_words.specs.Spelled.{fault_rows, IsFault}
 
 abbrev IsRow : Text → List Text × ErrorKind → Type 0
 IsRow name row = fault_of program_words (name ∷ row.0) ≡ row.1 ∷ []
@@ -24,7 +25,7 @@ all_rows name (row ∷ rows) are = All-cons (IsRow name) row rows are.0 (all_row
 
 are_rows : (name : Text) → AreRows name fault_rows
 unfolding clap_on_literals
-are_rows name = (refl, (refl, (refl, (refl, (refl, (refl, (refl, (refl, tt))))))))
+are_rows name = (refl, (refl, (refl, (refl, (refl, (refl, (refl, (refl, (refl, (refl, (refl, tt)))))))))))
 
 pub each_row : (words : List Text) (r : Result Command Error) (name : Text)
     → ((kind : ErrorKind) → fault_of program_words words ≡ kind ∷ [] → IsFault kind r)

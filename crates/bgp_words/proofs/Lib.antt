@@ -1,3 +1,10 @@
-pub mod DecodeValues
-pub mod SpelledCommand
+pub mod SameParts
+pub mod ReadNumbers
+pub mod FoundValues
+pub mod NamedCommand
+pub mod SpelledDecode
+pub mod HandedOn
 pub mod FaultRows
+pub mod PlainWords
+pub mod SpelledJudge
+pub mod JudgeLine

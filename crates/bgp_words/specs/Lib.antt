@@ -1,1 +1,5 @@
 pub mod Words
+pub mod Values
+pub mod Decode
+pub mod Judge
+pub mod Spelled

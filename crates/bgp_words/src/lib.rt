@@ -7,6 +7,12 @@
 //! ```
 #![tactic(auto)]
 
+mod decode;
+mod judge;
+mod misfit;
+mod options;
+mod texts;
+mod values;
 mod words;
 
 pub use words::{Command, command_line};

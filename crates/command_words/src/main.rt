@@ -2,9 +2,10 @@
 //! that they spell, or the exit status and what is told.
 #![tactic(auto)]
 
-use bgp_prefix::Session;
+use bgp_open::{ConfigParts, Families};
+use bgp_prefix::{Address, Session};
 use bgp_tool::{Command, command_line, words_status};
-use std::alloc::Global;
+use std::alloc::{AllocError, Global};
 use std::process::ExitCode;
 use std::rt::Files;
 use std::{fs, io};
@@ -66,6 +67,10 @@ fn answer_to(alloc: Global, block: &str) -> io::Result<Answer> {
             let Session { peer, local, .. } = session;
             format!(in alloc; "capture peer {peer} local {local} file {file:?}")?
         }
+        Ok(Command::Judge { config, file }) => {
+            let parts = parts_text(alloc, &config.parts)?;
+            format!(in alloc; "judge {parts} file {file:?}")?
+        }
         Err(error) => {
             told = format!(in alloc; "{error}")?;
             let code = words_status(&error).code();
@@ -73,6 +78,35 @@ fn answer_to(alloc: Global, block: &str) -> io::Result<Answer> {
         }
     };
     Ok(Answer { kind, told })
+}
+
+/// The parts of a configuration, each behind its name.
+fn parts_text(alloc: Global, parts: &ConfigParts) -> Result<String, AllocError> {
+    let ConfigParts {
+        local_as,
+        peer_as,
+        local_id,
+        hold,
+        families,
+        ..
+    } = *parts;
+    let ConfigParts {
+        as4,
+        delay_open,
+        large_hold,
+        session,
+        ..
+    } = *parts;
+    let Session {
+        peer,
+        local,
+        refresh,
+    } = session;
+    let (id, Families { v4, v6 }) = (Address::V4(local_id), families);
+    let own = format!(in alloc; "local-as {local_as} peer-as {peer_as} local-id {id}")?;
+    let ends = format!(in alloc; "local {local} peer {peer} hold {hold} v4 {v4} v6 {v6}")?;
+    let rest = format!(in alloc; "as4 {as4} delay-open {delay_open} refresh {refresh}")?;
+    format!(in alloc; "{own} {ends} {rest} large-hold {large_hold}")
 }
 
 /// Whether a row's further lines are so: one says what the words are, and each behind `>` a part of

@@ -1,10 +1,13 @@
-use Rattle.std.proofs.Common.{rules, ◌≡◌, ◌∙◌, List, [], ◌∷◌, Ok, Err, map, refl, sym, ap, subst, inl}
-use Rattle.clap.specs.Words.{App, Kinds, IsAmong, HasKind, app_of, fault_of, is_simple, is_simple_and_free, kind_of, subcommand_of, subcommand_rows_of}
+use Rattle.std.proofs.Common.{◌≡◌, ◌∙◌, [], ◌∷◌, Ok, Err, map, refl, sym, ap, subst, inl}
+use Rattle.clap.specs.Words.{App, Kinds, IsAmong, HasKind, fault_of, is_simple, is_simple_and_free, kind_of, subcommand_of}
 use Rattle.clap.specs.Kinds.{or_else}
-use Rattle.clap.specs.declared.error.Error.{Error}
-use Rattle.clap.specs.declared.error.kind.ErrorKind.TheVariants.{MissingSubcommand, OutOfMemory}
-use Rattle.bgp_words.specs.Words.{program_words, word_faults, Names, NamesDecode}
-use Rattle.bgp_words.proofs.SpelledCommand.{handed_on, memory_handed_on, known_kind, only_memory, one_file, spelled_decode}
+use Rattle.clap.specs.declared.error.kind.ErrorKind.TheVariants.{ValueValidation}
+use Rattle.bgp_words.specs.Words.{program_words}
+use Rattle.bgp_words.specs.Spelled.{Names, NamesDecode, NamesJudge}
+use Rattle.bgp_words.proofs.HandedOn.{handed_on, memory_handed_on, known_kind, only_memory, unspelled_handed_on, memory_is_unspelled, judge_memory_handed_on}
+use Rattle.bgp_words.proofs.JudgeLine.{judge_of_line, names_judge, spelled_right}
+use Rattle.bgp_words.proofs.NamedCommand.{one_file}
+use Rattle.bgp_words.proofs.SpelledDecode.{spelled_decode}
 use Rattle.bgp_words.proofs.FaultRows.{each_row, fault_handed_on, memory_is_fault, no_row}
 use Rattle.bgp_words.proofs.words.command_line.Goals as goal
 
@@ -15,7 +18,7 @@ returns-in_err-matches-clause-err g c =
     let error = c.in_err-matches.field-0.0 in
     let has = subst (λ (a : App). HasKind (fault_of a words) error) app (c.in_err-matches.ensures.kinds (ap is_simple_and_free app)) in
     handed_on c.from_residual-in_err-matches.result error _ c.from_residual-in_err-matches.ensures.1
-    (known_kind (fault_of program_words words) (MissingSubcommand ∷ []) error has)
+    (known_kind (fault_of program_words words) (ValueValidation ∷ []) error has)
 
 pub returns-in_err-matches-clause-decode : goal.returns-in_err-matches-clause-decode
 returns-in_err-matches-clause-decode g c file is =
@@ -26,45 +29,45 @@ returns-in_err-matches-clause-decode g c file is =
     memory_handed_on c.from_residual-in_err-matches.result error file c.from_residual-in_err-matches.ensures.1
     (only_memory (fault_of program_words words) error has (spelled_decode words file is).0)
 
-pub returns-in-Some-clause-ok : goal.returns-in-Some-clause-ok
-returns-in-Some-clause-ok g c =
+pub returns-in-Ok-clause-ok : goal.returns-in-Ok-clause-ok
+returns-in-Ok-clause-ok g c =
     let words = map g.S.AsStr.text c.args.words.now in
     let app = c.in_ok-program.ensures in
     let subs = (c.in_ok-matches.ensures.matches (ap is_simple app)).1 ∙ ap (λ (a : App). subcommand_of a words) app in (
       subst (λ (a : App). fault_of a words ≡ []) app (c.in_ok-matches.ensures.kinds (ap is_simple_and_free app)),
-      subst (λ used. Names used c.in-Some.command) subs c.in-Some.ensures.some,
+      subst (λ used. Names used c.in-Ok.command) subs c.in-Ok.ensures.ok,
     )
 
-pub returns-in-Some-clause-decode : goal.returns-in-Some-clause-decode
-returns-in-Some-clause-decode g c file is =
+pub returns-in-Ok-clause-decode : goal.returns-in-Ok-clause-decode
+returns-in-Ok-clause-decode g c file is =
     let words = map g.S.AsStr.text c.args.words.now in
     let app = c.in_ok-program.ensures in
     let subs = (c.in_ok-matches.ensures.matches (ap is_simple app)).1 ∙ ap (λ (a : App). subcommand_of a words) app in
-    one_file (subcommand_of program_words words) file c.in-Some.command (spelled_decode words file is).1
-    (subst (λ used. Names used c.in-Some.command) subs c.in-Some.ensures.some)
+    one_file (subcommand_of program_words words) file c.in-Ok.command (spelled_decode words file is).1
+    (subst (λ used. Names used c.in-Ok.command) subs c.in-Ok.ensures.ok)
 
 pub returns-clause-err : goal.returns-clause-err
 returns-clause-err g c other =
     let words = map g.S.AsStr.text c.args.words.now in
     let app = c.in_ok-program.ensures in
-    let error = c.in_ok-no_command-in-None.field-0 in
+    let error = c.in_ok-usage-in-Err.field-0 in
     let none = subst (λ (a : App). fault_of a words ≡ []) app (c.in_ok-matches.ensures.kinds (ap is_simple_and_free app)) in
-    subst (λ (kinds : Kinds). IsAmong (kind_of error) (or_else kinds (MissingSubcommand ∷ []))) (sym none)
-    (inl c.in_ok-no_command-in-None.ensures)
+    subst (λ (kinds : Kinds). IsAmong (kind_of error) (or_else kinds (ValueValidation ∷ []))) (sym none)
+    (inl c.in_ok-usage-in-Err.ensures)
 
 pub returns-clause-decode : goal.returns-clause-decode
 returns-clause-decode g c file is =
     let words = map g.S.AsStr.text c.args.words.now in
     let app = c.in_ok-program.ensures in
     let subs = (c.in_ok-matches.ensures.matches (ap is_simple app)).1 ∙ ap (λ (a : App). subcommand_of a words) app in
-    absurd (c.in-None.ensures.no_stream refl file (subst (NamesDecode file) (sym subs) (spelled_decode words file is).1))
+    absurd (c.in-Err.ensures.no_stream refl file (subst (NamesDecode file) (sym subs) (spelled_decode words file is).1))
 
 pub returns-clause-none : goal.returns-clause-none
 returns-clause-none g c other command spelled =
     let words = map g.S.AsStr.text c.args.words.now in
     let app = c.in_ok-program.ensures in
     let subs = (c.in_ok-matches.ensures.matches (ap is_simple app)).1 ∙ ap (λ (a : App). subcommand_of a words) app in
-    c.in-None.ensures.none refl command (subst (λ used. Names used command) (sym subs) spelled.1)
+    c.in-Err.ensures.none refl command (subst (λ used. Names used command) (sym subs) spelled.1)
 
 pub returns-in_err-matches-clause-rows : goal.returns-in_err-matches-clause-rows
 returns-in_err-matches-clause-rows g c name =
@@ -81,16 +84,52 @@ returns-in_err-program-clause-rows g c name =
     let r = c.from_residual.result in
     each_row (map g.S.AsStr.text c.args.words.now) r name (λ kind one. memory_is_fault r kind c.from_residual.ensures.1)
 
-pub returns-in-Some-clause-rows : goal.returns-in-Some-clause-rows
-returns-in-Some-clause-rows g c name =
+pub returns-in-Ok-clause-rows : goal.returns-in-Ok-clause-rows
+returns-in-Ok-clause-rows g c name =
     let words = map g.S.AsStr.text c.args.words.now in
     let app = c.in_ok-program.ensures in
     let none = subst (λ (a : App). fault_of a words ≡ []) app (c.in_ok-matches.ensures.kinds (ap is_simple_and_free app)) in
-    each_row words (Ok c.in-Some.command) name (λ kind one. no_row (fault_of program_words words) kind (Ok c.in-Some.command) none one)
+    each_row words (Ok c.in-Ok.command) name (λ kind one. no_row (fault_of program_words words) kind (Ok c.in-Ok.command) none one)
 
 pub returns-clause-rows : goal.returns-clause-rows
 returns-clause-rows g c name =
     let words = map g.S.AsStr.text c.args.words.now in
     let app = c.in_ok-program.ensures in
     let none = subst (λ (a : App). fault_of a words ≡ []) app (c.in_ok-matches.ensures.kinds (ap is_simple_and_free app)) in
-    each_row words (Err c.in_ok-no_command-in-None.field-0) name (λ kind one. no_row (fault_of program_words words) kind (Err c.in_ok-no_command-in-None.field-0) none one)
+    each_row words (Err c.in_ok-usage-in-Err.field-0) name (λ kind one. no_row (fault_of program_words words) kind (Err c.in_ok-usage-in-Err.field-0) none one)
+
+pub returns-in_err-matches-clause-none : goal.returns-in_err-matches-clause-none
+returns-in_err-matches-clause-none g c =
+    let words = map g.S.AsStr.text c.args.words.now in
+    let app = c.in_ok-program.ensures in
+    let error = c.in_err-matches.field-0.0 in
+    let has = subst (λ (a : App). HasKind (fault_of a words) error) app (c.in_err-matches.ensures.kinds (ap is_simple_and_free app)) in
+    unspelled_handed_on c.from_residual-in_err-matches.result error words c.from_residual-in_err-matches.ensures.1
+    (only_memory (fault_of program_words words) error has)
+
+pub returns-in_err-usage-in-Err-clause-none : goal.returns-in_err-usage-in-Err-clause-none
+returns-in_err-usage-in-Err-clause-none g c =
+    memory_is_unspelled c.from_residual-in_err-usage-in-Err.result (map g.S.AsStr.text c.args.words.now) c.from_residual-in_err-usage-in-Err.ensures.1
+
+pub returns-in_err-matches-clause-judge : goal.returns-in_err-matches-clause-judge
+returns-in_err-matches-clause-judge g c config file line =
+    let words = map g.S.AsStr.text c.args.words.now in
+    let app = c.in_ok-program.ensures in
+    let error = c.in_err-matches.field-0.0 in
+    let has = subst (λ (a : App). HasKind (fault_of a words) error) app (c.in_err-matches.ensures.kinds (ap is_simple_and_free app)) in
+    judge_memory_handed_on c.from_residual-in_err-matches.result error words c.from_residual-in_err-matches.ensures.1
+    (only_memory (fault_of program_words words) error has (spelled_right words config.parts file line))
+
+pub returns-in-Ok-clause-judge : goal.returns-in-Ok-clause-judge
+returns-in-Ok-clause-judge g c config file line =
+    let words = map g.S.AsStr.text c.args.words.now in
+    let app = c.in_ok-program.ensures in
+    let subs = (c.in_ok-matches.ensures.matches (ap is_simple app)).1 ∙ ap (λ (a : App). subcommand_of a words) app in
+    judge_of_line words config.parts file line c.in-Ok.command (subst (λ used. Names used c.in-Ok.command) subs c.in-Ok.ensures.ok)
+
+pub returns-clause-judge : goal.returns-clause-judge
+returns-clause-judge g c config file line =
+    let words = map g.S.AsStr.text c.args.words.now in
+    let app = c.in_ok-program.ensures in
+    let subs = (c.in_ok-matches.ensures.matches (ap is_simple app)).1 ∙ ap (λ (a : App). subcommand_of a words) app in
+    absurd (c.in-Err.ensures.no_judge refl config file (subst (NamesJudge config file) (sym subs) (names_judge words config file line)))

@@ -1,4 +1,4 @@
-use Rattle.std.proofs.Common.{rules, ◌≡◌, ◌∙◌, ap, ap₂, true, codes}
+use Rattle.std.proofs.Common.{◌≡◌, ◌∙◌, ap, ap₂, true, codes}
 use Rattle.std.proofs.lemmas.Result.{IfOk-weaker}
 use Rattle.clap.specs.Words.{App, Shape, app_of, new_app, with_subcommand}
 use Rattle.clap.specs.Simple.{app_of_fields, on_top}
@@ -11,5 +11,6 @@ returns c =
     let wanting = ap app_of_fields c.subcommand_required.ensures
     ∙ ap (on_top (λ (s : Shape). record s { subcommand_required = true }))
     (ap app_of_fields c.after_help.ensures ∙ ap app_of_fields c.about.ensures ∙ versioned) in
-    IfOk-weaker c.subcommand.result _ _ (λ program adds.
-    adds.shape c.in_ok-decode.ensures.local ∙ ap₂ with_subcommand wanting (ap (λ (a : App). a.top) c.in_ok-decode.ensures.words)) c.subcommand.ensures
+    let first = c.in_ok-subcommand.ensures.shape c.in_ok-decode.ensures.local ∙ ap₂ with_subcommand wanting (ap (λ (a : App). a.top) c.in_ok-decode.ensures.words) in
+    IfOk-weaker c.subcommand-2.result _ _ (λ program adds.
+    adds.shape c.in_ok-judge.ensures.local ∙ ap₂ with_subcommand first (ap (λ (a : App). a.top) c.in_ok-judge.ensures.words)) c.subcommand-2.ensures

@@ -1,95 +1,18 @@
--- The command that a parse met, by its name and its values; and the words of `decode`.
-use Rattle.std.proofs.Common.{rules, ◌≡◌, ◌≢◌, ◌∙◌, ℕ, List, [], ◌∷◌, length, arith, Option, Some, None, Result, Ok, Err, refl, sym, ap, ap₂, subst, inl, inr, true, false, Bool, codes, option_map}
-use Rattle.std.specs.Prelude.{MatchResult, IfErr, IsErr, IsErrAnd, ◌⊎◌, Box, slice_get, unwrap_or, if◌then◌else◌, ◌==◌}
-use Rattle.std.specs.Box.{box_value}
+-- The words of `decode FILE` spell that command.
+use Rattle.std.proofs.Common.{rules, ◌≡◌, ◌≢◌, ◌∙◌, ℕ, List, [], ◌∷◌, Some, None, refl, sym, ap, ap₂, subst, inl, inr, true, false, Bool, codes}
+use Rattle.std.specs.Prelude.{slice_get, unwrap_or, if◌then◌else◌, ◌==◌}
 use Rattle.std.specs.Str.{bytes_eq}
 use Rattle.std.specs.Option.{option_map_or}
-use Rattle.std.proofs.lemmas.Option.{same_Some}
-use Rattle.clap.specs.Words.{Kinds, Row, Text, HasKind, IsAmong, fault_of, first_of, kind_of, subcommand_of, subcommand_rows}
+use Rattle.clap.specs.Words.{Kinds, Text, fault_of, subcommand_of}
 use Rattle.clap.specs.Kinds.{or_else}
 use Rattle.clap.specs.Lexer.{long_of, short_of}
 use Rattle.clap.specs.Faults.{bundle_fault, check_fault, defaults_fault, flag_word_fault, level_fault, settle_fault, step_fault, word_fault}
 use Rattle.clap.specs.Walk.{Held, Step, Walk, after_step, finished, idle, long_or_other, nothing_held, settled, short_or_plain, trailing, value, walk_from, word_met}
 use Rattle.clap.specs.Simple.{Shape, built, names_of, new_shape}
-use Rattle.clap.specs.declared.error.Error.{Error}
-use Rattle.clap.specs.declared.error.kind.ErrorKind.{ErrorKind}
-use Rattle.clap.specs.declared.error.kind.ErrorKind.TheVariants.{OutOfMemory}
-use Rattle.clap.specs.declared.parser.matches.ArgMatches.TheViews.{out-SubCommand}
-use Rattle.clap.specs.declared.parser.matches.SubCommand.{SubCommand}
 use Rattle.clap.proofs.OnLiterals.{clap_on_literals}
-use Rattle.bgp_words.specs.declared.words.Command.{Command}
-use Rattle.bgp_prefix.specs.declared.session.Session.{Session}
-use Rattle.bgp_words.specs.declared.words.Command.TheVariants.{Decode, Capture}
-use Rattle.bgp_words.specs.Words.{program_words, IsStream, IsCapture, IsCommand, IsUsed, Names, NamesDecode, IsFileWord, IsDecode, IsDecodeOf, IsDecodeOrMemory}
-
--- the name of a met subcommand is that of its rows
-pub same_name : {Z : Type 0} (o : Option (Box SubCommand Z))
-    → option_map (λ p. p.0) (subcommand_rows o) ≡ option_map (λ b. (out-SubCommand (box_value b)).name.now) o
-same_name None = refl
-same_name (Some b) = refl
-
-module _ (name : Text) (values : List Row → Type 0) (rows : List Row) where
-  pub is_used : (used : Option (Text × List Row)) → option_map (λ p. p.0) used ≡ Some name
-      → option_map (λ p. p.1) used ≡ Some rows → values rows → IsUsed name values used
-  is_used None named has good = absurd (search rules)
-  is_used (Some p) named has good = (same_Some _ _ named, subst values (sym (same_Some _ _ has)) good)
-
-  pub is_unused : (used : Option (Text × List Row)) → option_map (λ p. p.1) used ≡ Some rows
-      → (values rows → ⊥) → IsUsed name values used → ⊥
-  is_unused None has bad met = met
-  is_unused (Some p) has bad met = bad (subst values (same_Some _ _ has) met.1)
-
--- one file is read
-pub one_file : (used : Option (Text × List Row)) (file : Text) (command : Command)
-    → NamesDecode file used → Names used command → IsDecodeOf file command
-one_file None file (Decode name) first second = absurd first
-one_file (Some p) file (Decode name) first second =
-    let (_first, is) = first in
-    let (_second, also) = second in
-    let (here, _mrt, _peer, _local) = is in
-    let (there, _mrt, _peer, _local) = also in same_Some _ _ (sym there ∙ here)
-one_file None file (Capture session name) first second = absurd first
-one_file (Some p) file (Capture session name) first second =
-    let (_first, is) = first in
-    let (_second, also) = second in
-    let (_here, not_mrt, _peer, _local) = is in
-    let (_there, mrt, _peer, _local, _refresh) = also in absurd (not_mrt mrt)
-
--- where the values of `decode` are neither, no command is named
-pub uncommanded : (rows : List Row) (command : Command) → ((file : Text) → IsStream file rows → ⊥)
-    → ((session : Session) (file : Text) → IsCapture session file rows → ⊥) → IsCommand command rows → ⊥
-uncommanded rows (Decode file) no_stream no_capture is = no_stream file.now is
-uncommanded rows (Capture session file) no_stream no_capture is = no_capture session file.now is
-
--- an error that is handed on
-pub handed_on : {T E : Type 0} (r : Result T E) (e : E) (P : E → Type 0) → IsErrAnd r (λ y. y ≡ e) → P e → IfErr r P
-handed_on (Ok x) e P is p = tt
-handed_on (Err y) e P is p = subst P (sym is) p
-
-pub memory_handed_on : (r : Result Command Error) (e : Error) (file : Text) → IsErrAnd r (λ y. y ≡ e)
-    → kind_of e ≡ OutOfMemory → IsDecodeOrMemory file r
-memory_handed_on (Ok x) e file is p = absurd is
-memory_handed_on (Err y) e file is p = subst (λ (z : Error). kind_of z ≡ OutOfMemory) (sym is) p
-
--- a kind of the first list
-pub among_first : (k : ErrorKind) (kinds next : Kinds) → IsAmong k kinds → IsAmong k (or_else kinds next)
-among_first k [] next among = absurd among
-among_first k (x ∷ xs) next among = among
-
-pub known_kind : (kinds next : Kinds) (e : Error) → HasKind kinds e → kind_of e ≢ OutOfMemory
-    → IsAmong (kind_of e) (or_else kinds next)
-known_kind kinds next e has other = elim has [
-  | inl memory ↦ absurd (other memory)
-  | inr among ↦ among_first (kind_of e) kinds next among
-]
-
-pub only_memory : (kinds : Kinds) (e : Error) → HasKind kinds e → kinds ≡ [] → kind_of e ≡ OutOfMemory
-only_memory kinds e has none = elim (subst (λ (ks : Kinds). HasKind ks e) none has) [
-  | inl memory ↦ memory
-  | inr among ↦ absurd among
-]
-
--- ---- the words of `decode`
+use Rattle.bgp_words.specs.Words.{program_words}
+use Rattle.bgp_words.specs.Decode.{IsStream, IsFileWord, IsDecode}
+use Rattle.bgp_words.specs.Spelled.{NamesDecode}
 
 -- a word that names a file is no flag
 pub no_dash : (x : ℕ) (xs : Text) → x ≢ 45 → (x == 45) ≡ false
@@ -99,21 +22,17 @@ abbrev pub IsSpelled : List Text → Text → Type 0
 IsSpelled words file =
     (fault_of program_words words ≡ []) × NamesDecode file (subcommand_of program_words words)
 
--- the flag isn't given
-no_flag : Some (codes "false") ≡ Some (codes "true") → ⊥
-no_flag same = let bad : 102 ≡ 116 = ap (λ (o : Option Text). unwrap_or (slice_get (unwrap_or o []) 0) 0) same in absurd (omega (arith, bad))
-
 pub behind_dashes : (name file : Text) → IsSpelled (name ∷ codes "decode" ∷ codes "--" ∷ file ∷ []) file
 unfolding clap_on_literals
-behind_dashes name file = (refl, (refl, (refl, no_flag, refl, refl)))
+behind_dashes name file = (refl, (refl, (refl, refl, refl, refl)))
 
 pub a_dash : (name : Text) → IsSpelled (name ∷ codes "decode" ∷ codes "-" ∷ []) (codes "-")
 unfolding clap_on_literals
-a_dash name = (refl, (refl, (refl, no_flag, refl, refl)))
+a_dash name = (refl, (refl, (refl, refl, refl, refl)))
 
 pub no_word : (name : Text) → IsSpelled (name ∷ codes "decode" ∷ [] ∷ []) []
 unfolding clap_on_literals
-no_word name = (refl, (refl, (refl, no_flag, refl, refl)))
+no_word name = (refl, (refl, (refl, refl, refl, refl)))
 
 -- what `decode` reads, once the program is built
 abbrev decode_shape : Shape
@@ -172,7 +91,7 @@ module _ (w : Text) where
 
     stream_is : stream_by (nothing_held, value)
     unfolding clap_on_literals
-    stream_is = (refl, no_flag, refl, refl)
+    stream_is = (refl, refl, refl, refl)
 
     whole_passes : (name : Text) → fault_of program_words (name ∷ codes "decode" ∷ w ∷ [])
         ≡ whole_by (level_fault decode_shape [] nothing_held (w ∷ []) false [])

@@ -1,0 +1,115 @@
+-- A line of words that is `judge` with a configuration and a file.
+use Rattle.std.proofs.Common.{rules, ◌≡◌, ◌∙◌, List, [], Some, arith, refl, sym, ap, subst, inl, inr, codes, true, false}
+use Rattle.std.specs.Prelude.{slice_get, unwrap_or}
+use Rattle.std.proofs.lemmas.Option.{same_Some}
+use Rattle.clap.specs.Words.{Row, Text, fault_of, first_of, subcommand_of}
+use Rattle.bgp_open.specs.declared.config.Config.{Config}
+use Rattle.bgp_open.specs.declared.config.ConfigParts.{ConfigParts}
+use Rattle.bgp_open.specs.declared.families.Families.{Families}
+use Rattle.bgp_words.specs.Decode.{IsDecoding}
+use Rattle.bgp_words.specs.Judge.{AreParts, IsJudge, IsJudgeLine, IsJudgeOf, IsJudging}
+use Rattle.bgp_words.specs.Spelled.{IsUsed, Names, NamesJudge}
+use Rattle.bgp_words.specs.Values.{IsFamiliesText, IsHoldText, IsPositiveText}
+use Rattle.bgp_words.specs.Words.{program_words}
+use Rattle.bgp_words.specs.declared.words.Command.{Command}
+use Rattle.bgp_words.specs.declared.words.Command.TheVariants.{Decode, Capture, Judge}
+use Rattle.bgp_words.proofs.NamedCommand.{two_names}
+use Rattle.bgp_words.proofs.PlainWords.{plain}
+use Rattle.bgp_words.proofs.SpelledJudge.{faultless, file_found, found_rows, named_judge, parts_found, parts_told}
+
+-- the values of what isn't told
+ninety : IsHoldText (codes "90") 90
+ninety = (
+  search rules,
+  omega arith,
+  λ bad. elim bad [
+    | inl one ↦ absurd (omega (arith, one))
+    | inr two ↦ absurd (omega (arith, two))
+  ],
+)
+
+two_hundred_forty : IsPositiveText (codes "240") 240
+two_hundred_forty = (search rules, omega arith, λ zero. absurd (omega (arith, zero)))
+
+no_v6 : codes "v4" ≡ codes "v6" → ⊥
+no_v6 same = let bad : 52 ≡ 54 = ap (λ (t : Text). unwrap_or (slice_get t 1) 0) same in absurd (omega (arith, bad))
+
+no_both : codes "v4" ≡ codes "both" → ⊥
+no_both same = let bad : 52 ≡ 111 = ap (λ (t : Text). unwrap_or (slice_get t 1) 0) same in absurd (omega (arith, bad))
+
+only_v4 : (families : Families) → IsFamiliesText (codes "v4") families → families ≡ record { v4 = true; v6 = false }
+only_v4 families is = elim is [
+  | inl v4 ↦ v4.1
+  | inr other ↦ elim other [
+    | inl v6 ↦ absurd (no_v6 v6.0)
+    | inr both ↦ absurd (no_both both.0)
+  ]
+]
+
+module _ (words : List Text) (parts : ConfigParts) (file : Text) (line : IsJudgeLine words parts file) where
+  abbrev rows : List Row
+  rows = found_rows line.name line.local_as line.peer_as line.local_id line.local line.peer file (plain line.local_as line.no_flags.0)
+      (plain line.peer_as line.no_flags.1) (plain line.local_id line.no_flags.2) (plain line.local line.no_flags.3)
+      (plain line.peer line.no_flags.4) (plain file line.no_flags.5)
+
+  used : subcommand_of program_words words ≡ Some (codes "judge", rows)
+  used = ap (subcommand_of program_words) line.spelled ∙ named_judge line.name line.local_as line.peer_as line.local_id line.local
+      line.peer file (plain line.local_as line.no_flags.0) (plain line.peer_as line.no_flags.1) (plain line.local_id line.no_flags.2)
+      (plain line.local line.no_flags.3) (plain line.peer line.no_flags.4) (plain file line.no_flags.5)
+
+  pub spelled_right : fault_of program_words words ≡ []
+  spelled_right = ap (fault_of program_words) line.spelled ∙ faultless line.name line.local_as line.peer_as line.local_id line.local
+      line.peer file (plain line.local_as line.no_flags.0) (plain line.peer_as line.no_flags.1) (plain line.local_id line.no_flags.2)
+      (plain line.local line.no_flags.3) (plain line.peer line.no_flags.4) (plain file line.no_flags.5)
+
+  there : first_of (codes "FILE") rows ≡ Some file
+  there = file_found line.name line.local_as line.peer_as line.local_id line.local line.peer file (plain line.local_as line.no_flags.0)
+      (plain line.peer_as line.no_flags.1) (plain line.local_id line.no_flags.2) (plain line.local line.no_flags.3)
+      (plain line.peer line.no_flags.4) (plain file line.no_flags.5)
+
+  are_parts : AreParts parts rows
+  are_parts = parts_found line.name line.local_as line.peer_as line.local_id line.local line.peer file
+      (plain line.local_as line.no_flags.0) (plain line.peer_as line.no_flags.1) (plain line.local_id line.no_flags.2)
+      (plain line.local line.no_flags.3) (plain line.peer line.no_flags.4) (plain file line.no_flags.5) parts
+      line.as_numbers.0 line.as_numbers.1 line.identifier line.ends.0 line.ends.1 line.refresh
+      (subst (IsHoldText (codes "90")) (sym line.holds.0) ninety)
+      (subst (IsPositiveText (codes "240")) (sym line.holds.1) two_hundred_forty)
+      (inl (refl, line.families)) line.flags.0 line.flags.1
+
+  of_judging : (command : Command) → IsJudging command rows → IsJudgeOf words command
+  of_judging (Decode f) is = is
+  of_judging (Capture session f) is = is
+  of_judging (Judge config f) is =
+      let tells = parts_told line.name line.local_as line.peer_as line.local_id line.local line.peer file
+      (plain line.local_as line.no_flags.0) (plain line.peer_as line.no_flags.1) (plain line.local_id line.no_flags.2)
+      (plain line.local line.no_flags.3) (plain line.peer line.no_flags.4) (plain file line.no_flags.5) config.parts is.0 in
+      subst (IsJudgeLine words config.parts) (same_Some _ _ (sym there ∙ is.1)) (record {
+        name = line.name;
+        local_as = line.local_as;
+        peer_as = line.peer_as;
+        local_id = line.local_id;
+        local = line.local;
+        peer = line.peer;
+        spelled = line.spelled;
+        no_flags = line.no_flags;
+        as_numbers = (tells.0, tells.1);
+        identifier = tells.2;
+        ends = (tells.3, tells.4);
+        refresh = tells.5;
+        holds = (sym tells.6.0.1, sym tells.7.0.1);
+        families = only_v4 config.parts.families tells.8;
+        flags = (tells.9, tells.10);
+      })
+
+  pub judge_of_line : (command : Command) → Names (subcommand_of program_words words) command → IsJudgeOf words command
+  judge_of_line command names = elim names [
+    | inl decode ↦ absurd (two_names (sym (subst (IsUsed (codes "decode") (IsDecoding command)) used decode).0))
+    | inr judge ↦ of_judging command (subst (IsUsed (codes "judge") (IsJudging command)) used judge).1
+  ]
+
+-- such a line of a configuration names it
+pub names_judge : (words : List Text) (config : Config) (file : Text) → IsJudgeLine words config.parts file
+    → NamesJudge config file (subcommand_of program_words words)
+names_judge words config file line =
+    subst (IsUsed (codes "judge") (IsJudge config file)) (sym (used words config.parts file line))
+    (refl, (are_parts words config.parts file line, there words config.parts file line))

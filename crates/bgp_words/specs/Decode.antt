@@ -1,0 +1,44 @@
+-- The values of `decode`: a file, and for a capture the session.
+use Rattle.std.specs.Prelude.{◌≡◌, ◌⊎◌, true, false, List, [], ◌∷◌, Some, None}
+use Rattle.std.specs.Prelude.{codes}
+use Rattle.clap.specs.Words.{Row, Text, first_of}
+use Rattle.bgp_prefix.specs.Notation.{IsAddressText}
+use Rattle.bgp_prefix.specs.declared.session.Session.{Session}
+use Rattle.bgp_words.specs.Values.{IsNoFlag, IsValue, is_given}
+use Rattle.bgp_words.specs.declared.words.Command.{Command}
+use Rattle.bgp_words.specs.declared.words.Command.TheVariants.{Decode, Capture, Judge}
+
+-- the values of `decode FILE`: no other word is given
+abbrev pub IsStream : Text → List Row → Type 0
+IsStream file rows =
+    (first_of (codes "FILE") rows ≡ Some file) × (is_given (codes "mrt") rows ≡ false)
+    × (first_of (codes "peer") rows ≡ None) × (first_of (codes "local") rows ≡ None)
+
+-- the values of `decode --mrt --peer A --local A FILE`, of a session without route refresh
+abbrev pub IsCapture : Session → Text → List Row → Type 0
+IsCapture session file rows =
+    (first_of (codes "FILE") rows ≡ Some file) × (is_given (codes "mrt") rows ≡ true)
+    × IsValue IsAddressText (codes "peer") rows session.peer
+    × IsValue IsAddressText (codes "local") rows session.local × (session.refresh ≡ false)
+
+-- the command that the values of `decode` are
+abbrev pub IsDecoding : Command → List Row → Type 0
+IsDecoding (Decode file) rows = IsStream file.now rows
+IsDecoding (Capture session file) rows = IsCapture session file.now rows
+IsDecoding (Judge config file) rows = ⊥
+
+-- a word that names a file: it is no flag, or a dash alone
+abbrev pub IsFileWord : Text → Type 0
+IsFileWord word = (word ≡ codes "-") ⊎ IsNoFlag word
+
+-- The words are `decode FILE` behind the program's name. Behind `--` any word is a file.
+abbrev pub IsDecode : List Text → Text → Type 0
+IsDecode words file = (name : Text)
+    × (((words ≡ name ∷ codes "decode" ∷ file ∷ []) × IsFileWord file)
+    ⊎ (words ≡ name ∷ codes "decode" ∷ codes "--" ∷ file ∷ []))
+
+-- the command is `decode` of this file
+abbrev pub IsDecodeOf : Text → Command → Type 0
+IsDecodeOf text (Decode file) = file.now ≡ text
+IsDecodeOf text (Capture session file) = ⊥
+IsDecodeOf text (Judge config file) = ⊥

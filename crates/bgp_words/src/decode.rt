@@ -1,0 +1,97 @@
+//! The words of `decode`.
+
+ghost use Rattle.std.specs.Prelude.{◌≡◌, ℕ, List, IfOk, IsErr, false};
+ghost use Rattle.clap.specs.Words.{app_of, found_of, rows_of};
+ghost use Rattle.clap.specs.declared.builder.command.Command.TheViews.{out-Command as fields_of};
+ghost use Rattle.bgp_words.specs.Words.{decode_words};
+ghost use Rattle.bgp_words.specs.Decode.{IsStream, IsCapture, IsDecoding};
+
+use crate::misfit::Misfit;
+use crate::options::{file, flag, option};
+use crate::values::{address_of, has_flag, has_value, value_of};
+use crate::words::Command;
+use bgp_prefix::Session;
+use clap::ArgMatches;
+use std::alloc::{AllocError, Global};
+
+/// What help tells behind the words of `decode`: the statuses, and the lines with an example each.
+const LINES: &str = "\
+Exit status:
+  0   all octets were whole messages; or help was asked for
+  2   the stream ends inside a message
+  3   the stream stops being BGP, or the capture is refused
+  4   memory was refused
+  5   a file can't be opened or read, or output can't be written
+  64  the command line is none that the program knows
+
+decode prints one line a message:
+  open as 65002 hold 90 id 192.0.2.2 caps 1:00010001 65:0000fdea
+                        AS number, hold time, BGP identifier, capabilities CODE:HEX
+  open malformed 1      an OPEN whose form is wrong: 1 its version, 4 a parameter that is no
+                        capability, 0 a length or a parameter that doesn't fit
+  update 10.2.0.0/16 | 64.1:00 | -
+                        withdrawn prefixes, attributes FLAGS.TYPE:HEX, announced prefixes
+  update malformed      an UPDATE in which a length, a prefix or the last attribute doesn't fit
+  notification 6/2 -    error code, subcode, data in hexadecimal
+  keepalive
+and last, where there is something to tell:
+  rest 10               the stream ends 10 octets into a message
+  fault at 19 1/2       the header at octet 19 is wrong: 1/1 its marker, 1/2 its length,
+                        1/3 its type
+decode --mrt prints one line a record of the session:
+  @1500000000 received keepalive
+  @1500000000 sent notification 6/2 -
+  @1500000000 received fault 1/2
+                        the second, and a message as above or the fault of its header
+  @1500000000 change 5 6
+                        the states before and after: 1 Idle, 2 Connect, 3 Active, 4 OpenSent,
+                        5 OpenConfirm, 6 Established
+and last, where it stops:
+  capture refused: 1 Truncated at 36
+                        the reason's number and name, and the offset of the record
+A dash stands for nothing.
+
+The manual is README.md, at the top of the repository.";
+
+/// What the words of `decode` may be.
+pub(crate) fn decode_words<'a>(alloc: Global) -> Result<clap::Command<'a>, AllocError>
+    ensures words { IfOk result (λ decode. app_of decode ≡ decode_words) }
+    ensures local { IfOk result (λ decode. (fields_of decode).has_globals ≡ false) }
+{
+    let about = "Prints the BGP messages of a raw stream or of a capture, one a line";
+    let mrt = "FILE is a capture of MRT records: prints those of one session";
+    let peer = "The address of the session's peer, with --mrt";
+    let local = "The address of the system that recorded the session, with --mrt";
+    clap::Command::new(alloc, "decode")
+        .about(about)
+        .after_help(LINES)
+        .arg(file(alloc))?
+        .arg(flag(alloc, "mrt", mrt))?
+        .arg(option(alloc, "peer", peer))?
+        .arg(option(alloc, "local", local))
+}
+
+/// The command that the values of `decode` are. The flag and both addresses are given, or none.
+pub(crate) fn decode_of<'a>(decode: &ArgMatches<'a>) -> Result<Command<'a>, Misfit<'a>>
+    ensures ok { IfOk result (λ command. IsDecoding command (rows_of (found_of decode.now))) }
+    ensures no_stream { IsErr result → (file : List ℕ) →
+        IsStream file (rows_of (found_of decode.now)) → ⊥ }
+    ensures no_capture { IsErr result → (session : Session) (file : List ℕ) →
+        IsCapture session file (rows_of (found_of decode.now)) → ⊥ }
+{
+    let file = value_of(decode, "FILE")?;
+    if has_flag(decode, "mrt") {
+        let peer = address_of(decode, "peer")?;
+        let local = address_of(decode, "local")?;
+        let session = Session {
+            peer,
+            local,
+            refresh: false,
+        };
+        return Ok(Command::Capture { session, file });
+    }
+    if has_value(decode, "peer") || has_value(decode, "local") {
+        return Err(Misfit::Missing { name: "mrt" });
+    }
+    Ok(Command::Decode { file })
+}

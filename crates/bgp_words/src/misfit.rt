@@ -1,0 +1,72 @@
+//! Why words that clap takes spell no command.
+
+use std::fmt;
+use std::fmt::Display;
+
+/// What an option wants for its value.
+#[derive(Clone, Copy, Debug, PartialEq, Eq)]
+pub(crate) enum Wanted {
+    /// An address of either family.
+    Address,
+    /// A BGP Identifier (RFC 6286, 2.1).
+    Identifier,
+    /// A number of 32 bits that isn't 0.
+    Positive,
+    /// A Hold Time (RFC 4271, 4.2).
+    HoldTime,
+    /// The families that are offered.
+    Families,
+}
+
+impl Display for Wanted {
+    fn fmt<W: fmt::Write>(&self, f: &mut fmt::Formatter<W>) -> fmt::Result {
+        f.write_str(match self {
+            Wanted::Address => "an address, as 192.0.2.1 or 2001:db8::1",
+            Wanted::Identifier => "an IPv4 address that isn't 0.0.0.0, as 192.0.2.1",
+            Wanted::Positive => "a number from 1 to 4294967295",
+            Wanted::HoldTime => "0 or a number of seconds from 3 to 65535",
+            Wanted::Families => "v4, v6 or both",
+        })
+    }
+}
+
+/// Why words that clap takes are no command: one sentence.
+#[derive(Clone, Copy, Debug, PartialEq, Eq)]
+pub(crate) enum Misfit<'a> {
+    /// None was named.
+    NoCommand,
+    /// An option is missing beside others.
+    Missing {
+        /// The option's name.
+        name: &'a str,
+    },
+    /// The value of an option isn't what it wants.
+    Value {
+        /// The option's name.
+        name: &'a str,
+        /// Its value.
+        word: &'a str,
+        /// What it wants.
+        wanted: Wanted,
+    },
+    /// An AS number has more than two octets, and four-octet ones aren't offered.
+    FourOctets,
+}
+
+impl Display for Misfit<'_> {
+    fn fmt<W: fmt::Write>(&self, f: &mut fmt::Formatter<W>) -> fmt::Result {
+        match *self {
+            Misfit::NoCommand => f.write_str("no command is named"),
+            Misfit::Missing { name } => write!(
+                f,
+                "--{name} is missing: --mrt, --peer and --local go together"
+            ),
+            Misfit::Value { name, word, wanted } => {
+                write!(f, "--{name} wants {wanted}, and {word:?} is none")
+            }
+            Misfit::FourOctets => {
+                f.write_str("with --as2, --local-as and --peer-as want numbers up to 65535")
+            }
+        }
+    }
+}

@@ -1,0 +1,98 @@
+//! The values of options, read from the words that clap found.
+
+ghost use Rattle.std.specs.Prelude.{◌≡◌, ◌↔◌, ℕ, IfOk, IsErr, IsOkAnd, Some, None};
+ghost use Rattle.std.specs.Prelude.{IsNone, is_some};
+ghost use Rattle.clap.specs.Words.{found_of, rows_of, first_of};
+ghost use Rattle.bgp_prefix.specs.Notation.{IsAddressText};
+ghost use Rattle.bgp_prefix.specs.declared.address.Address.{Address as Ip};
+ghost use Rattle.bgp_open.specs.declared.families.Families.{Families as FamilySet};
+ghost use Rattle.bgp_words.specs.Values.{IsValue, is_given, IsPositiveText, IsHoldText};
+ghost use Rattle.bgp_words.specs.Values.{IsIdentifierText, IsFamiliesText};
+
+use crate::misfit::{Misfit, Wanted};
+use crate::texts::{read_families, read_hold, read_identifier, read_positive};
+use bgp_open::Families;
+use bgp_prefix::{Address, read_address};
+use clap::ArgMatches;
+
+/// A value by its name.
+pub(crate) fn value_of<'a>(matches: &ArgMatches<'a>, name: &'a str) -> Result<&'a str, Misfit<'a>>
+    ensures ok { IfOk result (λ word.
+        first_of name.now (rows_of (found_of matches.now)) ≡ Some word.now) }
+    ensures err { IsErr result → first_of name.now (rows_of (found_of matches.now)) ≡ None }
+{
+    match matches.get_str(name) {
+        Some(word) => Ok(word),
+        None => Err(Misfit::Missing { name }),
+    }
+}
+
+/// Whether a flag is given.
+pub(crate) fn has_flag(matches: &ArgMatches<'_>, name: &str) -> bool
+    ensures { result ≡ is_given name.now (rows_of (found_of matches.now)) }
+{
+    match matches.get_str(name) {
+        Some(word) => word == "true",
+        None => false,
+    }
+}
+
+/// Whether an option has a value.
+pub(crate) fn has_value(matches: &ArgMatches<'_>, name: &str) -> bool
+    ensures { result ≡ is_some (first_of name.now (rows_of (found_of matches.now))) }
+{
+    matches.get_str(name).is_some()
+}
+
+/// The address that an option names.
+pub(crate) fn address_of<'a>(matches: &ArgMatches<'a>, name: &'a str) -> Result<Address, Misfit<'a>>
+    ensures { (address : Ip) → IsOkAnd result (λ it. it ≡ address)
+        ↔ IsValue IsAddressText name.now (rows_of (found_of matches.now)) address }
+{
+    let word = value_of(matches, name)?;
+    let wanted = Wanted::Address;
+    read_address(word).ok_or(Misfit::Value { name, word, wanted })
+}
+
+/// The BGP Identifier that an option names.
+pub(crate) fn identifier_of<'a>(matches: &ArgMatches<'a>, name: &'a str) -> Result<u32, Misfit<'a>>
+    ensures { (id : ℕ) → IsOkAnd result (λ it. it ≡ id)
+        ↔ IsValue IsIdentifierText name.now (rows_of (found_of matches.now)) id }
+{
+    let word = value_of(matches, name)?;
+    let wanted = Wanted::Identifier;
+    read_identifier(word).ok_or(Misfit::Value { name, word, wanted })
+}
+
+/// The number that an option names, which isn't 0.
+pub(crate) fn positive_of<'a>(matches: &ArgMatches<'a>, name: &'a str) -> Result<u32, Misfit<'a>>
+    ensures { (number : ℕ) → IsOkAnd result (λ it. it ≡ number)
+        ↔ IsValue IsPositiveText name.now (rows_of (found_of matches.now)) number }
+{
+    let word = value_of(matches, name)?;
+    let wanted = Wanted::Positive;
+    read_positive(word).ok_or(Misfit::Value { name, word, wanted })
+}
+
+/// The Hold Time that an option names.
+pub(crate) fn hold_of<'a>(matches: &ArgMatches<'a>, name: &'a str) -> Result<u16, Misfit<'a>>
+    ensures { (hold : ℕ) → IsOkAnd result (λ it. it ≡ hold)
+        ↔ IsValue IsHoldText name.now (rows_of (found_of matches.now)) hold }
+{
+    let word = value_of(matches, name)?;
+    let wanted = Wanted::HoldTime;
+    read_hold(word).ok_or(Misfit::Value { name, word, wanted })
+}
+
+/// The families that an option names.
+pub(crate) fn families_of<'a>(
+    matches: &ArgMatches<'a>,
+    name: &'a str,
+) -> Result<Families, Misfit<'a>>
+    ensures { (families : FamilySet) → IsOkAnd result (λ it. it ≡ families)
+        ↔ IsValue IsFamiliesText name.now (rows_of (found_of matches.now)) families }
+{
+    let word = value_of(matches, name)?;
+    let wanted = Wanted::Families;
+    read_families(word).ok_or(Misfit::Value { name, word, wanted })
+}
