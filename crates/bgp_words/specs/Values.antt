@@ -1,4 +1,4 @@
--- The values of options, as texts: numbers, a BGP Identifier, families, and whether a flag is given.
+-- The values of options, as texts: numbers, a BGP Identifier and families; whether a flag is given.
 use Rattle.std.specs.Prelude.{◌≡◌, ◌≢◌, ◌<◌, ◌^◌, ◌⊎◌, ℕ, Bool, true, false, List, codes}
 use Rattle.std.specs.Prelude.{Some, IsSomeAnd, slice_get}
 use Rattle.std.specs.Option.{option_map_or}
