@@ -8,7 +8,7 @@ mod negotiation;
 mod reading;
 mod writing;
 
-use bgp_open::{Config, ConfigParts, Families, OpenSubcodes};
+use bgp_open::{Config, ConfigParts, Families, Link, OpenSubcodes, negotiate, read_open};
 use bgp_prefix::{Address, Session};
 use std::alloc::{AllocError, Global};
 use std::process::Abort;
@@ -53,6 +53,16 @@ const PARTS_B: ConfigParts = ConfigParts {
 
 const BOTH: Families = Families { v4: true, v6: true };
 
+/// The configuration of these parts.
+fn config_of(rt: &impl Abort, parts: ConfigParts) -> Config {
+    Config::new(parts).expect(rt, "no configuration")
+}
+
+/// What the local system's configuration and a peer's OPEN settle.
+fn link_with(rt: &impl Abort, config: &Config, open: &[u8]) -> Link {
+    negotiate(config, &read_open(open).ok().expect(rt, "no OPEN"))
+}
+
 /// A message: an all-255 marker, the Length, the Type, and the body.
 fn message(alloc: Global, kind: u8, body: &[u8]) -> Result<Vec<u8>, AllocError>
     requires { length body.now < 256 }
@@ -71,15 +81,27 @@ const FIELDS: [u8; 8] = [
     0xc0, 0x00, 0x02, 0x02, // BGP Identifier: 192.0.2.2
 ];
 
-/// An OPEN of a version that ends with these octets: the Optional Parameters Length and what
-/// follows.
-fn open_with(alloc: Global, version: u8, behind: &[u8]) -> Result<Vec<u8>, AllocError>
+/// An OPEN of a version with these fixed fields, which ends with these octets: the Optional
+/// Parameters Length and what follows.
+fn open_of(
+    alloc: Global,
+    version: u8,
+    fields: &[u8; 8],
+    behind: &[u8],
+) -> Result<Vec<u8>, AllocError>
     requires { length behind.now < 200 }
 {
     let mut body = vec![in alloc; version; 1]?;
-    body.extend_from_slice(&FIELDS)?;
+    body.extend_from_slice(fields)?;
     body.extend_from_slice(behind)?;
     message(alloc, 1, &body)
+}
+
+/// An OPEN of router B.
+fn open_with(alloc: Global, version: u8, behind: &[u8]) -> Result<Vec<u8>, AllocError>
+    requires { length behind.now < 200 }
+{
+    open_of(alloc, version, &FIELDS, behind)
 }
 
 /// The set has these subcodes and no others, and 1 only with its data.

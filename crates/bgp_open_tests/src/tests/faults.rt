@@ -3,7 +3,6 @@
 use super::*;
 use bgp_open::{OpenFaults, open_faults};
 use bgp_wire::vectors::{KEEPALIVE, OPEN_B};
-use std::test::Fail;
 
 /// An OPEN of version 4.
 #[derive(Clone, Copy)]
@@ -19,9 +18,17 @@ struct Said<'a> {
 
 const ALL_OF_MALFORMED: [u8; 6] = [0, 2, 3, 4, 6, 7];
 
+/// The octets are an OPEN with just these faults.
+fn assert_faults(rt: &impl Abort, config: &Config, octets: &[u8], row: (&[u8], &[u8], &str)) {
+    let (must, may, lesson) = row;
+    let faults = open_faults(config, octets);
+    assert_subcodes(rt, &faults.must, must, lesson);
+    assert_subcodes(rt, &faults.may, may, lesson);
+}
+
 #[test]
-fn each_mandatory_fault_stands_alone_and_with_another(rt: HostRuntime) -> Result<(), Fail> {
-    let config = Config::new(PARTS_A).ok_or("a configuration")?;
+fn each_mandatory_fault_stands_alone_and_with_another(rt: HostRuntime) -> Result<(), AllocError> {
+    let config = config_of(&rt, PARTS_A);
     let rows = [
         Said {
             lesson: "none",
@@ -193,25 +200,19 @@ fn each_mandatory_fault_stands_alone_and_with_another(rt: HostRuntime) -> Result
         },
     ];
     for row in rows {
-        let mut body = vec![in rt.alloc(); 4; 1]?;
-        body.extend_from_slice(&row.fields)?;
-        body.extend_from_slice(row.behind)?;
-        assert!(rt; body.len() < 256);
-        let faults = open_faults(&config, &message(rt.alloc(), 1, &body)?);
-        assert_subcodes(&rt, &faults.must, row.must, row.lesson);
-        assert_subcodes(&rt, &faults.may, &[6, 7], row.lesson);
+        assert!(rt; row.behind.len() < 200);
+        let octets = open_of(rt.alloc(), 4, &row.fields, row.behind)?;
+        assert_faults(&rt, &config, &octets, (row.must, &[6, 7], row.lesson));
     }
     Ok(())
 }
 
 #[test]
-fn nothing_else_is_read_of_another_version(rt: HostRuntime) -> Result<(), Fail> {
-    let config = Config::new(PARTS_A).ok_or("a configuration")?;
+fn nothing_else_is_read_of_another_version(rt: HostRuntime) -> Result<(), AllocError> {
+    let config = config_of(&rt, PARTS_A);
     let mut version_3 = OPEN_B;
     version_3[19] = 3;
-    let faults = open_faults(&config, &version_3);
-    assert_subcodes(&rt, &faults.must, &[1], "version 3");
-    assert_subcodes(&rt, &faults.may, &[], "version 3");
+    assert_faults(&rt, &config, &version_3, (&[1], &[], "version 3"));
 
     // Hold Time 1, identifier 0 and a parameter that runs over.
     let faulty = message(
@@ -219,15 +220,14 @@ fn nothing_else_is_read_of_another_version(rt: HostRuntime) -> Result<(), Fail> 
         1,
         &[3, 0xfd, 0xea, 0x00, 0x01, 0, 0, 0, 0, 2, 2, 1],
     )?;
-    let faults = open_faults(&config, &faulty);
-    assert_subcodes(&rt, &faults.must, &[1], "version 3 with other faults");
-    assert_subcodes(&rt, &faults.may, &[], "version 3 with other faults");
+    let row: (&[u8], &[u8], &str) = (&[1], &[], "version 3 with other faults");
+    assert_faults(&rt, &config, &faulty, row);
     Ok(())
 }
 
 #[test]
-fn a_changed_field_of_open_b_makes_a_fault(rt: HostRuntime) -> Result<(), Fail> {
-    let config = Config::new(PARTS_A).ok_or("a configuration")?;
+fn a_changed_field_of_open_b_makes_a_fault(rt: HostRuntime) {
+    let config = config_of(&rt, PARTS_A);
     let mut hold_1 = OPEN_B;
     hold_1[23] = 1; // Hold Time: 1
     let mut other_as = OPEN_B;
@@ -236,32 +236,29 @@ fn a_changed_field_of_open_b_makes_a_fault(rt: HostRuntime) -> Result<(), Fail> 
     no_identifier[24] = 0;
     no_identifier[26] = 0;
     no_identifier[27] = 0; // BGP Identifier: 0
-    let rows: [(&str, &[u8], &[u8]); 4] = [
+    let rows: [(&str, &[u8], &[u8]); 5] = [
         ("as it is", &OPEN_B, &[]),
         ("Hold Time 1", &hold_1, &[6]),
         ("My Autonomous System 65003", &other_as, &[]),
         ("identifier 0", &no_identifier, &[3]),
+        ("a KEEPALIVE", &KEEPALIVE, &ALL_OF_MALFORMED),
     ];
     for (lesson, octets, must) in rows {
-        let faults = open_faults(&config, octets);
-        assert_subcodes(&rt, &faults.must, must, lesson);
-        assert_subcodes(&rt, &faults.may, &[6, 7], lesson);
+        assert_faults(&rt, &config, octets, (must, &[6, 7], lesson));
     }
-    let no_open = open_faults(&config, &KEEPALIVE);
-    assert_subcodes(&rt, &no_open.must, &ALL_OF_MALFORMED, "a KEEPALIVE");
-    assert_subcodes(&rt, &no_open.may, &[6, 7], "a KEEPALIVE");
-    Ok(())
 }
 
 #[test]
-fn what_is_configured_decides_on_as_and_identifier(rt: HostRuntime) -> Result<(), Fail> {
+fn what_is_configured_decides_on_as_and_identifier(rt: HostRuntime) {
     // An internal peer must not have the local system's identifier.
-    let internal = Config::new(ConfigParts {
-        local_as: 65002,
-        local_id: 0xc000_0202,
-        ..PARTS_A
-    })
-    .ok_or("a configuration")?;
+    let internal = config_of(
+        &rt,
+        ConfigParts {
+            local_as: 65002,
+            local_id: 0xc000_0202,
+            ..PARTS_A
+        },
+    );
     let faults = open_faults(&internal, &OPEN_B);
     assert_subcodes(&rt, &faults.must, &[3], "the local system's identifier");
     let mut hold_1 = OPEN_B;
@@ -270,21 +267,22 @@ fn what_is_configured_decides_on_as_and_identifier(rt: HostRuntime) -> Result<()
     assert_subcodes(&rt, &faults.must, &[3, 6], "and Hold Time 1");
 
     // Without four-octet AS numbers My Autonomous System counts, whatever the capability says.
-    let two_octets = Config::new(ConfigParts {
-        as4: false,
-        ..PARTS_A
-    })
-    .ok_or("a configuration")?;
+    let two_octets = config_of(
+        &rt,
+        ConfigParts {
+            as4: false,
+            ..PARTS_A
+        },
+    );
     let mut other_as = OPEN_B;
     other_as[21] = 0xeb; // My Autonomous System: 65003
     let faults = open_faults(&two_octets, &other_as);
     assert_subcodes(&rt, &faults.must, &[2], "My Autonomous System 65003");
-    Ok(())
 }
 
 #[test]
-fn equal_faults_have_equal_fields(rt: HostRuntime) -> Result<(), Fail> {
-    let config = Config::new(PARTS_A).ok_or("a configuration")?;
+fn equal_faults_have_equal_fields(rt: HostRuntime) {
+    let config = config_of(&rt, PARTS_A);
     let faults = open_faults(&config, &OPEN_B);
     let none = OpenSubcodes::NONE;
     let rows = [
@@ -333,7 +331,6 @@ fn equal_faults_have_equal_fields(rt: HostRuntime) -> Result<(), Fail> {
                 }
         );
     }
-    Ok(())
 }
 
 #[test]

@@ -1,9 +1,8 @@
 //! Configurations, what both OPENs settle, and the local system's own OPEN.
 
 use super::*;
-use bgp_open::{Link, OpenFaults, is_own_open, negotiate, open_faults, read_open};
+use bgp_open::{OpenFaults, is_own_open, open_faults};
 use bgp_wire::vectors::{OPEN_A, OPEN_B};
-use std::test::Fail;
 
 #[test]
 fn a_configuration_has_numbers_a_family_and_a_wait(rt: HostRuntime) {
@@ -115,9 +114,9 @@ fn a_configuration_has_numbers_a_family_and_a_wait(rt: HostRuntime) {
 }
 
 #[test]
-fn a_link_has_what_both_sides_offer(rt: HostRuntime) -> Result<(), Fail> {
-    let config = Config::new(PARTS_A).ok_or("a configuration")?;
-    let link = negotiate(&config, &read_open(&OPEN_B)?);
+fn a_link_has_what_both_sides_offer(rt: HostRuntime) -> Result<(), AllocError> {
+    let config = config_of(&rt, PARTS_A);
+    let link = link_with(&rt, &config, &OPEN_B);
     assert_eq!(rt; link.hold, 90);
     assert!(rt; link.as4 && link.families == BOTH && !link.internal);
 
@@ -127,7 +126,7 @@ fn a_link_has_what_both_sides_offer(rt: HostRuntime) -> Result<(), Fail> {
         1,
         &[4, 0xfd, 0xea, 0x00, 0x1e, 192, 0, 2, 2, 0], // Hold Time 30, no parameter
     )?;
-    let link = negotiate(&config, &read_open(&plain)?);
+    let link = link_with(&rt, &config, &plain);
     assert_eq!(rt; link.hold, 30);
     assert!(rt; !link.as4 && link.families == Families::V4 && !link.internal);
 
@@ -137,21 +136,25 @@ fn a_link_has_what_both_sides_offer(rt: HostRuntime) -> Result<(), Fail> {
         4,
         &[8, 2, 6, 1, 4, 0, 2, 7, 1], // one capability: AFI 2, reserved 7, SAFI 1
     )?;
-    let internal = Config::new(ConfigParts {
-        peer_as: 65001,
-        hold: 3,
-        ..PARTS_A
-    })
-    .ok_or("a configuration")?;
-    let link = negotiate(&internal, &read_open(&ipv6)?);
+    let internal = config_of(
+        &rt,
+        ConfigParts {
+            peer_as: 65001,
+            hold: 3,
+            ..PARTS_A
+        },
+    );
+    let link = link_with(&rt, &internal, &ipv6);
     assert_eq!(rt; link.hold, 3);
     assert!(rt; !link.families.v4 && link.families.v6 && !link.as4 && link.internal);
     Ok(())
 }
 
 #[test]
-fn capabilities_of_another_length_or_family_offer_nothing(rt: HostRuntime) -> Result<(), Fail> {
-    let config = Config::new(PARTS_A).ok_or("a configuration")?;
+fn capabilities_of_another_length_or_family_offer_nothing(
+    rt: HostRuntime,
+) -> Result<(), AllocError> {
+    let config = config_of(&rt, PARTS_A);
     let rows: [(&str, &[u8], bool, Families); 4] = [
         (
             "a short capability 1",
@@ -187,7 +190,7 @@ fn capabilities_of_another_length_or_family_offer_nothing(rt: HostRuntime) -> Re
     for (lesson, behind, as4, families) in rows {
         assert!(rt; behind.len() < 200);
         let octets = open_with(rt.alloc(), 4, behind)?;
-        let link = negotiate(&config, &read_open(&octets)?);
+        let link = link_with(&rt, &config, &octets);
         assert_eq!(rt; link.as4, as4, "{lesson}");
         assert!(rt; link.families == families, "{lesson}");
     }
@@ -195,8 +198,8 @@ fn capabilities_of_another_length_or_family_offer_nothing(rt: HostRuntime) -> Re
 }
 
 #[test]
-fn an_own_open_says_what_is_configured(rt: HostRuntime) -> Result<(), Fail> {
-    let config = Config::new(PARTS_A).ok_or("a configuration")?;
+fn an_own_open_says_what_is_configured(rt: HostRuntime) {
+    let config = config_of(&rt, PARTS_A);
     assert!(rt; is_own_open(&config, &OPEN_A));
     assert!(rt; !is_own_open(&config, &OPEN_B));
     assert!(rt; !is_own_open(&config, &OPEN_A[..48]));
@@ -238,48 +241,57 @@ fn an_own_open_says_what_is_configured(rt: HostRuntime) -> Result<(), Fail> {
         ),
     ];
     for (lesson, parts) in rows {
-        let other = Config::new(parts).ok_or("a configuration")?;
+        let other = config_of(&rt, parts);
         assert!(rt; !is_own_open(&other, &OPEN_A), "{lesson}");
     }
+}
 
-    // An AS number of more than two octets stands as AS_TRANS, 23456, in My Autonomous System.
-    let wide = Config::new(ConfigParts {
-        local_as: 70000,
-        families: Families::V4,
-        ..PARTS_A
-    })
-    .ok_or("a configuration")?;
-    let trans = message(
+// An AS number of more than two octets stands as AS_TRANS, 23456, in My Autonomous System.
+#[test]
+fn an_own_open_has_as_trans_for_a_large_number(rt: HostRuntime) -> Result<(), AllocError> {
+    let wide = config_of(
+        &rt,
+        ConfigParts {
+            local_as: 70000,
+            families: Families::V4,
+            ..PARTS_A
+        },
+    );
+    let trans = open_of(
         rt.alloc(),
-        1,
+        4,
+        &[0x5b, 0xa0, 0x00, 0x5a, 192, 0, 2, 1], // AS 23456, Hold Time 90, 192.0.2.1
         &[
-            4, 0x5b, 0xa0, 0x00, 0x5a, 192, 0, 2, 1, // AS 23456, Hold Time 90, 192.0.2.1
             12, 2, 6, 65, 4, 0x00, 0x01, 0x11, 0x70, // four-octet AS number 70000
             2, 2, 70, 0, // another parameter, with enhanced route refresh
         ],
     )?;
-    assert!(rt; !is_own_open(&config, &trans));
+    assert!(rt; !is_own_open(&config_of(&rt, PARTS_A), &trans));
     assert!(rt; is_own_open(&wide, &trans));
+    Ok(())
+}
 
-    // Without four-octet AS numbers a capability of that code and another length is free.
-    let two_octets = Config::new(ConfigParts {
-        as4: false,
-        families: Families::V4,
-        ..PARTS_A
-    })
-    .ok_or("a configuration")?;
+// Without four-octet AS numbers a capability of that code and another length is free.
+#[test]
+fn an_own_open_in_two_octets_has_no_number_of_four(rt: HostRuntime) -> Result<(), AllocError> {
+    let two_octets = config_of(
+        &rt,
+        ConfigParts {
+            as4: false,
+            families: Families::V4,
+            ..PARTS_A
+        },
+    );
     let rows: [(&str, &[u8], bool); 3] = [
         ("none", &[0], true),
         ("a length of 2", &[6, 2, 4, 65, 2, 0xfd, 0xe9], true),
         ("a length of 4", &[8, 2, 6, 65, 4, 0, 0, 0xfd, 0xe9], false),
     ];
     for (lesson, behind, is_own) in rows {
-        let mut body = vec![in rt.alloc(); 4; 1]?;
-        body.extend_from_slice(&[0xfd, 0xe9, 0x00, 0x5a, 192, 0, 2, 1])?;
-        body.extend_from_slice(behind)?;
-        assert!(rt; body.len() < 256);
-        let octets = message(rt.alloc(), 1, &body)?;
-        assert_eq!(rt; is_own_open(&two_octets, &octets), is_own, "{lesson}");
+        assert!(rt; behind.len() < 200);
+        let fields = [0xfd, 0xe9, 0x00, 0x5a, 192, 0, 2, 1]; // AS 65001, Hold Time 90, 192.0.2.1
+        let octets = open_of(rt.alloc(), 4, &fields, behind)?;
+        assert!(rt; is_own_open(&two_octets, &octets) == is_own, "{lesson}");
     }
     Ok(())
 }
@@ -290,22 +302,21 @@ fn twice<T: Copy>(value: T) -> (T, T) {
 }
 
 #[test]
-fn links_and_faults_are_small_and_copied(rt: HostRuntime) -> Result<(), Fail> {
+fn links_and_faults_are_small_and_copied(rt: HostRuntime) {
     assert_eq!(rt; size_of::<Link>(), 6);
     assert_eq!(rt; size_of::<OpenFaults>(), 14);
-    let config = Config::new(PARTS_A).ok_or("a configuration")?;
-    let (link, other) = twice(negotiate(&config, &read_open(&OPEN_B)?));
+    let config = config_of(&rt, PARTS_A);
+    let (link, other) = twice(link_with(&rt, &config, &OPEN_B));
     assert!(rt; link == other);
     let (faults, other) = twice(open_faults(&config, &OPEN_B));
     assert!(rt; faults == other);
-    Ok(())
 }
 
 #[test]
-fn equal_links_have_equal_fields(rt: HostRuntime) -> Result<(), Fail> {
-    let config = Config::new(PARTS_A).ok_or("a configuration")?;
-    let link = negotiate(&config, &read_open(&OPEN_B)?);
-    let same = negotiate(&config, &read_open(&OPEN_B)?);
+fn equal_links_have_equal_fields(rt: HostRuntime) {
+    let config = config_of(&rt, PARTS_A);
+    let link = link_with(&rt, &config, &OPEN_B);
+    let same = link_with(&rt, &config, &OPEN_B);
     assert!(rt; link == same);
     let mut others = [link; 4];
     others[0].hold = 30;
@@ -315,5 +326,4 @@ fn equal_links_have_equal_fields(rt: HostRuntime) -> Result<(), Fail> {
     for other in others {
         assert!(rt; link != other);
     }
-    Ok(())
 }

@@ -8,6 +8,7 @@ use bgp_open::{
 use bgp_wire::vectors::{ADMINISTRATIVE_SHUTDOWN, BAD_LENGTH_18, OPEN_A};
 use linked_list_allocator::LocalHeap;
 use std::alloc::Allocator;
+use std::fmt::Display;
 use std::test::Fail;
 
 /// The capabilities in [`OPEN_A`].
@@ -66,22 +67,19 @@ fn a_parameter_has_room_for_42_capabilities_of_four_octets(rt: HostRuntime) -> R
     let mut out = Vec::new(rt.alloc());
     let many = [CAPABILITIES_A[0]; 43];
     write_open(65001, 90, 0xc000_0201, &many[..42], &mut out)?;
-    assert_eq!(rt; out.len(), 283);
-    assert_eq!(rt;
-        write_open(65001, 90, 0xc000_0201, &many, &mut out),
-        Err(OpenWriteFault::TooMany)
-    );
-    assert_eq!(rt; out.len(), 283);
+    assert!(rt; out.len() == 283);
+    let written = write_open(65001, 90, 0xc000_0201, &many, &mut out);
+    assert!(rt; written == Err(OpenWriteFault::TooMany) && out.len() == 283);
 
     // One capability of 251 octets fills a parameter, and 252 are too many; 256 have no length.
-    let long = [7; 256];
+    let long = vec![in rt.alloc(); 7u8; 256]?;
     for (count, fits) in [(251, true), (252, false), (256, false)] {
         let alone = [Capability {
             code: 9,
-            value: &long[..count],
+            value: long.get(..count).unwrap_or(&[]),
         }];
         let written = write_open(65001, 90, 0xc000_0201, &alone, &mut out);
-        assert_eq!(rt; written.is_ok(), fits, "{count} octets");
+        assert!(rt; written.is_ok() == fits, "{count} octets");
     }
     assert_eq!(rt; out.len(), 283 + 284);
     Ok(())
@@ -98,20 +96,19 @@ fn a_notification_has_at_most_4075_octets_of_data(rt: HostRuntime) -> Result<(),
     write_notification(&cease, &mut out)?;
     assert!(rt; out.as_slice() == ADMINISTRATIVE_SHUTDOWN.as_slice());
 
-    let long = [7; 4076];
+    let long = vec![in rt.alloc(); 7u8; 4076]?;
     let too_large = Notification {
         detail: &long,
         ..cease
     };
     let written = write_notification(&too_large, &mut out);
-    assert_eq!(rt; written, Err(NotificationWriteFault::TooLarge));
-    assert_eq!(rt; out.len(), 21);
+    assert!(rt; written == Err(NotificationWriteFault::TooLarge) && out.len() == 21);
     let largest = Notification {
-        detail: &long[..4075],
+        detail: long.get(..4075).unwrap_or(&[]),
         ..cease
     };
     write_notification(&largest, &mut out)?;
-    assert_eq!(rt; out.len(), 21 + 4096);
+    assert!(rt; out.len() == 21 + 4096);
     let (_, message) = out.split_at(21);
     assert!(rt; read_notification(message) == Some(largest));
     Ok(())
@@ -233,6 +230,12 @@ fn a_notification_that_is_refused_memory_leaves_the_vector(rt: HostRuntime) -> R
     Err(Fail::from("no heap was large enough"))
 }
 
+/// The value prints so.
+fn prints(rt: &impl Abort, alloc: Global, value: &impl Display, text: &str) -> Result<(), Fail> {
+    assert!(rt; format!(in alloc; "{value}")?.as_str() == text, "{text}");
+    Ok(())
+}
+
 #[test]
 fn faults_are_told_in_words(rt: HostRuntime) -> Result<(), Fail> {
     for (fault, text) in [
@@ -240,7 +243,7 @@ fn faults_are_told_in_words(rt: HostRuntime) -> Result<(), Fail> {
         (OpenFault::Version, "unsupported version number"),
         (OpenFault::Parameter, "unsupported optional parameter"),
     ] {
-        assert_eq!(rt; format!(in rt.alloc(); "{fault}")?.as_str(), text);
+        prints(&rt, rt.alloc(), &fault, text)?;
     }
     for (fault, text) in [
         (
@@ -249,7 +252,7 @@ fn faults_are_told_in_words(rt: HostRuntime) -> Result<(), Fail> {
         ),
         (OpenWriteFault::Memory, "out of memory"),
     ] {
-        assert_eq!(rt; format!(in rt.alloc(); "{fault}")?.as_str(), text);
+        prints(&rt, rt.alloc(), &fault, text)?;
     }
     for (fault, text) in [
         (
@@ -258,7 +261,7 @@ fn faults_are_told_in_words(rt: HostRuntime) -> Result<(), Fail> {
         ),
         (NotificationWriteFault::Memory, "out of memory"),
     ] {
-        assert_eq!(rt; format!(in rt.alloc(); "{fault}")?.as_str(), text);
+        prints(&rt, rt.alloc(), &fault, text)?;
     }
     Ok(())
 }
