@@ -1,11 +1,14 @@
 //! Captures and the verdicts on them, told by tables of blocks of lines.
 
+use crate::altered::altered;
 use crate::case::{malformed, octets_of};
-use bgp_judge::PlainTracker;
+use bgp_compact::CompactTracker;
+use bgp_judge::{PlainTracker, Tracker};
 use bgp_open::{Config, ConfigParts, Families};
 use bgp_prefix::{Address, Session, read_address};
 use bgp_tool::judge_capture;
 use mrt::{MemSink, MemSource, SinkUpset, SourceUpset};
+use rand_pcg::Pcg32;
 use std::alloc::{AllocError, Global};
 use std::num::NonZeroUsize;
 use std::rt::Files;
@@ -121,8 +124,12 @@ enum Failing {
     Sink,
 }
 
-/// What judging a case wrote and answered.
-fn answer_to(alloc: Global, case: &Judged, failing: Failing) -> Result<(Vec<u8>, u8), AllocError> {
+/// What judging a case with a tracker wrote and answered.
+fn answer_to<T: Tracker<Global>>(
+    alloc: Global,
+    case: &Judged,
+    failing: Failing,
+) -> Result<(Vec<u8>, u8), AllocError> {
     let mut source = MemSource::new(Vec::from_slice(alloc, case.capture.as_slice())?);
     let mut sink = MemSink::new(alloc);
     match failing {
@@ -134,7 +141,7 @@ fn answer_to(alloc: Global, case: &Judged, failing: Failing) -> Result<(Vec<u8>,
         }
         Failing::Sink => sink = sink.upset_at(0, SinkUpset::Fail),
     }
-    let status = judge_capture::<Global, PlainTracker<Global>, MemSource, MemSink>(
+    let status = judge_capture::<Global, T, MemSource, MemSink>(
         alloc,
         &case.config,
         &mut source,
@@ -144,8 +151,8 @@ fn answer_to(alloc: Global, case: &Judged, failing: Failing) -> Result<(Vec<u8>,
 }
 
 /// Whether a capture is judged as the case says.
-fn is_judged(alloc: Global, case: &Judged) -> Result<bool, AllocError> {
-    let (written, status) = answer_to(alloc, case, Failing::Nothing)?;
+fn is_judged<T: Tracker<Global>>(alloc: Global, case: &Judged) -> Result<bool, AllocError> {
+    let (written, status) = answer_to::<T>(alloc, case, Failing::Nothing)?;
     Ok(written.as_slice() == case.text.as_bytes() && status == case.status)
 }
 
@@ -154,7 +161,7 @@ fn is_source_told(alloc: Global, case: &Judged) -> Result<bool, AllocError> {
     if case.status > 2 {
         return Ok(true);
     }
-    let (written, status) = answer_to(alloc, case, Failing::Source)?;
+    let (written, status) = answer_to::<PlainTracker<Global>>(alloc, case, Failing::Source)?;
     let length = case.capture.len();
     let text = format!(in alloc; "capture refused: 9 Device at {length}\n")?;
     Ok(written.as_slice() == text.as_bytes() && status == 5)
@@ -162,17 +169,22 @@ fn is_source_told(alloc: Global, case: &Judged) -> Result<bool, AllocError> {
 
 /// Whether a sink is told that fails.
 fn is_sink_told(alloc: Global, case: &Judged) -> Result<bool, AllocError> {
-    let (written, status) = answer_to(alloc, case, Failing::Sink)?;
+    let (written, status) = answer_to::<PlainTracker<Global>>(alloc, case, Failing::Sink)?;
     Ok(written.is_empty() && status == 5)
 }
 
 /// Whether a case is so.
 fn is_so(alloc: Global, case: &Judged) -> Result<bool, AllocError> {
-    Ok(is_judged(alloc, case)? && is_source_told(alloc, case)? && is_sink_told(alloc, case)?)
+    Ok(
+        is_judged::<PlainTracker<Global>>(alloc, case)?
+            && is_judged::<CompactTracker<Global>>(alloc, case)?
+            && is_source_told(alloc, case)?
+            && is_sink_told(alloc, case)?,
+    )
 }
 
 /// Prints each case of a table that is not so, and then how many there were. Answers whether all
-/// are so. Each is also judged from a source that fails behind it, and into a sink that fails.
+/// are so. Both trackers judge each. It is also judged from a source that fails behind it, and into a sink that fails.
 pub(crate) fn compare_judged<R: Files + Print + AllocGlobal>(
     rt: &R,
     name: &str,
@@ -192,5 +204,40 @@ pub(crate) fn compare_judged<R: Files + Print + AllocGlobal>(
         }
     }
     println!(rt; "{name}: {cases} cases")?;
+    Ok(all)
+}
+
+/// Whether both trackers answer a capture alike.
+fn is_alike(alloc: Global, case: &Judged) -> Result<bool, AllocError> {
+    let (plain, status) = answer_to::<PlainTracker<Global>>(alloc, case, Failing::Nothing)?;
+    let (compact, other) = answer_to::<CompactTracker<Global>>(alloc, case, Failing::Nothing)?;
+    Ok(plain.as_slice() == compact.as_slice() && status == other)
+}
+
+/// Alters each capture of a table twice, and prints each that the trackers don't answer alike, and
+/// then how many there were. Answers whether all are so. The changes are the same in each run.
+pub(crate) fn compare_altered<R: Files + Print + AllocGlobal>(
+    rt: &R,
+    name: &str,
+) -> io::Result<bool> {
+    let table = fs::read_to_string(rt, name)?;
+    let mut random = Pcg32::new(42, 54);
+    let mut captures = 0u64;
+    let mut all = true;
+    for block in table.split("\n\n") {
+        if block.trim_end().is_empty() {
+            continue;
+        }
+        let mut case = read_judged(rt, block.trim_end())?;
+        for _ in 0..2 {
+            captures = captures.saturating_add(1);
+            case.capture = altered(rt.alloc(), case.capture.as_slice(), &mut random)?;
+            if !is_alike(rt.alloc(), &case)? {
+                println!(rt; "{name}: altered capture {captures} isn't judged alike")?;
+                all = false;
+            }
+        }
+    }
+    println!(rt; "{name}: {captures} altered captures")?;
     Ok(all)
 }

@@ -4,18 +4,20 @@
 //! captures, whose lines and statuses it compares. `cases.txt` was answered by another program,
 //! `rules.txt` was worked out by hand from RFC 6396.
 //!
-//! Judged are three tables: `judged.txt`, random captures, and `recordings.txt`, those of real
+//! Judged are three tables, by the plain tracker and by the compact one: `judged.txt`, random captures, and `recordings.txt`, those of real
 //! routers' sessions, were answered by a program that was written apart from this one;
 //! `sessions.txt` was worked out by hand from RFC 4271, one session for each thing that it teaches.
+//! And each capture of `judged.txt` is altered twice: there both trackers answer alike.
 #![tactic(auto)]
 
+mod altered;
 mod case;
 mod judged;
 mod recordings;
 mod runs;
 
 use case::read_case;
-use judged::compare_judged;
+use judged::{compare_altered, compare_judged};
 use recordings::{CAPTURES, print_capture};
 use runs::{Answer, is_whole, stops_anywhere};
 use std::alloc::Global;
@@ -44,7 +46,8 @@ fn decode_all<R: Files + Print + AllocGlobal>(rt: &R) -> io::Result<bool> {
     let judged = compare_judged(rt, "judged.txt")?;
     let sessions = compare_judged(rt, "sessions.txt")?;
     let recordings = compare_judged(rt, "recordings.txt")?;
-    Ok(cases && rules && judged && sessions && recordings)
+    let altered = compare_altered(rt, "judged.txt")?;
+    Ok(cases && rules && judged && sessions && recordings && altered)
 }
 
 /// Prints each case of a table that is not so, and then how many there were. Answers whether all
