@@ -54,20 +54,33 @@ pub enum Note<'a> {
     },
 }
 
-/// A file's name as it is told.
-fn told(file: &str) -> &str {
-    if file == "-" { "standard input" } else { file }
+/// A file's name as it is told: quoted where it is empty or has control characters, which could
+/// make a terminal say something else.
+#[derive(Clone, Copy)]
+struct Told<'a>(&'a str);
+
+impl fmt::Display for Told<'_> {
+    fn fmt<W: fmt::Write>(&self, f: &mut fmt::Formatter<W>) -> fmt::Result {
+        let name = self.0;
+        if name == "-" {
+            f.write_str("standard input")
+        } else if name.is_empty() || name.contains(char::is_control) {
+            write!(f, "{name:?}")
+        } else {
+            f.write_str(name)
+        }
+    }
 }
 
 impl fmt::Display for Note<'_> {
     fn fmt<W: fmt::Write>(&self, f: &mut fmt::Formatter<W>) -> fmt::Result {
         match *self {
             Note::Unopened { file, error } => {
-                let file = told(file);
+                let file = Told(file);
                 write!(f, "{file}: {error}")
             }
             Note::Unread { file, octet, error } => {
-                let file = told(file);
+                let file = Told(file);
                 match error {
                     Some(error) => write!(f, "{file}: read failed at octet {octet}: {error}"),
                     None => write!(f, "{file}: too long, read up to octet {octet}"),
@@ -80,11 +93,11 @@ impl fmt::Display for Note<'_> {
                 None => write!(f, "standard output: write failed at octet {octet}"),
             },
             Note::OutOfMemory { file, octet } => {
-                let file = told(file);
+                let file = Told(file);
                 write!(f, "{file}: memory was refused at octet {octet}")
             }
             Note::NoSession { file, other } => {
-                let file = told(file);
+                let file = Told(file);
                 match other {
                     Some(Endpoints { peer, local }) => write!(
                         f,
@@ -95,7 +108,7 @@ impl fmt::Display for Note<'_> {
                 }
             }
             Note::NoStream { file, form } => {
-                let file = told(file);
+                let file = Told(file);
                 write!(f, "{file} {form}")
             }
         }

@@ -17,6 +17,20 @@ fn each_note_has_its_words(rt: HostRuntime) -> Result<(), Fail> {
             "a.bgp: permission denied",
         ),
         (
+            Note::Unopened {
+                file: "a\n\u{1b}[2J",
+                error: ErrorKind::NotFound,
+            },
+            "\"a\\n\\u{1b}[2J\": entity not found",
+        ),
+        (
+            Note::Unopened {
+                file: "",
+                error: ErrorKind::NotFound,
+            },
+            "\"\": entity not found",
+        ),
+        (
             Note::Unread {
                 file: "a.bgp",
                 octet: 7,
