@@ -42,7 +42,7 @@ opens_own config head (Received t octets) left still turn own o = absurd own
 opens_own config head (Sent t octets) left still turn own o = o
 opens_own config head (Changed t x y) left still turn own o = o
 
-own_opens : (config : Config) (head : Head) (shown : ShownRecord) (left : List Want) (still : Option (Fsm × Fsm)) (turn : Turn) → IsOwn shown
+pub own_opens : (config : Config) (head : Head) (shown : ShownRecord) (left : List Want) (still : Option (Fsm × Fsm)) (turn : Turn) → IsOwn shown
     → Opens config head shown left still turn
     → (row : HiddenRow) × (wants : List Want) × (change : Option (Fsm × Fsm)) × IsShown head config (second_of shown) (Hidden row) wants change turn
     × Pays config (link_at head) shown wants change left still

@@ -4,6 +4,7 @@ pub mod FirstShown
 pub mod OneRecordMore
 pub mod Standing
 pub mod KeptSteps
+pub mod OwnChanges
 pub mod Gaining
 pub mod NextMembers
 pub mod PlainStanding

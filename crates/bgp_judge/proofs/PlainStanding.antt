@@ -8,7 +8,7 @@ use Rattle.bgp_judge.specs.declared.member.PlainMember.{PlainMember}
 use Rattle.bgp_judge.specs.Image.{IsImage}
 use Rattle.bgp_judge.specs.Member.{Member, fresh_member}
 use Rattle.bgp_judge.specs.Next.{Next}
-use Rattle.bgp_judge.specs.Plain.{member_value, Among}
+use Rattle.bgp_judge.specs.Plain.{member_value, Among, AreApart}
 use Rattle.bgp_judge.specs.Stands.{StandFor}
 use Rattle.bgp_judge.proofs.NextMembers.{is_image}
 use Rattle.bgp_judge.proofs.Standing.{fresh_stands, image_stands, begins_from, member_from}
@@ -18,6 +18,10 @@ pub fresh_list : {A : Type 0} (config : Config) (items : List (PlainMember A)) (
 fresh_list config items x e fresh =
     subst (λ (v : List (PlainMember _)). StandFor config (Among v) []) (sym e)
     (fresh_stands config (Among (x ∷ [])) (inl fresh) (λ m among. elim among [ inl k ↦ sym k ∙ fresh | inr z ↦ absurd z ]))
+
+-- one member is apart
+pub one_apart : {A : Type 0} (items : List (PlainMember A)) (x : PlainMember A) → items ≡ x ∷ [] → AreApart items
+one_apart items x e = subst (λ (v : List (PlainMember _)). AreApart v) (sym e) (λ h. h, tt)
 
 -- what the record makes of all members stands for one record more
 pub next_stands : {A : Type 0} → EachOwedCanBeMet → (own config : Config) (records : List ShownRecord) (r : ShownRecord) (old listed new : List (PlainMember A)) → own ≡ config

@@ -1,5 +1,5 @@
 -- Members that are kept whole, in a list.
-use Rattle.std.specs.Prelude.{◌≡◌, ◌⊎◌, ◌<◌, ◌++◌, ℕ, List, [], ◌∷◌}
+use Rattle.std.specs.Prelude.{◌≡◌, ◌⊎◌, ◌<◌, ◌++◌, ℕ, List, [], ◌∷◌, map}
 use Rattle.bgp_prefix.specs.Shown.{ShownRecord}
 use Rattle.bgp_open.specs.declared.config.Config.{Config}
 use Rattle.bgp_open.specs.declared.families.Families.{Families}
@@ -28,12 +28,18 @@ member_value m = record {
 abbrev pub Among : {X : Type 0} → List (PlainMember X) → Member → Type 0
 Among members m = Has (λ x. member_value x ≡ m) members
 
--- the new list has the members of the old one, and those besides, and no other
+-- no two members are equal
+abbrev pub AreApart : {X : Type 0} → List (PlainMember X) → Type 0
+AreApart members = NoneTwice (map member_value members)
+
+-- The new list has the members of the old one, and those besides, and no other. It has no two equal
+-- ones where the old one has none.
 pub record Gains {X : Type 0} (old new : List (PlainMember X)) (Also : Member → Type 0)
     : Type 0 where
   pub only : (m : Member) → Among new m → Among old m ⊎ Also m
   pub keeps : (m : Member) → Among old m → Among new m
   pub adds : (m : Member) → Also m → Among new m
+  pub apart : AreApart old → AreApart new
 
 -- what a step makes of a state, which has then this left to show
 abbrev pub opened_member : SessionState → Head → RouteChanges → Step → Member

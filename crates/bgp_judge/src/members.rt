@@ -9,6 +9,7 @@ ghost use Rattle.bgp_judge.specs.Member.{Member, IsFree};
 ghost use Rattle.bgp_judge.specs.Next.{Continues, Next};
 ghost use Rattle.bgp_judge.specs.Plain.{
   Among,
+  AreApart,
   Gains,
   StartsAt,
   StartsFrom,
@@ -168,8 +169,9 @@ pub(crate) fn next_members<A: Allocator + Copy>(
     members: &[PlainMember<A>],
     shown: &Record<'_>,
 ) -> Result<Vec<PlainMember<A>, A>, AllocError>
-    ensures { IfOk result (λ next. (m2 : Member) → Among next.items m2
+    ensures next { IfOk result (λ next. (m2 : Member) → Among next.items m2
         ↔ ((m : Member) × Among members.now m × Next config.now (shown_of shown.now) m m2)) }
+    ensures apart { IfOk result (λ next. AreApart next.items) }
 {
     let mut next = Vec::new(alloc);
     for member in members {

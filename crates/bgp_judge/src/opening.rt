@@ -1,6 +1,6 @@
 //! The steps that a record opens.
 
-ghost use Rattle.std.specs.Prelude.{◌≡◌, ◌<◌, ◌≤◌, ◌+◌, IfOk, IsErr, IsSome, MatchOption, None};
+ghost use Rattle.std.specs.Prelude.{◌≡◌, ◌↔◌, ◌<◌, ◌≤◌, ◌+◌, IfOk, IsErr, IsSome, MatchOption, None};
 ghost use Rattle.std.specs.Prelude.{length};
 ghost use Rattle.arrayvec.specs.ArrayVec.{array_vec_len};
 ghost use Rattle.bgp_prefix.specs.Shown.{second_of};
@@ -99,6 +99,7 @@ fn hidden_openings<A: Allocator>(
     ensures exact { ListsOpenings config.now head (shown_of shown.now) (changes_of result.changes)
         result.steps.items }
     ensures none { result.changes ≡ None }
+    ensures kept { Has MakesChanges result.steps.items → ⊥ }
 {
     let steps = hidden_steps(config, head, t);
     OpenedSteps {
@@ -118,7 +119,7 @@ pub fn openings<A: Allocator + Copy>(
 ) -> Result<OpenedSteps<A>, AllocError>
     ensures exact { IfOk result (λ o. ListsOpenings config.now head (shown_of shown.now)
         (changes_of o.changes) o.steps.items) }
-    ensures given { IfOk result (λ o. IsSome o.changes → Has MakesChanges o.steps.items) }
+    ensures given { IfOk result (λ o. IsSome o.changes ↔ Has MakesChanges o.steps.items) }
     ensures memory { IsErr result → ListTakesMemory head (shown_of shown.now) }
 {
     match *shown {

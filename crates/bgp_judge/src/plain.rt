@@ -27,11 +27,12 @@ pub struct PlainTracker<A: Allocator = Global> {
 }
 
 impl<A: Allocator + Copy> Tracker<A> for PlainTracker<A> {
-    ghost use Rattle.bgp_judge.specs.Plain.{Among};
+    ghost use Rattle.bgp_judge.specs.Plain.{Among, AreApart};
     ghost use Rattle.bgp_judge.specs.Stands.{StandFor};
 
     ghost stands_for = { λ tracker config records.
-        (tracker.config ≡ config) × StandFor config (Among tracker.members.items) records };
+        (tracker.config ≡ config) × StandFor config (Among tracker.members.items) records
+        × AreApart tracker.members.items };
 
     fn start(alloc: A, config: &Config) -> Result<PlainTracker<A>, AllocError> {
         let mut members = Vec::new(alloc);

@@ -12,8 +12,11 @@ loop-member-preserved g c =
     c.args.members.now c.loop-member.member-index c.member-item.result c.loop-member-test.true c.loop-member.invariant
     (subst (λ v. Gains c.loop-member.next.items c.add_next.new.members.items (Next c.args.config.now (shown_of c.args.shown.now) (member_value v))) c.member-item.is c.in_ok-add_next.ensures)
 
-pub returns : goal.returns
-returns g c =
+pub returns-clause-next : goal.returns-clause-next
+returns-clause-next g c =
     all_next c.args.config.now (shown_of c.args.shown.now) c.args.members.now c.loop-member.next.items
     (gains_all [] c.loop-member.next.items (λ x. Next c.args.config.now (shown_of c.args.shown.now) (member_value x)) c.args.members.now c.loop-member.member-index
     c.loop-member-test.false c.loop-member.invariant)
+
+pub returns-clause-apart : goal.returns-clause-apart
+returns-clause-apart g c = c.loop-member.invariant.apart tt

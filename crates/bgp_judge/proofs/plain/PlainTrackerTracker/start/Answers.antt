@@ -1,5 +1,5 @@
-use Rattle.std.proofs.Common.{[], ◌∷◌, ◌++◌, refl, ap, ◌∙◌}
-use Rattle.bgp_judge.proofs.PlainStanding.{fresh_list}
+use Rattle.std.proofs.Common.{List, [], ◌∷◌, ◌++◌, refl, sym, ap, subst, ◌∙◌}
+use Rattle.bgp_judge.proofs.PlainStanding.{fresh_list, one_apart}
 use Rattle.bgp_judge.proofs.plain.PlainTrackerTracker.start.Goals as goal
 
 pub returns : goal.returns
@@ -7,4 +7,6 @@ returns g c = (
   refl,
   fresh_list c.args.config.now c.push.new.self.items c.fresh.result
       (c.in_ok-push.ensures.items ∙ ap (λ v. v ++ c.fresh.result ∷ []) c.new-members.ensures.items) c.fresh.ensures,
+  one_apart c.push.new.self.items c.fresh.result
+      (c.in_ok-push.ensures.items ∙ ap (λ v. v ++ c.fresh.result ∷ []) c.new-members.ensures.items),
 )
