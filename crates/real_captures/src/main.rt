@@ -4,10 +4,11 @@
 //! captures, whose lines and statuses it compares. `cases.txt` was answered by another program,
 //! `rules.txt` was worked out by hand from RFC 6396.
 //!
-//! Judged are three tables, by the plain tracker and by the compact one: `judged.txt`, random captures, and `recordings.txt`, those of real
-//! routers' sessions, were answered by a program that was written apart from this one;
-//! `sessions.txt` was worked out by hand from RFC 4271, one session for each thing that it teaches.
-//! And each capture of `judged.txt` is altered twice: there both trackers answer alike.
+//! Judged are four tables, by the plain tracker and by the compact one: `judged.txt`, random
+//! captures, and `recordings.txt`, those of real routers' sessions, were answered by a program that
+//! was written apart from this one; `sessions.txt` was worked out by hand from RFC 4271, one session
+//! for each thing that it teaches, and `cuts.txt` is two records cut to each length. And each
+//! capture of `judged.txt` is altered twice: there both trackers answer alike.
 #![tactic(auto)]
 
 mod altered;
@@ -45,9 +46,10 @@ fn decode_all<R: Files + Print + AllocGlobal>(rt: &R) -> io::Result<bool> {
     let rules = compare(rt, "rules.txt", true)?;
     let judged = compare_judged(rt, "judged.txt")?;
     let sessions = compare_judged(rt, "sessions.txt")?;
+    let cuts = compare_judged(rt, "cuts.txt")?;
     let recordings = compare_judged(rt, "recordings.txt")?;
     let altered = compare_altered(rt, "judged.txt")?;
-    Ok(cases && rules && judged && sessions && recordings && altered)
+    Ok(cases && rules && judged && sessions && cuts && recordings && altered)
 }
 
 /// Prints each case of a table that is not so, and then how many there were. Answers whether all
