@@ -1,39 +1,42 @@
 -- How judging a capture ends.
-use Rattle.std.proofs.Common.{◌≡◌, ◌∙◌, ℕ, Bool, List, [], ◌++◌, refl, sym, ap, subst, inl, inr, append-nil, Option, Result, Ok, Err}
+use Rattle.std.proofs.Common.{◌≡◌, ◌∙◌, ℕ, Bool, List, [], ◌++◌, refl, sym, ap, subst, inl, inr, append-nil, Option, None, Some, Result, Ok, Err, IsErrAnd}
 use Rattle.bgp_open.specs.declared.config.Config.{Config}
 use Rattle.bgp_prefix.specs.Shown.{ShownRecord}
 use Rattle.bgp_prefix.specs.declared.session.Session.{Session}
 use Rattle.bgp_machine.specs.Run.{Begins}
 use Rattle.mrt.specs.declared.fault.CaptureFault.{CaptureFault}
 use Rattle.mrt.specs.declared.fault.FaultKind.TheVariants as kinds
-use Rattle.mrt.specs.Capture.{joined, records_of}
+use Rattle.mrt.specs.Capture.{Piece, joined, records_of}
 use Rattle.mrt.specs.Reader.{ReaderState, fresh_reader}
 use Rattle.mrt.specs.ReadBy.{ReadBy}
 use Rattle.bgp_judge.specs.declared.verdict.Verdict.{Verdict}
-use Rattle.bgp_judge.specs.Judging.{IsJudged, IsRefusal, Judges, ReadsAll}
+use Rattle.bgp_judge.specs.Judging.{EndsBy, IsJudged, IsRefusal, Judges, ReadsAll, ReadsWith, fault_in}
 use Rattle.bgp_judge.specs.Verdict.{IsVerdict}
 use Rattle.bgp_judge.proofs.CaptureSoFar.{spelled}
 
 module _ {S : Type 0} (gives : S → S → List ℕ → Type 0) (has_ended : S → Bool) (config : Config) (source new : S) where
   -- nothing was read
   pub unstarted : (reader : ReaderState) (fault : CaptureFault) → reader ≡ fresh_reader → fault ≡ record { kind = kinds.Memory; offset = 0 } → gives source source []
-      → ReadBy gives config.parts.session source source reader (λ given. IsRefusal given has_ended config source source fault)
-  unstarted reader fault fresh is nothing = record {
-    pieces = [];
-    rest = [];
-    knows = (ap (λ (s : ReaderState). s.last) fresh, ap (λ (s : ReaderState). s.other) fresh);
-    gave = nothing;
-    each = tt;
-    holds = inr (inr (record {
+      → ReadsWith gives config.parts.session source source reader (Some fault) (λ given. IsRefusal given has_ended config source source fault)
+  unstarted reader fault fresh is nothing = (
+    record {
       pieces = [];
       rest = [];
-      gave = refl;
+      knows = (ap (λ (s : ReaderState). s.last) fresh, ap (λ (s : ReaderState). s.other) fresh);
+      gave = nothing;
       each = tt;
-      kind = ap (λ (f : CaptureFault). f.kind) is;
-      offset = ap (λ (f : CaptureFault). f.offset) is;
-      place = inl (refl, refl);
-    }));
-  }
+      holds = inr (inr (record {
+        pieces = [];
+        rest = [];
+        gave = refl;
+        each = tt;
+        kind = ap (λ (f : CaptureFault). f.kind) is;
+        offset = ap (λ (f : CaptureFault). f.offset) is;
+        place = inl (refl, refl);
+      }));
+    },
+    inl refl,
+  )
 
   module _ (stands : Config → List ShownRecord → Type 0) (last : ℕ) (impossible : Option ℕ)
       (reads : ReadsAll gives has_ended config source new stands last impossible) where
@@ -62,17 +65,30 @@ module _ {S : Type 0} (gives : S → S → List ℕ → Type 0) (has_ended : S �
 
 -- what was read is judged otherwise
 pub judged_so : {S : Type 0} {gives : S → S → List ℕ → Type 0} {session : Session} {source new : S} {reader : ReaderState} (P Q : (S → S → List ℕ → Type 0) → Type 0)
-    → (by : ReadBy gives session source new reader P)
-    → (P (λ from to octets. octets ≡ joined by.pieces ++ by.rest) → Q (λ from to octets. octets ≡ joined by.pieces ++ by.rest))
-    → ReadBy gives session source new reader Q
-judged_so P Q by so = record {
-  pieces = by.pieces;
-  rest = by.rest;
-  knows = by.knows;
-  gave = by.gave;
-  each = by.each;
-  holds = so by.holds;
-}
+    (one other : Option CaptureFault) (ends : (pieces : List Piece) (rest : List ℕ) → EndsBy pieces rest one → EndsBy pieces rest other)
+    → (by : ReadsWith gives session source new reader one P)
+    → (P (λ from to octets. octets ≡ joined by.0.pieces ++ by.0.rest) → Q (λ from to octets. octets ≡ joined by.0.pieces ++ by.0.rest))
+    → ReadsWith gives session source new reader other Q
+judged_so P Q one other ends (by, to) so = (
+  record {
+    pieces = by.pieces;
+    rest = by.rest;
+    knows = by.knows;
+    gave = by.gave;
+    each = by.each;
+    holds = so by.holds;
+  },
+  ends by.pieces by.rest to,
+)
+
+-- a fault is handed on
+pub fault_handed_on : {S X : Type 0} (gives : S → S → List ℕ → Type 0) (has_ended : S → Bool) (config : Config) (source new : S) (reader : ReaderState)
+    (answer : Result (Verdict X) CaptureFault) (fault : CaptureFault) → IsErrAnd answer (λ (y : CaptureFault). y ≡ fault)
+    → ReadsWith gives config.parts.session source new reader (Some fault) (λ given. IsRefusal given has_ended config source new fault)
+    → ReadsWith gives config.parts.session source new reader (fault_in answer) (λ given. Judges given has_ended config source new answer)
+fault_handed_on gives has_ended config source new reader (Ok verdict) fault is reads = absurd is
+fault_handed_on gives has_ended config source new reader (Err other) fault is reads =
+    subst (λ (f : CaptureFault). ReadsWith gives config.parts.session source new reader (Some f) (λ given. IsRefusal given has_ended config source new f)) (sym is) reads
 
 -- what is judged of octets that were given is judged of what was given
 module _ {S : Type 0} (has_ended : S → Bool) (config : Config) (source new : S) (just gives : S → S → List ℕ → Type 0)
@@ -114,8 +130,8 @@ module _ {S : Type 0} (has_ended : S → Bool) (config : Config) (source new : S
 
 pub judges_read : {S X : Type 0} (gives : S → S → List ℕ → Type 0) (has_ended : S → Bool) (config : Config) (source new : S) (reader : ReaderState)
     (answer : Result (Verdict X) CaptureFault)
-    → ReadBy gives config.parts.session source new reader (λ given. Judges given has_ended config source new answer)
+    → ReadsWith gives config.parts.session source new reader (fault_in answer) (λ given. Judges given has_ended config source new answer)
     → Judges gives has_ended config source new answer
-judges_read gives has_ended config source new reader answer by =
+judges_read gives has_ended config source new reader answer (by, ends) =
     judges_given has_ended config source new (λ from to octets. octets ≡ joined by.pieces ++ by.rest) gives
     (λ octets is. subst (λ (o : List ℕ). gives source new o) (sym is) by.gave) answer by.holds

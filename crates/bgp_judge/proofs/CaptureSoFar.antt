@@ -1,5 +1,5 @@
 -- What was read of a capture, record by record, and how it ends.
-use Rattle.std.proofs.Common.{◌≡◌, ◌∙◌, ℕ, Bool, false, ◌+◌, ◌-◌, ◌^◌, ◌<◌, ◌≤◌, List, [], ◌∷◌, ◌++◌, length, refl, sym, ap, subst, arith, inl, inr, append_assoc, append-nil, length-append, Option, None, Result}
+use Rattle.std.proofs.Common.{◌≡◌, ◌∙◌, ℕ, Bool, false, ◌+◌, ◌-◌, ◌^◌, ◌<◌, ◌≤◌, List, [], ◌∷◌, ◌++◌, length, refl, sym, ap, subst, arith, inl, inr, append_assoc, append-nil, length-append, Option, None, Some, Result}
 use Rattle.bgp_prefix.specs.Shown.{ShownRecord}
 use Rattle.bgp_prefix.specs.declared.session.Session.{Session}
 use Rattle.bgp_open.specs.declared.config.Config.{Config}
@@ -11,10 +11,10 @@ use Rattle.mrt.specs.declared.record.Endpoints.{Endpoints}
 use Rattle.mrt.specs.Capture.{Piece, Shown, ArePieces, IsPiece, Spells, last_after, last_of, first_other, joined, records_of}
 use Rattle.mrt.specs.Reading.{IsRefused}
 use Rattle.mrt.specs.Reader.{ReaderState, fresh_reader, Answers, Ends, Fails, IsAnswer, NextBy, IsNext}
-use Rattle.mrt.specs.ReadBy.{Knows, ReadBy}
+use Rattle.mrt.specs.ReadBy.{Knows}
 use Rattle.mrt.proofs.Advancing.{joined_more}
 use Rattle.mrt.proofs.Chains.{joined_chain, records_chain, last_chain, other_chain, pieces_chain, one_record, last_piece, no_pieces_there}
-use Rattle.bgp_judge.specs.Judging.{IsAt, IsRefusal, ReadsAll}
+use Rattle.bgp_judge.specs.Judging.{IsAt, IsRefusal, ReadsAll, ReadsWith}
 
 no_length : (xs : List ℕ) → length xs ≡ 0 → xs ≡ []
 no_length [] none = refl
@@ -164,24 +164,27 @@ module _ {S : Type 0} (gives : S → S → List ℕ → Type 0) (has_ended : S �
   -- to the end
   pub reads_all : (now next : S) (state after : ReaderState) (records : List ShownRecord) (stands : Config → List ShownRecord → Type 0) (impossible : Option ℕ)
       → SoFar now state records → IsAt stands config records impossible → Ends gives has_ended config.parts.session now next state after
-      → ReadBy gives config.parts.session source next after (λ given. ReadsAll given has_ended config source next stands after.place impossible)
+      → ReadsWith gives config.parts.session source next after None (λ given. ReadsAll given has_ended config source next stands after.place impossible)
   reads_all now next state after records stands impossible so_far at ends =
       let pieces = so_far.pieces ++ ends.skipped in
-      let each = behind now state records so_far ends.skipped ends.pieces in record {
-        pieces = pieces;
-        rest = [];
-        knows = knows_behind now next state after records so_far ends.skipped (ap (λ (s : ReaderState). s.last) ends.stands) (ap (λ (s : ReaderState). s.other) ends.stands);
-        gave = subst (λ (o : List ℕ). gives source next o) (sym (append-nil (joined pieces))) (given_behind now next state records so_far ends.skipped ends.exactly);
-        each = each;
-        holds = record {
+      let each = behind now state records so_far ends.skipped ends.pieces in (
+        record {
           pieces = pieces;
-          gave = sym (append-nil (joined pieces));
-          ended = ends.ended;
+          rest = [];
+          knows = knows_behind now next state after records so_far ends.skipped (ap (λ (s : ReaderState). s.last) ends.stands) (ap (λ (s : ReaderState). s.other) ends.stands);
+          gave = subst (λ (o : List ℕ). gives source next o) (sym (append-nil (joined pieces))) (given_behind now next state records so_far ends.skipped ends.exactly);
           each = each;
-          place = ap (λ (s : ReaderState). s.place) ends.stands ∙ count_behind now state records so_far ends.skipped;
-          tracked = subst (λ (r : List ShownRecord). IsAt stands config r impossible) (sym (shown_behind now state records so_far ends.skipped ends.only)) at;
-        };
-      }
+          holds = record {
+            pieces = pieces;
+            gave = sym (append-nil (joined pieces));
+            ended = ends.ended;
+            each = each;
+            place = ap (λ (s : ReaderState). s.place) ends.stands ∙ count_behind now state records so_far ends.skipped;
+            tracked = subst (λ (r : List ShownRecord). IsAt stands config r impossible) (sym (shown_behind now state records so_far ends.skipped ends.only)) at;
+          };
+        },
+        refl,
+      )
 
   -- where the source is as before, nothing was given
   same_source : (now next : S) (xs rest : List ℕ) → gives now next (xs ++ rest) → next ≡ now → length xs + length rest ≡ 0
@@ -254,23 +257,26 @@ module _ {S : Type 0} (gives : S → S → List ℕ → Type 0) (has_ended : S �
   -- to a fault of the reader
   pub refused : (now next : S) (state after : ReaderState) (records : List ShownRecord) (fault : CaptureFault) → SoFar now state records
       → Fails gives has_ended config.parts.session now next state after fault
-      → ReadBy gives config.parts.session source next after (λ given. IsRefusal given has_ended config source next fault)
-  refused now next state after records fault so_far fails = record {
-    pieces = so_far.pieces ++ fails.skipped;
-    rest = fails.rest;
-    knows = knows_behind now next state after records so_far fails.skipped (ap (λ (s : ReaderState). s.last) fails.stands) (ap (λ (s : ReaderState). s.other) fails.stands);
-    gave = subst (λ (o : List ℕ). gives source next o)
-        (sym (append_assoc (joined so_far.pieces) (joined fails.skipped) fails.rest) ∙ ap (λ (o : List ℕ). o ++ fails.rest) (sym (joined_chain so_far.pieces fails.skipped)))
-        (gives_joined source now next (joined so_far.pieces) (joined fails.skipped ++ fails.rest) so_far.gave fails.taken);
-    each = behind now state records so_far fails.skipped fails.pieces;
-    holds = refused_behind now next state after records fault so_far fails;
-  }
+      → ReadsWith gives config.parts.session source next after (Some fault) (λ given. IsRefusal given has_ended config source next fault)
+  refused now next state after records fault so_far fails = (
+    record {
+      pieces = so_far.pieces ++ fails.skipped;
+      rest = fails.rest;
+      knows = knows_behind now next state after records so_far fails.skipped (ap (λ (s : ReaderState). s.last) fails.stands) (ap (λ (s : ReaderState). s.other) fails.stands);
+      gave = subst (λ (o : List ℕ). gives source next o)
+          (sym (append_assoc (joined so_far.pieces) (joined fails.skipped) fails.rest) ∙ ap (λ (o : List ℕ). o ++ fails.rest) (sym (joined_chain so_far.pieces fails.skipped)))
+          (gives_joined source now next (joined so_far.pieces) (joined fails.skipped ++ fails.rest) so_far.gave fails.taken);
+      each = behind now state records so_far fails.skipped fails.pieces;
+      holds = refused_behind now next state after records fault so_far fails;
+    },
+    inr (fails.offset ∙ count_behind now state records so_far fails.skipped),
+  )
 
   -- to a record that the tracker has no memory for
   pub untaken : (now next : S) (state after : ReaderState) (records : List ShownRecord) (shown : ShownRecord) (fault : CaptureFault) → SoFar now state records
       → Begins config records → Answers gives has_ended config.parts.session now next state after shown
       → fault ≡ record { kind = kinds.Memory; offset = after.place }
-      → ReadBy gives config.parts.session source next after (λ given. IsRefusal given has_ended config source next fault)
+      → ReadsWith gives config.parts.session source next after (Some fault) (λ given. IsRefusal given has_ended config source next fault)
   untaken now next state after records shown fault so_far begins answer is =
       let pieces = so_far.pieces ++ answer.skipped in
       let more = answer.skipped ++ Shown answer.octets ∷ [] in
@@ -278,23 +284,25 @@ module _ {S : Type 0} (gives : S → S → List ℕ → Type 0) (has_ended : S �
       ∙ sym (append_assoc (joined so_far.pieces) (joined answer.skipped) answer.octets)
       ∙ ap (λ (o : List ℕ). o ++ answer.octets) (sym (joined_chain so_far.pieces answer.skipped)) in
       let piece = last_piece config.parts.session state.last answer.skipped (Shown answer.octets) answer.pieces in
-      let skipped_only = behind now state records so_far answer.skipped (first_pieces config.parts.session state.last answer.skipped (Shown answer.octets) answer.pieces) in
-      record {
-        pieces = so_far.pieces ++ more;
-        rest = [];
-        knows = knows_behind now next state after records so_far more (ap (λ (s : ReaderState). s.last) answer.stands) (ap (λ (s : ReaderState). s.other) answer.stands);
-        gave = subst (λ (o : List ℕ). gives source next o) (sym (append-nil (joined (so_far.pieces ++ more)))) (given_behind now next state records so_far more answer.exactly);
-        each = behind now state records so_far more answer.pieces;
-        holds = inr (inr (record {
-          pieces = pieces;
-          rest = answer.octets;
-          gave = sym (append-nil (joined (so_far.pieces ++ more)) ∙ all);
-          each = skipped_only;
-          kind = ap (λ (f : CaptureFault). f.kind) is;
-          offset = ap (λ (f : CaptureFault). f.offset) is ∙ ap (λ (s : ReaderState). s.place) answer.stands ∙ count_behind now state records so_far answer.skipped;
-          place = inr (inl (
-            subst (λ (l : Option ℕ). IsPiece config.parts.session l (Shown answer.octets)) (last_behind now state records so_far answer.skipped) piece.0,
-            subst (λ (r : List ShownRecord). Begins config r) (sym (shown_behind now state records so_far answer.skipped answer.only)) begins,
-          ));
-        }));
-      }
+      let skipped_only = behind now state records so_far answer.skipped (first_pieces config.parts.session state.last answer.skipped (Shown answer.octets) answer.pieces) in (
+        record {
+          pieces = so_far.pieces ++ more;
+          rest = [];
+          knows = knows_behind now next state after records so_far more (ap (λ (s : ReaderState). s.last) answer.stands) (ap (λ (s : ReaderState). s.other) answer.stands);
+          gave = subst (λ (o : List ℕ). gives source next o) (sym (append-nil (joined (so_far.pieces ++ more)))) (given_behind now next state records so_far more answer.exactly);
+          each = behind now state records so_far more answer.pieces;
+          holds = inr (inr (record {
+            pieces = pieces;
+            rest = answer.octets;
+            gave = sym (append-nil (joined (so_far.pieces ++ more)) ∙ all);
+            each = skipped_only;
+            kind = ap (λ (f : CaptureFault). f.kind) is;
+            offset = ap (λ (f : CaptureFault). f.offset) is ∙ ap (λ (s : ReaderState). s.place) answer.stands ∙ count_behind now state records so_far answer.skipped;
+            place = inr (inl (
+              subst (λ (l : Option ℕ). IsPiece config.parts.session l (Shown answer.octets)) (last_behind now state records so_far answer.skipped) piece.0,
+              subst (λ (r : List ShownRecord). Begins config r) (sym (shown_behind now state records so_far answer.skipped answer.only)) begins,
+            ));
+          }));
+        },
+        inl refl,
+      )

@@ -3,10 +3,13 @@
 use Rattle.std.specs.Prelude.{◌≡◌, ◌<◌, ◌+◌, ◌⊎◌, ◌++◌, ℕ, Bool, List, [], length, take, IsTrue}
 use Rattle.std.specs.Prelude.{Option, None, Some, Result, Ok, Err}
 use Rattle.bgp_prefix.specs.Shown.{ShownRecord}
+use Rattle.bgp_prefix.specs.declared.session.Session.{Session}
 use Rattle.bgp_open.specs.declared.config.Config.{Config}
 use Rattle.bgp_machine.specs.Run.{Begins}
 use Rattle.mrt.specs.Capture.{Piece, Shown, ArePieces, IsBegun, IsFirstFault, IsPiece, Spells}
 use Rattle.mrt.specs.Capture.{joined, last_of, records_of}
+use Rattle.mrt.specs.ReadBy.{ReadBy}
+use Rattle.mrt.specs.Reader.{ReaderState}
 use Rattle.mrt.specs.declared.fault.CaptureFault.{CaptureFault}
 use Rattle.mrt.specs.declared.fault.FaultKind.TheVariants as kinds
 use Rattle.bgp_judge.specs.declared.verdict.Verdict.{Verdict}
@@ -64,6 +67,23 @@ module _ {S : Type 0} (gives : S → S → List ℕ → Type 0) (has_ended : S �
   abbrev pub Judges : {X : Type 0} → Result (Verdict X) CaptureFault → Type 0
   Judges (Ok verdict) = IsJudged verdict
   Judges (Err fault) = IsRefusal fault
+
+-- the fault that is answered, if one is
+abbrev pub fault_in : {X : Type 0} → Result X CaptureFault → Option CaptureFault
+fault_in (Ok x) = None
+fault_in (Err fault) = Some fault
+
+-- the pieces go as far as was read, or to the fault
+abbrev pub EndsBy : List Piece → List ℕ → Option CaptureFault → Type 0
+EndsBy pieces rest None = rest ≡ []
+EndsBy pieces rest (Some fault) = (rest ≡ []) ⊎ (fault.offset ≡ length (joined pieces))
+
+-- A reader knows all pieces of what was read, to the end or to this fault. And something holds of a
+-- source that gave just those octets.
+abbrev pub ReadsWith : {S : Type 0} → (S → S → List ℕ → Type 0) → Session → S → S → ReaderState
+    → Option CaptureFault → ((S → S → List ℕ → Type 0) → Type 0) → Type 0
+ReadsWith gives session old new reader' fault Holds =
+    (read : ReadBy gives session old new reader' Holds) × EndsBy read.pieces read.rest fault
 
 -- How far a tracker has come with these records, which stands for records by `stands`: for all of
 -- them, and they begin a run; or the first impossible one was found.

@@ -3,9 +3,8 @@
 ghost use Rattle.std.specs.Prelude.{◌≡◌, ◌<◌, ◌+◌, []};
 ghost use Rattle.mrt.specs.declared.fault.FaultKind.TheVariants.{Memory};
 ghost use Rattle.mrt.specs.Progress.{failures_of};
-ghost use Rattle.mrt.specs.ReadBy.{ReadBy};
 ghost use Rattle.mrt.specs.Reader.{fresh_reader};
-ghost use Rattle.bgp_judge.specs.Judging.{Follows, Judges};
+ghost use Rattle.bgp_judge.specs.Judging.{Follows, Judges, ReadsWith, fault_in};
 
 use crate::judging::{advance, verdict_of};
 use crate::tracker::Tracker;
@@ -35,8 +34,8 @@ fn follow<A: Allocator + Copy, T: Tracker<A>, S: Source>(
     requires stands { T.stands_for tracker.old config.now [] }
     requires fresh { reader.old ≡ fresh_reader }
     requires failures { S.failures source.old < u64.MAX }
-    ensures follows { ReadBy S.gives config.now.parts.session source.old source.new reader.new
-        (λ gives. Follows gives S.has_ended config.now source.old source.new
+    ensures follows { ReadsWith S.gives config.now.parts.session source.old source.new reader.new
+        (fault_in result) (λ gives. Follows gives S.has_ended config.now source.old source.new
         (T.stands_for tracker.new) reader.new.place result) }
     ensures failures { S.failures source.new ≡ S.failures source.old + failures_of result }
 {
@@ -91,8 +90,8 @@ pub fn judge_with<A: Allocator + Copy, T: Tracker<A>, S: Source>(
 ) -> Result<Verdict<A>, CaptureFault>
     requires fresh { reader.old ≡ fresh_reader }
     requires failures { S.failures source.old < u64.MAX }
-    ensures judged { ReadBy S.gives config.now.parts.session source.old source.new reader.new
-        (λ gives. Judges gives S.has_ended config.now source.old source.new result) }
+    ensures judged { ReadsWith S.gives config.now.parts.session source.old source.new reader.new
+        (fault_in result) (λ gives. Judges gives S.has_ended config.now source.old source.new result) }
     ensures failures { S.failures source.new ≡ S.failures source.old + failures_of result }
 {
     let started: Result<T, _> = T::start(alloc, config);
