@@ -91,7 +91,8 @@ pub fn judge_with<A: Allocator + Copy, T: Tracker<A>, S: Source>(
     requires fresh { reader.old ≡ fresh_reader }
     requires failures { S.failures source.old < u64.MAX }
     ensures judged { ReadsWith S.gives config.now.parts.session source.old source.new reader.new
-        (fault_in result) (λ gives. Judges gives S.has_ended config.now source.old source.new result) }
+        (fault_in result)
+        (λ gives. Judges gives S.has_ended config.now source.old source.new result) }
     ensures failures { S.failures source.new ≡ S.failures source.old + failures_of result }
 {
     let started: Result<T, _> = T::start(alloc, config);

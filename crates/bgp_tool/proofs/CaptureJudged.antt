@@ -1,5 +1,5 @@
 -- A capture's judging that began with a fresh text, told by what the sink took.
-use Rattle.std.proofs.Common.{◌≡◌, ◌∙◌, ◌⊎◌, ◌+◌, ◌++◌, ◌≤◌, ℕ, List, [], Bool, IsTrue, IsFalse, arith, refl, sym, ap, subst, inl, inr, map, Result, Ok, Err}
+use Rattle.std.proofs.Common.{◌≡◌, ◌∙◌, ◌⊎◌, ◌+◌, ◌++◌, ◌≤◌, ℕ, List, [], Bool, IsTrue, IsFalse, arith, refl, sym, ap, subst, inl, inr, map, Option, Result, Ok, Err}
 use Rattle.bgp_open.specs.declared.config.Config.{Config}
 use Rattle.mrt.specs.declared.fault.CaptureFault.{CaptureFault}
 use Rattle.mrt.specs.declared.fault.FaultKind.{FaultKind}
@@ -12,13 +12,14 @@ use Rattle.mrt.specs.Reader.{ReaderState}
 use Rattle.bgp_judge.specs.declared.verdict.Verdict.{Verdict}
 use Rattle.bgp_judge.specs.declared.verdict.Verdict.TheVariants.{Yes, No, Unfinished}
 use Rattle.bgp_judge.specs.Ends.{end_value}
-use Rattle.bgp_judge.specs.Judging.{Judges}
+use Rattle.bgp_judge.specs.Judging.{Judges, EndsBy, ReadsWith, fault_in}
 use Rattle.bgp_text.specs.declared.lines.Lines.{Lines}
 use Rattle.bgp_text.specs.Lines.{Writes}
 use Rattle.bgp_text.proofs.Fresh.{IsFresh, put_is, nothing_left, none_counted, one_counted}
 use Rattle.bgp_tool.specs.Answer.{answer_text, answer_status, IsWritten}
 use Rattle.bgp_tool.specs.CaptureDecoding.{status_by}
 use Rattle.bgp_tool.specs.Judging.{TellsVerdict, TellsFault, JudgesCapture}
+use Rattle.bgp_tool.specs.OpenedJudging.{fault_told}
 
 module _ {R : Type 0} (gives : R → R → List ℕ → Type 0) (has_ended : R → Bool) (counts : R → ℕ) (config : Config)
     (source source' : R) where
@@ -137,25 +138,41 @@ module _ {F R : Type 0} (view : F → R) (has_ended : R → Bool) (config : Conf
     place = is.place;
   })
 
--- And it is told of just the octets that a reader of captures knows.
+-- And it is told of just the octets of which a reader of captures knows all pieces.
 module _ {F R W : Type 0} (view : F → R) (takes : W → W → List ℕ → Type 0) (failures : W → ℕ) (gives : R → R → List ℕ → Type 0)
     (has_ended : R → Bool) (counts : R → ℕ) (config : Config) (source source' : F) (sink sink' : W) where
+  told_in : {X : Type 0} (given : R → R → List ℕ → Type 0) (answer : Result (Verdict X) CaptureFault)
+      → (judged : Judges given has_ended config (view source) (view source') answer)
+      → (counted : counts (view source') ≡ counts (view source) + failures_of answer)
+      → fault_in answer ≡ fault_told (tells given has_ended counts config (view source) (view source') answer judged counted)
+  unfolding tells
+  told_in given (Ok (Yes ends)) judged counted = refl
+  told_in given (Ok (No count)) judged counted = refl
+  told_in given (Ok Unfinished) judged counted = refl
+  told_in given (Err fault) judged counted = refl
+
   pub judges_read : {X : Type 0} (reader : ReaderState) (answer : Result (Verdict X) CaptureFault) (status : ℕ)
-      → ReadBy (λ from to some. gives (view from) (view to) some) config.parts.session source source' reader
+      → ReadsWith (λ from to some. gives (view from) (view to) some) config.parts.session source source' reader (fault_in answer)
       (λ given. Judges given (λ state. has_ended (view state)) config source source' answer)
       → counts (view source') ≡ counts (view source) + failures_of answer
       → IsWritten takes failures (answer_text answer) (answer_status answer) sink sink' status
-      → ReadBy gives config.parts.session (view source) (view source') reader
-      (λ given. JudgesCapture given has_ended takes counts failures config (view source) (view source') sink sink' status)
-  judges_read reader answer status by counted wrote = record {
-    pieces = by.pieces;
-    rest = by.rest;
-    knows = by.knows;
-    gave = by.gave;
-    each = by.each;
-    holds = judges_capture takes failures (λ from to some. some ≡ joined by.pieces ++ by.rest) has_ended counts config (view source) (view source') sink sink' answer status
-        (viewed view has_ended config source source' (joined by.pieces ++ by.rest) answer by.holds) counted wrote;
-  }
+      → (read : ReadBy gives config.parts.session (view source) (view source') reader
+      (λ given. JudgesCapture given has_ended takes counts failures config (view source) (view source') sink sink' status))
+      × EndsBy read.pieces read.rest (fault_told read.holds.answer)
+  unfolding judges_capture
+  judges_read reader answer status (by, ends) counted wrote =
+      let judged = viewed view has_ended config source source' (joined by.pieces ++ by.rest) answer by.holds in (
+        record {
+          pieces = by.pieces;
+          rest = by.rest;
+          knows = by.knows;
+          gave = by.gave;
+          each = by.each;
+          holds = judges_capture takes failures (λ from to some. some ≡ joined by.pieces ++ by.rest) has_ended counts config (view source) (view source') sink sink' answer status
+              judged counted wrote;
+        },
+        subst (λ (f : Option CaptureFault). EndsBy by.pieces by.rest f) (told_in (λ from to some. some ≡ joined by.pieces ++ by.rest) answer judged counted) ends,
+      )
 
 module _ {W : Type 0} {sinks' : sinks.Ghosts W} (lines lines' : Lines W sinks') (sink sink' : W) (fresh : IsFresh lines)
     (first : lines.outlet.sink.now ≡ sink) (last : sink' ≡ lines'.outlet.sink.now) where

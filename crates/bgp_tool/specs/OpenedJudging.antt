@@ -1,15 +1,26 @@
 -- What judging a capture that a reader gives leaves in a writer, as far as both tell their octets,
 -- and what is told of its end on standard error.
-use Rattle.std.specs.Prelude.{ℕ, List, Option}
+use Rattle.std.specs.Prelude.{◌⊎◌, ℕ, Bool, List, Option, None, Some}
+use Rattle.std.proofs.Common.{inl, inr}
 use Rattle.std.specs.Borrow.{Bor}
 use Rattle.bgp_open.specs.declared.config.Config.{Config}
 use Rattle.mrt.specs.FromRead.{ReaderState, fresh_reader, Gives}
 use Rattle.mrt.specs.FromWrite.{WriterState, Takes}
 use Rattle.mrt.specs.ReadBy.{ReadBy}
 use Rattle.mrt.specs.Reader as records
+use Rattle.mrt.specs.declared.fault.CaptureFault.{CaptureFault}
+use Rattle.bgp_judge.specs.Judging.{EndsBy}
 use Rattle.bgp_tool.specs.declared.opened.Outcome.{Outcome}
-use Rattle.bgp_tool.specs.Judging.{JudgesCapture}
+use Rattle.bgp_tool.specs.Judging.{TellsVerdict, TellsFault, JudgesCapture}
 use Rattle.bgp_tool.specs.OpenedCapture.{TellsCapture}
+
+-- the fault that is told, if it isn't a verdict
+abbrev pub fault_told : {R : Type 0} {gives : R → R → List ℕ → Type 0} {has_ended : R → Bool}
+    {failures : R → ℕ} {config : Config} {source source' : R} {text : List ℕ} {status : ℕ}
+    → TellsVerdict gives has_ended failures config source source' text status
+    ⊎ TellsFault gives has_ended failures config source source' text status → Option CaptureFault
+fault_told (inl tells) = None
+fault_told (inr tells) = Some tells.fault
 
 -- From one state of a writer to another a reader's octets were judged, from a source that had given
 -- nothing, and it is told how that ended.
@@ -18,9 +29,10 @@ pub record JudgesOpened {R W : Type 0} (remaining : R → Option (List ℕ))
     (old new : WriterState W) (outcome : Outcome) : Type 0 where
   pub source : ReaderState R
   pub found : records.ReaderState
-  -- the reader of the capture tells of just the octets that were judged
+  -- what was found is that in all of the octets that were judged
   pub judged : ReadBy (Gives remaining) config.parts.session (fresh_reader reader) source found
       (λ gives. JudgesCapture gives (λ state. state.has_ended) (Takes contents)
       (λ state. state.failures) (λ state. state.failures) config (fresh_reader reader) source
       old new outcome.status)
+  pub ends : EndsBy judged.pieces judged.rest (fault_told judged.holds.answer)
   pub told : TellsCapture file source found old new outcome.status outcome.note
