@@ -35,7 +35,8 @@ fn follow<A: Allocator + Copy, T: Tracker<A>, S: Source>(
     requires fresh { reader.old ≡ fresh_reader }
     requires failures { S.failures source.old < u64.MAX }
     ensures follows { ReadsWith S.gives config.now.parts.session source.old source.new reader.new
-        (fault_in result) (λ gives. Follows gives S.has_ended config.now source.old source.new
+        (fault_in result)
+        (λ gives. Follows gives S.has_ended config.now source.old source.new
         (T.stands_for tracker.new) reader.new.place result) }
     ensures failures { S.failures source.new ≡ S.failures source.old + failures_of result }
 {

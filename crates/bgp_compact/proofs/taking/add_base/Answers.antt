@@ -28,14 +28,14 @@ returns-clause-gains g c = λ table are fresh.
     (subst (λ (v : List Step). Each (IsOpen config c.args.base.head r changes) v) (sym c.as_slice.ensures.value) c.in_ok-opened.ensures.exact.each)
     c.requires.behind c.requires.some are fresh
     (subst (λ (v : List Step). Each (Fits changes table) v) (sym c.as_slice.ensures.value)
-    (all_fit config c.args.base.head r c.in_ok-opened.opened.changes table steps c.in_ok-opened.ensures.exact c.in_ok-opened.ensures.given))))
+    (all_fit config c.args.base.head r c.in_ok-opened.opened.changes table steps c.in_ok-opened.ensures.exact c.in_ok-opened.ensures.given.0))))
 
 pub returns-clause-given : goal.returns-clause-given
 returns-clause-given g c =
     given_where c.args.config.now c.args.base.head (shown_of c.args.shown.now) c.in_ok-opened.opened.changes c.in_ok-opened.opened.steps.items
-    c.in_ok-opened.ensures.exact c.in_ok-opened.ensures.given
+    c.in_ok-opened.ensures.exact c.in_ok-opened.ensures.given.0
 
 pub returns-clause-made : goal.returns-clause-made
 returns-clause-made g c =
     made_at c.args.config.now c.args.base.head (shown_of c.args.shown.now) c.in_ok-opened.opened.changes c.in_ok-opened.opened.steps.items
-    c.in_ok-opened.ensures.exact c.in_ok-opened.ensures.given
+    c.in_ok-opened.ensures.exact c.in_ok-opened.ensures.given.0
