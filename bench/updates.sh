@@ -1,15 +1,16 @@
 #!/usr/bin/env bash
 # How fast UPDATEs are read into their outcomes, as a ratio to `md5sum` over the same octets: the
-# UPDATEs of the mix of bench/decode.sh alone, read in blocks. Wants bash, coreutils and the program
-# that `rt run` built in crates/real_streams/out/real_streams. Prints figures; it is no test.
+# UPDATEs of the mix of bench/decode.sh alone, read in blocks, whose outcomes are kept in an arena.
+# Wants bash, coreutils and the program that `rt run` built in
+# crates/update_outcomes/out/update_outcomes. Prints figures; it is no test.
 set -euo pipefail
 
 here=$(cd "$(dirname "$0")" && pwd)
 . "$here/measure.sh"
 . "$here/mix.sh"
-program=${1:-$here/../crates/real_streams/out/real_streams}
+program=${1:-$here/../crates/update_outcomes/out/update_outcomes}
 [[ -x $program ]] ||
-    { echo "build the program first: (cd crates/real_streams && rt run)" >&2; exit 1; }
+    { echo "build the program first: (cd crates/update_outcomes && rt run)" >&2; exit 1; }
 
 work=$(mktemp -d)
 trap 'rm -rf "$work"' EXIT

@@ -1,19 +1,15 @@
 //! Decodes the streams of real routers that lie in the folder where it runs, one after another, and
 //! tells of each whether its UPDATEs are clean.
-//!
-//! Given the name of a file, it reads that file as a stream and counts the outcomes of its UPDATEs.
 #![tactic(auto)]
 
-mod outcomes;
 mod sessions;
 
 use bgp_tool::{Status, decode_raw};
 use mrt::{FromRead, FromWrite};
-use outcomes::print_outcomes;
 use sessions::print_sessions;
 use std::process::ExitCode;
-use std::rt::{Env, Files};
-use std::{env, fs, io};
+use std::rt::Files;
+use std::{fs, io};
 
 /// The streams by session and direction; `examples/README.md` tells what the sessions are.
 const STREAMS: [&str; 14] = [
@@ -44,12 +40,8 @@ fn main(rt: HostRuntime) -> ExitCode {
     }
 }
 
-/// Decodes all streams, or reads the one that is named. Answers whether all UPDATEs are clean.
-fn run<R: Files + Env + Print + AllocGlobal>(rt: &R) -> io::Result<bool> {
-    if let Some(name) = env::args(rt)?.nth(1) {
-        print_outcomes(rt, name.as_str())?;
-        return Ok(true);
-    }
+/// Decodes all streams. Answers whether all UPDATEs are clean.
+fn run<R: Files + Print + AllocGlobal>(rt: &R) -> io::Result<bool> {
     for name in STREAMS {
         print_stream(rt, name)?;
     }

@@ -63,7 +63,7 @@ pub(crate) fn print_sessions<R: Files + Print + AllocGlobal>(rt: &R) -> io::Resu
 }
 
 /// What an end is configured to, where it expects the other.
-pub(crate) fn config_of(local_as: u32, peer_as: u32, as4: bool) -> Option<Config> {
+fn config_of(local_as: u32, peer_as: u32, as4: bool) -> Option<Config> {
     Config::new(ConfigParts {
         local_as,
         peer_as,

@@ -1,11 +1,12 @@
 //! The outcomes of a stream's UPDATEs, counted.
 
-use crate::sessions::config_of;
-use bgp_open::{Link, negotiate, read_open};
+use bgp_open::{Config, ConfigParts, Families, Link, negotiate, read_open};
+use bgp_prefix::{Address, Session};
 use bgp_update::read_update;
 use bgp_wire::vectors::OPEN_B;
 use bgp_wire::{Frames, Limit, MessageType, Next};
-use std::alloc::Global;
+use bumpalo::Bump;
+use std::alloc::Allocator;
 use std::io::Read;
 use std::rt::Files;
 use std::{fs, io};
@@ -21,7 +22,7 @@ struct Totals {
 
 impl Totals {
     /// One UPDATE more.
-    fn add(&mut self, alloc: Global, link: &Link, octets: &[u8]) -> io::Result<()> {
+    fn add<A: Allocator + Copy>(&mut self, alloc: A, link: &Link, octets: &[u8]) -> io::Result<()> {
         let Some(changes) = read_update(alloc, link, octets)?.changes else {
             self.reset = self.reset.saturating_add(1);
             return Ok(());
@@ -36,7 +37,8 @@ impl Totals {
 }
 
 /// Reads a stream in blocks, and prints what became of its UPDATEs on a link of both families with
-/// AS numbers of four octets.
+/// AS numbers of four octets. The outcomes of a block take their memory from an arena, and give it
+/// back together.
 pub(crate) fn print_outcomes<R: Files + Print + AllocGlobal>(rt: &R, name: &str) -> io::Result<()> {
     let Some(link) = link() else {
         return Err(io::Error::from(io::ErrorKind::InvalidData));
@@ -44,6 +46,7 @@ pub(crate) fn print_outcomes<R: Files + Print + AllocGlobal>(rt: &R, name: &str)
     let mut file = fs::open(rt, name)?;
     let mut frames = Frames::new(rt.alloc(), Limit::Plain);
     let mut totals = Totals::default();
+    let mut arena = Bump::new(rt.alloc());
     let mut block = [0; 8192];
     for _ in 0..u64::MAX {
         let count = file.read(&mut block)?;
@@ -51,7 +54,8 @@ pub(crate) fn print_outcomes<R: Files + Print + AllocGlobal>(rt: &R, name: &str)
             break;
         }
         frames.feed(&block[..count])?;
-        add_frames(rt.alloc(), &link, &mut frames, &mut totals)?;
+        add_frames(&arena, &link, &mut frames, &mut totals)?;
+        let _ = arena.reset(); // No outcome is kept.
     }
     println!(rt;
         "applied {}, reset {}, removed {}, put {}",
@@ -60,8 +64,8 @@ pub(crate) fn print_outcomes<R: Files + Print + AllocGlobal>(rt: &R, name: &str)
 }
 
 /// Adds the UPDATEs among the frames that are whole.
-fn add_frames(
-    alloc: Global,
+fn add_frames<A: Allocator + Copy>(
+    alloc: A,
     link: &Link,
     frames: &mut Frames,
     totals: &mut Totals,
@@ -79,6 +83,21 @@ fn add_frames(
 
 /// What the OPENs of AS 65001 and AS 65002 settle.
 fn link() -> Option<Link> {
+    let config = Config::new(ConfigParts {
+        local_as: 65001,
+        peer_as: 65002,
+        local_id: 0xc000_0201,
+        hold: 90,
+        families: Families { v4: true, v6: true },
+        as4: true,
+        delay_open: false,
+        large_hold: 240,
+        session: Session {
+            peer: Address::V4(0xc000_0202),
+            local: Address::V4(0xc000_0201),
+            refresh: false,
+        },
+    })?;
     let open = read_open(&OPEN_B).ok()?;
-    Some(negotiate(&config_of(65001, 65002, true)?, &open))
+    Some(negotiate(&config, &open))
 }
