@@ -5,6 +5,7 @@ mod commands;
 mod devices;
 mod great;
 mod judging;
+mod opened_judging;
 mod updates;
 
 use bgp_tool::*;

@@ -8,14 +8,14 @@ use mrt::{Endpoints, FromWrite, Reader};
 use std::io;
 use std::io::ErrorKind;
 
-const SESSION: Session = Session {
+pub(super) const SESSION: Session = Session {
     peer: Address::V4(0xc000_0202),
     local: Address::V4(0xc000_0201),
     refresh: false,
 };
 
 /// A change from Idle to Connect at second 100.
-const CHANGE: [u8; 36] = [
+pub(super) const CHANGE: [u8; 36] = [
     0x00, 0x00, 0x00, 0x64, // timestamp: 100
     0x00, 0x10, 0x00, 0x05, // BGP4MP, BGP4MP_STATE_CHANGE_AS4
     0x00, 0x00, 0x00, 0x18, // length: 24
@@ -28,7 +28,7 @@ const CHANGE: [u8; 36] = [
 ];
 
 /// A capture of so many changes.
-fn changes(alloc: Global, count: usize) -> Result<Vec<u8>, AllocError> {
+pub(super) fn changes(alloc: Global, count: usize) -> Result<Vec<u8>, AllocError> {
     let mut capture = Vec::new(alloc);
     for _ in 0..count {
         capture.extend_from_slice(&CHANGE)?;

@@ -11,7 +11,7 @@ use mrt::{Sink, is_writable, write_record};
 use std::alloc::Allocator;
 
 /// What router A is configured to do.
-const PARTS_A: ConfigParts = ConfigParts {
+pub(super) const PARTS_A: ConfigParts = ConfigParts {
     local_as: 65001,
     peer_as: 65002,
     local_id: 0xc000_0201,
