@@ -1,6 +1,6 @@
 //! Files and standard streams as readers and writers of `bgp_tool`'s calls.
 
-use bgp_judge::PlainTracker;
+use bgp_compact::CompactTracker;
 use bgp_open::Config;
 use bgp_prefix::Session;
 use bgp_tool::{Outcome, decode_opened, decode_opened_capture, judge_opened};
@@ -52,7 +52,7 @@ pub fn judge<R: Files + Input + Print + Eprint + AllocGlobal>(
     let mut sink = FromWrite::new(io::writer(rt));
     let outcome = if file == "-" {
         let reader = BufReader::new(rt.alloc(), rt.reader());
-        judge_opened::<Global, PlainTracker<Global>, _, _>(
+        judge_opened::<Global, CompactTracker<Global>, _, _>(
             rt.alloc(),
             config,
             file,
@@ -61,7 +61,7 @@ pub fn judge<R: Files + Input + Print + Eprint + AllocGlobal>(
         )
     } else {
         let reader = buffered(rt, file);
-        judge_opened::<Global, PlainTracker<Global>, _, _>(
+        judge_opened::<Global, CompactTracker<Global>, _, _>(
             rt.alloc(),
             config,
             file,
