@@ -1,5 +1,6 @@
 -- What single functions of the compact tracker say, from which what it stands for follows.
-use Rattle.std.specs.Prelude.{◌≡◌, ◌≢◌, ◌⊎◌, Bool, true, false, IsTrue, List, [], ◌∷◌, Option, None, Some}
+use Rattle.std.specs.Prelude.{◌≡◌, ◌≢◌, ◌⊎◌, Bool, true, false, IsTrue}
+use Rattle.std.specs.Prelude.{List, [], ◌∷◌, Option, None, Some}
 use Rattle.bgp_prefix.specs.Shown.{ShownRecord}
 use Rattle.bgp_open.specs.declared.config.Config.{Config}
 use Rattle.bgp_open.specs.declared.link.Link.{Link}

@@ -184,7 +184,8 @@ fn is_so(alloc: Global, case: &Judged) -> Result<bool, AllocError> {
 }
 
 /// Prints each case of a table that is not so, and then how many there were. Answers whether all
-/// are so. Both trackers judge each. It is also judged from a source that fails behind it, and into a sink that fails.
+/// are so. Both trackers judge each. It is also judged from a source that fails behind it, and into
+/// a sink that fails.
 pub(crate) fn compare_judged<R: Files + Print + AllocGlobal>(
     rt: &R,
     name: &str,

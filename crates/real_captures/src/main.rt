@@ -6,18 +6,21 @@
 //!
 //! Judged are four tables, by the plain tracker and by the compact one: `judged.txt`, random
 //! captures, and `recordings.txt`, those of real routers' sessions, were answered by a program that
-//! was written apart from this one; `sessions.txt` was worked out by hand from RFC 4271, one session
-//! for each thing that it teaches, and `cuts.txt` is two records cut to each length. And each
-//! capture of `judged.txt` is altered twice: there both trackers answer alike.
+//! was written apart from this one; `sessions.txt` was worked out by hand from RFC 4271, one
+//! session for each thing that it teaches, and `cuts.txt` is two records cut to each length. And
+//! each capture of `judged.txt` is altered twice: there both trackers answer alike. And the
+//! examples of `bgp judge` are, from the words of the command line on.
 #![tactic(auto)]
 
 mod altered;
 mod case;
+mod examples;
 mod judged;
 mod recordings;
 mod runs;
 
 use case::read_case;
+use examples::compare_examples;
 use judged::{compare_altered, compare_judged};
 use recordings::{CAPTURES, print_capture};
 use runs::{Answer, is_whole, stops_anywhere};
@@ -49,7 +52,8 @@ fn decode_all<R: Files + Print + AllocGlobal>(rt: &R) -> io::Result<bool> {
     let cuts = compare_judged(rt, "cuts.txt")?;
     let recordings = compare_judged(rt, "recordings.txt")?;
     let altered = compare_altered(rt, "judged.txt")?;
-    Ok(cases && rules && judged && sessions && cuts && recordings && altered)
+    let examples = compare_examples(rt)?;
+    Ok(cases && rules && judged && sessions && cuts && recordings && altered && examples)
 }
 
 /// Prints each case of a table that is not so, and then how many there were. Answers whether all
