@@ -1,7 +1,7 @@
 #!/usr/bin/env bash
 # How long `bgp judge` takes for one session whose table grows, beside `bgp decode --mrt` of the same
-# capture: the opening, and then UPDATEs of which each announces one prefix more, up to 1,000, 4,000
-# and 16,000 records. Wants bash, coreutils and the program that `rt run` built in
+# capture: the opening, and then UPDATEs of which each announces one prefix more, up to 1,000, 4,000,
+# 16,000 and 64,000 records. Wants bash, coreutils and the program that `rt run` built in
 # crates/bgp/out/bgp. Prints figures; it is no test. Words: the program, if it is another one, and how
 # many records the captures have, if others.
 set -euo pipefail
@@ -11,7 +11,7 @@ here=$(cd "$(dirname "$0")" && pwd)
 . "$here/mix.sh"
 bgp=${1:-$here/../crates/bgp/out/bgp}
 sizes=("${@:2}")
-((${#sizes[@]})) || sizes=(1000 4000 16000)
+((${#sizes[@]})) || sizes=(1000 4000 16000 64000)
 [[ -x $bgp ]] ||
     { echo "build the program first: (cd crates/bgp && rt run -- --version)" >&2; exit 1; }
 
