@@ -21,6 +21,3 @@ pub use laws::{
 };
 pub use rib_in::RibIn;
 pub use route_iter::RouteIter;
-
-#[cfg(test)]
-mod tests;

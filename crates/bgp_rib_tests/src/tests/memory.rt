@@ -1,13 +1,7 @@
 //! Memory: enough of it, and growths that are refused.
 
-ghost use Rattle.std.specs.Prelude.{IfOk};
-ghost use Rattle.bgp_prefix.specs.PrefixOrder.{prefix_cmp};
-ghost use Rattle.bgp_rib.specs.Rooms.{HasNoRoom};
-
 use super::*;
-use crate::table::{Table, change};
 use linked_list_allocator::LocalHeap;
-use std::collections::BTreeMap;
 
 /// The changes that put all prefixes of a family that an UPDATE has room for.
 fn announced<A: Allocator + Copy>(
@@ -108,28 +102,27 @@ fn ballast<'a>(
     Ok(pieces)
 }
 
-/// Whether a change was done with so many octets left. Refused it leaves all, and again, with
-/// memory, it is done.
+/// Whether a second change was done with so many octets left. Refused it leaves all, and again,
+/// with memory, it is done.
 fn applies<'a>(
     rt: &impl Abort,
     heap: &'a LocalHeap,
     ample: &'a LocalHeap,
+    (first, then): &(Changes<&'a LocalHeap>, Changes<&'a LocalHeap>),
     left: usize,
 ) -> Result<bool, Fail> {
-    let (first, then) = (before(rt, ample)?, then(rt, ample)?);
     let mut same = RibIn::new(ample);
-    same.apply(&first)?;
+    same.apply(first)?;
     let mut rib = RibIn::new(heap);
-    rib.apply(&first)?;
+    rib.apply(first)?;
     let ballast = ballast(heap, ample, left)?;
-    let is_done = rib.apply(&then).is_ok();
+    let is_done = rib.apply(then).is_ok();
     drop(ballast);
     if !is_done {
-        assert!(rt; rib == same);
-        assert_eq!(rt; rib.len(), 3);
-        rib.apply(&then)?;
+        assert!(rt; rib == same && rib.len() == same.len());
+        rib.apply(then)?;
     }
-    same.apply(&then)?;
+    same.apply(then)?;
     assert!(rt; rib == same);
     Ok(is_done)
 }
@@ -185,7 +178,8 @@ fn a_refused_growth_changes_nothing(rt: HostRuntime) -> Result<(), Fail> {
     for step in 0..128 {
         let ample = LocalHeap::new(rt.alloc(), 1 << 16)?;
         let one = LocalHeap::new(rt.alloc(), 1 << 13)?;
-        met[0].note(applies(&rt, &one, &ample, 16 * step)?);
+        let changes = (before(&rt, &ample)?, then(&rt, &ample)?);
+        met[0].note(applies(&rt, &one, &ample, &changes, 16 * step)?);
         let other = LocalHeap::new(rt.alloc(), 1 << 13)?;
         met[1].note(copies(&rt, &other, &ample, 16 * step)?);
     }
@@ -196,77 +190,54 @@ fn a_refused_growth_changes_nothing(rt: HostRuntime) -> Result<(), Fail> {
     Ok(())
 }
 
-/// So many routes, from the first on, each to the prefix of its number.
-fn routes_from<'a>(
+/// So many routes, from the first on.
+fn routes_from<A: Allocator + Copy>(
     rt: &impl Abort,
-    heap: &'a LocalHeap,
+    alloc: A,
     first: u32,
     count: u32,
-) -> Result<Vec<(Prefix, u32), &'a LocalHeap>, Fail> {
-    let mut routes = Vec::new(heap);
+) -> Result<Changes<A>, AllocError> {
+    let mut prefixes = Vec::new(alloc);
     for index in first..first.saturating_add(count) {
-        routes.push((nth(rt, Family::V4, index), index))?;
+        prefixes.push(nth(rt, Family::V4, index))?;
     }
-    Ok(routes)
+    let mut put = Vec::new(alloc);
+    put.push(Put {
+        path: path(alloc, 1)?,
+        prefixes,
+    })?;
+    Ok(Changes {
+        remove: Vec::new(alloc),
+        put,
+    })
 }
 
-/// A table of the first so many routes.
-fn table_of<'a>(
-    rt: &impl Abort,
-    heap: &'a LocalHeap,
-    ample: &'a LocalHeap,
-    count: u32,
-) -> Result<Table<u32, &'a LocalHeap>, Fail>
-    ensures full { IfOk result (λ table. HasNoRoom prefix_cmp table.entries) }
-{
-    let mut table = BTreeMap::new(heap);
-    change(ample, &mut table, &[], routes_from(rt, ample, 0, count)?)?;
-    Ok(table)
-}
-
-/// Whether a change is done of a table of so many routes: it takes the first away, and puts so many
-/// behind the last. Nothing more can be had for the table, or else for the log of the change, and
-/// where that is wanted the table stays.
-fn changes_without<'a>(
-    rt: &impl Abort,
-    one: &'a LocalHeap,
-    ample: &'a LocalHeap,
-    (count, more): (u32, u32),
-    is_for_log: bool,
-) -> Result<bool, Fail> {
-    let (log, kept) = if is_for_log {
-        (one, ample)
-    } else {
-        (ample, one)
-    };
-    let mut table = table_of(rt, kept, ample, count)?;
-    let same = table_of(rt, ample, ample, count)?;
-    let put = routes_from(rt, ample, count, more)?;
-    let ballast = ballast(one, ample, 0)?;
-    let is_done = change(log, &mut table, &[nth(rt, Family::V4, 0)], put).is_ok();
-    drop(ballast);
-    assert!(rt; is_done || table == same, "what was refused left a trace");
-    Ok(is_done)
+/// The least room, in steps of 16 octets, with which a change of a table of so many routes is done:
+/// it takes the first away, and puts so many behind the last.
+fn least_room(rt: &impl Abort, alloc: Global, count: u32, more: u32) -> Result<usize, Fail> {
+    for step in 0..128 {
+        let ample = LocalHeap::new(alloc, 1 << 15)?;
+        let heap = LocalHeap::new(alloc, 1 << 12)?;
+        let mut then = routes_from(rt, &ample, count, more)?;
+        then.remove.push(nth(rt, Family::V4, 0))?;
+        let changes = (routes_from(rt, &ample, 0, count)?, then);
+        if applies(rt, &heap, &ample, &changes, 16 * step)? {
+            return Ok(step);
+        }
+    }
+    Err(Fail::from("a growth was refused to the end"))
 }
 
 // A leaf of the map has 15 entries, so an empty map grows at its first route, and one of 14 at the
-// second: what is written by then, and what is taken away, has to be written back.
+// second: what is written by then, and what is taken away, has to be written back. Of 14 routes and
+// one more the map doesn't grow, and all that may be refused is the list of routes and the log.
 #[test]
 fn each_growth_of_a_change_may_be_refused(rt: HostRuntime) -> Result<(), Fail> {
-    let cases = [
-        ((0, 1), false, false),
-        ((14, 1), false, true),
-        ((14, 2), false, false),
-        ((15, 1), false, false),
-        ((15, 1), true, false),
-    ];
-    for (sizes, is_for_log, is_done) in cases {
-        let ample = LocalHeap::new(rt.alloc(), 1 << 15)?;
-        let one = LocalHeap::new(rt.alloc(), 1 << 12)?;
-        assert_eq!(rt;
-            changes_without(&rt, &one, &ample, sizes, is_for_log)?,
-            is_done
-        );
+    let without_growth = least_room(&rt, rt.alloc(), 14, 1)?;
+    assert!(rt; 0 < without_growth, "the list of routes was not refused");
+    for (count, more) in [(0, 1), (14, 2), (15, 1)] {
+        let room = least_room(&rt, rt.alloc(), count, more)?;
+        assert!(rt; without_growth < room, "the map's growth was not refused");
     }
     Ok(())
 }
@@ -302,27 +273,24 @@ fn needs_no_memory<'a>(
     heap: &'a LocalHeap,
     ample: &'a LocalHeap,
 ) -> Result<(), Fail> {
+    let (first, second) = (then(rt, ample)?, before(rt, ample)?);
     let mut rib = RibIn::new(heap);
     let mut other = RibIn::new(heap);
-    assert_eq!(rt; heap.used(), 0);
-    rib.apply(&then(rt, ample)?)?;
-    other.apply(&before(rt, ample)?)?;
+    assert!(rt; heap.used() == 0);
+    rib.apply(&first)?;
+    other.apply(&second)?;
     let ballast = ballast(heap, ample, 0)?;
     let used = heap.used();
-    assert!(rt; rib != other);
-    assert_eq!(rt; rib.len(), 10);
-    assert!(rt; rib.routes().next().is_some());
-    assert!(rt; rib.routes_without(NONE).next().is_some());
-    assert!(rt; !rib.disabled().v4 && !rib.disabled().v6);
-    assert_eq!(rt; heap.used(), used);
+    assert!(rt; rib != other && rib.len() == 10);
+    assert!(rt; rib.routes().next().is_some() && rib.routes_without(NONE).next().is_some());
+    assert!(rt; !rib.disabled().v4 && !rib.disabled().v6 && heap.used() == used);
     rib.disable(Family::V6);
-    assert_eq!(rt; rib.len(), 9);
-    assert!(rt; heap.used() <= used);
+    assert!(rt; rib.len() == 9 && heap.used() <= used);
     rib.clear();
     other.clear();
     assert!(rt; rib == RibIn::new(heap));
     drop(ballast);
-    assert_eq!(rt; heap.used(), 0);
+    assert!(rt; heap.used() == 0);
     Ok(())
 }
 

@@ -5,10 +5,10 @@ mod long_run;
 mod memory;
 mod routes;
 
-use crate::*;
 use bgp_open::Families;
 use bgp_path::{AsPath, Items, NextHop, Origin, Path, PathParts, Segment, SegmentKind};
 use bgp_prefix::{Address, Family, Prefix, read_prefix};
+use bgp_rib::*;
 use bgp_update::{Changes, Put};
 use std::alloc::{AllocError, Allocator, Global};
 use std::process::Abort;
