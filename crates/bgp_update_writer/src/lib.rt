@@ -18,6 +18,3 @@ mod writing;
 
 pub use laws::written_updates_are_applied;
 pub use update::{Update, UpdateFault, write_update};
-
-#[cfg(test)]
-mod tests;

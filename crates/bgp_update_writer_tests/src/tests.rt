@@ -6,10 +6,10 @@ mod memory;
 mod rows;
 mod sizes;
 
-use crate::{Update, UpdateFault, write_update};
 use bgp_open::{Config, ConfigParts, Families, Link, negotiate, read_open};
 use bgp_path::{AsPath, Items, NextHop, Origin, Path, PathParts, Segment, SegmentKind};
 use bgp_prefix::{Address, Family, Prefix, Session, read_prefix};
+use bgp_update_writer::{Update, UpdateFault, write_update};
 use bgp_wire::vectors::OPEN_B;
 use std::alloc::{AllocError, Allocator, Global};
 use std::test::Fail;
