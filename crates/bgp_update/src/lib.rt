@@ -40,6 +40,3 @@ pub use parts::{Parts, read_parts};
 pub use prefixes::Prefixes;
 pub use reading::read_update;
 pub use subcodes::{Subcodes, subcodes_are_sets};
-
-#[cfg(test)]
-mod tests;

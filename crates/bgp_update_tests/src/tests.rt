@@ -6,9 +6,9 @@ mod memory;
 mod messages;
 mod rules;
 
-use crate::{Changes, is_clean, read_update};
 use bgp_open::{Config, ConfigParts, Families, Link, negotiate, read_open};
 use bgp_prefix::{Address, Prefix, Session, read_prefix};
+use bgp_update::{Changes, is_clean, read_update};
 use bgp_wire::vectors::OPEN_B;
 use std::alloc::{AllocError, Allocator, Global};
 use std::process::Abort;
