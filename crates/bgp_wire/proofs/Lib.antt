@@ -9,3 +9,4 @@ pub mod WrittenMessage
 pub mod WholeMessages
 pub mod EachOctet
 pub mod HeaderAndBody
+pub mod AllOnes

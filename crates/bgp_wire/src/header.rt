@@ -7,7 +7,7 @@
 //! +---------------------+---------+------+
 //! ```
 
-ghost use Rattle.std.specs.Prelude.{◌≡◌, ◌↔◌, ◌≤◌, ◌+◌, ◌++◌, IsTrue, IsSome, IsNone};
+ghost use Rattle.std.specs.Prelude.{◌≡◌, ◌↔◌, ◌≤◌, ◌+◌, ◌^◌, ◌++◌, IsTrue, IsSome, IsNone};
 ghost use Rattle.std.specs.Prelude.{IfSome, IfNone};
 ghost use Rattle.std.specs.Prelude.{length, vec_len, vec_capacity};
 ghost use Rattle.byteorder.specs.Endian.{big_bytes};
@@ -173,13 +173,18 @@ pub(crate) fn read_type(header: &[u8; HEADER_LEN]) -> u8
     header[18]
 }
 
-/// Whether all octets of the marker are 255.
+/// Whether all octets of the marker are 255. They are looked at as two numbers of eight octets.
 pub(crate) fn is_synchronized(header: &[u8; HEADER_LEN]) -> bool
     ensures { IsTrue result ↔ IsSynchronized header.now }
 {
-    header[..MARKER_LEN]
-        .iter()
-        .all(|octet| *octet == MARKER_OCTET)
+    is_greatest(BigEndian::read_u64(header)) && is_greatest(BigEndian::read_u64(&header[8..]))
+}
+
+/// Whether all octets of a number are 255.
+fn is_greatest(number: u64) -> bool
+    ensures { IsTrue result ↔ (number + 1 ≡ 256 ^ 8) }
+{
+    number == u64::MAX
 }
 
 /// The least Length of a message of this type: that of its fixed fields.
