@@ -97,7 +97,7 @@ number_of_bits-append (true ∷ front) back =
     rw (length-append front back, later, powers) (omega arith)
 number_of_bits-append (false ∷ front) back = let later = number_of_bits-append front back in rw later (omega arith)
 
-number_of_bits-zeros : (count : ℕ) → number_of_bits (replicate count false) ≡ 0
+pub number_of_bits-zeros : (count : ℕ) → number_of_bits (replicate count false) ≡ 0
 unfolding number_of_bits
 number_of_bits-zeros zero = refl
 number_of_bits-zeros (suc count) = rw (number_of_bits-zeros count) refl

@@ -3,6 +3,7 @@ pub mod BitsAndNumbers
 pub mod Masks
 pub mod OneSpelling
 pub mod OneWriting
+pub mod OrderByHalves
 pub mod PlainDecimal
 pub mod PrefixParts
 pub mod PrintedIsRead

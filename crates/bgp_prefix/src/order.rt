@@ -49,11 +49,17 @@ impl Ord for Prefix {
 
     ghost matches_eq = { Prim.search (comparing, rules) };
 
+    #[tactic(auto, using(crate::proofs::OrderByHalves::by_numbers))]
     fn cmp(&self, other: &Prefix) -> Ordering {
-        let by_family = self.family().cmp(&other.family());
-        let by_number = self.number().cmp(&other.number());
-        let by_length = self.length().cmp(&other.length());
-        by_family.then(by_number).then(by_length)
+        if self.family() != other.family() {
+            return self.family().cmp(&other.family());
+        }
+        let (front, others) = (self.front(), other.front());
+        if front != others {
+            return front.cmp(&others); // Seldom does an order need more.
+        }
+        let by_back = self.back().cmp(&other.back());
+        by_back.then(self.length().cmp(&other.length()))
     }
 }
 

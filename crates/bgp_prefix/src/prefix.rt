@@ -24,7 +24,7 @@ ghost use Rattle.bgp_prefix.specs.Prefix.{
   prefix_of,
   address_of,
 };
-ghost use Rattle.bgp_prefix.specs.PrefixFields.{IsKept};
+ghost use Rattle.bgp_prefix.specs.PrefixFields.{IsKept, front_number, back_number};
 ghost use Rattle.bgp_prefix.specs.Fault.{fault_number, fault_text};
 ghost use Rattle.bgp_prefix.specs.declared.family.Family.{Family};
 ghost use Rattle.bgp_prefix.specs.PrefixOrder.{prefix_number};
@@ -217,6 +217,21 @@ impl Prefix {
             Address::V4(number) => u128::from(number),
             Address::V6(number) => number,
         }
+    }
+
+    /// The number that the first eight of the sixteen octets spell.
+    pub(crate) fn front(&self) -> u64
+        ensures number { result ≡ front_number self.now }
+        ensures fits { IsPrefix self.now }
+    {
+        BigEndian::read_u64(&self.octets)
+    }
+
+    /// The number that the others spell.
+    pub(crate) fn back(&self) -> u64
+        ensures { result ≡ back_number self.now }
+    {
+        BigEndian::read_u64(&self.octets[8..])
     }
 }
 
