@@ -131,6 +131,21 @@ module _ {K V : Type 0} {R : K → K → Ordering} (o : IsTotalOrder R) (exact :
   swept k [] room = absurd cc
   swept k (e ∷ es) room = swept_by k e.0 e.1 es (is_at (R k) e.0) refl room (swept k es)
 
+  -- an entry that goes takes the route to its key with it
+  taken_by : (k p : K) (v : Option V) (es : List (K × Option V)) (r : Ordering) → R k p ≡ r
+      → AllByRecursion (λ y. R p y ≡ Less) (keys_of es)
+      → routes_in (remove_entry (is_at (R k)) es) ≡ filter (λ e. not (is_eq (R e.0 k))) (routes_in es)
+      → routes_in (remove_entry (is_at (R k)) ((p, v) ∷ es)) ≡ filter (λ e. not (is_eq (R e.0 k))) (routes_in ((p, v) ∷ es))
+  taken_by k p v es Less e above more = rw e (moved_by k p v es (remove_entry (is_at (R k)) es) (greater o k p e) more)
+  taken_by k p v es Equal e above more =
+      rw e (dropped_by k p v es (ap is_eq (tied_back o k p e)) (unfiltered k es (subst (λ z. AllByRecursion (λ y. R z y ≡ Less) (keys_of es)) (sym (exact k p e)) above)))
+  taken_by k p v es Greater e above more = rw e (moved_by k p v es (remove_entry (is_at (R k)) es) (rw (o.antisymm p k, e) refl) more)
+
+  pub taken : (k : K) (es : List (K × Option V)) → IsStrictlySortedBy R (keys_of es)
+      → routes_in (remove_entry (is_at (R k)) es) ≡ filter (λ e. not (is_eq (R e.0 k))) (routes_in es)
+  taken k [] s = refl
+  taken k (e ∷ es) s = taken_by k e.0 e.1 es (R k e.0) refl (sorted_head R e.0 (keys_of es) s) (taken k es (sorted_tail R e.0 (keys_of es) s))
+
   -- no route at k, where there is no entry
   spared_by : (k p : K) (v : Option V) (es : List (K × Option V)) (r : Ordering) → R k p ≡ r
       → lookup (is_at (R k)) ((p, v) ∷ es) ≡ None
@@ -254,3 +269,8 @@ module _ {K V : Type 0} {R : K → K → Ordering} (o : IsTotalOrder R) (exact :
   pub filtered_room : (p : K → Bool) (es : List (K × Option V)) → HasNoRoom R es → HasNoRoom R (filter (λ e. p e.0) es)
   filtered_room p es full q h =
       full q (found_in (p q) _ _ (sym (lookup-filter-keys (is_at (R q)) p (p q) (λ k t. ap p (sym (exact q k ((Equal-is _).0 t)))) es) ∙ h))
+
+-- a key that a route is written to has no room alone
+pub unfilled : {X : Type 0} (b : Bool) (w : X) (v : Option (Option X)) → cond b (Some (Some w)) v ≡ Some None → v ≡ Some None
+unfilled true w v h = absurd cc
+unfilled false w v h = h

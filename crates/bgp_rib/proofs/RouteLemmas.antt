@@ -1,6 +1,7 @@
 -- What a change is to routes and their families.
 use Rattle.std.proofs.Common.{◌≡◌, ◌++◌, ◌||◌, Option, Bool, true, false, not, List, [], ◌∷◌, All, IsFalse, filter, map, refl, sym, ap, ◌∙◌}
 use Rattle.std.proofs.lemmas.List.{map-append}
+use Rattle.std.proofs.lemmas.List.Sums.{fold-append}
 use Rattle.std.proofs.lemmas.List.Elements.{filter-append, All-nil, All-cons, All-head, All-tail}
 use Rattle.std.proofs.lemmas.Map.Views.{All-keys-insert_entry}
 use Rattle.std.specs.BTreeMap.{insert_entry}
@@ -47,6 +48,34 @@ pub groups_more : (d : Families) (rs ss : List Route)
     → entries_outside d (map entry_of (rs ++ ss)) ≡ entries_outside d (map entry_of rs) ++ entries_outside d (map entry_of ss)
 groups_more d rs ss =
     ap (entries_outside d) (map-append entry_of rs ss) ∙ filter-append (λ e. not (contains d e.0.family)) (map entry_of rs) (map entry_of ss)
+
+-- puts after puts
+pub with_both : {V : Type 0} (puts more es : List (PrefixBits × V)) → entries_with (puts ++ more) es ≡ entries_with more (entries_with puts es)
+with_both puts more es = fold-append (λ l e. insert_entry prefix_cmp l e.0 e.1) es puts more
+
+-- the route of one prefix more
+pub route_put : (d : Families) (path : PathValue) (ps : List PrefixBits) (p : PrefixBits) (es : List (PrefixBits × PathValue))
+    → entries_with (entries_outside d ((p, path) ∷ [])) (entries_with (entries_outside d (map entry_of (routes_with path ps))) es)
+    ≡ entries_with (entries_outside d (map entry_of (routes_with path (ps ++ p ∷ [])))) es
+route_put d path ps p es =
+    sym (with_both (entries_outside d (map entry_of (routes_with path ps))) (entries_outside d ((p, path) ∷ [])) es)
+    ∙ ap (λ l. entries_with l es) (sym (group_more d path ps p))
+
+-- a route of a family that is enabled, and of one that isn't
+pub put_alone : (d : Families) (path : PathValue) (p : PrefixBits) (es : List (PrefixBits × PathValue)) → contains d p.family ≡ false
+    → insert_entry prefix_cmp es p path ≡ entries_with (entries_outside d ((p, path) ∷ [])) es
+put_alone d path p es on = rw on refl
+
+pub left_alone : (d : Families) (path : PathValue) (p : PrefixBits) (es : List (PrefixBits × PathValue)) → contains d p.family ≡ true
+    → es ≡ entries_with (entries_outside d ((p, path) ∷ [])) es
+left_alone d path p es off = rw off refl
+
+-- the routes of group after group
+pub groups_put : (d : Families) (rs ss : List Route) (es : List (PrefixBits × PathValue))
+    → entries_with (entries_outside d (map entry_of (rs ++ ss))) es
+    ≡ entries_with (entries_outside d (map entry_of ss)) (entries_with (entries_outside d (map entry_of rs)) es)
+groups_put d rs ss es =
+    ap (λ l. entries_with l es) (groups_more d rs ss) ∙ with_both (entries_outside d (map entry_of rs)) (entries_outside d (map entry_of ss)) es
 
 outside_by : {V : Type 0} (d f : Families) (e : PrefixBits × V) (es : List (PrefixBits × V)) (a b : Bool)
     → contains d e.0.family ≡ a → contains f e.0.family ≡ b → a ≡ false → AreOutside (union d f) (keys_of (entries_outside f es))

@@ -1,5 +1,5 @@
 -- What a turn of a loop over prefixes, or over routes, is to the whole list.
-use Rattle.std.proofs.Common.{◌≡◌, ℕ, ◌+◌, ◌<◌, ◌++◌, true, List, [], ◌∷◌, Some, length, take, get_or, All, Result, Ok, Err, OnOk, sym, ap, ◌∙◌}
+use Rattle.std.proofs.Common.{◌≡◌, ℕ, ◌+◌, ◌<◌, ◌++◌, true, List, [], ◌∷◌, Some, length, take, get_or, All, Result, Ok, Err, OnOk, OnErr, sym, ap, ◌∙◌}
 use Rattle.std.proofs.lemmas.List.{take_more}
 use Rattle.std.proofs.lemmas.List.Elements.{All-map, All-contains}
 use Rattle.std.proofs.lemmas.Map.Keys.{any_passes_from_place}
@@ -45,3 +45,7 @@ on_ok (Err e) h f = h
 pub on_both : {X E : Type 0} (r : Result X E) {P Q R : Type 0} → OnOk r P → OnOk r Q → (P → Q → R) → OnOk r R
 on_both (Ok x) h k f = f h k
 on_both (Err e) h k f = h
+
+pub either : {X E : Type 0} (r : Result X E) {P Q R : Type 0} → OnOk r P → OnErr r Q → (P → R) → (Q → R) → R
+either (Ok x) p q f h = f p
+either (Err x) p q f h = h q

@@ -10,6 +10,7 @@
 //! ```
 #![tactic(auto)]
 
+mod applying;
 mod laws;
 mod rib_in;
 mod route_iter;

@@ -1,15 +1,9 @@
 //! The routes that a peer has announced: its Adj-RIB-In (RFC 4271, 3.2).
 
-ghost use Rattle.std.specs.Prelude.{◌≡◌, ◌++◌, length, map, flat_map, IfOk, OnOk, OnErr};
-ghost use Rattle.bgp_prefix.specs.PrefixOrder.{prefix_cmp};
-ghost use Rattle.bgp_path.specs.Path.{PathValue};
-ghost use Rattle.bgp_update.specs.Allowed.{changes_value, put_routes};
-ghost use Rattle.bgp_rib.specs.Rooms.{routes_in, HasNoRoom};
+ghost use Rattle.std.specs.Prelude.{◌≡◌, length, IfOk, OnOk, OnErr};
+ghost use Rattle.bgp_update.specs.Allowed.{changes_value};
 ghost use Rattle.bgp_rib.specs.Routes.{
-  Routes,
   AreRoutes,
-  entry_of,
-  entries_outside,
   no_routes,
   routes_after,
   routes_without,
@@ -17,12 +11,13 @@ ghost use Rattle.bgp_rib.specs.Routes.{
   union,
 };
 
+use crate::applying::apply_changes;
 use crate::route_iter::RouteIter;
-use crate::table::{Table, change, drop_families, have_same_routes};
+use crate::table::{Log, Table, drop_families, have_same_routes};
 use bgp_open::Families;
 use bgp_path::Path;
-use bgp_prefix::{Family, Prefix};
-use bgp_update::{Changes, Put};
+use bgp_prefix::Family;
+use bgp_update::Changes;
 use std::alloc::{AllocError, Allocator, Global};
 use std::collections::BTreeMap;
 use std::marker::Model;
@@ -42,10 +37,13 @@ pub struct RibIn<A: Allocator = Global> {
     alloc: A,
     disabled: Families,
     table: Table<Path<A>, A>,
+    /// Empty between calls. It keeps its room, so that changes seldom take memory for it.
+    log: Log<Path<A>, A>,
 }
 
 impl<A: Allocator> Model for RibIn<A> {
     ghost use Rattle.bgp_prefix.specs.PrefixOrder.{prefix_cmp};
+    ghost use Rattle.std.specs.Prelude.{◌≡◌, []};
     ghost use Rattle.std.specs.Map.{keys_of};
     ghost use Rattle.bgp_rib.specs.Rooms.{routes_in, HasNoRoom};
     ghost use Rattle.bgp_rib.specs.Routes.{Routes, AreOutside};
@@ -55,7 +53,7 @@ impl<A: Allocator> Model for RibIn<A> {
     ghost view = { λ r. record { entries = routes_in r.table.entries; disabled = r.disabled } };
 
     ghost invariant = { λ r. HasNoRoom prefix_cmp r.table.entries
-        × AreOutside r.disabled (keys_of (routes_in r.table.entries)) };
+        × AreOutside r.disabled (keys_of (routes_in r.table.entries)) × (r.log.items ≡ []) };
 }
 
 impl<A: Allocator> RibIn<A> {
@@ -69,6 +67,7 @@ impl<A: Allocator> RibIn<A> {
             alloc,
             disabled: NO_FAMILIES,
             table: BTreeMap::new(alloc),
+            log: Vec::new(alloc),
         }
     }
 
@@ -76,15 +75,14 @@ impl<A: Allocator> RibIn<A> {
     /// ignored.
     ///
     /// Refused for memory it leaves everything as it was, and called again it does what it would
-    /// have done.
+    /// have done. Changes that only remove take no memory.
     pub fn apply(&mut self, changes: &Changes<A>) -> Result<(), AllocError>
     where
         A: Copy,
         ensures ok { OnOk result (self.new ≡ routes_after (changes_value changes.now) self.old) }
         ensures err { OnErr result (self.new ≡ self.old) }
     {
-        let put = enabled_routes(self.alloc, self.disabled, &changes.put)?;
-        change(self.alloc, &mut self.table, &changes.remove, put)
+        apply_changes(&mut self.table, &mut self.log, self.disabled, changes)
     }
 
     /// Disables a family: its routes go, and it takes none from now on. It takes no memory, and
@@ -106,6 +104,7 @@ impl<A: Allocator> RibIn<A> {
     {
         self.disabled = NO_FAMILIES;
         self.table.clear();
+        self.log.shrink_to_fit();
     }
 
     /// The families that are disabled.
@@ -149,6 +148,7 @@ impl<A: Allocator> RibIn<A> {
             alloc: self.alloc,
             disabled: self.disabled,
             table: self.table.clone()?,
+            log: Vec::new(self.alloc),
         })
     }
 }
@@ -195,38 +195,4 @@ fn union(families: Families, others: Families) -> Families
         v4: families.v4 || others.v4,
         v6: families.v6 || others.v6,
     }
-}
-
-/// The routes of the groups, but those of disabled families.
-fn enabled_routes<A: Allocator + Copy>(
-    alloc: A,
-    disabled: Families,
-    groups: &[Put<A>],
-) -> Result<Vec<(Prefix, Path<A>), A>, AllocError>
-    ensures { IfOk result (λ routes. routes.items
-        ≡ entries_outside disabled (map entry_of (flat_map put_routes groups.now))) }
-{
-    let mut routes = Vec::new(alloc);
-    for group in groups {
-        push_group(&mut routes, disabled, group)?;
-    }
-    Ok(routes)
-}
-
-/// Appends the routes of a group, but those of disabled families.
-fn push_group<A: Allocator + Copy>(
-    routes: &mut Vec<(Prefix, Path<A>), A>,
-    disabled: Families,
-    group: &Put<A>,
-) -> Result<(), AllocError>
-    ensures { OnOk result (routes.new.items
-        ≡ routes.old.items ++ entries_outside disabled (map entry_of (put_routes group.now))) }
-{
-    routes.reserve(group.prefixes.len())?;
-    for prefix in &group.prefixes {
-        if !disabled.contains(prefix.family()) {
-            routes.push((*prefix, group.path.clone()?))?;
-        }
-    }
-    Ok(())
 }

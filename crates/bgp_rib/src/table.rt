@@ -16,7 +16,7 @@ ghost use Rattle.bgp_rib.specs.Rooms.{
   HasEach,
   LeadsBack,
 };
-ghost use Rattle.bgp_rib.specs.Routes.{entries_without, entries_outside, entries_with};
+ghost use Rattle.bgp_rib.specs.Routes.{entries_without, entries_outside};
 
 use bgp_open::Families;
 use bgp_prefix::Prefix;
@@ -27,56 +27,14 @@ use std::collections::BTreeMap;
 pub type Table<V, A> = BTreeMap<Prefix, Option<V>, A>;
 
 /// What prefixes had before they were written: the first write comes first.
-type Log<V, A> = Vec<(Prefix, Option<V>), A>;
-
-/// Removes the routes to some prefixes, and then puts the others. Where a growth is refused what
-/// was written is written back, so the routes stay.
-pub fn change<V: Drop, A: Allocator + Copy>(
-    alloc: A,
-    table: &mut Table<V, A>,
-    remove: &[Prefix],
-    put: Vec<(Prefix, V), A>,
-) -> Result<(), AllocError>
-    requires full { HasNoRoom prefix_cmp table.old.entries }
-    ensures ok { OnOk result (routes_in table.new.entries
-        ≡ entries_with put.items (entries_without remove.now (routes_in table.old.entries))) }
-    ensures err { OnErr result (routes_in table.new.entries ≡ routes_in table.old.entries) }
-    ensures full { HasNoRoom prefix_cmp table.new.entries }
-{
-    let _ = table.len(); // For the proof: it says that prefixes ascend.
-    let mut log = Vec::with_capacity(alloc, put.len())?;
-    if write_all(table, &mut log, remove, put).is_err() {
-        undo(table, log);
-        return Err(AllocError);
-    }
-    sweep_all(table, remove);
-    Ok(())
-}
-
-/// Removes the routes to some prefixes, whose room stays, and then puts the others.
-fn write_all<V: Drop, A: Allocator + Clone>(
-    table: &mut Table<V, A>,
-    log: &mut Log<V, A>,
-    remove: &[Prefix],
-    put: Vec<(Prefix, V), A>,
-) -> Result<(), AllocError>
-    ensures routes { OnOk result (routes_in table.new.entries
-        ≡ entries_with put.items (entries_without remove.now (routes_in table.old.entries))) }
-    ensures rooms { (q : PrefixBits) → HasRoom prefix_cmp table.new.entries q
-        → HasRoom prefix_cmp table.old.entries q ⊎ IsTrue (is_member prefix_eq remove.now q) }
-    ensures back { LeadsBack log.new.items table.new.entries log.old.items table.old.entries }
-    ensures noted { HasEach log.old.items table.old.entries
-        → HasEach log.new.items table.new.entries }
-{
-    hide_all(table, log, remove)?;
-    put_all(table, log, put)
-}
+pub type Log<V, A> = Vec<(Prefix, Option<V>), A>;
 
 /// Writes back what the log has, the last write first, and then takes away all room that is left.
-fn undo<V: Drop, A: Allocator + Clone>(table: &mut Table<V, A>, mut log: Log<V, A>)
-    requires noted { HasEach log.items table.old.entries }
+pub fn undo<V: Drop, A: Allocator + Clone>(table: &mut Table<V, A>, log: &mut Log<V, A>)
+    requires noted { HasEach log.old.items table.old.entries }
     ensures back { (q : PrefixBits) → route_to table.new.entries q
-        ≡ undone log.items (route_to table.old.entries) q }
+        ≡ undone log.old.items (route_to table.old.entries) q }
+    ensures empty { log.new.items ≡ [] }
     ensures full { HasNoRoom prefix_cmp table.new.entries }
     ensures ordered { IsOrdered prefix_cmp table.new }
 {
@@ -119,8 +77,31 @@ pub fn have_same_routes<V: PartialEq, A: Allocator>(
     table.len() == other.len() && table == other
 }
 
+/// Removes the routes to the prefixes. It takes no memory.
+pub fn remove_all<V: Drop, A: Allocator>(table: &mut Table<V, A>, prefixes: &[Prefix])
+    ensures routes { routes_in table.new.entries
+        ≡ entries_without prefixes.now (routes_in table.old.entries) }
+    ensures rooms { (q : PrefixBits) → HasRoom prefix_cmp table.new.entries q
+        → HasRoom prefix_cmp table.old.entries q }
+{
+    for prefix in prefixes {
+        remove(table, *prefix);
+    }
+}
+
+/// Removes the route to a prefix.
+fn remove<V: Drop, A: Allocator>(table: &mut Table<V, A>, prefix: Prefix)
+    ensures routes { routes_in table.new.entries
+        ≡ entries_without (prefix ∷ []) (routes_in table.old.entries) }
+    ensures rooms { (q : PrefixBits) → HasRoom prefix_cmp table.new.entries q
+        → HasRoom prefix_cmp table.old.entries q }
+{
+    let _ = table.len(); // For the proof: it says that prefixes ascend.
+    let _ = table.remove(&prefix);
+}
+
 /// Takes the routes to the prefixes away, and leaves the room that they had.
-fn hide_all<V: Drop, A: Allocator + Clone>(
+pub fn hide_all<V: Drop, A: Allocator + Clone>(
     table: &mut Table<V, A>,
     log: &mut Log<V, A>,
     prefixes: &[Prefix],
@@ -159,28 +140,8 @@ fn hide<V: Drop, A: Allocator + Clone>(
     write(table, log, prefix, None)
 }
 
-/// Puts the routes.
-fn put_all<V: Drop, A: Allocator + Clone>(
-    table: &mut Table<V, A>,
-    log: &mut Log<V, A>,
-    put: Vec<(Prefix, V), A>,
-) -> Result<(), AllocError>
-    ensures routes { OnOk result (routes_in table.new.entries
-        ≡ entries_with put.items (routes_in table.old.entries)) }
-    ensures rooms { (q : PrefixBits) → HasRoom prefix_cmp table.new.entries q
-        → HasRoom prefix_cmp table.old.entries q }
-    ensures back { LeadsBack log.new.items table.new.entries log.old.items table.old.entries }
-    ensures noted { HasEach log.old.items table.old.entries
-        → HasEach log.new.items table.new.entries }
-{
-    for (prefix, route) in put {
-        write(table, log, prefix, Some(route))?;
-    }
-    Ok(())
-}
-
 /// Writes a route, or its absence, and notes in the log what the prefix had.
-fn write<V: Drop, A: Allocator + Clone>(
+pub fn write<V: Drop, A: Allocator + Clone>(
     table: &mut Table<V, A>,
     log: &mut Log<V, A>,
     prefix: Prefix,
@@ -204,7 +165,7 @@ fn write<V: Drop, A: Allocator + Clone>(
 }
 
 /// Takes the room of the prefixes away that have no route.
-fn sweep_all<V: Drop, A: Allocator + Clone>(table: &mut Table<V, A>, prefixes: &[Prefix])
+pub fn sweep_all<V: Drop, A: Allocator + Clone>(table: &mut Table<V, A>, prefixes: &[Prefix])
     ensures same { routes_in table.new.entries ≡ routes_in table.old.entries }
     ensures rooms { (q : PrefixBits) → HasRoom prefix_cmp table.new.entries q
         → HasRoom prefix_cmp table.old.entries q }

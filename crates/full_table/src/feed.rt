@@ -1,4 +1,4 @@
-//! The routes of a made-up peer: prefixes in no order, in groups that share a path.
+//! The routes of a made-up peer: prefixes in no order or ascending, in groups that share a path.
 
 use bgp_path::{AsPath, Items, NextHop, Origin, Path, PathParts, Segment, SegmentKind};
 use bgp_prefix::{Address, Family, Prefix};
@@ -12,16 +12,18 @@ pub struct Feed {
     v4: u32,
     v6: u32,
     per_group: u32,
+    is_sorted: bool,
 }
 
 impl Feed {
-    /// So many prefixes of each family, and about so many paths.
-    pub fn new(v4: u32, v6: u32, paths: u32) -> Feed {
+    /// So many prefixes of each family, and about so many paths; and whether prefixes ascend.
+    pub fn new(v4: u32, v6: u32, paths: u32, is_sorted: bool) -> Feed {
         let prefixes = v4.saturating_add(v6);
         Feed {
             v4,
             v6,
             per_group: prefixes.checked_div(paths).unwrap_or(1).max(1),
+            is_sorted,
         }
     }
 
@@ -59,7 +61,8 @@ impl Feed {
         let (family, members) = self.members(group);
         let mut prefixes = Vec::new(alloc);
         for index in members {
-            if let Some(prefix) = prefix(family, index) {
+            let number = if self.is_sorted { index } else { mixed(index) };
+            if let Some(prefix) = prefix(family, number) {
                 prefixes.push(prefix)?;
             }
         }
@@ -189,11 +192,15 @@ pub fn path(alloc: Global, group: u32) -> Result<Path, AllocError> {
     )
 }
 
-/// A prefix of 24 or 48 bits. As the indices ascend the prefixes are in no order, and no two of the
-/// first 2^24 of a family are equal: products by odd numbers and the sums by halves can be undone.
-fn prefix(family: Family, index: u32) -> Option<Prefix> {
+/// A number of 24 bits. As the indices ascend the numbers are in no order, and no two of the first
+/// 2^24 are equal: products by odd numbers and the sums by halves can be undone.
+fn mixed(index: u32) -> u32 {
     let one = index.wrapping_mul(0x9e37_79b1) & 0xff_ffff;
-    let number = (one ^ (one >> 12)).wrapping_mul(0x85eb_ca6b) & 0xff_ffff;
+    (one ^ (one >> 12)).wrapping_mul(0x85eb_ca6b) & 0xff_ffff
+}
+
+/// The prefix of 24 or 48 bits with this number of 24 bits.
+fn prefix(family: Family, number: u32) -> Option<Prefix> {
     match family {
         Family::V4 => Prefix::new(Address::V4(number << 8), 24),
         Family::V6 => Prefix::new(

@@ -36,8 +36,8 @@ struct Wish {
     is_shared: bool,
 }
 
-/// What the program's words wish: numbers of prefixes of each family and of paths, and any fourth
-/// word for one path.
+/// What the program's words wish: numbers of prefixes of each family and of paths, and then `sorted`
+/// for prefixes that ascend, and any other word for one path.
 fn wishes<R: Env + AllocGlobal>(rt: &R) -> io::Result<Wish> {
     let mut words = env::args(rt)?.skip(1);
     let mut numbers = [1000, 200, 200];
@@ -51,10 +51,18 @@ fn wishes<R: Env + AllocGlobal>(rt: &R) -> io::Result<Wish> {
         }
     }
     let [v4, v6, paths] = numbers;
+    let (mut is_sorted, mut is_shared) = (false, false);
+    for word in words {
+        if word == "sorted" {
+            is_sorted = true;
+        } else {
+            is_shared = true;
+        }
+    }
     Ok(Wish {
-        feed: Feed::new(v4, v6, paths),
+        feed: Feed::new(v4, v6, paths, is_sorted),
         is_measured,
-        is_shared: words.next().is_some(),
+        is_shared,
     })
 }
 

@@ -230,41 +230,46 @@ fn least_room(rt: &impl Abort, alloc: Global, count: u32, more: u32) -> Result<u
 
 // A leaf of the map has 15 entries, so an empty map grows at its first route, and one of 14 at the
 // second: what is written by then, and what is taken away, has to be written back. Of 14 routes and
-// one more the map doesn't grow, and all that may be refused is the list of routes and the log.
+// one more the map doesn't grow, and the log has the room that the first change took. Of one route
+// and 13 more it's the log alone that grows.
 #[test]
 fn each_growth_of_a_change_may_be_refused(rt: HostRuntime) -> Result<(), Fail> {
     let without_growth = least_room(&rt, rt.alloc(), 14, 1)?;
-    assert!(rt; 0 < without_growth, "the list of routes was not refused");
-    for (count, more) in [(0, 1), (14, 2), (15, 1)] {
+    assert!(rt;
+        without_growth == 0,
+        "memory was asked for where nothing grew"
+    );
+    for (count, more) in [(0, 1), (14, 2), (15, 1), (1, 13)] {
         let room = least_room(&rt, rt.alloc(), count, more)?;
-        assert!(rt; without_growth < room, "the map's growth was not refused");
+        assert!(rt; 0 < room, "a growth was not refused");
     }
     Ok(())
 }
 
-/// A known prefix is put where there is nothing left of a heap: the map has room for its route, but
-/// the list of the change's routes is refused.
-fn refuses_the_list<'a>(
+/// A known prefix is put, another one is withdrawn, where there is nothing left of a heap.
+fn changes_without_memory<'a>(
     rt: &impl Abort,
     heap: &'a LocalHeap,
     ample: &'a LocalHeap,
 ) -> Result<(), Fail> {
     let again = changes(rt, ample, &[], &[(4, &["10.0.0.0/8"])])?;
+    let gone = changes(rt, ample, &["10.1.0.0/16"], &[])?;
     let mut rib = RibIn::new(heap);
     rib.apply(&before(rt, ample)?)?;
     let ballast = ballast(heap, ample, 0)?;
-    assert!(rt; rib.apply(&again).is_err());
+    rib.apply(&again)?;
+    rib.apply(&gone)?;
     drop(ballast);
-    let told = [("10.0.0.0/8", 1), ("10.1.0.0/16", 1), ("2001:db8::/32", 1)];
+    let told = [("10.0.0.0/8", 4), ("2001:db8::/32", 1)];
     assert!(rt; are(rt, rib.routes(), &told));
     Ok(())
 }
 
 #[test]
-fn the_list_of_routes_may_be_refused(rt: HostRuntime) -> Result<(), Fail> {
+fn known_prefixes_take_no_memory(rt: HostRuntime) -> Result<(), Fail> {
     let ample = LocalHeap::new(rt.alloc(), 1 << 15)?;
     let heap = LocalHeap::new(rt.alloc(), 1 << 12)?;
-    refuses_the_list(&rt, &heap, &ample)
+    changes_without_memory(&rt, &heap, &ample)
 }
 
 /// Makes tables, asks them and empties them where there is nothing left of their heap.

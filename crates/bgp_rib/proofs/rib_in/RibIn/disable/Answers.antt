@@ -13,6 +13,7 @@ invariant_of-self g c =
       c.drop_families.ensures.full,
       subst (λ (f : Families). AreOutside f (keys_of (routes_in c.drop_families.new.table.entries))) (sym c.union-self-inside.ensures)
           (subst (λ l. AreOutside (union d c.only-gone.result) (keys_of l)) (sym c.drop_families.ensures.routes) (outside_both d c.only-gone.result es c.self.invariant.1)),
+      c.self.invariant.2,
     )
 
 pub returns : goal.returns

@@ -1,0 +1,16 @@
+use Rattle.std.proofs.Common.{◌≡◌, map, flat_map, take}
+use Rattle.bgp_prefix.specs.Prefix.{PrefixBits}
+use Rattle.bgp_prefix.specs.PrefixOrder.{prefix_cmp}
+use Rattle.bgp_update.specs.Allowed.{put_routes}
+use Rattle.bgp_rib.specs.Rooms.{routes_in, HasRoom, LeadsBack, HasEach}
+use Rattle.bgp_rib.specs.Routes.{entry_of, entries_outside, entries_with}
+use Rattle.bgp_rib.proofs.applying.put_groups.Given as goal
+
+abbrev pub invariant-loop-group : goal.invariant-loop-group
+invariant-loop-group g l = record {
+  routes : routes_in l.table.entries
+      ≡ entries_with (entries_outside l.disabled (map entry_of (flat_map put_routes (take l.group-index l.groups)))) (routes_in l.fn.table.entries);
+  rooms : (q : PrefixBits) → HasRoom prefix_cmp l.table.entries q → HasRoom prefix_cmp l.fn.table.entries q;
+  back : LeadsBack l.log.items l.table.entries l.fn.log.items l.fn.table.entries;
+  noted : HasEach l.fn.log.items l.fn.table.entries → HasEach l.log.items l.table.entries;
+}
