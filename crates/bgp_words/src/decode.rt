@@ -17,7 +17,7 @@ use std::alloc::{AllocError, Global};
 /// What help tells behind the words of `decode`: the statuses, and the lines with an example each.
 const LINES: &str = "\
 Exit status:
-  0   all octets were whole messages; or help was asked for
+  0   all octets were whole messages, or the capture was read to its end; or help was asked for
   2   the stream ends inside a message
   3   the stream stops being BGP, or the capture is refused
   4   memory was refused

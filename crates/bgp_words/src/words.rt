@@ -46,7 +46,8 @@ pub enum Command<'a> {
 /// What help tells behind the commands: the statuses.
 const STATUSES: &str = "\
 Exit status:
-  0   all octets were whole messages, or the verdict is yes; or help or the version was asked for
+  0   all octets were whole messages, or the capture was read to its end, or the verdict is yes;
+      or help or the version was asked for
   1   the verdict is no
   2   the stream ends inside a message, or the verdict is unfinished
   3   the stream stops being BGP, or the capture is refused
