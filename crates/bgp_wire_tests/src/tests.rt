@@ -3,18 +3,17 @@
 use bgp_wire::vectors::*;
 use bgp_wire::*;
 use linked_list_allocator::LocalHeap;
-use std::alloc::{AllocError, Allocator};
+use std::alloc::{AllocError, Allocator, Global};
 use std::process::Abort;
 use std::test::Fail;
 
 /// A header of this Length and Type code.
 fn header(length: u16, code: u8) -> [u8; HEADER_LEN] {
-    let mut header = [255; HEADER_LEN];
-    let octets = length.to_be_bytes();
-    header[16] = octets[0];
-    header[17] = octets[1];
-    header[18] = code;
-    header
+    let [high, low] = length.to_be_bytes();
+    [
+        255, 255, 255, 255, 255, 255, 255, 255, 255, 255, 255, 255, 255, 255, 255, 255, // marker
+        high, low, code,
+    ]
 }
 
 #[test]
@@ -25,18 +24,18 @@ fn each_type_has_its_least_and_its_greatest_length(rt: HostRuntime) {
         (MessageType::Notification, 21, 4096),
         (MessageType::Keepalive, 19, 19),
     ] {
-        for length in [least, greatest] {
-            let verdict = check_header(&header(length, kind.code()), Limit::Plain);
-            assert_eq!(rt; verdict, HeaderVerdict::Whole(length, kind));
-        }
-        for length in [0, least - 1, greatest + 1, u16::MAX] {
-            let verdict = check_header(&header(length, kind.code()), Limit::Plain);
-            let faults = HeaderFaults {
-                marker: false,
-                length: Some(length),
-                kind: None,
+        for length in [0, least - 1, least, greatest, greatest + 1, u16::MAX] {
+            let wanted = if (least..=greatest).contains(&length) {
+                HeaderVerdict::Whole(length, kind)
+            } else {
+                HeaderVerdict::Faulty(HeaderFaults {
+                    marker: false,
+                    length: Some(length),
+                    kind: None,
+                })
             };
-            assert_eq!(rt; verdict, HeaderVerdict::Faulty(faults));
+            let verdict = check_header(&header(length, kind.code()), Limit::Plain);
+            assert!(rt; verdict == wanted, "type {kind:?}, length {length}");
         }
     }
 }
@@ -94,9 +93,9 @@ const STREAM: [(MessageType, &[u8]); 4] = [
 ];
 
 /// The octets of [`STREAM`], one message after another.
-fn stream<A: Allocator + Copy>(alloc: A) -> Result<Vec<u8, A>, AllocError> {
+fn stream(alloc: Global) -> Result<Vec<u8>, AllocError> {
     let mut octets = Vec::new(alloc);
-    for (_, message) in STREAM {
+    for (_, message) in &STREAM {
         octets.extend_from_slice(message)?;
     }
     Ok(octets)
@@ -108,21 +107,19 @@ fn a_stream_has_the_same_frames_wherever_it_is_cut(rt: HostRuntime) -> Result<()
     for place in 0..octets.len() {
         let mut frames = Frames::new(rt.alloc(), Limit::Plain);
         let (front, back) = octets.split_at(place);
-        let mut found = Vec::new(rt.alloc());
-        for piece in [front, back] {
+        let mut wanted = STREAM.iter();
+        for piece in &[front, back] {
             frames.feed(piece)?;
             for _ in 0..5 {
                 if let Next::Frame(kind, frame) = frames.next() {
-                    found.push((kind, Vec::from_slice(rt.alloc(), frame)?))?;
+                    assert!(rt; wanted.next() == Some(&(kind, frame)), "cut at {place}");
                 }
             }
         }
-        assert_eq!(rt; frames.len(), 0);
-        assert_eq!(rt; found.len(), STREAM.len());
-        for ((kind, frame), (expected_kind, message)) in found.iter().zip(STREAM) {
-            assert_eq!(rt; *kind, expected_kind);
-            assert_eq!(rt; frame.as_slice(), message, "cut at {place}");
-        }
+        assert!(rt;
+            frames.len() == 0 && wanted.next().is_none(),
+            "cut at {place}"
+        );
     }
     Ok(())
 }
@@ -130,13 +127,12 @@ fn a_stream_has_the_same_frames_wherever_it_is_cut(rt: HostRuntime) -> Result<()
 #[test]
 fn octet_by_octet_a_frame_comes_with_its_last_octet(rt: HostRuntime) -> Result<(), Fail> {
     let mut frames = Frames::new(rt.alloc(), Limit::Plain);
-    for (kind, message) in STREAM {
+    for (kind, message) in &STREAM {
         for (place, octet) in message.iter().enumerate() {
-            assert_eq!(rt; frames.next(), Next::More);
-            assert_eq!(rt; frames.len(), place);
+            assert!(rt; frames.next() == Next::More && frames.len() == place);
             frames.feed(&[*octet])?;
         }
-        assert_eq!(rt; frames.next(), Next::Frame(kind, message));
+        assert!(rt; frames.next() == Next::Frame(*kind, message));
     }
     Ok(())
 }
@@ -151,14 +147,11 @@ fn a_fault_is_answered_for_good(rt: HostRuntime) -> Result<(), Fail> {
     let mut frames = Frames::new(rt.alloc(), Limit::Plain);
     frames.feed(&KEEPALIVE)?;
     frames.feed(&KEEPALIVE_OF_18)?;
-    assert_eq!(rt;
-        frames.next(),
-        Next::Frame(MessageType::Keepalive, &KEEPALIVE)
-    );
+    assert!(rt; frames.next() == Next::Frame(MessageType::Keepalive, &KEEPALIVE));
     for _ in 0..3 {
-        assert_eq!(rt; frames.next(), Next::Fault(faults, &KEEPALIVE_OF_18));
+        assert!(rt; frames.next() == Next::Fault(faults, &KEEPALIVE_OF_18));
         frames.feed(&KEEPALIVE)?;
-        assert_eq!(rt; frames.len(), 19);
+        assert!(rt; frames.len() == 19);
     }
     Ok(())
 }
@@ -232,38 +225,31 @@ fn as_trans_stands_for_what_needs_four_octets(rt: HostRuntime) {
 
 #[test]
 fn a_body_is_that_of_a_whole_message_of_the_type(rt: HostRuntime) {
-    let body = message_body(MessageType::Notification, &ADMINISTRATIVE_SHUTDOWN);
-    assert_eq!(rt; body, Some([6, 2].as_slice()));
-    assert_eq!(rt;
-        message_body(MessageType::Open, &ADMINISTRATIVE_SHUTDOWN),
-        None
-    );
-    assert_eq!(rt;
-        message_body(MessageType::Keepalive, &KEEPALIVE_OF_18),
-        None
-    );
-    assert_eq!(rt;
-        message_body(MessageType::Keepalive, &KEEPALIVE[..18]),
-        None
-    );
     let mut unsynchronized = KEEPALIVE;
     unsynchronized[0] = 0;
-    assert_eq!(rt; message_body(MessageType::Keepalive, &unsynchronized), None);
+    let rows: [(MessageType, &[u8], Option<&[u8]>); 5] = [
+        (
+            MessageType::Notification,
+            &ADMINISTRATIVE_SHUTDOWN,
+            Some(&[6, 2]),
+        ),
+        (MessageType::Open, &ADMINISTRATIVE_SHUTDOWN, None),
+        (MessageType::Keepalive, &KEEPALIVE_OF_18, None),
+        (MessageType::Keepalive, &KEEPALIVE[..18], None),
+        (MessageType::Keepalive, &unsynchronized, None),
+    ];
+    for (kind, octets, body) in &rows {
+        assert!(rt; message_body(*kind, octets) == *body);
+    }
 }
 
 #[test]
 fn ample_memory(rt: HostRuntime) -> Result<(), Fail> {
     let mut frames = Frames::new(rt.alloc(), Limit::Plain);
-    assert_eq!(rt; frames.feed(&ANNOUNCES_10), Ok(()));
+    frames.feed(&ANNOUNCES_10)?;
     let mut copy = frames.copy()?;
-    assert_eq!(rt;
-        copy.next(),
-        Next::Frame(MessageType::Update, &ANNOUNCES_10)
-    );
-    assert_eq!(rt;
-        frames.next(),
-        Next::Frame(MessageType::Update, &ANNOUNCES_10)
-    );
+    let message = Next::Frame(MessageType::Update, &ANNOUNCES_10);
+    assert!(rt; copy.next() == message && frames.next() == message);
     Ok(())
 }
 
@@ -283,15 +269,13 @@ fn longest_messages<A: Allocator>(alloc: A) -> Result<Vec<u8, A>, AllocError> {
 #[test]
 fn a_piece_of_65536_octets_is_16_of_the_longest_messages(rt: HostRuntime) -> Result<(), Fail> {
     let piece = longest_messages(rt.alloc())?;
-    assert_eq!(rt; piece.len(), PIECE_LEN);
     let mut frames = Frames::new(rt.alloc(), Limit::Plain);
     frames.feed(&piece)?;
-    assert_eq!(rt; frames.len(), PIECE_LEN);
+    assert!(rt; piece.len() == PIECE_LEN && frames.len() == PIECE_LEN);
     for message in piece.chunks(4096) {
-        assert_eq!(rt; frames.next(), Next::Frame(MessageType::Update, message));
+        assert!(rt; frames.next() == Next::Frame(MessageType::Update, message));
     }
-    assert_eq!(rt; frames.next(), Next::More);
-    assert_eq!(rt; frames.len(), 0);
+    assert!(rt; frames.next() == Next::More && frames.len() == 0);
     Ok(())
 }
 
@@ -304,33 +288,34 @@ enum Refused {
     Nothing,
 }
 
+/// Whether a splitter holds a KEEPALIVE first, and so many octets behind it.
+fn begins_with_keepalive<A: Allocator + Copy>(frames: &mut Frames<A>, behind: usize) -> bool {
+    let is_first = frames.next() == Next::Frame(MessageType::Keepalive, &KEEPALIVE);
+    is_first && frames.len() == behind
+}
+
 /// Feeds a KEEPALIVE and then a large piece to a splitter on a heap that may be too small, and
 /// copies it. Where a growth is refused, all is as before.
 fn feeds_or_keeps(rt: &impl Abort, heap: &LocalHeap, piece: &[u8]) -> Refused {
     let mut frames = Frames::new(heap, Limit::Plain);
     if frames.feed(&KEEPALIVE).is_err() {
-        assert_eq!(rt; frames.len(), 0);
-        assert_eq!(rt; frames.next(), Next::More);
+        assert!(rt; frames.len() == 0 && frames.next() == Next::More);
         return Refused::FirstPiece;
     }
-    let keepalive = Next::Frame(MessageType::Keepalive, &KEEPALIVE);
-    if frames.feed(piece).is_err() {
-        assert_eq!(rt; frames.len(), KEEPALIVE.len());
-        assert_eq!(rt; frames.next(), keepalive);
-        assert_eq!(rt; frames.next(), Next::More);
-        return Refused::SecondPiece;
+    let is_fed = frames.feed(piece).is_ok();
+    let mut is_kept = true;
+    let mut is_copied = false;
+    if let Ok(mut copy) = frames.copy() {
+        is_copied = true;
+        is_kept = begins_with_keepalive(&mut copy, if is_fed { PIECE_LEN } else { 0 });
     }
-    let refused = match frames.copy() {
-        Ok(mut copy) => {
-            assert_eq!(rt; copy.next(), keepalive);
-            assert_eq!(rt; copy.len(), PIECE_LEN);
-            Refused::Nothing
-        }
-        Err(_) => Refused::Copy,
-    };
-    assert_eq!(rt; frames.next(), keepalive);
-    assert_eq!(rt; frames.len(), PIECE_LEN);
-    refused
+    is_kept &= begins_with_keepalive(&mut frames, if is_fed { PIECE_LEN } else { 0 });
+    assert!(rt; is_kept);
+    match (is_fed, is_copied) {
+        (false, _) => Refused::SecondPiece,
+        (true, false) => Refused::Copy,
+        (true, true) => Refused::Nothing,
+    }
 }
 
 #[test]
@@ -358,15 +343,11 @@ fn a_splitter_takes_no_memory_but_for_a_piece(rt: HostRuntime) -> Result<(), Fai
     let heap = LocalHeap::new(rt.alloc(), 1 << 16)?;
     let before = heap.used();
     let mut frames = Frames::new(&heap, Limit::Plain);
-    assert_eq!(rt; heap.used(), before);
+    let made = heap.used();
     frames.feed(&KEEPALIVE)?;
     let fed = heap.used();
-    assert_eq!(rt;
-        frames.next(),
-        Next::Frame(MessageType::Keepalive, &KEEPALIVE)
-    );
-    assert_eq!(rt; frames.next(), Next::More);
-    assert_eq!(rt; heap.used(), fed);
+    let is_whole = begins_with_keepalive(&mut frames, 0) && frames.next() == Next::More;
+    assert!(rt; made == before && is_whole && heap.used() == fed);
     Ok(())
 }
 
@@ -376,10 +357,7 @@ fn what_is_held_does_not_grow_with_the_stream(rt: HostRuntime) -> Result<(), Fai
     let mut frames = Frames::new(&heap, Limit::Plain);
     for _ in 0..20_000 {
         frames.feed(&ANNOUNCES_10)?;
-        assert_eq!(rt;
-            frames.next(),
-            Next::Frame(MessageType::Update, &ANNOUNCES_10)
-        );
+        assert!(rt; frames.next() == Next::Frame(MessageType::Update, &ANNOUNCES_10));
     }
     Ok(())
 }
