@@ -49,19 +49,24 @@ fn prefix(text: &str) -> Result<Prefix, Fail> {
     Ok(read_prefix(text).ok_or("a prefix")?)
 }
 
+/// The AS path of one AS.
+fn as_path<A: Allocator + Copy>(alloc: A, number: u32) -> Result<AsPath<A>, AllocError> {
+    let mut as_path = AsPath::new(alloc);
+    if let Some(segment) = Segment::new(SegmentKind::Sequence, vec![in alloc; number]?) {
+        as_path.push(segment)?;
+    }
+    Ok(as_path)
+}
+
 /// The parts of a path of ORIGIN 0, which is IGP, one AS and a next hop.
 fn parts<A: Allocator + Copy>(
     alloc: A,
     number: u32,
     next_hop: NextHop,
 ) -> Result<PathParts<A>, AllocError> {
-    let mut as_path = AsPath::new(alloc);
-    if let Some(segment) = Segment::new(SegmentKind::Sequence, vec![in alloc; number]?) {
-        as_path.push(segment)?;
-    }
     Ok(PathParts {
         origin: Origin::Igp,
-        as_path,
+        as_path: as_path(alloc, number)?,
         next_hop,
         multi_exit_disc: None,
         local_pref: None,
@@ -94,9 +99,10 @@ fn withdraw<'a>(family: Family, prefixes: &'a [Prefix]) -> Update<'a> {
 /// What was appended for an update, behind an octet that stood there.
 fn written(alloc: Global, link: &Link, update: &Update<'_>) -> Result<Vec<u8>, Fail> {
     let mut out = vec![in alloc; 9u8]?;
-    write_update(link, update, &mut out)?;
-    if out.first() != Some(&9) {
-        return Err(Fail::from("what stood there is gone"));
+    let is_written = write_update(link, update, &mut out).is_ok();
+    if !is_written || out.first() != Some(&9) {
+        return Err(Fail::from("it isn't written behind what stood there"));
     }
-    Ok(Vec::from_slice(alloc, out.get(1..).unwrap_or(&[]))?)
+    out.remove(0);
+    Ok(out)
 }

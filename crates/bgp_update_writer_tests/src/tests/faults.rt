@@ -1,117 +1,106 @@
 //! What keeps an UPDATE from being written, and which fault is answered where there are several.
 
 use super::*;
+use std::process::Abort;
 
 /// The fault of an update, where the vector is as before.
 fn fault(alloc: Global, link: &Link, update: &Update<'_>) -> Result<UpdateFault, Fail> {
     let mut out = vec![in alloc; 9u8]?;
-    let Err(fault) = write_update(link, update, &mut out) else {
-        return Err(Fail::from("it was written"));
-    };
+    let answer = write_update(link, update, &mut out);
     if out.as_slice() != [9].as_slice() {
         return Err(Fail::from("the vector has changed"));
     }
-    Ok(fault)
+    Ok(answer.err().ok_or("it was written")?)
+}
+
+/// The update has this fault.
+fn is_refused(
+    rt: &impl Abort,
+    alloc: Global,
+    link: &Link,
+    update: &Update<'_>,
+    wanted: UpdateFault,
+) -> Result<(), Fail> {
+    assert!(rt; fault(alloc, link, update)? == wanted);
+    Ok(())
 }
 
 #[test]
 fn a_family_is_in_use_or_not(rt: HostRuntime) -> Result<(), Fail> {
-    let alloc = rt.alloc();
     let ten = [prefix("10.0.0.0/8")?];
-    let mut link = link()?;
-    link.families = Families {
-        v4: true,
-        v6: false,
-    };
-    // Neither the prefix nor the next hop is of the family, and the family is told first.
-    let path = path(alloc, HOP)?;
-    let announced = announce(Family::V6, &ten, &path);
-    assert_eq!(rt;
-        fault(alloc, &link, &announced)?,
-        UpdateFault::FamilyNotInUse
-    );
-    let withdrawn = withdraw(Family::V6, &ten);
-    assert_eq!(rt;
-        fault(alloc, &link, &withdrawn)?,
-        UpdateFault::FamilyNotInUse
-    );
-    link.families = Families {
-        v4: false,
-        v6: true,
-    };
-    let withdrawn = withdraw(Family::V4, &ten);
-    assert_eq!(rt;
-        fault(alloc, &link, &withdrawn)?,
-        UpdateFault::FamilyNotInUse
-    );
-    Ok(())
-}
-
-#[test]
-fn a_prefix_of_the_other_family_is_not_clean(rt: HostRuntime) -> Result<(), Fail> {
-    let alloc = rt.alloc();
-    let both = [prefix("10.0.0.0/8")?, prefix("2001:db8::/32")?];
-    for family in [Family::V4, Family::V6] {
-        let withdrawn = withdraw(family, &both);
-        assert_eq!(rt; fault(alloc, &link()?, &withdrawn)?, UpdateFault::NotClean);
-    }
-    let path = path(alloc, HOP)?;
-    let announced = announce(Family::V4, &both, &path);
-    assert_eq!(rt; fault(alloc, &link()?, &announced)?, UpdateFault::NotClean);
-    Ok(())
-}
-
-#[test]
-fn a_next_hop_of_the_other_family_is_not_clean(rt: HostRuntime) -> Result<(), Fail> {
-    let alloc = rt.alloc();
-    for (family, hop) in [
-        (Family::V4, HOP_V6),
-        (Family::V4, NextHop::V6WithLinkLocal(1, 2)),
-        (Family::V6, HOP),
+    let path = path(rt.alloc(), HOP)?;
+    let mut v4 = link()?;
+    v4.families.v6 = false;
+    let mut v6 = link()?;
+    v6.families.v4 = false;
+    for (link, update) in &[
+        // Neither the prefix nor the next hop is of the family, and the family is told first.
+        (v4, announce(Family::V6, &ten, &path)),
+        (v4, withdraw(Family::V6, &ten)),
+        (v6, withdraw(Family::V4, &ten)),
     ] {
-        let path = path(alloc, hop)?;
-        let announced = announce(family, &[], &path);
-        assert_eq!(rt; fault(alloc, &link()?, &announced)?, UpdateFault::NotClean);
+        is_refused(&rt, rt.alloc(), link, update, UpdateFault::FamilyNotInUse)?;
     }
+    Ok(())
+}
+
+#[test]
+fn what_is_of_the_other_family_is_not_clean(rt: HostRuntime) -> Result<(), Fail> {
+    let both = [prefix("10.0.0.0/8")?, prefix("2001:db8::/32")?];
+    let link = link()?;
+    let by_v4 = path(rt.alloc(), HOP)?;
+    let by_v6 = path(rt.alloc(), HOP_V6)?;
+    let by_two = path(rt.alloc(), NextHop::V6WithLinkLocal(1, 2))?;
+    for update in &[
+        withdraw(Family::V4, &both),
+        withdraw(Family::V6, &both),
+        announce(Family::V4, &both, &by_v4),
+        // A next hop of the other family, without a prefix.
+        announce(Family::V4, &[], &by_v6),
+        announce(Family::V4, &[], &by_two),
+        announce(Family::V6, &[], &by_v4),
+    ] {
+        is_refused(&rt, rt.alloc(), &link, update, UpdateFault::NotClean)?;
+    }
+    Ok(())
+}
+
+/// An update of these parts is written for an internal peer in 50 octets, and for no external one.
+fn is_internal(rt: &impl Abort, alloc: Global, parts: PathParts) -> Result<(), Fail> {
+    let path = Path::new(alloc, parts)?;
+    let announced = announce(Family::V4, &[], &path);
+    let external = link()?;
+    is_refused(rt, alloc, &external, &announced, UpdateFault::NotClean)?;
+    let mut internal = external;
+    internal.internal = true;
+    // 43 octets and an attribute of 7
+    assert!(rt; written(alloc, &internal, &announced)?.len() == 50);
     Ok(())
 }
 
 #[test]
 fn an_external_peer_is_sent_no_attribute_that_it_discards(rt: HostRuntime) -> Result<(), Fail> {
-    let alloc = rt.alloc();
-    let mut internal = link()?;
-    internal.internal = true;
-    for local in [
-        PathParts {
-            local_pref: Some(100),
-            ..parts(alloc, 65002, HOP)?
-        },
-        PathParts {
-            originator_id: Some(1),
-            ..parts(alloc, 65002, HOP)?
-        },
-        PathParts {
-            cluster_list: Items::from(vec![in alloc; 1u32]?),
-            ..parts(alloc, 65002, HOP)?
-        },
-    ] {
-        let path = Path::new(alloc, local)?;
-        let announced = announce(Family::V4, &[], &path);
-        assert_eq!(rt; fault(alloc, &link()?, &announced)?, UpdateFault::NotClean);
-        // 43 octets and an attribute of 7
-        assert_eq!(rt; written(alloc, &internal, &announced)?.len(), 50);
-    }
-    Ok(())
+    let mut with_preference = parts(rt.alloc(), 65002, HOP)?;
+    with_preference.local_pref = Some(100);
+    is_internal(&rt, rt.alloc(), with_preference)?;
+    let mut reflected = parts(rt.alloc(), 65002, HOP)?;
+    reflected.originator_id = Some(1);
+    is_internal(&rt, rt.alloc(), reflected)?;
+    let mut in_cluster = parts(rt.alloc(), 65002, HOP)?;
+    in_cluster.cluster_list = Items::from(vec![in rt.alloc(); 1u32]?);
+    is_internal(&rt, rt.alloc(), in_cluster)
 }
 
 #[test]
 fn what_is_not_clean_is_told_before_what_is_too_large(rt: HostRuntime) -> Result<(), Fail> {
-    let alloc = rt.alloc();
-    let many = vec![in alloc; prefix("2001:db8::/32")?; 4096]?;
-    let withdrawn = withdraw(Family::V4, &many);
-    assert_eq!(rt; fault(alloc, &link()?, &withdrawn)?, UpdateFault::NotClean);
-    let withdrawn = withdraw(Family::V6, &many);
-    assert_eq!(rt; fault(alloc, &link()?, &withdrawn)?, UpdateFault::TooLarge);
+    let link = link()?;
+    let many = vec![in rt.alloc(); prefix("2001:db8::/32")?; 4096]?;
+    for (family, wanted) in [
+        (Family::V4, UpdateFault::NotClean),
+        (Family::V6, UpdateFault::TooLarge),
+    ] {
+        is_refused(&rt, rt.alloc(), &link, &withdraw(family, &many), wanted)?;
+    }
     Ok(())
 }
 
@@ -135,8 +124,8 @@ fn faults_have_their_numbers_and_texts(rt: HostRuntime) -> Result<(), Fail> {
         ),
         (UpdateFault::Memory, 4, "out of memory"),
     ] {
-        assert_eq!(rt; fault.number(), number);
-        assert_eq!(rt; format!(in rt.alloc(); "{fault}")?.as_str(), text);
+        let told = format!(in rt.alloc(); "{fault}")?;
+        assert!(rt; fault.number() == number && told.as_str() == text);
     }
     Ok(())
 }

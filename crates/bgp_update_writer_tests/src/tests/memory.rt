@@ -9,22 +9,20 @@ use std::process::Abort;
 fn writes(
     rt: &impl Abort,
     heap: &LocalHeap,
+    link: &Link,
     update: &Update<'_>,
     count: usize,
-) -> Result<bool, Fail> {
+) -> bool {
     let mut out = Vec::new(heap);
     if out.push(9u8).is_err() {
-        return Ok(false);
+        return false;
     }
-    let answer = write_update(&link()?, update, &mut out);
-    let wrote = answer.is_ok();
-    if !wrote {
-        assert_eq!(rt; answer, Err(UpdateFault::Memory));
-    }
-    let rest = out.get(1..).map(|rest| rest.len());
-    assert_eq!(rt; rest, Some(if wrote { count } else { 0 }));
-    assert_eq!(rt; out.first(), Some(&9));
-    Ok(wrote)
+    let answer = write_update(link, update, &mut out);
+    let behind = if answer.is_ok() { count } else { 0 };
+    assert!(rt; answer.is_ok() || answer == Err(UpdateFault::Memory));
+    let rest = out.get(1..).unwrap_or(&[]);
+    assert!(rt; out.first() == Some(&9) && rest.len() == behind);
+    answer.is_ok()
 }
 
 /// That in heaps from 16 octets on an update of so many octets is first refused and then written.
@@ -34,18 +32,21 @@ fn is_refused_and_then_written(
     update: &Update<'_>,
     count: usize,
 ) -> Result<(), Fail> {
-    let (mut refused, mut done) = (0u32, 0u32);
+    let link = link()?;
+    let (mut refused, mut done) = (false, false);
     for size in (16usize..1024).step_by(16) {
         let heap = LocalHeap::new(alloc, size)?;
-        if writes(rt, &heap, update, count)? {
-            done = done.saturating_add(1);
+        if writes(rt, &heap, &link, update, count) {
+            done = true;
         } else {
-            assert!(rt; done == 0, "a larger heap was too small");
-            refused = refused.saturating_add(1);
+            assert!(rt; !done, "a larger heap was too small");
+            refused = true;
         }
     }
-    assert!(rt; 0 < refused, "nothing was refused");
-    assert!(rt; 0 < done, "nothing was written");
+    assert!(rt;
+        refused && done,
+        "nothing was refused, or nothing was written"
+    );
     Ok(())
 }
 
@@ -56,13 +57,13 @@ fn a_refused_growth_changes_nothing(rt: HostRuntime) -> Result<(), Fail> {
     let db8 = [prefix("2001:db8::/32")?];
     let by_v4 = path(alloc, HOP)?;
     let by_v6 = path(alloc, HOP_V6)?;
-    for (update, count) in [
+    for (update, count) in &[
         (announce(Family::V4, &ten, &by_v4), 45),
         (announce(Family::V6, &db8, &by_v6), 65),
         (withdraw(Family::V4, &ten), 25),
         (withdraw(Family::V6, &db8), 34),
     ] {
-        is_refused_and_then_written(&rt, alloc, &update, count)?;
+        is_refused_and_then_written(&rt, alloc, update, *count)?;
     }
     Ok(())
 }
@@ -70,15 +71,14 @@ fn a_refused_growth_changes_nothing(rt: HostRuntime) -> Result<(), Fail> {
 #[test]
 fn room_that_is_there_is_enough(rt: HostRuntime) -> Result<(), Fail> {
     // The heap has memory for one vector of 45 octets, and for no larger one beside it.
-    let heap = LocalHeap::new(rt.alloc(), 96)?;
-    let mut out = Vec::with_capacity(&heap, 45)?;
+    let link = link()?;
     let prefixes = [prefix("10.0.0.0/8")?];
     let path = path(rt.alloc(), HOP)?;
     let announced = announce(Family::V4, &prefixes, &path);
-    assert_eq!(rt; write_update(&link()?, &announced, &mut out), Ok(()));
-    assert_eq!(rt; out.len(), 45);
-    let again = write_update(&link()?, &announced, &mut out);
-    assert_eq!(rt; again, Err(UpdateFault::Memory));
-    assert_eq!(rt; out.len(), 45);
+    let heap = LocalHeap::new(rt.alloc(), 96)?;
+    let mut out = Vec::with_capacity(&heap, 45)?;
+    for answer in [Ok(()), Err(UpdateFault::Memory)] {
+        assert!(rt; write_update(&link, &announced, &mut out) == answer && out.len() == 45);
+    }
     Ok(())
 }

@@ -48,47 +48,6 @@ const ANNOUNCES_10_BY_70000: [u8; 52] = [
     8, 10, // 10.0.0.0/8
 ];
 
-#[test]
-fn ipv4_stands_in_the_base_fields(rt: HostRuntime) -> Result<(), Fail> {
-    let alloc = rt.alloc();
-    let ten = [prefix("10.0.0.0/8")?];
-    let path = path(alloc, HOP)?;
-    let announced = announce(Family::V4, &ten, &path);
-    let octets = written(alloc, &link()?, &announced)?;
-    assert_eq!(rt; octets.as_slice(), ANNOUNCES_10.as_slice());
-    let withdrawn = withdraw(Family::V4, &ten);
-    let octets = written(alloc, &link()?, &withdrawn)?;
-    assert_eq!(rt; octets.as_slice(), WITHDRAWS_10.as_slice());
-    Ok(())
-}
-
-#[test]
-fn ipv6_stands_in_an_mp_attribute_which_comes_first(rt: HostRuntime) -> Result<(), Fail> {
-    let alloc = rt.alloc();
-    let prefixes = [prefix("2001:db8::/32")?];
-    let path = path(alloc, HOP_V6)?;
-    let announced = announce(Family::V6, &prefixes, &path);
-    let octets = written(alloc, &link()?, &announced)?;
-    assert_eq!(rt; octets.as_slice(), ANNOUNCES_2001_DB8.as_slice());
-    let withdrawn = withdraw(Family::V6, &prefixes);
-    let octets = written(alloc, &link()?, &withdrawn)?;
-    assert_eq!(rt; octets.as_slice(), WITHDRAWS_2001_DB8.as_slice());
-    Ok(())
-}
-
-#[test]
-fn in_two_octets_as4_path_has_the_large_numbers(rt: HostRuntime) -> Result<(), Fail> {
-    let alloc = rt.alloc();
-    let mut link = link()?;
-    link.as4 = false;
-    let path = Path::new(alloc, parts(alloc, 70000, HOP)?)?;
-    let prefixes = [prefix("10.0.0.0/8")?];
-    let announced = announce(Family::V4, &prefixes, &path);
-    let octets = written(alloc, &link, &announced)?;
-    assert_eq!(rt; octets.as_slice(), ANNOUNCES_10_BY_70000.as_slice());
-    Ok(())
-}
-
 /// An UPDATE of empty fields (RFC 4724, 2: the End-of-RIB marker of IPv4).
 const SAYS_NOTHING: [u8; 23] = [
     255, 255, 255, 255, 255, 255, 255, 255, 255, 255, 255, 255, 255, 255, 255, 255, // marker
@@ -96,38 +55,81 @@ const SAYS_NOTHING: [u8; 23] = [
     0x00, 0x00, 0x00, 0x00, // nothing is withdrawn, no attributes
 ];
 
+/// Whether these octets are written for an update.
+fn is_written(
+    alloc: Global,
+    link: &Link,
+    update: &Update<'_>,
+    wanted: &[u8],
+) -> Result<bool, Fail> {
+    Ok(written(alloc, link, update)?.as_slice() == wanted)
+}
+
 #[test]
-fn no_prefix_at_all_is_allowed(rt: HostRuntime) -> Result<(), Fail> {
-    let alloc = rt.alloc();
-    let withdrawn = withdraw(Family::V4, &[]);
-    let octets = written(alloc, &link()?, &withdrawn)?;
-    assert_eq!(rt; octets.as_slice(), SAYS_NOTHING.as_slice());
-    let path = path(alloc, HOP)?;
-    let announced = announce(Family::V4, &[], &path);
-    let octets = written(alloc, &link()?, &announced)?;
-    assert_eq!(rt; octets.get(16..19), Some([0x00, 0x2b, 2].as_slice())); // Length 43
-    assert_eq!(rt; octets.get(19..), ANNOUNCES_10.get(19..43));
+fn ipv4_stands_in_the_base_fields_and_ipv6_in_an_mp_attribute(rt: HostRuntime) -> Result<(), Fail> {
+    let link = link()?;
+    let ten = [prefix("10.0.0.0/8")?];
+    let db8 = [prefix("2001:db8::/32")?];
+    let by_v4 = path(rt.alloc(), HOP)?;
+    let by_v6 = path(rt.alloc(), HOP_V6)?;
+    let rows: [(Update<'_>, &[u8]); 5] = [
+        (announce(Family::V4, &ten, &by_v4), &ANNOUNCES_10),
+        (withdraw(Family::V4, &ten), &WITHDRAWS_10),
+        // The MP attribute comes first.
+        (announce(Family::V6, &db8, &by_v6), &ANNOUNCES_2001_DB8),
+        (withdraw(Family::V6, &db8), &WITHDRAWS_2001_DB8),
+        // No prefix at all is allowed.
+        (withdraw(Family::V4, &[]), &SAYS_NOTHING),
+    ];
+    for (update, octets) in &rows {
+        assert!(rt; is_written(rt.alloc(), &link, update, octets)?);
+    }
     Ok(())
 }
 
 #[test]
+fn in_two_octets_as4_path_has_the_large_numbers(rt: HostRuntime) -> Result<(), Fail> {
+    let mut link = link()?;
+    link.as4 = false;
+    let prefixes = [prefix("10.0.0.0/8")?];
+    let path = Path::new(rt.alloc(), parts(rt.alloc(), 70000, HOP)?)?;
+    let announced = announce(Family::V4, &prefixes, &path);
+    assert!(rt; is_written(rt.alloc(), &link, &announced, &ANNOUNCES_10_BY_70000)?);
+    Ok(())
+}
+
+#[test]
+fn without_a_prefix_the_attributes_are_the_same(rt: HostRuntime) -> Result<(), Fail> {
+    let path = path(rt.alloc(), HOP)?;
+    let octets = written(rt.alloc(), &link()?, &announce(Family::V4, &[], &path))?;
+    let length = [0x00, 0x2b, 2]; // Length 43, UPDATE
+    assert!(rt;
+        octets.get(16..19) == Some(&length) && octets.get(19..) == ANNOUNCES_10.get(19..43)
+    );
+    Ok(())
+}
+
+/// The announcement of 2001:db8::/32 by AS 65002, 2001:db8::2 and fe80::1.
+const ANNOUNCES_BY_LINK_LOCAL: [u8; 81] = [
+    255, 255, 255, 255, 255, 255, 255, 255, 255, 255, 255, 255, 255, 255, 255, 255, // marker
+    0x00, 0x51, 2, // Length 81, UPDATE
+    0x00, 0x00, // no withdrawn routes
+    0x00, 0x3a, // 58 octets of attributes
+    0x80, 14, 42, // MP_REACH_NLRI
+    0, 2, 1, 32, // IPv6 unicast, a next hop of 32 octets
+    0x20, 1, 0x0d, 0xb8, 0, 0, 0, 0, 0, 0, 0, 0, 0, 0, 0, 2, // 2001:db8::2
+    0xfe, 0x80, 0, 0, 0, 0, 0, 0, 0, 0, 0, 0, 0, 0, 0, 1, // fe80::1
+    0, 32, 0x20, 1, 0x0d, 0xb8, // reserved, 2001:db8::/32
+    0x40, 1, 1, 0, // ORIGIN: IGP
+    0x40, 2, 6, 2, 1, 0, 0, 0xfd, 0xea, // AS_PATH: 65002
+];
+
+#[test]
 fn a_next_hop_of_32_octets_has_a_link_local_address(rt: HostRuntime) -> Result<(), Fail> {
-    let alloc = rt.alloc();
     let hop = NextHop::V6WithLinkLocal(0x2001_0db8 << 96 | 2, 0xfe80 << 112 | 1);
-    let path = path(alloc, hop)?;
+    let path = path(rt.alloc(), hop)?;
     let prefixes = [prefix("2001:db8::/32")?];
     let announced = announce(Family::V6, &prefixes, &path);
-    let octets = written(alloc, &link()?, &announced)?;
-    assert_eq!(rt; octets.len(), 81);
-    assert_eq!(rt;
-        octets.get(19..30),
-        Some([0, 0, 0, 58, 0x80, 14, 42, 0, 2, 1, 32].as_slice())
-    ); // a next hop of 32 octets
-    assert_eq!(rt; octets.get(30..46), ANNOUNCES_2001_DB8.get(30..46)); // 2001:db8::2
-    assert_eq!(rt;
-        octets.get(46..62),
-        Some([0xfe, 0x80, 0, 0, 0, 0, 0, 0, 0, 0, 0, 0, 0, 0, 0, 1].as_slice())
-    ); // fe80::1
-    assert_eq!(rt; octets.get(62..), ANNOUNCES_2001_DB8.get(46..)); // reserved, and the rest
+    assert!(rt; is_written(rt.alloc(), &link()?, &announced, &ANNOUNCES_BY_LINK_LOCAL)?);
     Ok(())
 }
