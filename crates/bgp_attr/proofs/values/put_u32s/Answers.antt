@@ -1,7 +1,15 @@
 use Rattle.byteorder.specs.Endian.{big_bytes}
-use Rattle.bgp_attr.proofs.Filled.{filled_room}
+use Rattle.bgp_attr.proofs.Filled.{filled_all, filled_room}
 use Rattle.bgp_attr.proofs.values.put_u32s.Goals as goal
 
 pub put_u32-requires : goal.put_u32-requires
 put_u32-requires g c =
     filled_room (big_bytes 4) c.args.numbers.now c.loop-number.number-index 0 _ _ _ _ _ _ c.loop-number-test.true c.requires c.loop-number.invariant
+
+pub returns-clause-items : goal.returns-clause-items
+returns-clause-items g c =
+    (filled_all (big_bytes 4) c.args.numbers.now c.loop-number.number-index _ _ _ _ _ _ c.loop-number.auto.number-index-end c.loop-number-test.false c.loop-number.invariant).items
+
+pub returns-clause-len : goal.returns-clause-len
+returns-clause-len g c =
+    (filled_all (big_bytes 4) c.args.numbers.now c.loop-number.number-index _ _ _ _ _ _ c.loop-number.auto.number-index-end c.loop-number-test.false c.loop-number.invariant).len
