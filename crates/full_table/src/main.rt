@@ -53,7 +53,7 @@ fn wishes<R: Env + AllocGlobal>(rt: &R) -> io::Result<Wish> {
     let [v4, v6, paths] = numbers;
     let (mut is_sorted, mut is_shared) = (false, false);
     for word in words {
-        if word == "sorted" {
+        if word.as_str() == "sorted" {
             is_sorted = true;
         } else {
             is_shared = true;
