@@ -34,7 +34,7 @@ pub use hidden::{hidden_step, hidden_steps};
 pub use laws::{a_note_keeps_the_state, each_owed_want_can_be_met, each_record_goes_one_way};
 pub use listing::MOST_STEPS;
 pub use meeting::meets;
-pub use messages::{MessageSteps, message_steps};
+pub use messages::{MessageSteps, list_message_steps, message_steps};
 pub use rows::{HiddenRow, ReceivedRow};
 pub use sameness::{same_change, same_head, same_link, same_wants};
 pub use silent::silent_steps;

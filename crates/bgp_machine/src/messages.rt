@@ -1,6 +1,6 @@
 //! What a state does about octets that it receives.
 
-ghost use Rattle.std.specs.Prelude.{◌≡◌, ◌↔◌, IfOk, IsErr, IsSome};
+ghost use Rattle.std.specs.Prelude.{◌≡◌, ◌↔◌, [], IfOk, IsErr, IsSome, OnErr};
 ghost use Rattle.bgp_update.specs.Outcome.{IsOnlyReset};
 ghost use Rattle.bgp_machine.specs.Heard.{Hears};
 ghost use Rattle.bgp_machine.specs.Listed.{ListsReceived, MakesChanges, TakesMemory, changes_of};
@@ -31,27 +31,28 @@ pub struct MessageSteps<A: Allocator = Global> {
     pub changes: Option<Changes<A>>,
 }
 
-/// The steps about a message whose outcomes needn't be known.
+/// Lists the steps about a message whose outcomes needn't be known, and answers that no changes
+/// stand beside them.
 fn plain_steps<A: Allocator>(
     config: &Config,
     head: Head,
     t: Seconds,
     octets: &[u8],
     heard: Heard,
-) -> MessageSteps<A>
+    steps: &mut ArrayVec<Step, MOST_STEPS>,
+) -> Option<Changes<A>>
     requires heard { Hears config.now octets.now heard }
     requires plain { ¬ NeedsOutcomes head heard }
-    ensures exact { ListsReceived config.now head t octets.now (changes_of result.changes)
-        result.steps.items }
-    ensures given { IsSome result.changes ↔ Has MakesChanges result.steps.items }
+    requires none { steps.old.items ≡ [] }
+    ensures exact { ListsReceived config.now head t octets.now (changes_of result)
+        steps.new.items }
+    ensures given { IsSome result ↔ Has MakesChanges steps.new.items }
 {
-    MessageSteps {
-        steps: heard_steps(octets, head, t, heard),
-        changes: None,
-    }
+    heard_steps(octets, head, t, heard, steps);
+    None
 }
 
-/// The steps about an UPDATE in Established.
+/// Lists the steps about an UPDATE in Established, and answers the changes beside them.
 fn established_steps<A: Allocator + Copy>(
     alloc: A,
     config: &Config,
@@ -59,38 +60,67 @@ fn established_steps<A: Allocator + Copy>(
     timer: HoldTimer,
     t: Seconds,
     octets: &[u8],
-) -> Result<MessageSteps<A>, AllocError>
-    requires { Hears config.now octets.now hearings.Update }
+    steps: &mut ArrayVec<Step, MOST_STEPS>,
+) -> Result<Option<Changes<A>>, AllocError>
+    requires heard { Hears config.now octets.now hearings.Update }
+    requires none { steps.old.items ≡ [] }
     ensures memory { IsErr result → ¬ IsOnlyReset own octets.now }
-    ensures exact { IfOk result (λ m. ListsReceived config.now
-        (heads.Established own timer) t octets.now (changes_of m.changes) m.steps.items) }
-    ensures given { IfOk result (λ m. IsSome m.changes ↔ Has MakesChanges m.steps.items) }
+    ensures exact { IfOk result (λ changes. ListsReceived config.now
+        (heads.Established own timer) t octets.now (changes_of changes) steps.new.items) }
+    ensures given { IfOk result (λ changes. IsSome changes ↔ Has MakesChanges steps.new.items) }
+    ensures err { OnErr result (steps.new ≡ steps.old) }
 {
     let outcomes = read_update(alloc, &own, octets)?;
-    let steps = update_steps(octets, own, timer, t, &outcomes);
-    Ok(MessageSteps {
-        steps,
-        changes: outcomes.changes,
-    })
+    update_steps(octets, own, timer, t, &outcomes, steps);
+    Ok(outcomes.changes)
 }
 
-/// The steps about an UPDATE.
+/// Lists the steps about an UPDATE, and answers the changes beside them.
 fn steps_on_update<A: Allocator + Copy>(
     alloc: A,
     config: &Config,
     head: Head,
     t: Seconds,
     octets: &[u8],
-) -> Result<MessageSteps<A>, AllocError>
-    requires { Hears config.now octets.now hearings.Update }
-    ensures exact { IfOk result (λ m. ListsReceived config.now head t octets.now
-        (changes_of m.changes) m.steps.items) }
-    ensures given { IfOk result (λ m. IsSome m.changes ↔ Has MakesChanges m.steps.items) }
+    steps: &mut ArrayVec<Step, MOST_STEPS>,
+) -> Result<Option<Changes<A>>, AllocError>
+    requires heard { Hears config.now octets.now hearings.Update }
+    requires none { steps.old.items ≡ [] }
+    ensures exact { IfOk result (λ changes. ListsReceived config.now head t octets.now
+        (changes_of changes) steps.new.items) }
+    ensures given { IfOk result (λ changes. IsSome changes ↔ Has MakesChanges steps.new.items) }
     ensures memory { IsErr result → TakesMemory head octets.now }
+    ensures err { OnErr result (steps.new ≡ steps.old) }
 {
     match head {
-        Head::Established(own, timer) => established_steps(alloc, config, own, timer, t, octets),
-        _ => Ok(plain_steps(config, head, t, octets, Heard::Update)),
+        Head::Established(own, timer) => {
+            established_steps(alloc, config, own, timer, t, octets, steps)
+        }
+        _ => Ok(plain_steps(config, head, t, octets, Heard::Update, steps)),
+    }
+}
+
+/// Lists what [`message_steps`] lists, in a list that is empty, and answers the changes beside the
+/// steps. A list has many octets, which this doesn't move. Where memory is refused the list stays
+/// empty.
+pub fn list_message_steps<A: Allocator + Copy>(
+    alloc: A,
+    config: &Config,
+    head: Head,
+    t: Seconds,
+    octets: &[u8],
+    steps: &mut ArrayVec<Step, MOST_STEPS>,
+) -> Result<Option<Changes<A>>, AllocError>
+    requires { steps.old.items ≡ [] }
+    ensures exact { IfOk result (λ changes. ListsReceived config.now head t octets.now
+        (changes_of changes) steps.new.items) }
+    ensures given { IfOk result (λ changes. IsSome changes ↔ Has MakesChanges steps.new.items) }
+    ensures memory { IsErr result → TakesMemory head octets.now }
+    ensures err { OnErr result (steps.new ≡ steps.old) }
+{
+    match hear(config, octets) {
+        Heard::Update => steps_on_update(alloc, config, head, t, octets, steps),
+        heard => Ok(plain_steps(config, head, t, octets, heard, steps)),
     }
 }
 
@@ -110,8 +140,7 @@ pub fn message_steps<A: Allocator + Copy>(
     ensures given { IfOk result (λ m. IsSome m.changes ↔ Has MakesChanges m.steps.items) }
     ensures memory { IsErr result → TakesMemory head octets.now }
 {
-    match hear(config, octets) {
-        Heard::Update => steps_on_update(alloc, config, head, t, octets),
-        heard => Ok(plain_steps(config, head, t, octets, heard)),
-    }
+    let mut steps = ArrayVec::new();
+    let changes = list_message_steps(alloc, config, head, t, octets, &mut steps)?;
+    Ok(MessageSteps { steps, changes })
 }

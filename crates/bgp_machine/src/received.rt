@@ -447,21 +447,21 @@ fn rows_on(head: Head) -> &'static [ReceivedRow]
     }
 }
 
-/// The steps that a state takes about a message.
+/// Lists the steps that a state takes about a message.
 pub(crate) fn heard_steps(
     octets: &[u8],
     head: Head,
     t: Seconds,
     message: Heard,
-) -> ArrayVec<Step, MOST_STEPS>
-    requires { ¬ NeedsOutcomes head message }
+    steps: &mut ArrayVec<Step, MOST_STEPS>,
+)
+    requires plain { ¬ NeedsOutcomes head message }
+    requires none { steps.old.items ≡ [] }
     ensures { ListsRows (HeardShown head t octets.now message) no_changes (heard_rows head)
-        result.items }
+        steps.new.items }
 {
-    let mut steps = ArrayVec::new();
     let rows = rows_on(head);
     for row in rows {
-        add_heard(octets, head, t, message, *row, &mut steps);
+        add_heard(octets, head, t, message, *row, steps);
     }
-    steps
 }

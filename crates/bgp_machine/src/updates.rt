@@ -135,18 +135,20 @@ fn add_update<A: Allocator>(
     add(steps, step);
 }
 
-/// The steps that Established takes about an UPDATE with these outcomes.
+/// Lists the steps that Established takes about an UPDATE with these outcomes.
 pub(crate) fn update_steps<A: Allocator>(
     octets: &[u8],
     own: Link,
     timer: HoldTimer,
     t: Seconds,
     outcomes: &Outcomes<A>,
-) -> ArrayVec<Step, MOST_STEPS>
-    requires { AreOutcomes own octets.now outcomes.now }
+    steps: &mut ArrayVec<Step, MOST_STEPS>,
+)
+    requires outcomes { AreOutcomes own octets.now outcomes.now }
+    requires none { steps.old.items ≡ [] }
     ensures { ListsRows (UpdateShown own timer t octets.now)
         (changes_of outcomes.now.changes) update_rows
-        result.items }
+        steps.new.items }
 {
     let rows = [
         ReceivedRow::NamesFault,
@@ -164,9 +166,7 @@ pub(crate) fn update_steps<A: Allocator>(
         }),
         ReceivedRow::Applies(Families { v4: true, v6: true }),
     ];
-    let mut steps = ArrayVec::new();
     for row in &rows {
-        add_update(octets, own, timer, t, outcomes, *row, &mut steps);
+        add_update(octets, own, timer, t, outcomes, *row, steps);
     }
-    steps
 }

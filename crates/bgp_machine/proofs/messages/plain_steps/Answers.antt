@@ -23,5 +23,5 @@ returns-clause-exact g c =
 
 pub returns-clause-given : goal.returns-clause-given
 returns-clause-given g c =
-    none_beside c.heard_steps.result.items
+    none_beside c.heard_steps.new.steps.items
     (none_makes c.args.head c.args.t c.args.octets.now c.args.heard no_changes (heard_rows c.args.head) _ c.requires.plain c.heard_steps.ensures)
