@@ -29,7 +29,7 @@ pub use judging::judge_records;
 pub use laws::{
     one_end_for_each_disabled_set, records_have_just_one_verdict, records_tell_the_state,
 };
-pub use opening::{OpenedSteps, openings};
+pub use opening::{OpenedSteps, list_openings, openings};
 pub use plain::PlainTracker;
 pub use tracker::Tracker;
 pub use unshown::{Unshown, pay};

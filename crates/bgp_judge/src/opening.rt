@@ -1,7 +1,7 @@
 //! The steps that a record opens.
 
 ghost use Rattle.std.specs.Prelude.{◌≡◌, ◌↔◌, ◌<◌, ◌≤◌, ◌+◌, IfOk, IsErr, IsSome, MatchOption};
-ghost use Rattle.std.specs.Prelude.{None, length};
+ghost use Rattle.std.specs.Prelude.{None, OnErr, [], length};
 ghost use Rattle.arrayvec.specs.ArrayVec.{array_vec_len};
 ghost use Rattle.bgp_prefix.specs.Shown.{second_of};
 ghost use Rattle.bgp_machine.specs.Listed.{ListsHidden, MakesChanges, changes_of, no_changes};
@@ -14,7 +14,7 @@ ghost use Rattle.bgp_judge.specs.Unshown.{PaysNothing};
 
 use crate::unshown::{Unshown, pay};
 use arrayvec::ArrayVec;
-use bgp_machine::{Head, MOST_STEPS, Step, hidden_steps, message_steps};
+use bgp_machine::{Head, MOST_STEPS, Step, hidden_steps, list_message_steps};
 use bgp_open::Config;
 use bgp_prefix::Seconds;
 use bgp_update::Changes;
@@ -66,45 +66,70 @@ fn add_opened(
     }
 }
 
-/// Those of a state's own steps that the record opens.
+/// Lists those of a state's own steps that the record opens.
 fn own_openings(
     config: &Config,
     head: Head,
     t: Seconds,
     steps: &[Step],
     shown: &Record<'_>,
-) -> ArrayVec<Step, MOST_STEPS>
+    openings: &mut ArrayVec<Step, MOST_STEPS>,
+)
     requires few { length steps.now ≤ 8 }
     requires hidden { ListsHidden config.now head t steps.now }
     requires own { IsOwn (shown_of shown.now) }
     requires second { second_of (shown_of shown.now) ≡ t }
-    ensures { ListsOpenings config.now head (shown_of shown.now) no_changes result.items }
+    requires none { openings.old.items ≡ [] }
+    ensures { ListsOpenings config.now head (shown_of shown.now) no_changes openings.new.items }
 {
-    let mut openings = ArrayVec::new();
     for step in steps {
-        add_opened(config, head, *step, shown, &mut openings);
+        add_opened(config, head, *step, shown, openings);
     }
-    openings
 }
 
-/// The steps that the record opens and that aren't about a message.
+/// Lists the steps that the record opens and that aren't about a message, and answers that no
+/// changes stand beside them.
 fn hidden_openings<A: Allocator>(
     config: &Config,
     head: Head,
     t: Seconds,
     shown: &Record<'_>,
-) -> OpenedSteps<A>
+    openings: &mut ArrayVec<Step, MOST_STEPS>,
+) -> Option<Changes<A>>
     requires own { IsOwn (shown_of shown.now) }
     requires second { second_of (shown_of shown.now) ≡ t }
-    ensures exact { ListsOpenings config.now head (shown_of shown.now) (changes_of result.changes)
-        result.steps.items }
-    ensures none { result.changes ≡ None }
-    ensures kept { Has MakesChanges result.steps.items → ⊥ }
+    requires none { openings.old.items ≡ [] }
+    ensures exact { ListsOpenings config.now head (shown_of shown.now) (changes_of result)
+        openings.new.items }
+    ensures none { result ≡ None }
+    ensures kept { Has MakesChanges openings.new.items → ⊥ }
 {
     let steps = hidden_steps(config, head, t);
-    OpenedSteps {
-        steps: own_openings(config, head, t, steps.as_slice(), shown),
-        changes: None,
+    own_openings(config, head, t, steps.as_slice(), shown, openings);
+    None
+}
+
+/// Lists what [`openings`] lists, in a list that is empty, and answers the changes beside the
+/// steps. A list has many octets, which this doesn't move. Where memory is refused the list stays
+/// empty.
+pub fn list_openings<A: Allocator + Copy>(
+    alloc: A,
+    config: &Config,
+    head: Head,
+    shown: &Record<'_>,
+    steps: &mut ArrayVec<Step, MOST_STEPS>,
+) -> Result<Option<Changes<A>>, AllocError>
+    requires { steps.old.items ≡ [] }
+    ensures exact { IfOk result (λ changes. ListsOpenings config.now head (shown_of shown.now)
+        (changes_of changes) steps.new.items) }
+    ensures given { IfOk result (λ changes. IsSome changes ↔ Has MakesChanges steps.new.items) }
+    ensures memory { IsErr result → ListTakesMemory head (shown_of shown.now) }
+    ensures err { OnErr result (steps.new ≡ steps.old) }
+{
+    match *shown {
+        Record::In(t, octets) => list_message_steps(alloc, config, head, t, octets, steps),
+        Record::Out(t, _) => Ok(hidden_openings(config, head, t, shown, steps)),
+        Record::Change(t, _, _) => Ok(hidden_openings(config, head, t, shown, steps)),
     }
 }
 
@@ -122,15 +147,7 @@ pub fn openings<A: Allocator + Copy>(
     ensures given { IfOk result (λ o. IsSome o.changes ↔ Has MakesChanges o.steps.items) }
     ensures memory { IsErr result → ListTakesMemory head (shown_of shown.now) }
 {
-    match *shown {
-        Record::In(t, octets) => {
-            let about = message_steps(alloc, config, head, t, octets)?;
-            Ok(OpenedSteps {
-                steps: about.steps,
-                changes: about.changes,
-            })
-        }
-        Record::Out(t, _) => Ok(hidden_openings(config, head, t, shown)),
-        Record::Change(t, _, _) => Ok(hidden_openings(config, head, t, shown)),
-    }
+    let mut steps = ArrayVec::new();
+    let changes = list_openings(alloc, config, head, shown, &mut steps)?;
+    Ok(OpenedSteps { steps, changes })
 }

@@ -4,4 +4,4 @@ use Rattle.bgp_judge.proofs.opening.hidden_openings.Goals as goal
 
 pub returns-clause-kept : goal.returns-clause-kept
 returns-clause-kept g c =
-    none_makes c.args.config.now c.args.head (shown_of c.args.shown.now) c.requires.own c.own_openings.result.items c.own_openings.ensures
+    none_makes c.args.config.now c.args.head (shown_of c.args.shown.now) c.requires.own c.own_openings.new.openings.items c.own_openings.ensures
