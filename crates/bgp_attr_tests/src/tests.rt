@@ -10,13 +10,12 @@ mod writing;
 use bgp_attr::*;
 use bgp_path::{Aggregator, AsPath, Items, NextHop, Origin, Path, PathParts, Segment, SegmentKind};
 use std::alloc::{AllocError, Allocator};
-use std::fmt::Debug;
 use std::process::Abort;
 use std::test::Fail;
 
 /// The two are equal. A call of this is proved more quickly than `assert_eq!`.
-fn same<T: Copy + PartialEq + Debug>(rt: &impl Abort, value: T, wanted: T) {
-    assert_eq!(rt; value, wanted);
+fn same<T: Copy + PartialEq>(rt: &impl Abort, value: T, wanted: T) {
+    assert!(rt; value == wanted);
 }
 
 /// An external peer, and AS numbers of four octets.
@@ -29,6 +28,12 @@ const WIDE: Side = Side {
 const NARROW: Side = Side {
     as4: false,
     internal: false,
+};
+
+/// An internal peer, and AS numbers of four octets.
+const INTERNAL: Side = Side {
+    as4: true,
+    internal: true,
 };
 
 /// From a session whose AS numbers have two octets: FRR 8.4.4 prepends and aggregates as AS 70000.
@@ -91,11 +96,23 @@ fn as_path<A: Allocator + Copy>(
     Ok(path)
 }
 
-/// The least path: IGP, these segments, a next hop of four octets.
-fn plain<A: Allocator + Copy>(
+/// The lists that a path may have beside its segments.
+#[derive(Clone, Copy, Default)]
+struct Lists<'a> {
+    communities: &'a [u32],
+    cluster_list: &'a [u32],
+    extended_communities: &'a [u64],
+}
+
+/// A path of these segments and lists: IGP, and a next hop of four octets.
+fn with_lists<A: Allocator + Copy>(
     alloc: A,
     path: &[(SegmentKind, &[u32])],
+    lists: &Lists<'_>,
 ) -> Result<PathParts<A>, AllocError> {
+    let communities = Vec::from_slice(alloc, lists.communities)?;
+    let cluster_list = Vec::from_slice(alloc, lists.cluster_list)?;
+    let extended_communities = Vec::from_slice(alloc, lists.extended_communities)?;
     Ok(PathParts {
         origin: Origin::Igp,
         as_path: as_path(alloc, path)?,
@@ -104,23 +121,65 @@ fn plain<A: Allocator + Copy>(
         local_pref: None,
         atomic_aggregate: false,
         aggregator: None,
-        communities: Items::new(alloc),
+        communities: Items::from(communities),
         originator_id: None,
-        cluster_list: Items::new(alloc),
-        extended_communities: Items::new(alloc),
+        cluster_list: Items::from(cluster_list),
+        extended_communities: Items::from(extended_communities),
     })
+}
+
+/// The least path: IGP, these segments, a next hop of four octets.
+fn plain<A: Allocator + Copy>(
+    alloc: A,
+    path: &[(SegmentKind, &[u32])],
+) -> Result<PathParts<A>, AllocError> {
+    with_lists(alloc, path, &Lists::default())
+}
+
+/// What FRR said in two octets, as a path.
+fn merged<A: Allocator + Copy>(alloc: A) -> Result<PathParts<A>, AllocError> {
+    let lists = Lists {
+        communities: &[0xfdea_0064, 0xffff_ff01],
+        cluster_list: &[],
+        extended_communities: &[],
+    };
+    let numbers: &[u32] = &[65002, 70000, 70001];
+    let mut parts = with_lists(alloc, &[(SegmentKind::Sequence, numbers)], &lists)?;
+    parts.multi_exit_disc = Some(7);
+    parts.atomic_aggregate = true;
+    parts.aggregator = Some(Aggregator {
+        as_number: 70000,
+        address: 0xc000_0202,
+    });
+    Ok(parts)
+}
+
+/// A path that an internal peer alone may say.
+fn internal<A: Allocator + Copy>(alloc: A) -> Result<PathParts<A>, AllocError> {
+    let lists = Lists {
+        communities: &[],
+        cluster_list: &[1, 2],
+        extended_communities: &[],
+    };
+    let mut parts = with_lists(alloc, &[(SegmentKind::Set, &[1, 2])], &lists)?;
+    parts.local_pref = Some(100);
+    parts.originator_id = Some(0xc000_0201);
+    Ok(parts)
 }
 
 /// What GoBGP announced, as a path.
 fn announced<A: Allocator + Copy>(alloc: A) -> Result<PathParts<A>, AllocError> {
-    let mut parts = plain(alloc, &[(SegmentKind::Sequence, &[65002])])?;
+    let lists = Lists {
+        communities: &[0xfdea_0064, 0xffff_ff01],
+        cluster_list: &[],
+        extended_communities: &[0x0002_fdea_0000_0005],
+    };
+    let mut parts = with_lists(alloc, &[(SegmentKind::Sequence, &[65002])], &lists)?;
     parts.origin = Origin::Incomplete;
     parts.multi_exit_disc = Some(7);
     parts.aggregator = Some(Aggregator {
         as_number: 65002,
         address: 0xc000_0202,
     });
-    parts.communities = Items::from(Vec::from_slice(alloc, &[0xfdea_0064, 0xffff_ff01])?);
-    parts.extended_communities = Items::from(Vec::from_slice(alloc, &[0x0002_fdea_0000_0005])?);
     Ok(parts)
 }

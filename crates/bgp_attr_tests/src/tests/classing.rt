@@ -2,11 +2,6 @@
 
 use super::*;
 
-const INTERNAL: Side = Side {
-    as4: true,
-    internal: true,
-};
-
 /// The first attribute of these octets is of this class.
 fn is_of_class(rt: &impl Abort, side: Side, octets: &[u8], verdict: AttrVerdict) {
     let attr = Attrs::new(octets).next().expect(rt, "no whole attribute");

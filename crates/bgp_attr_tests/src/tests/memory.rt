@@ -6,7 +6,13 @@ use linked_list_allocator::LocalHeap;
 
 /// A path that takes memory for each of its parts.
 fn parts<A: Allocator + Copy>(alloc: A) -> Result<PathParts<A>, AllocError> {
-    let mut parts = plain(alloc, &[(Sequence, &[65001, 70000]), (Set, &[1, 2])])?;
+    let lists = Lists {
+        communities: &[1, 2],
+        cluster_list: &[3],
+        extended_communities: &[4],
+    };
+    let segments: [(SegmentKind, &[u32]); 2] = [(Sequence, &[65001, 70000]), (Set, &[1, 2])];
+    let mut parts = with_lists(alloc, &segments, &lists)?;
     parts.origin = Origin::Egp;
     parts.multi_exit_disc = Some(7);
     parts.atomic_aggregate = true;
@@ -14,9 +20,6 @@ fn parts<A: Allocator + Copy>(alloc: A) -> Result<PathParts<A>, AllocError> {
         as_number: 70000,
         address: 1,
     });
-    parts.communities = Items::from(Vec::from_slice(alloc, &[1, 2])?);
-    parts.cluster_list = Items::from(Vec::from_slice(alloc, &[3])?);
-    parts.extended_communities = Items::from(Vec::from_slice(alloc, &[4])?);
     Ok(parts)
 }
 
@@ -40,57 +43,57 @@ const WRITTEN: [u8; 108] = [
 fn ample_memory(rt: HostRuntime) -> Result<(), Fail> {
     let alloc = rt.alloc();
     let path = Path::new(alloc, parts(alloc)?)?;
-    let mut out = vec![in alloc; 9u8]?;
     assert!(rt; is_writable(NARROW, &path));
-    write_path(NARROW, &path, &mut out)?;
-    same(&rt, out.get(..1), Some([9].as_slice()));
-    same(&rt, out.get(1..), Some(WRITTEN.as_slice()));
+    let mut out = vec![in alloc; 9u8]?;
+    let is_written = write_path(NARROW, &path, &mut out).is_ok();
+    assert!(rt; is_written && out.split_first() == Some((&9, WRITTEN.as_slice())));
     Ok(())
 }
 
 /// A path of many segments, each as long as one can be, and 16000 communities.
 fn large_parts<A: Allocator + Copy>(alloc: A) -> Result<PathParts<A>, AllocError> {
-    let mut parts = plain(alloc, &[(Sequence, [1; 255].as_slice()); 8])?;
-    parts.origin = Origin::Egp;
-    parts.communities = Items::from(vec![in alloc; 7u32; 16000]?);
-    Ok(parts)
+    let communities = vec![in alloc; 7u32; 16000]?;
+    let lists = Lists {
+        communities: &communities,
+        cluster_list: &[],
+        extended_communities: &[],
+    };
+    with_lists(alloc, &[(Sequence, [1; 255].as_slice()); 8], &lists)
 }
 
 #[test]
 fn ample_memory_for_large_values(rt: HostRuntime) -> Result<(), Fail> {
     let alloc = rt.alloc();
     let path = Path::new(alloc, large_parts(alloc)?)?;
-    let mut out = Vec::new(alloc);
     assert!(rt; is_writable(NARROW, &path));
+    let mut out = Vec::new(alloc);
     write_path(NARROW, &path, &mut out)?;
     // ORIGIN 4, AS_PATH 4 and 8 times 512, NEXT_HOP 7, COMMUNITIES 4 and 64000 octets
-    same(&rt, out.len(), 4 + 4 + 4096 + 7 + 4 + 64000);
+    assert!(rt; out.len() == 4 + 4 + 4096 + 7 + 4 + 64000);
     Ok(())
 }
 
 /// Whether a path was written to a vector in a heap of this size. Where a growth was refused, the
 /// vector is as before.
-fn writes(rt: &impl Abort, heap: &LocalHeap, ample: &LocalHeap) -> Result<bool, Fail> {
-    let path = Path::new(ample, parts(ample)?)?;
-    assert!(rt; is_writable(NARROW, &path));
+fn writes<A: Allocator>(rt: &impl Abort, heap: &LocalHeap, path: &Path<A>) -> bool {
+    assert!(rt; is_writable(NARROW, path));
     let mut out = Vec::new(heap);
     if out.push(9u8).is_err() {
-        return Ok(false);
+        return false;
     }
-    let wrote = write_path(NARROW, &path, &mut out).is_ok();
+    let wrote = write_path(NARROW, path, &mut out).is_ok();
     let rest = if wrote { WRITTEN.as_slice() } else { &[] };
-    same(rt, out.get(..1), Some([9].as_slice()));
-    same(rt, out.get(1..), Some(rest));
-    Ok(wrote)
+    assert!(rt; out.split_first() == Some((&9, rest)));
+    wrote
 }
 
 #[test]
 fn a_refused_growth_changes_nothing(rt: HostRuntime) -> Result<(), Fail> {
-    let ample = LocalHeap::new(rt.alloc(), 8192)?;
+    let path = Path::new(rt.alloc(), parts(rt.alloc())?)?;
     let (mut refused, mut done) = (false, false);
     for step in 0..128 {
         let heap = LocalHeap::new(rt.alloc(), 16 * (step + 1))?;
-        if writes(&rt, &heap, &ample)? {
+        if writes(&rt, &heap, &path) {
             done = true;
         } else {
             refused = true;

@@ -15,8 +15,10 @@ fn says(
     field: &[u8],
     parts: PathParts,
 ) -> Result<(), Fail> {
-    let path = read_path(alloc, side, &FirstAttrs::new(field), parts.next_hop)?;
-    assert!(rt; path == Path::new(alloc, parts)?, "{field:?}");
+    let next_hop = parts.next_hop;
+    let wanted = Path::new(alloc, parts)?;
+    let path = read_path(alloc, side, &FirstAttrs::new(field), next_hop)?;
+    assert!(rt; path == wanted, "{field:?}");
     Ok(())
 }
 
@@ -33,28 +35,23 @@ fn a_real_announcement_is_read(rt: HostRuntime) -> Result<(), Fail> {
 
 #[test]
 fn what_a_real_router_says_in_two_octets_is_merged(rt: HostRuntime) -> Result<(), Fail> {
-    let alloc = rt.alloc();
-    let mut parts = plain(alloc, &[(Sequence, &[65002, 70000, 70001])])?;
-    parts.multi_exit_disc = Some(7);
-    parts.atomic_aggregate = true;
-    parts.aggregator = Some(Aggregator {
-        as_number: 70000,
-        address: 0xc000_0202,
-    });
-    parts.communities = Items::from(vec![in alloc; 0xfdea_0064, 0xffff_ff01]?);
-    says(&rt, alloc, NARROW, TWO_OCTET_FIELD, parts)
+    says(
+        &rt,
+        rt.alloc(),
+        NARROW,
+        TWO_OCTET_FIELD,
+        merged(rt.alloc())?,
+    )
 }
 
 #[test]
 fn one_reading_makes_a_path_for_each_next_hop(rt: HostRuntime) -> Result<(), Fail> {
     let alloc = rt.alloc();
-    let first = FirstAttrs::new(IPV6_FIELD);
     for next_hop in [HOP, NextHop::V6(1), NextHop::V6WithLinkLocal(1, 2)] {
         let mut parts = plain(alloc, &[(Sequence, &[65002])])?;
         parts.next_hop = next_hop;
         parts.multi_exit_disc = Some(0);
-        let path = read_path(alloc, WIDE, &first, next_hop)?;
-        assert!(rt; path == Path::new(alloc, parts)?);
+        says(&rt, alloc, WIDE, IPV6_FIELD, parts)?;
     }
     Ok(())
 }
@@ -111,33 +108,28 @@ fn an_internal_peer_alone_says_preference_and_reflection(rt: HostRuntime) -> Res
         0x80, 10, 8, 0, 0, 0, 1, 0, 0, 0, 2, // CLUSTER_LIST: 0.0.0.1 0.0.0.2
     ];
     says(&rt, alloc, WIDE, &field, plain(alloc, &[(Set, &[1, 2])])?)?;
-    let mut parts = plain(alloc, &[(Set, &[1, 2])])?;
-    parts.local_pref = Some(100);
-    parts.originator_id = Some(0xc000_0201);
-    parts.cluster_list = Items::from(vec![in alloc; 1, 2]?);
-    let internal = Side {
-        as4: true,
-        internal: true,
-    };
-    says(&rt, alloc, internal, &field, parts)
+    says(&rt, alloc, INTERNAL, &field, internal(alloc)?)
 }
 
-/// AS_PATH 65001 23456 and AS4_PATH 70000 in two octets, with what follows.
-fn said_twice(alloc: Global, rest: &[u8]) -> Result<Vec<u8>, AllocError> {
-    let mut field = Vec::from_slice(alloc, &[0x40, 2, 6, 2, 2, 0xfd, 0xe9, 0x5b, 0xa0])?;
-    field.extend_from_slice(&[0xc0, 17, 6, 2, 1, 0, 1, 0x11, 0x70])?;
-    field.extend_from_slice(rest)?;
+/// In two octets, behind an AGGREGATOR of AS 65001 or of AS_TRANS.
+const SAID_TWICE: [u8; 29] = [
+    0x40, 2, 6, 2, 2, 0xfd, 0xe9, 0x5b, 0xa0, // AS_PATH: 65001 23456
+    0xc0, 17, 6, 2, 1, 0, 1, 0x11, 0x70, // AS4_PATH: 70000
+    0xc0, 18, 8, 0, 1, 0x11, 0x70, 0, 0, 0, 1, // AS4_AGGREGATOR: 70000, 0.0.0.1
+];
+
+/// The octets of an AGGREGATOR in two octets, and then of [`SAID_TWICE`].
+fn said_twice(alloc: Global, aggregator: &[u8]) -> Result<Vec<u8>, AllocError> {
+    let mut field = Vec::from_slice(alloc, aggregator)?;
+    field.extend_from_slice(&SAID_TWICE)?;
     Ok(field)
 }
-
-const AS4_AGGREGATOR: [u8; 11] = [0xc0, 18, 8, 0, 1, 0x11, 0x70, 0, 0, 0, 1];
 
 #[test]
 fn as4_attributes_are_old_beside_another_aggregator(rt: HostRuntime) -> Result<(), Fail> {
     let alloc = rt.alloc();
     // AGGREGATOR isn't of AS_TRANS.
-    let mut field = said_twice(alloc, &[0xc0, 7, 6, 0xfd, 0xe9, 0, 0, 0, 2])?;
-    field.extend_from_slice(&AS4_AGGREGATOR)?;
+    let field = said_twice(alloc, &[0xc0, 7, 6, 0xfd, 0xe9, 0, 0, 0, 2])?;
     let mut parts = plain(alloc, &[(Sequence, &[65001, 23456])])?;
     parts.aggregator = Some(Aggregator {
         as_number: 65001,
@@ -145,8 +137,7 @@ fn as4_attributes_are_old_beside_another_aggregator(rt: HostRuntime) -> Result<(
     });
     says(&rt, alloc, NARROW, &field, parts)?;
     // It is.
-    let mut field = said_twice(alloc, &[0xc0, 7, 6, 0x5b, 0xa0, 0, 0, 0, 2])?;
-    field.extend_from_slice(&AS4_AGGREGATOR)?;
+    let field = said_twice(alloc, &[0xc0, 7, 6, 0x5b, 0xa0, 0, 0, 0, 2])?;
     let merged: [(SegmentKind, &[u32]); 2] = [(Sequence, &[65001]), (Sequence, &[70000])];
     let mut parts = plain(alloc, &merged)?;
     parts.aggregator = Some(Aggregator {
@@ -155,8 +146,7 @@ fn as4_attributes_are_old_beside_another_aggregator(rt: HostRuntime) -> Result<(
     });
     says(&rt, alloc, NARROW, &field, parts)?;
     // AS4_AGGREGATOR stands alone.
-    let field = said_twice(alloc, &AS4_AGGREGATOR)?;
-    says(&rt, alloc, NARROW, &field, plain(alloc, &merged)?)
+    says(&rt, alloc, NARROW, &SAID_TWICE, plain(alloc, &merged)?)
 }
 
 #[test]
@@ -194,22 +184,15 @@ fn the_bits_of_a_type_are_told(rt: HostRuntime) {
 }
 
 /// Whether what the real router said in two octets was read in a heap of this size.
-fn reads(rt: &impl Abort, heap: &LocalHeap, whole: &Path) -> Result<bool, Fail> {
+fn reads(rt: &impl Abort, heap: &LocalHeap, whole: &Path) -> bool {
     let Ok(path) = read_path(heap, NARROW, &FirstAttrs::new(TWO_OCTET_FIELD), HOP) else {
-        return Ok(false);
+        return false;
     };
     let (path, whole) = (path.parts(), whole.parts());
-    same(
-        rt,
-        path.as_path.segments().len(),
-        whole.as_path.segments().len(),
-    );
-    same(
-        rt,
-        path.communities.as_slice(),
-        whole.communities.as_slice(),
-    );
-    Ok(true)
+    let same_length = path.as_path.segments().len() == whole.as_path.segments().len();
+    let same_items = path.communities.as_slice() == whole.communities.as_slice();
+    assert!(rt; same_length && same_items);
+    true
 }
 
 #[test]
@@ -218,7 +201,7 @@ fn a_refused_growth_is_told(rt: HostRuntime) -> Result<(), Fail> {
     let (mut refused, mut done) = (false, false);
     for step in 0..64 {
         let heap = LocalHeap::new(rt.alloc(), 16 * (step + 1))?;
-        if reads(&rt, &heap, &whole)? {
+        if reads(&rt, &heap, &whole) {
             done = true;
         } else {
             refused = true;
@@ -229,24 +212,35 @@ fn a_refused_growth_is_told(rt: HostRuntime) -> Result<(), Fail> {
     Ok(())
 }
 
+/// An AS_PATH of 64 segments of 255 numbers, 65408 octets, and 16383 communities, 65532 octets.
+fn greatest_values(alloc: Global) -> Result<Vec<u8>, AllocError> {
+    let mut field = Vec::from_slice(alloc, &[0x50, 2, 0xff, 0x80])?;
+    for place in 0..64 * 256 {
+        // A head of two octets before each 255 numbers
+        let octets: &[u8] = if place % 256 == 0 {
+            &[2, 255]
+        } else {
+            &[0, 0, 0, 1]
+        };
+        field.extend_from_slice(octets)?;
+    }
+    for place in 0..16384 {
+        let octets: &[u8] = if place == 0 {
+            &[0xd0, 8, 0xff, 0xfc]
+        } else {
+            &[0, 0, 0, 7]
+        };
+        field.extend_from_slice(octets)?;
+    }
+    Ok(field)
+}
+
 #[test]
 fn ample_memory_for_the_greatest_values(rt: HostRuntime) -> Result<(), Fail> {
     let alloc = rt.alloc();
-    // 64 segments of 255 numbers: 65408 octets
-    let mut field = Vec::from_slice(alloc, &[0x50, 2, 0xff, 0x80])?;
-    for _ in 0..64 {
-        field.extend_from_slice(&[2, 255])?;
-        for _ in 0..255 {
-            field.extend_from_slice(&[0, 0, 0, 1])?;
-        }
-    }
-    // 16383 communities: 65532 octets
-    field.extend_from_slice(&[0xd0, 8, 0xff, 0xfc])?;
-    for _ in 0..16383 {
-        field.extend_from_slice(&[0, 0, 0, 7])?;
-    }
+    let field = greatest_values(alloc)?;
     let path = read_path(alloc, WIDE, &FirstAttrs::new(&field), HOP)?;
-    same(&rt, path.parts().as_path.count(), 64 * 255);
-    same(&rt, path.parts().communities.as_slice().len(), 16383);
+    let (path, communities) = (&path.parts().as_path, &path.parts().communities);
+    assert!(rt; path.count() == 64 * 255 && communities.as_slice().len() == 16383);
     Ok(())
 }
