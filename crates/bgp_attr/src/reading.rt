@@ -185,6 +185,7 @@ fn read_plain_path<A: Allocator + Copy>(
 }
 
 /// The AS path that an attribute of this type says.
+#[inline(always)]
 fn read_path_of<A: Allocator + Copy>(
     alloc: A,
     side: Side,

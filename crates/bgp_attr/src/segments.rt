@@ -138,6 +138,7 @@ fn push_segment<A: Allocator>(
 
 /// The path that the value of AS_PATH, or of AS4_PATH, holds; segments of a confederation are left
 /// out (RFC 6793, 6).
+#[inline(always)]
 pub(crate) fn read_as_path<A: Allocator + Copy>(
     alloc: A,
     as4: bool,

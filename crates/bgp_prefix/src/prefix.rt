@@ -129,6 +129,7 @@ impl Prefix {
 
     /// Reads the prefix with which the octets begin, and answers how many octets spell it: its
     /// length in bits, and then the fewest that hold so many. Their further bits mean nothing.
+    #[inline(always)]
     #[tactic(auto, using(crate::proofs::PrefixParts::read_begins))]
     pub fn read(family: Family, octets: &[u8]) -> Result<(Prefix, usize), PrefixFault>
         ensures read { IfOk result (λ r. BeginsWithPrefix family octets.now r.0 r.1) }
@@ -243,6 +244,7 @@ fn octet_count(bits: u8) -> usize
 }
 
 /// The first bits of the octets, and then zeros.
+#[inline(always)]
 #[tactic(auto, using(crate::proofs::Masks::leading))]
 fn leading_octets(octets: &[u8], bits: u8) -> [u8; 16]
     requires enough { bits ≤ 8 * length octets.now }
@@ -263,6 +265,7 @@ fn leading_octets(octets: &[u8], bits: u8) -> [u8; 16]
 }
 
 /// The same of at most 32 bits, which are put together octet by octet.
+#[inline(always)]
 fn few_leading_octets(octets: &[u8], bits: u8) -> [u8; 16]
     requires enough { bits ≤ 8 * length octets.now }
     requires few { bits ≤ 32 }
@@ -278,6 +281,7 @@ fn few_leading_octets(octets: &[u8], bits: u8) -> [u8; 16]
 }
 
 /// The octet at a place among the first bits and then zeros.
+#[inline(always)]
 #[tactic(auto, using(crate::proofs::Masks::leading_at))]
 fn leading_octet(octets: &[u8], bits: u8, place: u8) -> u8
     requires enough { bits ≤ 8 * length octets.now }
