@@ -1,11 +1,10 @@
 //! How the changes of an UPDATE are made to a table: whole, or not at all.
 
 ghost use Rattle.std.specs.Prelude.{◌≡◌, ◌⊎◌, ◌∷◌, [], OnOk, OnErr, IsTrue, map};
-ghost use Rattle.std.specs.List.{flat_map};
 ghost use Rattle.std.specs.Set.{is_member};
 ghost use Rattle.bgp_prefix.specs.Prefix.{PrefixBits};
 ghost use Rattle.bgp_prefix.specs.PrefixOrder.{prefix_cmp, prefix_eq};
-ghost use Rattle.bgp_update.specs.Allowed.{changes_value, put_routes};
+ghost use Rattle.bgp_update.specs.Allowed.{changes_value, group_routes, put_routes};
 ghost use Rattle.bgp_rib.specs.Rooms.{routes_in, HasRoom, HasNoRoom, HasEach, LeadsBack};
 ghost use Rattle.bgp_rib.specs.Routes.{
   entry_of,
@@ -40,7 +39,7 @@ pub fn apply_changes<A: Allocator + Clone>(
     ensures unwritten { log.new.items ≡ [] }
 {
     let _ = table.len(); // For the proof: it says that prefixes ascend.
-    if changes.put.is_empty() {
+    if changes.nlri.is_none() && changes.mp_reach_nlri.is_none() {
         remove_all(table, &changes.remove); // Nothing grows, so nothing has to be noted.
         return Ok(());
     }
@@ -72,19 +71,19 @@ fn write_all<A: Allocator + Clone>(
         → HasEach log.new.items table.new.entries }
 {
     hide_all(table, log, &changes.remove)?;
-    put_groups(table, log, disabled, &changes.put)
+    put_all(table, log, disabled, changes)
 }
 
-/// Puts the routes of the groups, but those of disabled families.
-fn put_groups<A: Allocator + Clone>(
+/// Puts the routes of both groups, but those of disabled families.
+fn put_all<A: Allocator + Clone>(
     table: &mut Table<Path<A>, A>,
     log: &mut Log<Path<A>, A>,
     disabled: Families,
-    groups: &[Put<A>],
+    changes: &Changes<A>,
 ) -> Result<(), AllocError>
     ensures routes { OnOk result (routes_in table.new.entries
         ≡ entries_with
-        (entries_outside disabled (map entry_of (flat_map put_routes groups.now)))
+        (entries_outside disabled (map entry_of (changes_value changes.now).put))
         (routes_in table.old.entries)) }
     ensures rooms { (q : PrefixBits) → HasRoom prefix_cmp table.new.entries q
         → HasRoom prefix_cmp table.old.entries q }
@@ -92,10 +91,31 @@ fn put_groups<A: Allocator + Clone>(
     ensures noted { HasEach log.old.items table.old.entries
         → HasEach log.new.items table.new.entries }
 {
-    for group in groups {
-        put_group(table, log, disabled, group)?;
-    }
+    put_group_if(table, log, disabled, &changes.nlri)?;
+    put_group_if(table, log, disabled, &changes.mp_reach_nlri)?;
     Ok(())
+}
+
+/// Puts the routes of a group, where there is one, but those of disabled families.
+fn put_group_if<A: Allocator + Clone>(
+    table: &mut Table<Path<A>, A>,
+    log: &mut Log<Path<A>, A>,
+    disabled: Families,
+    group: &Option<Put<A>>,
+) -> Result<(), AllocError>
+    ensures routes { OnOk result (routes_in table.new.entries
+        ≡ entries_with (entries_outside disabled (map entry_of (group_routes group.now)))
+        (routes_in table.old.entries)) }
+    ensures rooms { (q : PrefixBits) → HasRoom prefix_cmp table.new.entries q
+        → HasRoom prefix_cmp table.old.entries q }
+    ensures back { LeadsBack log.new.items table.new.entries log.old.items table.old.entries }
+    ensures noted { HasEach log.old.items table.old.entries
+        → HasEach log.new.items table.new.entries }
+{
+    match group {
+        Some(group) => put_group(table, log, disabled, group),
+        None => Ok(()),
+    }
 }
 
 /// Puts the routes of a group, but those of disabled families.

@@ -106,24 +106,35 @@ fn path<A: Allocator + Copy>(alloc: A, mark: u32) -> Result<Path<A>, AllocError>
     )
 }
 
-/// The changes that remove the prefixes, and then put each group with a path of its mark.
+/// The changes that remove the prefixes, and then put the groups, two at most, each with a path of
+/// its mark.
 fn changes<A: Allocator + Copy>(
     rt: &impl Abort,
     alloc: A,
     remove: &[&str],
     groups: &[(u32, &[&str])],
 ) -> Result<Changes<A>, AllocError> {
-    let mut put = Vec::new(alloc);
-    for (mark, texts) in groups {
-        put.push(Put {
-            path: path(alloc, *mark)?,
-            prefixes: prefixes(rt, alloc, texts)?,
-        })?;
-    }
+    assert!(rt; groups.len() <= 2);
     Ok(Changes {
         remove: prefixes(rt, alloc, remove)?,
-        put,
+        nlri: group(rt, alloc, groups.first())?,
+        mp_reach_nlri: group(rt, alloc, groups.get(1))?,
     })
+}
+
+/// A group with a path of its mark, where there is one.
+fn group<A: Allocator + Copy>(
+    rt: &impl Abort,
+    alloc: A,
+    told: Option<&(u32, &[&str])>,
+) -> Result<Option<Put<A>>, AllocError> {
+    let Some((mark, texts)) = told else {
+        return Ok(None);
+    };
+    Ok(Some(Put {
+        path: path(alloc, *mark)?,
+        prefixes: prefixes(rt, alloc, texts)?,
+    }))
 }
 
 /// The mark of a path.

@@ -1,7 +1,6 @@
 -- The outcomes that a value of `Outcomes` stands for.
-use Rattle.std.specs.Prelude.{◌≡◌, List, [], Option, None, Some, IsTrue, IsFalse}
+use Rattle.std.specs.Prelude.{◌≡◌, ◌++◌, List, [], Option, None, Some, IsTrue, IsFalse}
 use Rattle.std.specs.Prelude.{MatchOption}
-use Rattle.std.specs.List.{flat_map}
 use Rattle.bgp_prefix.specs.declared.family.Family.{Family}
 use Rattle.bgp_open.specs.declared.families.Families.{Families}
 use Rattle.bgp_open.specs.Families.{contains}
@@ -22,9 +21,9 @@ abbrev pub group_routes : {X : Type 0} → Option (Put X) → List Route
 group_routes None = []
 group_routes (Some p) = put_routes p
 
--- the changes, group after group
+-- the changes: the routes of the NLRI field, and then those of MP_REACH_NLRI
 abbrev pub changes_value : {X : Type 0} → Changes X → RouteChanges
-changes_value c = record { remove = c.remove.items; put = flat_map put_routes c.put.items }
+changes_value c = record { remove = c.remove.items; put = group_routes c.nlri ++ group_routes c.mp_reach_nlri }
 
 -- a reset with each of the subcodes; and, where there are changes, an Apply of them for each set of
 -- families with the certain ones and any part of the optional ones

@@ -1,6 +1,6 @@
 -- The groups in which an UPDATE puts routes (RFC 4271, 4.3; RFC 4760, 3): those of the NLRI field
 -- share a path, and those of MP_REACH_NLRI share another.
-use Rattle.std.specs.Prelude.{◌≡◌, ◌⊎◌, ◌++◌, ℕ, List, [], ◌∷◌, Option, None, Some, map}
+use Rattle.std.specs.Prelude.{◌≡◌, ◌⊎◌, ◌++◌, ℕ, List, [], ◌∷◌, Option, None, Some}
 use Rattle.bgp_prefix.specs.Prefix.{PrefixBits}
 use Rattle.bgp_open.specs.declared.link.Link.{Link}
 use Rattle.bgp_update.specs.declared.outcomes.Changes.{Changes}
@@ -32,11 +32,11 @@ AreGroups link octets groups =
 abbrev pub group_prefixes : {X : Type 0} → Put X → List PrefixBits
 group_prefixes p = p.prefixes.items
 
--- the groups of changes
-abbrev pub groups_of : {X : Type 0} → Changes X → List (List PrefixBits)
-groups_of c = map group_prefixes c.put.items
-
 -- a group that may not be there
 abbrev pub group_if : {X : Type 0} → Option (Put X) → List (List PrefixBits)
 group_if None = []
 group_if (Some p) = group_prefixes p ∷ []
+
+-- the groups of changes
+abbrev pub groups_of : {X : Type 0} → Changes X → List (List PrefixBits)
+groups_of c = group_if c.nlri ++ group_if c.mp_reach_nlri

@@ -1,12 +1,11 @@
 //! What an UPDATE changes where it is applied (RFC 4271, 3.1; RFC 7606, 2).
 
-ghost use Rattle.std.specs.Prelude.{◌≡◌, ◌++◌, IfOk, OnOk, List, map};
-ghost use Rattle.std.specs.List.{flat_map};
+ghost use Rattle.std.specs.Prelude.{◌≡◌, ◌++◌, IfOk, OnOk, List};
 ghost use Rattle.bgp_attr.specs.declared.types.AttrType.TheVariants as types;
 ghost use Rattle.bgp_attr.specs.Field.{Attribute};
 ghost use Rattle.bgp_attr.specs.First.{first_at, first_by_type, value_by_type};
 ghost use Rattle.bgp_attr.specs.PathFrom.{next_hop_from, path_from};
-ghost use Rattle.bgp_update.specs.Allowed.{changes_value, group_routes, put_routes};
+ghost use Rattle.bgp_update.specs.Allowed.{changes_value, group_routes};
 ghost use Rattle.bgp_update.specs.Changes.{
   AreChanges,
   announcements,
@@ -23,7 +22,6 @@ ghost use Rattle.bgp_update.specs.Found.{side_of};
 ghost use Rattle.bgp_update.specs.Groups.{
   AreGroupsBy,
   group_if,
-  group_prefixes,
   group_with,
   groups_of,
 };
@@ -63,13 +61,19 @@ pub(crate) fn changes_of<A: Allocator + Copy>(
     if found.has_withdraw_fault() {
         // What would be announced is removed: "treat-as-withdraw" (RFC 7606, 2).
         push_announced(&mut remove, link, found)?;
-        let put = Vec::new(alloc);
-        return Ok(Changes { remove, put });
+        return Ok(Changes {
+            remove,
+            nlri: None,
+            mp_reach_nlri: None,
+        });
     }
-    let base = base_group(alloc, link, found, first)?;
-    let mp = mp_group(alloc, link, found, first)?;
-    let put = put_of(alloc, base, mp)?;
-    Ok(Changes { remove, put })
+    let nlri = base_group(alloc, link, found, first)?;
+    let mp_reach_nlri = mp_group(alloc, link, found, first)?;
+    Ok(Changes {
+        remove,
+        nlri,
+        mp_reach_nlri,
+    })
 }
 
 /// Appends the prefixes that are withdrawn.
@@ -99,6 +103,7 @@ fn push_announced<A: Allocator>(
 }
 
 /// Appends the prefixes of a Withdrawn Routes or NLRI field, where IPv4 is in use.
+#[inline(always)]
 fn push_base_prefixes<A: Allocator>(
     out: &mut Vec<Prefix, A>,
     link: &Link,
@@ -114,6 +119,7 @@ fn push_base_prefixes<A: Allocator>(
 }
 
 /// Appends those of an MP attribute of a family in use, where its contents are right.
+#[inline(always)]
 fn push_mp_prefixes<A: Allocator>(
     out: &mut Vec<Prefix, A>,
     state: &MpState<'_>,
@@ -204,45 +210,11 @@ fn read_group<A: Allocator + Copy>(
     ensures groups { IfOk result
         (λ group. group_if group ≡ group_with (listed (prefixes_of family field.now))) }
 {
-    let mut prefixes = Vec::new(alloc);
+    let mut prefixes = Vec::with_capacity(alloc, field.len() / 4)?;
     push_prefixes(&mut prefixes, family, field)?;
     if prefixes.is_empty() {
         return Ok(None);
     }
     let path = read_path(alloc, side, first, next_hop)?;
     Ok(Some(Put { path, prefixes }))
-}
-
-/// The groups of both, in room for just those that are there.
-fn put_of<A: Allocator>(
-    alloc: A,
-    base: Option<Put<A>>,
-    mp: Option<Put<A>>,
-) -> Result<Vec<Put<A>, A>, AllocError>
-    ensures routes { IfOk result
-        (λ put. flat_map put_routes put.items ≡ group_routes base ++ group_routes mp) }
-    ensures groups { IfOk result
-        (λ put. map group_prefixes put.items ≡ group_if base ++ group_if mp) }
-{
-    let count = usize::from(base.is_some()) + usize::from(mp.is_some());
-    let mut put = Vec::with_capacity(alloc, count)?;
-    push_group(&mut put, base)?;
-    push_group(&mut put, mp)?;
-    Ok(put)
-}
-
-/// Appends a group, where there is one.
-fn push_group<A: Allocator>(
-    put: &mut Vec<Put<A>, A>,
-    group: Option<Put<A>>,
-) -> Result<(), AllocError>
-    ensures routes { OnOk result (flat_map put_routes put.new.items
-        ≡ flat_map put_routes put.old.items ++ group_routes group) }
-    ensures groups { OnOk result (map group_prefixes put.new.items
-        ≡ map group_prefixes put.old.items ++ group_if group) }
-{
-    if let Some(group) = group {
-        put.push(group)?;
-    }
-    Ok(())
 }

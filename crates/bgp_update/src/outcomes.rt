@@ -23,9 +23,10 @@ pub struct Put<A: Allocator = Global> {
 pub struct Changes<A: Allocator = Global> {
     /// The prefixes to remove.
     pub remove: Vec<Prefix, A>,
-    /// The routes to put, as groups, two at most: those of the NLRI field and those of
-    /// MP_REACH_NLRI.
-    pub put: Vec<Put<A>, A>,
+    /// The routes of the NLRI field to put: none where it announces no prefix.
+    pub nlri: Option<Put<A>>,
+    /// Those of MP_REACH_NLRI.
+    pub mp_reach_nlri: Option<Put<A>>,
 }
 
 /// Every outcome that is allowed of an UPDATE: to apply its changes, with some families disabled

@@ -54,6 +54,9 @@ impl Classes {
         ensures { classes_of result ≡ noted_with side (classes_of self) (attribute_of attr.now) }
     {
         let verdict = class(side, attr);
+        if verdict == Some(AttrVerdict::Good) {
+            return self;
+        }
         let is_withdrawn = verdict == Some(AttrVerdict::Withdraw);
         Classes {
             reset: self.reset | (verdict == Some(AttrVerdict::Reset)),

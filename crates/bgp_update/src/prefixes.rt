@@ -112,6 +112,7 @@ pub(crate) fn count_prefixes(family: Family, octets: &[u8]) -> Option<usize>
 }
 
 /// Appends the prefixes of a field, and none where it is incorrect.
+#[inline(always)]
 pub(crate) fn push_prefixes<A: Allocator>(
     out: &mut Vec<Prefix, A>,
     family: Family,

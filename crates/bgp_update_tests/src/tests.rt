@@ -138,7 +138,7 @@ fn are_changes<A: Allocator + Copy>(
 ) -> Result<(), Fail> {
     are_prefixes(rt, changes.remove.as_slice(), remove)?;
     let mut all = Vec::new(alloc);
-    for group in changes.put.as_slice() {
+    for group in changes.nlri.iter().chain(&changes.mp_reach_nlri) {
         all.extend_from_slice(group.prefixes.as_slice())?;
     }
     are_prefixes(rt, all.as_slice(), put)

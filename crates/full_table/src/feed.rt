@@ -77,11 +77,16 @@ impl Feed {
         path: Path,
     ) -> Result<Changes, AllocError> {
         let prefixes = self.group(alloc, group)?;
-        let mut put = Vec::new(alloc);
-        put.push(Put { path, prefixes })?;
+        let put = Some(Put { path, prefixes });
+        let (nlri, mp_reach_nlri) = if self.members(group).0 == Family::V4 {
+            (put, None)
+        } else {
+            (None, put)
+        };
         Ok(Changes {
             remove: Vec::new(alloc),
-            put,
+            nlri,
+            mp_reach_nlri,
         })
     }
 

@@ -189,7 +189,7 @@ fn push_changes(alloc: Global, text: &mut String, changes: &Changes<Global>) -> 
         }
         text.push_str("\n")?;
     }
-    for group in changes.put.as_slice() {
+    for group in changes.nlri.iter().chain(&changes.mp_reach_nlri) {
         for prefix in group.prefixes.as_slice() {
             text.push_str("put ")?;
             push_route(alloc, text, *prefix, &group.path)?;

@@ -2,7 +2,7 @@
 
 use bgp_open::{Config, ConfigParts, Families, Link, negotiate, read_open};
 use bgp_prefix::{Address, Session};
-use bgp_update::read_update;
+use bgp_update::{Put, read_update};
 use bgp_wire::vectors::OPEN_B;
 use bgp_wire::{Frames, Limit, MessageType, Next};
 use bumpalo::Bump;
@@ -29,10 +29,17 @@ impl Totals {
         };
         self.applied = self.applied.saturating_add(1);
         self.removed = self.removed.saturating_add(changes.remove.len() as u64);
-        for group in &changes.put {
-            self.put = self.put.saturating_add(group.prefixes.len() as u64);
-        }
+        self.put = self.put.saturating_add(count(&changes.nlri));
+        self.put = self.put.saturating_add(count(&changes.mp_reach_nlri));
         Ok(())
+    }
+}
+
+/// How many routes a group has.
+fn count<A: Allocator>(group: &Option<Put<A>>) -> u64 {
+    match group {
+        Some(group) => group.prefixes.len() as u64,
+        None => 0,
     }
 }
 

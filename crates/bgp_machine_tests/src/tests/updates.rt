@@ -194,6 +194,7 @@ fn ample_memory(rt: HostRuntime) -> Result<(), Fail> {
     let listed = message_steps(rt.alloc(), &config, head, 120, &ANNOUNCES_10)?;
     let changes = listed.changes.ok_or("no changes")?;
     assert_eq!(rt; changes.remove.len(), 0);
-    assert_eq!(rt; changes.put.len(), 1);
+    let group = changes.nlri.ok_or("nothing is put")?;
+    assert_eq!(rt; group.prefixes.len(), 1);
     Ok(())
 }

@@ -126,6 +126,25 @@ fn some_keys(dice: &mut Dice, alloc: Global) -> Result<Vec<Key>, AllocError> {
     Ok(keys)
 }
 
+/// Puts some prefixes in the list with that number, and answers them as a group.
+fn some_group<R: Abort + AllocGlobal>(
+    rt: &R,
+    dice: &mut Dice,
+    number: u32,
+    plain: &mut Plain,
+) -> Result<Put, Fail> {
+    let alloc = rt.alloc();
+    let mut prefixes = Vec::new(alloc);
+    for key in some_keys(dice, alloc)? {
+        plain.put(key, number)?;
+        prefixes.push(prefix_of(rt, key))?;
+    }
+    Ok(Put {
+        path: path(alloc, number)?,
+        prefixes,
+    })
+}
+
 /// Changes the table and the list alike.
 fn change<R: Abort + AllocGlobal>(
     rt: &R,
@@ -140,20 +159,20 @@ fn change<R: Abort + AllocGlobal>(
         plain.remove(key);
         remove.push(prefix_of(rt, key))?;
     }
-    let mut put = Vec::new(alloc);
-    for group in 0..dice.below(3) {
-        let number = turn.saturating_mul(2).saturating_add(group);
-        let mut prefixes = Vec::new(alloc);
-        for key in some_keys(dice, alloc)? {
-            plain.put(key, number)?;
-            prefixes.push(prefix_of(rt, key))?;
-        }
-        put.push(Put {
-            path: path(alloc, number)?,
-            prefixes,
-        })?;
+    let number = turn.saturating_mul(2);
+    let groups = dice.below(3);
+    let mut changes = Changes {
+        remove,
+        nlri: None,
+        mp_reach_nlri: None,
+    };
+    if groups > 0 {
+        changes.nlri = Some(some_group(rt, dice, number, plain)?);
     }
-    rib.apply(&Changes { remove, put })?;
+    if groups > 1 {
+        changes.mp_reach_nlri = Some(some_group(rt, dice, number.saturating_add(1), plain)?);
+    }
+    rib.apply(&changes)?;
     Ok(())
 }
 

@@ -10,14 +10,13 @@ fn announced<A: Allocator + Copy>(
     family: Family,
     mark: u32,
 ) -> Result<Changes<A>, AllocError> {
-    let mut put = Vec::new(alloc);
-    put.push(Put {
-        path: path(alloc, mark)?,
-        prefixes: most(rt, alloc, family)?,
-    })?;
     Ok(Changes {
         remove: Vec::new(alloc),
-        put,
+        nlri: Some(Put {
+            path: path(alloc, mark)?,
+            prefixes: most(rt, alloc, family)?,
+        }),
+        mp_reach_nlri: None,
     })
 }
 
@@ -35,7 +34,8 @@ fn ample_memory(rt: HostRuntime) -> Result<(), Fail> {
     assert!(rt; are_most(&rt, &copy, &both));
     rib.apply(&Changes {
         remove: most(&rt, alloc, Family::V4)?,
-        put: Vec::new(alloc),
+        nlri: None,
+        mp_reach_nlri: None,
     })?;
     assert!(rt; are_most(&rt, &rib, &[(Family::V6, 6)]));
     assert!(rt; are_most(&rt, &copy, &both));
@@ -201,14 +201,13 @@ fn routes_from<A: Allocator + Copy>(
     for index in first..first.saturating_add(count) {
         prefixes.push(nth(rt, Family::V4, index))?;
     }
-    let mut put = Vec::new(alloc);
-    put.push(Put {
-        path: path(alloc, 1)?,
-        prefixes,
-    })?;
     Ok(Changes {
         remove: Vec::new(alloc),
-        put,
+        nlri: Some(Put {
+            path: path(alloc, 1)?,
+            prefixes,
+        }),
+        mp_reach_nlri: None,
     })
 }
 

@@ -23,7 +23,7 @@ fn ample_memory(rt: HostRuntime) -> Result<(), Fail> {
     assert_eq!(rt; octets.len(), 4096);
     let outcomes = read_update(alloc, &link()?, octets.as_slice())?;
     let changes = outcomes.changes.ok_or("a reset")?;
-    let group = changes.put.first().ok_or("nothing is put")?;
+    let group = changes.nlri.ok_or("nothing is put")?;
     assert_eq!(rt; group.prefixes.len(), 2027);
     Ok(())
 }
@@ -35,7 +35,7 @@ fn reads(rt: &impl Abort, heap: &LocalHeap) -> Result<bool, Fail> {
     };
     let changes = outcomes.changes.ok_or("a reset")?;
     assert_eq!(rt; changes.remove.len(), 0);
-    let group = changes.put.first().ok_or("nothing is put")?;
+    let group = changes.nlri.ok_or("nothing is put")?;
     are_prefixes(rt, group.prefixes.as_slice(), &["10.0.0.0/8"])?;
     Ok(true)
 }

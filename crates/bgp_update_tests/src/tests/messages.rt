@@ -129,7 +129,7 @@ fn a_path_is_read(rt: HostRuntime) -> Result<(), Fail> {
     let alloc = rt.alloc();
     let outcomes = read_update(alloc, &link()?, &MED_TWICE)?;
     let changes = outcomes.changes.ok_or("a reset")?;
-    let group = changes.put.first().ok_or("nothing is put")?;
+    let group = changes.nlri.ok_or("nothing is put")?;
     let parts = group.path.parts();
     assert_eq!(rt; parts.origin, Origin::Igp);
     assert_eq!(rt; parts.next_hop, NextHop::V4(0xc000_0202));
@@ -146,7 +146,7 @@ fn an_mp_path_has_its_own_next_hop(rt: HostRuntime) -> Result<(), Fail> {
     let alloc = rt.alloc();
     let outcomes = read_update(alloc, &link()?, &ANNOUNCES_2001_DB8)?;
     let changes = outcomes.changes.ok_or("a reset")?;
-    let group = changes.put.first().ok_or("nothing is put")?;
+    let group = changes.mp_reach_nlri.ok_or("nothing is put")?;
     let next_hop = NextHop::V6(0x2001_0db8_0000_0000_0000_0000_0000_0002);
     assert_eq!(rt; group.path.parts().next_hop, next_hop);
     Ok(())

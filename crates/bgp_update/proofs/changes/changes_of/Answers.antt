@@ -1,7 +1,6 @@
-use Rattle.std.proofs.Common.{refl, ap, ◌∙◌}
-use Rattle.std.specs.List.{flat_map}
+use Rattle.std.proofs.Common.{◌++◌, refl, ap, ◌∙◌}
 use Rattle.bgp_attr.specs.First.{first_by_type}
-use Rattle.bgp_update.specs.Allowed.{group_routes, put_routes}
+use Rattle.bgp_update.specs.Allowed.{group_routes}
 use Rattle.bgp_update.specs.Changes.{withdrawals, announcements}
 use Rattle.bgp_update.specs.Surveyed.{found_by}
 use Rattle.bgp_update.proofs.Routes.{withdrawn_changes, sound_changes, from_nothing, appended, never, base_by, mp_by}
@@ -14,14 +13,14 @@ returns-then-has_withdraw_fault-clause-are g c = λ attributes e.
     (c.has_withdraw_fault.ensures.0 c.if-has_withdraw_fault.true)
     (from_nothing _ _ _ _ c.in_ok-push_withdrawn.ensures c.new-remove.ensures.items refl)
     (c.in_ok-push_announced.ensures attributes)
-    (ap (flat_map put_routes) c.new-put.ensures.items)
+    refl
 
 pub returns-clause-are : goal.returns-clause-are
 returns-clause-are g c = λ attributes e.
     let x = found_by c.args.found.now in
     let link = c.args.link.now in
-    sound_changes x (withdrawals link x) (base_by link x (first_by_type attributes)) (mp_by link x (first_by_type attributes)) c.push_withdrawn.new.out.items (group_routes c.in_ok-base.base) (flat_map put_routes c.in_ok-put.put.items)
+    sound_changes x (withdrawals link x) (base_by link x (first_by_type attributes)) (mp_by link x (first_by_type attributes)) c.push_withdrawn.new.out.items (group_routes c.in_ok-nlri.nlri) (group_routes c.in_ok-nlri.nlri ++ group_routes c.in_ok-mp_reach_nlri.mp_reach_nlri)
     (λ fault. absurd (never (c.has_withdraw_fault.ensures.1 fault) c.if-has_withdraw_fault.false))
     (from_nothing _ _ _ _ c.in_ok-push_withdrawn.ensures c.new-remove.ensures.items refl)
-    (c.in_ok-base.ensures.routes ∙ ap (base_by link x) e)
-    (appended _ _ _ _ c.in_ok-put.ensures.routes (c.in_ok-mp.ensures.routes ∙ ap (mp_by link x) e))
+    (c.in_ok-nlri.ensures.routes ∙ ap (base_by link x) e)
+    (appended (group_routes c.in_ok-nlri.nlri) _ (group_routes c.in_ok-mp_reach_nlri.mp_reach_nlri) _ refl (c.in_ok-mp_reach_nlri.ensures.routes ∙ ap (mp_by link x) e))
