@@ -1,6 +1,8 @@
 //! What becomes of the members whose last step shows the record next.
 
-ghost use Rattle.std.specs.Prelude.{◌≡◌, ◌↔◌, ◌⊎◌, if◌then◌else◌, MatchOption, None, Some};
+ghost use Rattle.std.specs.Prelude.{◌≡◌, ◌↔◌, ◌⊎◌, if◌then◌else◌, ℕ, List, MatchOption, None, Some};
+ghost use Rattle.bgp_prefix.specs.Shown.{Received};
+ghost use Rattle.bgp_open.specs.declared.config.Config.{Config as TheConfig};
 ghost use Rattle.bgp_compact.specs.declared.falls.Fall.{Fall as TheFall};
 ghost use Rattle.bgp_judge.specs.Member.{Member};
 ghost use Rattle.bgp_machine.specs.Going.{shown_after};
@@ -146,8 +148,8 @@ fn paid_front(config: &Config, words: Words, shown: &Record<'_>) -> Option<Wants
     }
 }
 
-/// The members whose last step shows the record next, behind it.
-pub(crate) fn paid(config: &Config, words: Words, shown: &Record<'_>) -> Words
+/// The members whose last step shows a record of the local system's own next, behind it.
+fn paid_own(config: &Config, words: Words, shown: &Record<'_>) -> Words
     requires { AreFine words }
     ensures { PaidTo config.now words (shown_of shown.now) result }
 {
@@ -163,5 +165,30 @@ pub(crate) fn paid(config: &Config, words: Words, shown: &Record<'_>) -> Words
             sets: DisabledSets::empty(),
             ..next
         },
+    }
+}
+
+/// Behind a message that was received: no member shows it next, so none of these is left.
+fn unpaid(words: Words) -> Words
+    ensures { (config : TheConfig) (t : ℕ) (octets : List ℕ)
+        → PaidTo config words (Received t octets) result }
+{
+    Words {
+        left: words.left(),
+        sets: DisabledSets::empty(),
+        falls: Falls::none(),
+        ..words
+    }
+}
+
+/// The members whose last step shows the record next, behind it.
+pub(crate) fn paid(config: &Config, words: Words, shown: &Record<'_>) -> Words
+    requires { AreFine words }
+    ensures { PaidTo config.now words (shown_of shown.now) result }
+{
+    match *shown {
+        Record::In(_, _) => unpaid(words),
+        Record::Out(_, _) => paid_own(config, words, shown),
+        Record::Change(_, _, _) => paid_own(config, words, shown),
     }
 }

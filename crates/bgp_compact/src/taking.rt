@@ -20,7 +20,8 @@ use crate::base::{Base, free_base};
 use crate::beginning::with_steps;
 use crate::paying::paid;
 use crate::words::Words;
-use bgp_judge::openings;
+use arrayvec::ArrayVec;
+use bgp_judge::list_openings;
 use bgp_machine::{Fsm, Head};
 use bgp_open::Config;
 use bgp_rib::RibIn;
@@ -73,10 +74,11 @@ fn add_base<A: Allocator + Copy>(
     ensures made { IfOk result (λ left.
         AreMadeAt config.now base.head (shown_of shown.now) left.changes) }
 {
-    let opened = openings(alloc, config, base.head, shown)?;
+    let mut steps = ArrayVec::new();
+    let changes = list_openings(alloc, config, base.head, shown, &mut steps)?;
     Ok(Left {
-        words: with_steps(base, opened.steps.as_slice(), words),
-        changes: opened.changes,
+        words: with_steps(base, steps.as_slice(), words),
+        changes,
     })
 }
 

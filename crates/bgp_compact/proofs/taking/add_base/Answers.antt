@@ -11,31 +11,31 @@ use Rattle.bgp_compact.proofs.taking.add_base.Goals as goal
 
 pub returns-clause-behind : goal.returns-clause-behind
 returns-clause-behind g c =
-    c.with_steps.ensures.behind c.args.config.now (shown_of c.args.shown.now) (changes_of c.in_ok-opened.opened.changes)
-    (subst (λ (v : List Step). Each (IsOpen c.args.config.now c.args.base.head (shown_of c.args.shown.now) (changes_of c.in_ok-opened.opened.changes)) v)
-    (sym c.as_slice.ensures.value) c.in_ok-opened.ensures.exact.each)
+    c.with_steps.ensures.behind c.args.config.now (shown_of c.args.shown.now) (changes_of c.in_ok-changes.changes)
+    (subst (λ (v : List Step). Each (IsOpen c.args.config.now c.args.base.head (shown_of c.args.shown.now) (changes_of c.in_ok-changes.changes)) v)
+    (sym c.as_slice.ensures.value) c.in_ok-changes.ensures.exact.each)
     c.requires.behind
 
 pub returns-clause-gains : goal.returns-clause-gains
 returns-clause-gains g c = λ table are fresh.
     let config = c.args.config.now in
     let r = shown_of c.args.shown.now in
-    let changes = changes_of c.in_ok-opened.opened.changes in
-    let steps = c.in_ok-opened.opened.steps.items in
-    head_gains config c.args.base r changes table (routes_after changes table) steps c.args.words c.with_steps.result c.in_ok-opened.ensures.exact
+    let changes = changes_of c.in_ok-changes.changes in
+    let steps = c.list_openings.new.steps.items in
+    head_gains config c.args.base r changes table (routes_after changes table) steps c.args.words c.with_steps.result c.in_ok-changes.ensures.exact
     (subst (λ (v : List Step). Gains c.args.words c.with_steps.result (routes_after changes table) (λ m. Has (λ x. FromStep c.args.base changes table x m) v)) c.as_slice.ensures.value
     (c.with_steps.ensures.gains config r changes table
-    (subst (λ (v : List Step). Each (IsOpen config c.args.base.head r changes) v) (sym c.as_slice.ensures.value) c.in_ok-opened.ensures.exact.each)
+    (subst (λ (v : List Step). Each (IsOpen config c.args.base.head r changes) v) (sym c.as_slice.ensures.value) c.in_ok-changes.ensures.exact.each)
     c.requires.behind c.requires.some are fresh
     (subst (λ (v : List Step). Each (Fits changes table) v) (sym c.as_slice.ensures.value)
-    (all_fit config c.args.base.head r c.in_ok-opened.opened.changes table steps c.in_ok-opened.ensures.exact c.in_ok-opened.ensures.given.0))))
+    (all_fit config c.args.base.head r c.in_ok-changes.changes table steps c.in_ok-changes.ensures.exact c.in_ok-changes.ensures.given.0))))
 
 pub returns-clause-given : goal.returns-clause-given
 returns-clause-given g c =
-    given_where c.args.config.now c.args.base.head (shown_of c.args.shown.now) c.in_ok-opened.opened.changes c.in_ok-opened.opened.steps.items
-    c.in_ok-opened.ensures.exact c.in_ok-opened.ensures.given.0
+    given_where c.args.config.now c.args.base.head (shown_of c.args.shown.now) c.in_ok-changes.changes c.list_openings.new.steps.items
+    c.in_ok-changes.ensures.exact c.in_ok-changes.ensures.given.0
 
 pub returns-clause-made : goal.returns-clause-made
 returns-clause-made g c =
-    made_at c.args.config.now c.args.base.head (shown_of c.args.shown.now) c.in_ok-opened.opened.changes c.in_ok-opened.opened.steps.items
-    c.in_ok-opened.ensures.exact c.in_ok-opened.ensures.given.0
+    made_at c.args.config.now c.args.base.head (shown_of c.args.shown.now) c.in_ok-changes.changes c.list_openings.new.steps.items
+    c.in_ok-changes.ensures.exact c.in_ok-changes.ensures.given.0
