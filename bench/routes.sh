@@ -2,16 +2,15 @@
 # How a table of routes grows: prefixes of both families, a fifth as many of IPv6 as of IPv4, put
 # in no order in UPDATEs of six, a tenth of them withdrawn and put again, and all listed in order.
 # `read` is the time that `read_update` takes for the UPDATEs, and `apply` what applying the changes
-# of the same UPDATEs takes. Beside it the same routes in the same order in the balanced tree of the
+# of the same UPDATEs takes; behind `ascending`, both where each prefix is above the one before it. Beside it the same routes in the same order in the balanced tree of the
 # C library (bench/routes.c): it holds what the table holds, in a structure of the same growth, and
 # does nothing else, which is why it is the baseline. Octets a route are those of a table whose
 # routes share one path.
 #
 # `apply` takes longer than `read`. An UPDATE is read once through, from octets that lie side by
-# side. A prefix goes to its place in a sorted table, 4 to 6 nodes down, of which the lowest are in
-# no cache where the table is large: of the search's time at 1,200,000 routes two thirds are waiting
-# for the first octets of a node (perf). The tree of the C library, with one route to a node, waits
-# more often.
+# side. A prefix goes to its place in a sorted table, 4 to 6 nodes down, and on the way it is compared
+# with 20 to 30 others; and in no order the lowest nodes are in no cache where the table is large. The
+# tree of the C library, with one route to a node, waits more often.
 #
 # Wants bash, coreutils, sed, cc and the program that `rt run` built in
 # crates/full_table/out/full_table. Prints figures; it is no test.
@@ -53,11 +52,14 @@ for v4 in 10000 100000 1000000; do
     routes=$((v4 + v4 / 5))
     thrice tree "$work/tree" "${size[@]}"
     thrice table "$program" "${size[@]}"
+    thrice ascending "$program" "${size[@]}" sorted
     "$program" "${size[@]}" shared > "$work/shared"
     alone=$(figure VmHWM: "$work/shared")
     echo "$routes routes: read $(ms "$(least table read)")," \
         "apply $(ms "$(least table apply)"), list $(ms "$(least table list)")," \
         "$(least table VmHWM:) KiB;" \
+        "ascending: read $(ms "$(least ascending read)")," \
+        "apply $(ms "$(least ascending apply)");" \
         "$(((alone - empty) * 1024 / routes)) octets a route beside its path;" \
         "tsearch: $(ms "$(least tree apply)"), list $(ms "$(least tree list)")," \
         "$(least tree VmHWM:) KiB"
