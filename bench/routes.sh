@@ -2,15 +2,15 @@
 # How a table of routes grows: prefixes of both families, a fifth as many of IPv6 as of IPv4, put
 # in no order in UPDATEs of six, a tenth of them withdrawn and put again, and all listed in order.
 # `read` is the time that `read_update` takes for the UPDATEs, and `apply` what applying the changes
-# of the same UPDATEs takes; behind `ascending`, both where each prefix is above the one before it. Beside it the same routes in the same order in the balanced tree of the
-# C library (bench/routes.c): it holds what the table holds, in a structure of the same growth, and
-# does nothing else, which is why it is the baseline. Octets a route are those of a table whose
-# routes share one path.
+# of the same UPDATEs takes; behind `ascending`, both where each prefix is above the one before it.
+# Beside it the same routes in no order in the balanced tree of the C library (bench/routes.c): it
+# holds what the table holds, in a structure of the same growth, and does nothing else, which is why
+# it is the baseline. Octets a route are those of a table whose routes share one path.
 #
 # `apply` takes longer than `read`. An UPDATE is read once through, from octets that lie side by
-# side. A prefix goes to its place in a sorted table, 4 to 6 nodes down, and on the way it is compared
-# with 20 to 30 others; and in no order the lowest nodes are in no cache where the table is large. The
-# tree of the C library, with one route to a node, waits more often.
+# side. A prefix goes to its place in a sorted table, 4 to 6 nodes down, and on the way it is
+# compared with 20 to 30 others; and in no order the lowest nodes are in no cache where the table is
+# large. The tree of the C library, with one route to a node, waits more often.
 #
 # Wants bash, coreutils, sed, cc and the program that `rt run` built in
 # crates/full_table/out/full_table. Prints figures; it is no test.
