@@ -16,3 +16,4 @@ pub mod Listing
 pub mod Images
 pub mod Making
 pub mod Behind
+pub mod Refusals

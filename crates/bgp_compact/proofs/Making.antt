@@ -90,7 +90,7 @@ free_run config Is records m stand is free =
     subst (λ (v : List ShownRecord). Run config fresh_state v m.state) (append-nil records)
     ((stand.goes_on [] m.state).0 (m, is, runs_free config m [] m.state free (no_steps config m.state)))
 
-told_link : (config : Config) (words : Words) (table : Routes) (records : List ShownRecord) (base : Base) (link : Link) → StandFor config (IsMember words table) records
+pub told_link : (config : Config) (words : Words) (table : Routes) (records : List ShownRecord) (base : Base) (link : Link) → StandFor config (IsMember words table) records
     → IsTableOf words table → IsBase words base → link_at base.head ≡ Some link → link ≡ link_told config (told records)
 told_link config words table records base link stand of is e =
     let d = is.some.0 in
@@ -113,7 +113,7 @@ gives_outcome config own timer octets heard.Update turn c f h g e =
     let same : g.0 ≡ c = (let k : Given g.0 g.1 ≡ Given c f = sym g.3 ∙ e in cc) in
     (h, g.1, subst (λ (v : RouteChanges). IsOutcome own octets (Applied v g.1)) same g.2)
 
-opened_outcome : (config : Config) (own : Link) (timer : HoldTimer) (u : ℕ) (octets : List ℕ) (left : List Want) (still : Option (Fsm × Fsm)) (turn : Turn) (c : RouteChanges) (f : Families)
+pub opened_outcome : (config : Config) (own : Link) (timer : HoldTimer) (u : ℕ) (octets : List ℕ) (left : List Want) (still : Option (Fsm × Fsm)) (turn : Turn) (c : RouteChanges) (f : Families)
     → Opens config (Established own timer) (Received u octets) left still turn → turn.routes ≡ Given c f → MayApply own octets c
 opened_outcome config own timer u octets left still turn c f o e =
     elim (shape_received (Established own timer) u octets o.0.0 o.0.1 left turn o.0.3) [

@@ -4,3 +4,4 @@ pub mod Table
 pub mod Standing
 pub mod Parts
 pub mod Steps
+pub mod Memory

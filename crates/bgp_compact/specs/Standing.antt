@@ -27,6 +27,10 @@ pub record Stands (config : Config) (words : Words) (table : Routes) (records : 
   pub shown_is : words.shown ≡ (told records).fsm
   pub made : IsTableMade config records table
 
+-- a tracker that has this configuration stands for the records under that one
+abbrev pub TrackerStands : Config → Words → Routes → Config → List ShownRecord → Type 0
+TrackerStands own words table config records = (own ≡ config) × Stands config words table records
+
 -- the words of the fresh state alone
 abbrev pub fresh_words : Words
 fresh_words = record {

@@ -1,6 +1,7 @@
 //! The compact tracker.
 
-ghost use Rattle.std.specs.Prelude.{◌≡◌, ◌≢◌, ◌↔◌, ◌++◌, ◌∷◌, [], List, IsTrue, IfOk, OnErr, map};
+ghost use Rattle.std.specs.Prelude.{◌≡◌, ◌≢◌, ◌↔◌, ◌++◌, ◌∷◌, [], List, IsTrue, IsOk, IfOk};
+ghost use Rattle.std.specs.Prelude.{OnErr, map};
 ghost use Rattle.bgp_prefix.specs.Shown.{ShownRecord};
 ghost use Rattle.bgp_open.specs.declared.config.Config.{Config as TheConfig};
 ghost use Rattle.bgp_machine.specs.Run.{Begins};
@@ -11,6 +12,7 @@ ghost use Rattle.bgp_machine.specs.declared.fsm.Fsm.TheVariants as fsms;
 ghost use Rattle.bgp_judge.specs.Told.{told};
 ghost use Rattle.bgp_rib.specs.Routes.{Routes, no_routes};
 ghost use Rattle.bgp_compact.specs.Members.{IsMember};
+ghost use Rattle.bgp_compact.specs.Memory.{TakesMemory};
 ghost use Rattle.bgp_compact.specs.Parts.{AreFine};
 ghost use Rattle.bgp_compact.specs.Standing.{fresh_words};
 ghost use Rattle.bgp_compact.specs.Table.{IsTableMade};
@@ -86,12 +88,17 @@ impl<A: Allocator + Copy> CompactTracker<A> {
 }
 
 impl<A: Allocator + Copy> Tracker<A> for CompactTracker<A> {
-    ghost use Rattle.bgp_compact.specs.Standing.{Stands};
+    ghost use Rattle.bgp_compact.specs.Standing.{TrackerStands};
 
     ghost stands_for = { λ tracker config records.
-        (tracker.config ≡ config) × Stands config tracker.words tracker.table records };
+        TrackerStands tracker.config tracker.words tracker.table config records };
 
-    fn start(alloc: A, config: &Config) -> Result<CompactTracker<A>, AllocError> {
+    /// A tracker that stands for no record. It takes no memory.
+    fn start(alloc: A, config: &Config) -> Result<CompactTracker<A>, AllocError>
+        ensures start { IfOk result (λ tracker.
+            TrackerStands tracker.config tracker.words tracker.table config.now []) }
+        ensures memory { IsOk result }
+    {
         changes_leave_routes();
         Ok(CompactTracker {
             alloc,
@@ -101,7 +108,26 @@ impl<A: Allocator + Copy> Tracker<A> for CompactTracker<A> {
         })
     }
 
-    fn take(&mut self, shown: &Record<'_>) -> Result<bool, AllocError> {
+    /// Takes one record more, as every tracker. Only an UPDATE received in Established that may be
+    /// applied takes memory.
+    fn take(&mut self, shown: &Record<'_>) -> Result<bool, AllocError>
+        ensures alive { (config : TheConfig) (records : List ShownRecord)
+            → TrackerStands self.old.config self.old.words self.old.table config records
+            → IfOk result (λ alive. IsTrue alive
+            ↔ Begins config (records ++ shown_of shown.now ∷ [])) }
+        ensures next { (config : TheConfig) (records : List ShownRecord)
+            → TrackerStands self.old.config self.old.words self.old.table config records
+            → IfOk result (λ alive. IsTrue alive
+            → TrackerStands self.new.config self.new.words self.new.table config
+            (records ++ shown_of shown.now ∷ [])) }
+        ensures err { (config : TheConfig) (records : List ShownRecord)
+            → TrackerStands self.old.config self.old.words self.old.table config records
+            → OnErr result
+            (TrackerStands self.new.config self.new.words self.new.table config records) }
+        ensures memory { (config : TheConfig) (records : List ShownRecord)
+            → TrackerStands self.old.config self.old.words self.old.table config records
+            → OnErr result (TakesMemory config records (shown_of shown.now)) }
+    {
         each_owed_want_can_be_met();
         let left = after_record(self.alloc, &self.config, self.words, shown)?;
         follow(&mut self.table, &left)?;

@@ -9,8 +9,10 @@ mod compact;
 mod disabled;
 mod ending;
 mod falls;
+mod laws;
 mod paying;
 mod taking;
 mod words;
 
 pub use compact::CompactTracker;
+pub use laws::trackers_have_a_fixed_size;

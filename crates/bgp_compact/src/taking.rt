@@ -1,6 +1,7 @@
 //! What becomes of the members by one record more.
 
-ghost use Rattle.std.specs.Prelude.{◌≡◌, ◌∷◌, [], false, IfOk, IsSome, MatchOption, OnErr, OnOk};
+ghost use Rattle.std.specs.Prelude.{◌≡◌, ◌∷◌, [], false, IfOk, IsErr, IsOk, IsSome, MatchOption};
+ghost use Rattle.std.specs.Prelude.{OnErr, OnOk};
 ghost use Rattle.bgp_machine.specs.declared.fsm.Fsm.TheVariants as fsms;
 ghost use Rattle.bgp_machine.specs.Going.{shown_after, told, undelayed};
 ghost use Rattle.bgp_machine.specs.Listed.{changes_of};
@@ -10,7 +11,9 @@ ghost use Rattle.bgp_machine.specs.State.{fsm_of};
 ghost use Rattle.bgp_rib.specs.Routes.{Routes, AreRoutes, routes_after};
 ghost use Rattle.mrt.specs.Reader.{shown_of};
 ghost use Rattle.bgp_judge.specs.Image.{IsImage};
+ghost use Rattle.bgp_judge.specs.Openings.{ListTakesMemory};
 ghost use Rattle.bgp_compact.specs.Members.{IsMember};
+ghost use Rattle.bgp_compact.specs.Memory.{BaseTakesMemory};
 ghost use Rattle.bgp_compact.specs.Parts.{AreFine};
 ghost use Rattle.bgp_compact.specs.Standing.{IsTableOf};
 ghost use Rattle.bgp_compact.specs.Steps.{AreBehind, AreFresh, FromHead, FromLate, Gains, HasSome};
@@ -73,6 +76,7 @@ fn add_base<A: Allocator + Copy>(
         → fsm_of base.head ≡ fsms.Established) }
     ensures made { IfOk result (λ left.
         AreMadeAt config.now base.head (shown_of shown.now) left.changes) }
+    ensures memory { IsErr result → ListTakesMemory base.head (shown_of shown.now) }
 {
     let mut steps = ArrayVec::new();
     let changes = list_openings(alloc, config, base.head, shown, &mut steps)?;
@@ -100,6 +104,7 @@ fn add_delayed<A: Allocator + Copy>(
         → Gains left.words next.words (routes_after (changes_of next.changes) table)
         (FromLate config.now base (shown_of shown.now) table)) }
     ensures changes { IfOk result (λ next. next.changes ≡ left.changes) }
+    ensures memory { IsOk result }
 {
     let Some(head) = delayed(config, base.head) else {
         return Ok(left);
@@ -131,6 +136,7 @@ pub(crate) fn after_record<A: Allocator + Copy>(
     ensures image { IfOk result (λ left. (table : Routes) → IsTableOf words table
         → IsImage config.now (shown_of shown.now) (IsMember words table)
         (IsMember left.words (routes_after (changes_of left.changes) table))) }
+    ensures memory { IsErr result → BaseTakesMemory words (shown_of shown.now) }
 {
     let next = paid(config, words, shown);
     let Some(base) = free_base(words) else {
@@ -151,6 +157,7 @@ pub(crate) fn follow<A: Allocator + Copy>(
     ensures ok { OnOk result (table.new
         ≡ table_behind left.now.words.shown (changes_of left.now.changes) table.old) }
     ensures err { OnErr result (table.new ≡ table.old) }
+    ensures memory { IsErr result → IsSome left.now.changes }
 {
     if left.words.shown == Fsm::Idle {
         table.clear();

@@ -1,7 +1,11 @@
-use Rattle.std.proofs.Common.{rules, [], ◌∷◌, ◌++◌}
+use Rattle.std.proofs.Common.{rules, refl, subst, [], ◌∷◌, ◌++◌}
 use Rattle.mrt.specs.Reader.{shown_of}
+use Rattle.bgp_open.specs.declared.config.Config.{Config}
 use Rattle.bgp_machine.specs.Listed.{changes_of}
+use Rattle.bgp_compact.specs.Memory.{TakesMemory}
+use Rattle.bgp_compact.specs.Steps.{AreMade}
 use Rattle.bgp_compact.proofs.Behind.{alive_so, take_makes, take_stands}
+use Rattle.bgp_compact.proofs.Refusals.{base_takes, changes_take, on_err}
 use Rattle.bgp_compact.proofs.compact.CompactTrackerTracker.take.Goals as goal
 
 pub returns-clause-alive : goal.returns-clause-alive
@@ -18,3 +22,15 @@ returns-clause-next g c = λ config records stands alive. (
       c.in_ok-left.left.changes c.args.self.now.table c.follow.new.table stands.0 stands.1 c.in_ok-left.ensures.image c.in_ok-follow.ensures.ok
       c.in_ok-left.ensures.shown (search rules) c.in_ok-left.ensures.made (c.is_alive.ensures.yes alive),
 )
+
+pub returns-in_err-left-clause-memory : goal.returns-in_err-left-clause-memory
+returns-in_err-left-clause-memory g c = λ config records stands.
+    on_err (TakesMemory config records (shown_of c.args.shown.now)) c.from_residual.result
+    (base_takes config c.args.self.now.words c.args.self.now.table records (shown_of c.args.shown.now) stands.1 (c.in_err-left.ensures.memory refl))
+
+pub returns-in_err-follow-clause-memory : goal.returns-in_err-follow-clause-memory
+returns-in_err-follow-clause-memory g c = λ config records stands.
+    on_err (TakesMemory config records (shown_of c.args.shown.now)) c.from_residual-in_err-follow.result
+    (changes_take config c.args.self.now.words c.args.self.now.table records (shown_of c.args.shown.now) c.in_ok-left.left.changes stands.1
+    (subst (λ (v : Config). AreMade v c.args.self.now.words (shown_of c.args.shown.now) c.in_ok-left.left.changes) stands.0 c.in_ok-left.ensures.made)
+    (c.in_err-follow.ensures.memory refl))
