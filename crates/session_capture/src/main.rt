@@ -1,0 +1,106 @@
+//! Makes a capture of one session with a table as large as is asked for: what `bench/judge.sh`
+//! judges. The peer sends its table, in order, and then some groups of prefixes again and again,
+//! with other paths or withdrawn, and KEEPALIVEs.
+//!
+//! The words are how many prefixes the table has and how many further records there are, and a
+//! third one, `ended`, if the peer is to end the session; the capture goes to standard output. The
+//! word `table` and the name of such a capture put its routes into a table, and nothing else is
+//! done. Without words, in the gate, small captures are made, and the routes that they leave are
+//! counted.
+#![tactic(auto)]
+
+mod addresses;
+mod feed;
+mod parties;
+mod paths;
+mod recorder;
+mod session;
+mod table;
+
+use bgp_wire::vectors::OPEN_A;
+use feed::Feed;
+use mrt::{FromWrite, MemSink, MemSource};
+use parties::{link_of, peer_config};
+use recorder::Recorder;
+use session::{Wish, record_session};
+use std::io::{BufWriter, Write};
+use std::process::ExitCode;
+use std::rt::{Env, Files};
+use std::{env, io};
+use table::{print_table, table_of};
+
+fn main(rt: HostRuntime) -> ExitCode {
+    match run(&rt) {
+        Ok(true) => ExitCode::SUCCESS,
+        Ok(false) => ExitCode::FAILURE,
+        Err(error) => {
+            let _ = eprintln!(rt; "{error}");
+            ExitCode::FAILURE
+        }
+    }
+}
+
+/// Does what the words ask for. Answers whether sessions leave the routes that they are to leave.
+fn run<R: Files + Env + Print + AllocGlobal>(rt: &R) -> io::Result<bool> {
+    let mut words = env::args(rt)?.skip(1);
+    let (Some(first), Some(second)) = (words.next(), words.next()) else {
+        return count_each(rt);
+    };
+    if first.as_str() == "table" {
+        print_table(rt, second.as_str())?;
+        return Ok(true);
+    }
+    let (Ok(prefixes), Ok(further)) = (first.parse::<u32>(), second.parse::<u32>()) else {
+        return Err(io::Error::from(io::ErrorKind::InvalidInput));
+    };
+    let is_ended = words.next().is_some();
+    write_capture(
+        rt,
+        Wish {
+            prefixes,
+            further,
+            is_ended,
+        },
+    )?;
+    Ok(true)
+}
+
+/// Makes a session in memory, and prints how long it is and how many routes it leaves. Answers
+/// whether these are as many as the peer has announced, or none where it ended the session.
+fn count<R: Print + AllocGlobal>(rt: &R, wish: Wish) -> io::Result<bool> {
+    let mut feed = Feed::new(rt.alloc(), link_of(&peer_config()?, &OPEN_A)?);
+    let mut recorder = Recorder::new(MemSink::new(rt.alloc()));
+    record_session(rt.alloc(), wish, &mut feed, &mut recorder)?;
+    let (records, announced) = (recorder.records(), feed.announced());
+    let mut source = MemSource::new(recorder.into_sink().into_octets());
+    let routes = table_of(rt.alloc(), &mut source)?.len();
+    println!(rt; "{records} records, {announced} prefixes announced, {routes} routes left")?;
+    Ok(routes == if wish.is_ended { 0 } else { announced })
+}
+
+/// Makes a session with nothing behind the table, one that goes on, and the same one ended.
+fn count_each<R: Print + AllocGlobal>(rt: &R) -> io::Result<bool> {
+    let table = Wish {
+        prefixes: 500,
+        further: 0,
+        is_ended: false,
+    };
+    let going = Wish {
+        further: 1000,
+        ..table
+    };
+    let ended = Wish {
+        is_ended: true,
+        ..going
+    };
+    Ok(count(rt, table)? && count(rt, going)? && count(rt, ended)?)
+}
+
+/// Writes the session's records to standard output.
+fn write_capture<R: Print + AllocGlobal>(rt: &R, wish: Wish) -> io::Result<()> {
+    let mut feed = Feed::new(rt.alloc(), link_of(&peer_config()?, &OPEN_A)?);
+    let writer = BufWriter::new(rt.alloc(), io::writer(rt))?;
+    let mut recorder = Recorder::new(FromWrite::new(writer));
+    record_session(rt.alloc(), wish, &mut feed, &mut recorder)?;
+    recorder.into_sink().into_inner().flush()
+}

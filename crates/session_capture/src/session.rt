@@ -1,0 +1,96 @@
+//! A session from its first record to its last.
+
+use crate::feed::Feed;
+use crate::recorder::Recorder;
+use bgp_wire::vectors::{ADMINISTRATIVE_SHUTDOWN, KEEPALIVE, OPEN_A, OPEN_B};
+use mrt::Sink;
+use std::alloc::Global;
+use std::io;
+
+/// How long the session is.
+#[derive(Clone, Copy)]
+pub(crate) struct Wish {
+    /// How many prefixes the table has.
+    pub(crate) prefixes: u32,
+    /// How many records there are behind the table.
+    pub(crate) further: u32,
+    /// Whether the peer ends the session, or it goes on.
+    pub(crate) is_ended: bool,
+}
+
+/// Writes the records up to Established (RFC 4271, 8.2.2).
+fn open<S: Sink>(recorder: &mut Recorder<S>) -> io::Result<()> {
+    recorder.changed(1, 2)?;
+    recorder.sent(&OPEN_A)?;
+    recorder.changed(2, 4)?;
+    recorder.received(&OPEN_B)?;
+    recorder.sent(&KEEPALIVE)?;
+    recorder.changed(4, 5)?;
+    recorder.received(&KEEPALIVE)?;
+    recorder.changed(5, 6)
+}
+
+/// Writes the UPDATEs by which the peer sends its table, some 8,000 a second.
+fn send_table<S: Sink>(
+    alloc: Global,
+    prefixes: u32,
+    feed: &mut Feed,
+    recorder: &mut Recorder<S>,
+) -> io::Result<()> {
+    let mut message = Vec::new(alloc);
+    let mut left = prefixes;
+    for update in 0..prefixes {
+        if left == 0 {
+            break;
+        }
+        message.clear();
+        let count = feed.add_group(alloc, left, &mut message)?;
+        left = left.saturating_sub(count);
+        recorder.received(&message)?;
+        if update % 8192 == 8191 {
+            recorder.tick();
+        }
+    }
+    Ok(())
+}
+
+/// Writes further records: an UPDATE a second, and a KEEPALIVE of each end where 30 seconds are
+/// over, a third of the Hold Time of 90 (RFC 4271, 4.4).
+fn go_on<S: Sink>(
+    alloc: Global,
+    further: u32,
+    feed: &mut Feed,
+    recorder: &mut Recorder<S>,
+) -> io::Result<()> {
+    let mut message = Vec::new(alloc);
+    for record in 0..further {
+        match record % 32 {
+            30 => recorder.sent(&KEEPALIVE)?,
+            31 => recorder.received(&KEEPALIVE)?,
+            _ => {
+                recorder.tick();
+                message.clear();
+                feed.change_group(alloc, &mut message)?;
+                recorder.received(&message)?;
+            }
+        }
+    }
+    Ok(())
+}
+
+/// Writes the session that is wished.
+pub(crate) fn record_session<S: Sink>(
+    alloc: Global,
+    wish: Wish,
+    feed: &mut Feed,
+    recorder: &mut Recorder<S>,
+) -> io::Result<()> {
+    open(recorder)?;
+    send_table(alloc, wish.prefixes, feed, recorder)?;
+    go_on(alloc, wish.further, feed, recorder)?;
+    if wish.is_ended {
+        recorder.received(&ADMINISTRATIVE_SHUTDOWN)?;
+        recorder.changed(6, 1)?;
+    }
+    Ok(())
+}

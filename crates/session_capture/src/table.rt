@@ -1,0 +1,52 @@
+//! The table of routes that a capture makes.
+
+ghost use Rattle.std.specs.Prelude.{◌<◌};
+
+use crate::parties::{SESSION, link_of, local_config};
+use bgp_open::Link;
+use bgp_rib::RibIn;
+use bgp_update::read_update;
+use bgp_wire::MessageType;
+use bgp_wire::vectors::OPEN_B;
+use mrt::{FromRead, Reader, Record, Source};
+use std::alloc::Global;
+use std::io::BufReader;
+use std::rt::Files;
+use std::{fs, io};
+
+/// Applies a message that was received, if it is an UPDATE that may be applied.
+fn apply(alloc: Global, link: &Link, message: &[u8], routes: &mut RibIn) -> io::Result<()> {
+    if message.get(18) != Some(&MessageType::Update.code()) {
+        return Ok(());
+    }
+    if let Some(changes) = read_update(alloc, link, message)?.changes {
+        routes.apply(&changes)?;
+    }
+    Ok(())
+}
+
+/// The routes that the UPDATEs which were received leave. A change to Idle leaves none.
+pub(crate) fn table_of<S: Source>(alloc: Global, source: &mut S) -> io::Result<RibIn>
+    requires { S.failures source.old < u64.MAX }
+{
+    let link = link_of(&local_config()?, &OPEN_B)?;
+    let mut records = Reader::new(alloc);
+    let mut routes = RibIn::new(alloc);
+    for _ in 0..u64::MAX {
+        match records.next_record(source, &SESSION) {
+            Ok(Some(Record::In(_, message))) => apply(alloc, &link, message, &mut routes)?,
+            Ok(Some(Record::Change(_, _, 1))) => routes.clear(),
+            Ok(Some(_)) => {}
+            Ok(None) => break,
+            Err(_) => return Err(io::Error::from(io::ErrorKind::InvalidData)),
+        }
+    }
+    Ok(routes)
+}
+
+/// Prints how many routes a capture's table has at the end.
+pub(crate) fn print_table<R: Files + Print + AllocGlobal>(rt: &R, file: &str) -> io::Result<()> {
+    let mut source = FromRead::new(BufReader::new(rt.alloc(), fs::open(rt, file)?)?);
+    let routes = table_of(rt.alloc(), &mut source)?;
+    println!(rt; "{} routes", routes.len())
+}
