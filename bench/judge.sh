@@ -1,82 +1,95 @@
 #!/usr/bin/env bash
-# How long `bgp judge` takes for one session whose table grows, beside `bgp decode --mrt` of the same
-# capture: the opening, and then UPDATEs of which each announces one prefix more, up to 1,000, 4,000,
-# 16,000 and 64,000 records. Wants bash, coreutils and the program that `rt run` built in
-# crates/bgp/out/bgp. Prints figures; it is no test. Words: the program, if it is another one, and how
-# many records the captures have, if others.
+# What judging a long session with a large table costs, beside decoding the same capture: processor
+# time, and memory before the ends are listed and with them. The program session_capture makes the
+# captures: a table that a peer sends in order, and then none, 100,000 and 2,000,000 further
+# records, UPDATEs of groups that are announced or withdrawn again and KEEPALIVEs; the peer ends the
+# session, or it goes on and its routes are printed. Beside the memory stands that of the table
+# alone, with the routes of the same UPDATEs and nothing else (`session_capture table`).
+#
+# Wants bash, coreutils, GNU time for the memory with the ends, and the programs that `rt run` built
+# in crates/bgp/out/bgp and crates/session_capture/out/session_capture. Prints figures; it is no
+# test. Words: those programs, if they are others, and how many prefixes the table has.
 set -euo pipefail
 
 here=$(cd "$(dirname "$0")" && pwd)
-. "$here/measure.sh"
-. "$here/mix.sh"
 bgp=${1:-$here/../crates/bgp/out/bgp}
-sizes=("${@:2}")
-((${#sizes[@]})) || sizes=(1000 4000 16000 64000)
+maker=${2:-$here/../crates/session_capture/out/session_capture}
+prefixes=${3:-1000000}
 [[ -x $bgp ]] ||
     { echo "build the program first: (cd crates/bgp && rt run -- --version)" >&2; exit 1; }
+[[ -x $maker ]] ||
+    { echo "build the program first: (cd crates/session_capture && rt run)" >&2; exit 1; }
 
 work=$(mktemp -d)
 trap 'rm -rf "$work"' EXIT
 
 session=(--peer 192.0.2.2 --local 192.0.2.1)
-config=(--local-as 65001 --peer-as 65002 --local-id 192.0.2.1 --families both)
+judge=(judge --local-as 65001 --peer-as 65002 --local-id 192.0.2.1 --families both "${session[@]}")
+decode=(decode --mrt "${session[@]}")
 
-# The second, the type, the subtype and the length of a record, and its addresses and AS numbers, as
-# printf wants octets: of one whose message or states have so many octets.
-record() {
-    printf '%s' '\x00\x00\x00\x64\x00\x10'
-    two "$1"
-    printf '%s' '\x00\x00'
-    two $((20 + $2))
-    printf '%s' '\x00\x00\xfd\xea\x00\x00\xfd\xe9\x00\x00\x00\x01\xc0\x00\x02\x02\xc0\x00\x02\x01'
+# The greatest resident memory in KiB of a program that reads a capture, looked at once all octets
+# are handed over and before the capture ends.
+peak() {
+    local capture=$1 pid
+    shift
+    mkfifo "$work/pipe"
+    "$@" "$work/pipe" > /dev/null &
+    pid=$!
+    exec 3> "$work/pipe"
+    cat "$capture" >&3
+    sed -n 's/^VmHWM:[^0-9]*\([0-9]*\).*/\1/p' "/proc/$pid/status"
+    exec 3>&-
+    wait "$pid" || true
+    rm "$work/pipe"
 }
 
-# A change of state; a message that was received; one that was sent.
-change() { record 5 4; two "$1"; two "$2"; }
-received() { record 4 "$1"; }
-sent() { record 7 "$1"; }
-
-# The OPEN of AS 65001, the other end's but for three octets.
-own_open() { open | sed 's/\\xfd\\xea/\\xfd\\xe9/g; s/\\xc0\\x00\\x02\\x02/\\xc0\\x00\\x02\\x01/'; }
-
-# The first eight records of a session, up to Established.
-opening() {
-    change 1 2
-    sent 49; own_open
-    change 2 4
-    received 49; open
-    sent 19; keepalive
-    change 4 5
-    received 19; keepalive
-    change 5 6
+# The least processor time of two runs, in milliseconds.
+least() {
+    local TIMEFORMAT='%3U %3S' run user system spent least=
+    for run in 1 2; do
+        read -r user system < <({ time "$@" > /dev/null; } 2>&1)
+        spent=$((10#${user//./} + 10#${system//./}))
+        if [[ -z $least ]] || ((spent < least)); then least=$spent; fi
+    done
+    echo $((least ? least : 1))
 }
 
-# An UPDATE that announces one prefix of 24 bits, up to the prefix's own octets.
-announces_one() {
-    received 47
-    header 47 2
-    printf '%s' '\x00\x00\x00\x14\x40\x01\x01\x00\x40\x02\x06\x02\x01\x00\x00\xfd\xea'
-    printf '%s' '\x40\x03\x04\xc0\x00\x02\x02\x18\x0a'
+# So many thousandths as a number.
+thousandths() { printf '%d.%03d' $(($1 / 1000)) $(($1 % 1000)); }
+
+# Prints what a capture costs, and keeps its times by a name.
+declare -A judging decoding
+cost() {
+    local name=$1 file=$work/capture text=$work/text before alone timed=() verdict
+    "$maker" "$prefixes" "${@:2}" > "$file"
+    judging[$name]=$(least "$bgp" "${judge[@]}" "$file")
+    decoding[$name]=$(least "$bgp" "${decode[@]}" "$file")
+    before=$(peak "$file" "$bgp" "${judge[@]}")
+    alone=$(peak "$file" "$maker" table)
+    echo "$prefixes prefixes and $name: $(stat -c %s "$file") octets," \
+        "judge: ${judging[$name]} ms, decode --mrt: ${decoding[$name]} ms," \
+        "judge to decode: $(thousandths $((judging[$name] * 1000 / decoding[$name])))," \
+        "table alone: $(least "$maker" table "$file") ms;" \
+        "peak before the ends: $before KiB, of the table alone: $alone KiB," \
+        "more: $((before - alone)) KiB"
+    [[ ! -x /usr/bin/time ]] || timed=(/usr/bin/time -f "    peak with the ends: %M KiB")
+    "${timed[@]}" "$bgp" "${judge[@]}" "$file" 2>&1 > "$text"
+    read -r verdict < "$text"
+    [[ $verdict == yes ]] || { echo "it is judged: $verdict" >&2; exit 1; }
 }
 
-# A capture of so many records.
-capture() {
-    local i front each=()
-    front=$(announces_one)
-    for ((i = 0; i < 256; i++)); do each[i]=$(octet "$i"); done
-    {
-        printf "$(opening)"
-        for ((i = 0; i < $1 - 8; i++)); do
-            printf "$front${each[i >> 8]}${each[i & 255]}"
-        done
-    } > "$work/$1"
-}
+# Microseconds a record between two captures, by the milliseconds of both.
+between() { thousandths $((($2 - $1) * 1000000 / $3)); }
 
 echo "cores: $(nproc)"
-for size in "${sizes[@]}"; do
-    capture "$size"
-    judge=$(best "$bgp" judge "${config[@]}" "${session[@]}" "$work/$size")
-    decode=$(best "$bgp" decode --mrt "${session[@]}" "$work/$size")
-    echo "$size records, $(stat -c %s "$work/$size") octets, judge: $judge ms," \
-        "decode --mrt: $decode ms, judge to decode: $((judge * 100 / (decode ? decode : 1)))/100"
+for ending in ended ""; do
+    what="further records${ending:+, ended}"
+    cost "0 $what" 0 $ending
+    cost "100000 $what" 100000 $ending
+    cost "2000000 $what" 2000000 $ending
+    echo "a further record, ${ending:-going on}:" \
+        "judge: $(between "${judging[0 $what]}" "${judging[100000 $what]}" 100000) us" \
+        "to 100000, $(between "${judging[100000 $what]}" "${judging[2000000 $what]}" 1900000) us" \
+        "from there to 2000000;" \
+        "decode --mrt: $(between "${decoding[0 $what]}" "${decoding[2000000 $what]}" 2000000) us"
 done
