@@ -1,4 +1,5 @@
-//! Tests of `bgp_compact`: sessions with the verdicts of both trackers, and refused memory.
+//! Tests of `bgp_compact`: up to four ends, and refused memory. (`real_captures` and
+//! `random_sessions` judge captures with both trackers.)
 //!
 //! They stand in a crate of their own, since a crate with tests is proved twice.
 #![tactic(auto)]

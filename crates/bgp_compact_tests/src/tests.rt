@@ -1,4 +1,5 @@
-//! The verdicts of both trackers on sessions of two routers, A and B. Messages have the names of
+//! What the compact tracker has of its own: up to four ends, and its memory. The verdicts of both
+//! trackers on sessions are asked for by `real_captures`. Messages have the names of
 //! `bgp_wire::vectors`.
 
 mod memory;
@@ -53,13 +54,9 @@ const V6: Families = Families {
     v6: true,
 };
 
-/// Router A, which may delay its OPEN or not.
-fn router_a(delay_open: bool) -> Result<Config, Fail> {
-    let parts = ConfigParts {
-        delay_open,
-        ..PARTS_A
-    };
-    Ok(Config::new(parts).ok_or("no configuration")?)
+/// Router A.
+fn router_a() -> Result<Config, Fail> {
+    Ok(Config::new(PARTS_A).ok_or("no configuration")?)
 }
 
 /// An end: the state, the disabled families and the prefixes of its routes.
@@ -89,20 +86,4 @@ fn is_yes<A: Allocator>(verdict: &Verdict<A>, expected: &[Expected<'_>]) -> bool
         }
     }
     true
-}
-
-/// These records, and then those.
-fn joined<'a>(
-    alloc: Global,
-    records: &[Record<'a>],
-    more: &[Record<'a>],
-) -> Result<Vec<Record<'a>>, AllocError> {
-    let mut all = Vec::new(alloc);
-    for record in records {
-        all.push(*record)?;
-    }
-    for record in more {
-        all.push(*record)?;
-    }
-    Ok(all)
 }

@@ -28,7 +28,7 @@ const ENDS: [Expected<'static>; 2] = [
 
 #[test]
 fn ample_memory(rt: HostRuntime) -> Result<(), Fail> {
-    let config = router_a(false)?;
+    let config = router_a()?;
     let mut tracker: CompactTracker<Global> = CompactTracker::start(rt.alloc(), &config)?;
     for shown in &TWO_ENDS {
         assert!(rt; tracker.take(shown)?);
@@ -61,7 +61,7 @@ fn ballast<'a>(
 fn refusals(rt: &impl Abort, alloc: Global, left: usize) -> Result<usize, Fail> {
     let ample = LocalHeap::new(alloc, 1 << 16)?;
     let heap = LocalHeap::new(alloc, 1 << 14)?;
-    let config = router_a(false)?;
+    let config = router_a()?;
     let mut refused: usize = 0;
     let mut tracker: CompactTracker<&LocalHeap> = CompactTracker::start(&heap, &config)?;
     for shown in &TWO_ENDS {
@@ -99,5 +99,28 @@ fn a_refused_record_can_be_taken_again(rt: HostRuntime) -> Result<(), Fail> {
     // The list of ends, and both UPDATEs with their changes.
     assert!(rt; first > 2, "{first}");
     assert!(rt; last == 0, "a growth was refused to the end: {last}");
+    Ok(())
+}
+
+/// Judges the session with a heap of this size. With less memory there is no verdict.
+fn is_told(rt: &impl Abort, alloc: Global, size: usize) -> Result<bool, Fail> {
+    let heap = LocalHeap::new(alloc, size)?;
+    match judge_records::<_, CompactTracker<&LocalHeap>>(&heap, &router_a()?, &TWO_ENDS) {
+        Ok(verdict) => {
+            assert!(rt; is_yes(&verdict, &ENDS));
+            Ok(true)
+        }
+        Err(_) => Ok(false),
+    }
+}
+
+#[test]
+fn a_refused_growth_gives_no_verdict(rt: HostRuntime) -> Result<(), Fail> {
+    let (mut refused, mut done) = (false, false);
+    for step in 1..512 {
+        done = is_told(&rt, rt.alloc(), 16 * step)?;
+        refused = refused || !done;
+    }
+    assert!(rt; refused && done);
     Ok(())
 }
