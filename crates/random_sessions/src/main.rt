@@ -1,0 +1,178 @@
+//! A thousand sessions by chance, the same in each run, judged by the plain tracker and by the
+//! compact one: both print the same text and answer the same status.
+#![tactic(auto)]
+
+mod messages;
+mod moves;
+mod walk;
+
+use bgp_compact::CompactTracker;
+use bgp_judge::{PlainTracker, Tracker};
+use bgp_open::{Config, ConfigParts, Families};
+use bgp_prefix::{Address, Session};
+use bgp_tool::judge_capture;
+use mrt::{MemSink, MemSource, Record, Sink, is_writable, write_record};
+use rand_pcg::Pcg32;
+use std::alloc::{AllocError, Global};
+use std::io;
+use std::process::ExitCode;
+use walk::random_session;
+
+/// How many sessions there are.
+const SESSIONS: usize = 1000;
+
+/// What the router is configured to do: AS 65001 at 192.0.2.1, with AS 65002 at 192.0.2.2, Hold Time
+/// 90, both families and four-octet AS numbers. In every fourth session its OPEN is never delayed.
+const PARTS: ConfigParts = ConfigParts {
+    local_as: 65001,
+    peer_as: 65002,
+    local_id: 0xc000_0201,
+    hold: 90,
+    families: Families { v4: true, v6: true },
+    as4: true,
+    delay_open: false,
+    large_hold: 240,
+    session: Session {
+        peer: Address::V4(0xc000_0202),
+        local: Address::V4(0xc000_0201),
+        refresh: true,
+    },
+};
+
+/// How many sessions were judged so.
+#[derive(Clone, Copy, Debug, PartialEq, Eq)]
+struct Counts {
+    yes: u64,
+    no: u64,
+    unfinished: u64,
+    refused: u64,
+    /// Of those with the verdict yes, how many have routes.
+    routes: u64,
+    /// And how many have several ends.
+    several: u64,
+}
+
+fn main(rt: HostRuntime) -> ExitCode {
+    match judge_all(&rt) {
+        Ok(true) => ExitCode::SUCCESS,
+        Ok(false) => ExitCode::FAILURE,
+        Err(error) => {
+            let _ = eprintln!(rt; "{error}");
+            ExitCode::FAILURE
+        }
+    }
+}
+
+/// A capture of these records.
+fn capture_of(alloc: Global, records: &[Record<'_>]) -> io::Result<Vec<u8>> {
+    let mut sink = MemSink::new(alloc);
+    for record in records {
+        if sink.failures() == u64::MAX || !is_writable(&PARTS.session, record) {
+            return Err(io::Error::from(io::ErrorKind::InvalidData));
+        }
+        if write_record(&mut sink, &PARTS.session, 65002, 65001, record).is_err() {
+            return Err(io::Error::from(io::ErrorKind::InvalidData));
+        }
+    }
+    Ok(sink.into_octets())
+}
+
+/// What judging a capture with a tracker wrote and answered.
+fn answer_to<T: Tracker<Global>>(
+    alloc: Global,
+    config: &Config,
+    capture: &[u8],
+) -> Result<(Vec<u8>, u8), AllocError> {
+    let mut source = MemSource::new(Vec::from_slice(alloc, capture)?);
+    let mut sink = MemSink::new(alloc);
+    let status = judge_capture::<Global, T, MemSource, MemSink>(
+        alloc,
+        config,
+        &mut source,
+        &mut sink,
+    );
+    Ok((sink.into_octets(), status))
+}
+
+/// How many lines begin so.
+fn lines_with(text: &[u8], word: &[u8]) -> usize {
+    text.split(|octet| *octet == b'\n')
+        .filter(|line| line.starts_with(word))
+        .count()
+}
+
+/// One more.
+fn add(count: &mut u64) {
+    *count = count.saturating_add(1);
+}
+
+/// Counts a verdict.
+fn tally(counts: &mut Counts, text: &[u8], status: u8) {
+    match status {
+        0 => add(&mut counts.yes),
+        1 => add(&mut counts.no),
+        2 => add(&mut counts.unfinished),
+        _ => add(&mut counts.refused),
+    }
+    if lines_with(text, b"route ") > 0 {
+        add(&mut counts.routes);
+    }
+    if lines_with(text, b"end ") > 1 {
+        add(&mut counts.several);
+    }
+}
+
+/// Judges the next session, and counts its verdict. Answers whether both trackers answer alike.
+fn is_alike(
+    alloc: Global,
+    delay_open: bool,
+    random: &mut Pcg32,
+    counts: &mut Counts,
+) -> io::Result<bool> {
+    let Some(config) = Config::new(ConfigParts {
+        delay_open,
+        ..PARTS
+    }) else {
+        return Ok(false);
+    };
+    let records = random_session(alloc, random)?;
+    let capture = capture_of(alloc, records.as_slice())?;
+    let (plain, status) = answer_to::<PlainTracker<Global>>(alloc, &config, capture.as_slice())?;
+    let (compact, other) = answer_to::<CompactTracker<Global>>(alloc, &config, capture.as_slice())?;
+    tally(counts, plain.as_slice(), status);
+    Ok(plain.as_slice() == compact.as_slice() && status == other)
+}
+
+/// Judges all, and prints each that the trackers don't answer alike, and then how many had which
+/// verdict. Answers whether all are so.
+fn judge_all<R: Print + AllocGlobal>(rt: &R) -> io::Result<bool> {
+    let mut random = Pcg32::new(42, 54);
+    let mut counts = Counts {
+        yes: 0,
+        no: 0,
+        unfinished: 0,
+        refused: 0,
+        routes: 0,
+        several: 0,
+    };
+    let mut all = true;
+    for number in 0..SESSIONS {
+        if !is_alike(rt.alloc(), number % 4 != 0, &mut random, &mut counts)? {
+            println!(rt; "session {number} isn't judged alike")?;
+            all = false;
+        }
+    }
+    let Counts {
+        yes,
+        no,
+        unfinished,
+        refused,
+        routes,
+        several,
+    } = counts;
+    println!(rt;
+        "{SESSIONS} sessions: {yes} yes, {no} no, {unfinished} unfinished, {refused} refused"
+    )?;
+    println!(rt; "of those with yes {routes} have routes, and {several} several ends")?;
+    Ok(all)
+}
