@@ -9,3 +9,4 @@ pub mod Shapes
 pub mod Moves
 pub mod GivenChanges
 pub mod ShownRows
+pub mod OneStep
