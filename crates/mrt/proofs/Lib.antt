@@ -1,4 +1,6 @@
 pub mod Filled
+pub mod Kept
+pub mod GaveFront
 pub mod Taken
 pub mod Exits
 pub mod Places

@@ -55,3 +55,9 @@ returns-in-Err-clause-next g c =
     let (taken, given, begun) = c.in-Err.ensures.err in
     rw c.refuse-in-Err.ensures.fault (fails_there _ _ g.met.S.Source.joined _ _ _ _ _ _ _ taken kinds.Device c.loop-progress.invariant.passes given
     (inr (inl (refl, begun))) (rw c.refuse-in-Err.ensures.fault at c.refuse-in-Err.ensures.state))
+
+pub loop-progress-smaller : goal.loop-progress-smaller
+loop-progress-smaller g c =
+    let (octets, given, is) = rw c.in-Ok-SkippedSession.field-0-is at c.in-Ok-SkippedSession.ensures.ok in
+    let counted = g.met.S.Source.counted _ _ octets given in
+    let below = g.met.S.Source.below c.read_record.new.source in omega (arith, is.2)

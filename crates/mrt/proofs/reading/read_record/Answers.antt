@@ -1,7 +1,7 @@
 use Rattle.std.proofs.Common.{◌≡◌, subst, ap, List, ℕ, ◌++◌, take, arith, rules}
 use Rattle.std.proofs.lemmas.List.{take_all}
 use Rattle.mrt.specs.Layout.{Header, IsBgp4mp}
-use Rattle.mrt.proofs.Places.{begun_other, begun_body}
+use Rattle.mrt.proofs.Places.{long_body, begun_other, begun_body}
 use Rattle.mrt.proofs.Exits.{ok_then, err_then}
 use Rattle.mrt.proofs.reading.read_record.Goals as goal
 
@@ -29,6 +29,16 @@ returns-then-not-is_bgp4mp-clause-err g c =
           (subst (λ (h : Header). ¬ IsBgp4mp h.kind) c.read_header-header.ensures (search rules)) (omega arith),
     ))
     c.skip_body.ensures.err
+
+pub returns-then-header-clause-ok : goal.returns-then-header-clause-ok
+returns-then-header-clause-ok g c =
+    let front = c.fill.new.buffer in
+    let all : take c.in_ok-filled.filled front ≡ front = take_all _ _ (omega (arith, c.fill.ensures.room)) in
+    let gave = subst (λ (o : List ℕ). g.S.Source.gives c.args.source.now c.fill.new.source o) all c.in_ok-filled.ensures.ok in
+    let count = ap (λ (h : Header). h.count) c.read_header-header.ensures in
+    let judged = λ (more : List ℕ). long_body c.args.session.now c.args.last front more (omega (arith, c.fill.ensures.room))
+    (subst (λ (h : Header). IsBgp4mp h.kind) c.read_header-header.ensures (c.is_bgp4mp.ensures.0 c.if-not-is_bgp4mp.false)) (omega arith) in
+    (front, gave, λ more none. search (judged))
 
 pub returns-clause-ok : goal.returns-clause-ok
 returns-clause-ok g c =

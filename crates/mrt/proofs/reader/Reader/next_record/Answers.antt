@@ -1,9 +1,10 @@
-use Rattle.std.proofs.Common.{◌≡◌, ◌∙◌, ℕ, Bool, true, false, ◌+◌, ◌≤◌, length, refl, sym, ap, subst, arith, None, Ok, Err, OnErr, Result, is_some, if◌then◌else◌}
+use Rattle.std.proofs.Common.{◌≡◌, ◌∙◌, ℕ, Bool, true, false, ◌+◌, ◌≤◌, length, refl, sym, ap, subst, arith, None, Ok, Err, OnOk, OnErr, Result, is_some, if◌then◌else◌}
 use Rattle.std.specs.Result.{is_err}
 use Rattle.mrt.specs.declared.fault.CaptureFault.{CaptureFault}
 use Rattle.mrt.specs.declared.fault.FaultKind.TheVariants as kinds
 use Rattle.mrt.specs.Progress.{state_of, fault_at}
 use Rattle.mrt.specs.Reader.{ReaderState, at_fault, device_count}
+use Rattle.mrt.proofs.Kept.{room_kept}
 use Rattle.mrt.proofs.Refusing.{first_call, open_next, no_memory}
 use Rattle.mrt.proofs.reader.Reader.next_record.Goals as goal
 
@@ -20,6 +21,11 @@ no_failure count fault found state is =
 of_error : {X E : Type 0} {P : Type 0} (r : Result X E) (b : Bool) → b ≡ is_err r → b ≡ true → OnErr r P → P
 of_error (Ok x) b is so held = absurd cc
 of_error (Err e) b is so held = held
+
+-- what holds of no error holds where there is none
+of_no_error : {X E : Type 0} {P : Type 0} (r : Result X E) (b : Bool) → b ≡ is_err r → b ≡ false → OnOk r P → P
+of_no_error (Ok x) b is so held = held
+of_no_error (Err e) b is so held = absurd cc
 
 pub returns-then-is_err : goal.returns-then-is_err
 returns-then-is_err g c =
@@ -46,3 +52,21 @@ returns-then-is_err g c =
         failures = no_failure (g.S.Source.failures c.args.source.now) (is_some c.args.self.now.fault) c.refuse.result c.args.self.now fault;
       },
     )
+
+pub invariant_of-self-in-Break-1 : goal.invariant_of-self-in-Break-1
+invariant_of-self-in-Break-1 g c =
+    let all = of_no_error c.make_room.result c.is_err.result c.is_err.ensures.value c.if-is_err.false c.make_room.ensures.ok in
+    room_kept c.make_room.new.buffer.len c.advance.new.buffer c.make_room.new.buffer.items (state_of c.advance.new.progress) c.advance.ensures.room all
+    c.make_room.new.buffer.ok.0
+
+pub invariant_of-self-in-Some-2 : goal.invariant_of-self-in-Some-2
+invariant_of-self-in-Some-2 g c =
+    let all = of_no_error c.make_room.result c.is_err.result c.is_err.ensures.value c.if-is_err.false c.make_room.ensures.ok in
+    room_kept c.make_room.new.buffer.len c.advance.new.buffer c.make_room.new.buffer.items (state_of c.advance.new.progress) c.advance.ensures.room all
+    c.make_room.new.buffer.ok.0
+
+pub invariant_of-self-in-None : goal.invariant_of-self-in-None
+invariant_of-self-in-None g c =
+    let all = of_no_error c.make_room.result c.is_err.result c.is_err.ensures.value c.if-is_err.false c.make_room.ensures.ok in
+    room_kept c.make_room.new.buffer.len c.advance.new.buffer c.make_room.new.buffer.items (state_of c.advance.new.progress) c.advance.ensures.room all
+    c.make_room.new.buffer.ok.0
