@@ -1,5 +1,5 @@
-use Rattle.std.proofs.Common.{List, subst, sym, arith, take}
-use Rattle.std.proofs.lemmas.List.{take_more}
+use Rattle.std.proofs.Common.{List, subst, sym, arith, take, ◌∙◌}
+use Rattle.std.proofs.lemmas.List.{take_more, take_all}
 use Rattle.bgp_machine.specs.declared.rows.ReceivedRow.{ReceivedRow}
 use Rattle.bgp_machine.specs.Listed.{no_changes}
 use Rattle.bgp_machine.specs.Rows.{HeardShown, ListsRows}
@@ -12,3 +12,8 @@ loop-row-preserved c = record {
       (c.add_heard.ensures.listed (take c.loop-row.row-index c.rows_on-rows.result.now) c.loop-row.invariant.listed);
   room = omega arith;
 }
+
+pub returns : goal.returns
+returns c =
+    subst (λ (rs : List ReceivedRow). ListsRows (HeardShown c.args.head c.args.t c.args.octets.now c.args.message) no_changes rs c.loop-row.steps.items)
+    (take_all c.loop-row.row-index c.rows_on-rows.result.now c.loop-row-test.false ∙ c.rows_on-rows.ensures.rows) c.loop-row.invariant.listed

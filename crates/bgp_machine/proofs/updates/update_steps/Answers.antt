@@ -1,5 +1,5 @@
 use Rattle.std.proofs.Common.{List, subst, sym, arith, take}
-use Rattle.std.proofs.lemmas.List.{take_more}
+use Rattle.std.proofs.lemmas.List.{take_more, take_all}
 use Rattle.bgp_machine.specs.declared.rows.ReceivedRow.{ReceivedRow}
 use Rattle.bgp_machine.specs.Listed.{changes_of}
 use Rattle.bgp_machine.specs.Rows.{ListsRows, UpdateShown, update_rows}
@@ -12,3 +12,8 @@ loop-row-preserved g c = record {
       (c.add_update.ensures.listed (take c.loop-row.row-index update_rows) c.loop-row.invariant.listed);
   room = omega arith;
 }
+
+pub returns : goal.returns
+returns g c =
+    subst (λ (rs : List ReceivedRow). ListsRows (UpdateShown c.args.own c.args.timer c.args.t c.args.octets.now) (changes_of c.args.outcomes.now.changes) rs c.loop-row.steps.items)
+    (take_all c.loop-row.row-index update_rows c.loop-row-test.false) c.loop-row.invariant.listed
