@@ -1,6 +1,6 @@
 //! How the changes of an UPDATE are made to a table: whole, or not at all.
 
-ghost use Rattle.std.specs.Prelude.{◌≡◌, ◌⊎◌, ◌∷◌, [], OnOk, OnErr, IsTrue, map};
+ghost use Rattle.std.specs.Prelude.{◌≡◌, ◌⊎◌, ◌∷◌, [], None, OnOk, OnErr, IsOk, IsTrue, map};
 ghost use Rattle.std.specs.Set.{is_member};
 ghost use Rattle.bgp_prefix.specs.Prefix.{PrefixBits};
 ghost use Rattle.bgp_prefix.specs.PrefixOrder.{prefix_cmp, prefix_eq};
@@ -35,6 +35,7 @@ pub fn apply_changes<A: Allocator + Clone>(
         (entries_outside disabled (map entry_of (changes_value changes.now).put))
         (entries_without (changes_value changes.now).remove (routes_in table.old.entries))) }
     ensures err { OnErr result (routes_in table.new.entries ≡ routes_in table.old.entries) }
+    ensures memory { changes.now.nlri ≡ None → changes.now.mp_reach_nlri ≡ None → IsOk result }
     ensures full { HasNoRoom prefix_cmp table.new.entries }
     ensures unwritten { log.new.items ≡ [] }
 {

@@ -1,6 +1,6 @@
 //! The routes that a peer has announced: its Adj-RIB-In (RFC 4271, 3.2).
 
-ghost use Rattle.std.specs.Prelude.{◌≡◌, length, IfOk, OnOk, OnErr};
+ghost use Rattle.std.specs.Prelude.{◌≡◌, length, None, IfOk, IsOk, OnOk, OnErr};
 ghost use Rattle.bgp_update.specs.Allowed.{changes_value};
 ghost use Rattle.bgp_rib.specs.Routes.{
   AreRoutes,
@@ -81,6 +81,8 @@ impl<A: Allocator> RibIn<A> {
         A: Copy,
         ensures ok { OnOk result (self.new ≡ routes_after (changes_value changes.now) self.old) }
         ensures err { OnErr result (self.new ≡ self.old) }
+        ensures memory { changes.now.nlri ≡ None → changes.now.mp_reach_nlri ≡ None
+            → IsOk result }
     {
         apply_changes(&mut self.table, &mut self.log, self.disabled, changes)
     }
