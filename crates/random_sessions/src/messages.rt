@@ -34,22 +34,6 @@ pub(crate) const WITHDRAWS_2001_DB8: [u8; 34] = [
     0x20, 0x20, 0x01, 0x0d, 0xb8, // 2001:db8::/32
 ];
 
-/// An UPDATE whose MP_REACH_NLRI announces 10.0.0.0/8, with wrong attribute flags alone.
-pub(crate) const MP_REACH_FOR_IPV4: [u8; 50] = [
-    255, 255, 255, 255, 255, 255, 255, 255, 255, 255, 255, 255, 255, 255, 255, 255, // marker
-    0x00, 0x32, // Length: 50
-    0x02, // Type: UPDATE
-    0x00, 0x00, // Withdrawn Routes Length: 0
-    0x00, 0x1b, // Total Path Attribute Length: 27
-    0x40, 0x01, 0x01, 0x00, // ORIGIN: IGP
-    0x40, 0x02, 0x06, 0x02, 0x01, 0x00, 0x00, 0xfd, 0xea, // AS_PATH: a sequence of 65002
-    0xc0, 0x0e, 0x0b, // MP_REACH_NLRI, 11 octets, Transitive set
-    0x00, 0x01, 0x01, // IPv4 unicast
-    0x04, 0xc0, 0x00, 0x02, 0x02, // next hop 192.0.2.2
-    0x00, // reserved
-    0x08, 0x0a, // NLRI: 10.0.0.0/8
-];
-
 /// A NOTIFICATION of malformed path attributes.
 pub(crate) const MALFORMED_ATTRIBUTE_LIST: [u8; 21] = [
     255, 255, 255, 255, 255, 255, 255, 255, 255, 255, 255, 255, 255, 255, 255, 255, // marker

@@ -2,7 +2,9 @@
 
 use super::*;
 use bgp_judge::Tracker;
-use bgp_wire::vectors::{ANNOUNCES_10, KEEPALIVE, MP_REACH_TRANSITIVE, OPEN_A, OPEN_B};
+use bgp_wire::vectors::{
+    ANNOUNCES_10, KEEPALIVE, MP_REACH_FOR_IPV4, MP_REACH_TRANSITIVE, OPEN_A, OPEN_B,
+};
 use mrt::Record::{Change, In, Out};
 
 /// A session comes up, and a route is announced.
@@ -24,14 +26,6 @@ const FOUR: &[Expected<'static>] = &[
     (Fsm::Established, V4, &[]),
     (Fsm::Established, V6, &["10.0.0.0/8"]),
     (Fsm::Established, BOTH, &[]),
-];
-
-/// An UPDATE whose MP_REACH_NLRI announces 10.0.0.0/8, with wrong attribute flags alone.
-const MP_REACH_FOR_IPV4: [u8; 50] = [
-    0xff, 0xff, 0xff, 0xff, 0xff, 0xff, 0xff, 0xff, 0xff, 0xff, 0xff, 0xff, 0xff, 0xff, 0xff, 0xff,
-    0x00, 0x32, 0x02, 0x00, 0x00, 0x00, 0x1b, 0x40, 0x01, 0x01, 0x00, 0x40, 0x02, 0x06, 0x02, 0x01,
-    0x00, 0x00, 0xfd, 0xea, 0xc0, 0x0e, 0x0b, 0x00, 0x01, 0x01, 0x04, 0xc0, 0x00, 0x02, 0x02, 0x00,
-    0x08, 0x0a,
 ];
 
 /// Whether a tracker answers these ends, where so many times each family may be disabled or not.
