@@ -4,11 +4,13 @@
 # captures: a table that a peer sends in order, and then none, 100,000 and 2,000,000 further
 # records, UPDATEs of groups that are announced or withdrawn again and KEEPALIVEs; the peer ends the
 # session, or it goes on and its routes are printed. Beside the memory stands that of the table
-# alone, with the routes of the same UPDATEs and nothing else (`session_capture table`).
+# alone, with the routes of the same UPDATEs and nothing else (`session_capture table`), and beside
+# its time that of the same changes in a table of hashes in C (bench/hash.c): no table of this size
+# costs less.
 #
-# Wants bash, coreutils, GNU time for the memory with the ends, and the programs that `rt run` built
-# in crates/bgp/out/bgp and crates/session_capture/out/session_capture. Prints figures; it is no
-# test. Words: those programs, if they are others, and how many prefixes the table has.
+# Wants bash, coreutils, cc, GNU time for the memory with the ends, and the programs that `rt run`
+# built in crates/bgp/out/bgp and crates/session_capture/out/session_capture. Prints figures; it is
+# no test. Words: those programs, if they are others, and how many prefixes the table has.
 set -euo pipefail
 
 here=$(cd "$(dirname "$0")" && pwd)
@@ -22,6 +24,7 @@ prefixes=${3:-1000000}
 
 work=$(mktemp -d)
 trap 'rm -rf "$work"' EXIT
+cc -O2 -o "$work/hash" "$here/hash.c"
 
 session=(--peer 192.0.2.2 --local 192.0.2.1)
 judge=(judge --local-as 65001 --peer-as 65002 --local-id 192.0.2.1 --families both "${session[@]}")
@@ -69,7 +72,7 @@ cost() {
     echo "$prefixes prefixes and $name: $(stat -c %s "$file") octets," \
         "judge: ${judging[$name]} ms, decode --mrt: ${decoding[$name]} ms," \
         "judge to decode: $(thousandths $((judging[$name] * 1000 / decoding[$name])))," \
-        "table alone: $(least "$maker" table "$file") ms;" \
+        "table alone: $(least "$maker" table "$file") ms, of hashes: $("$work/hash" "$file") ms;" \
         "peak before the ends: $before KiB, of the table alone: $alone KiB," \
         "more: $((before - alone)) KiB"
     [[ ! -x /usr/bin/time ]] || timed=(/usr/bin/time -f "    peak with the ends: %M KiB")
