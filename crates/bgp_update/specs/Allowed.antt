@@ -23,7 +23,10 @@ group_routes (Some p) = put_routes p
 
 -- the changes: the routes of the NLRI field, and then those of MP_REACH_NLRI
 abbrev pub changes_value : {X : Type 0} → Changes X → RouteChanges
-changes_value c = record { remove = c.remove.items; put = group_routes c.nlri ++ group_routes c.mp_reach_nlri }
+changes_value c = record {
+  remove = c.remove.items;
+  put = group_routes c.nlri ++ group_routes c.mp_reach_nlri;
+}
 
 -- a reset with each of the subcodes; and, where there are changes, an Apply of them for each set of
 -- families with the certain ones and any part of the optional ones

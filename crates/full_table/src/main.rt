@@ -36,8 +36,8 @@ struct Wish {
     is_shared: bool,
 }
 
-/// What the program's words wish: numbers of prefixes of each family and of paths, and then `sorted`
-/// for prefixes that ascend, and any other word for one path.
+/// What the program's words wish: numbers of prefixes of each family and of paths, and then
+/// `sorted` for prefixes that ascend, and any other word for one path.
 fn wishes<R: Env + AllocGlobal>(rt: &R) -> io::Result<Wish> {
     let mut words = env::args(rt)?.skip(1);
     let mut numbers = [1000, 200, 200];

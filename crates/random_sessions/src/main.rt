@@ -21,8 +21,9 @@ use walk::random_session;
 /// How many sessions there are.
 const SESSIONS: usize = 1000;
 
-/// What the router is configured to do: AS 65001 at 192.0.2.1, with AS 65002 at 192.0.2.2, Hold Time
-/// 90, both families and four-octet AS numbers. In every fourth session its OPEN is never delayed.
+/// What the router is configured to do: AS 65001 at 192.0.2.1, with AS 65002 at 192.0.2.2, Hold
+/// Time 90, both families and four-octet AS numbers. In every fourth session its OPEN is never
+/// delayed.
 const PARTS: ConfigParts = ConfigParts {
     local_as: 65001,
     peer_as: 65002,
