@@ -60,18 +60,17 @@ least() {
 # So many thousandths as a number.
 thousandths() { printf '%d.%03d' $(($1 / 1000)) $(($1 % 1000)); }
 
-# Prints what a capture costs, and keeps its times by a name.
-declare -A judging decoding
+# Prints what a capture costs.
 cost() {
-    local name=$1 file=$work/capture text=$work/text before alone timed=() verdict
+    local name=$1 file=$work/capture text=$work/text before alone timed=() verdict judging decoding
     "$maker" "$prefixes" "${@:2}" > "$file"
-    judging[$name]=$(least "$bgp" "${judge[@]}" "$file")
-    decoding[$name]=$(least "$bgp" "${decode[@]}" "$file")
+    judging=$(least "$bgp" "${judge[@]}" "$file")
+    decoding=$(least "$bgp" "${decode[@]}" "$file")
     before=$(peak "$file" "$bgp" "${judge[@]}")
     alone=$(peak "$file" "$maker" table)
     echo "$prefixes prefixes and $name: $(stat -c %s "$file") octets," \
-        "judge: ${judging[$name]} ms, decode --mrt: ${decoding[$name]} ms," \
-        "judge to decode: $(thousandths $((judging[$name] * 1000 / decoding[$name])))," \
+        "judge: $judging ms, decode --mrt: $decoding ms," \
+        "judge to decode: $(thousandths $((judging * 1000 / decoding)))," \
         "table alone: $(least "$maker" table "$file") ms, of hashes: $("$work/hash" "$file") ms;" \
         "peak before the ends: $before KiB, of the table alone: $alone KiB," \
         "more: $((before - alone)) KiB"
@@ -81,8 +80,28 @@ cost() {
     [[ $verdict == yes ]] || { echo "it is judged: $verdict" >&2; exit 1; }
 }
 
-# Microseconds a record between two captures, by the milliseconds of both.
-between() { thousandths $((($2 - $1) * 1000000 / $3)); }
+# The nanoseconds that judging has run, by the kernel's count, once it has read the first octets of a
+# capture: as many as each further word says, which ascend.
+read_up_to() {
+    local capture=$1 pid at=0 offset
+    shift
+    mkfifo "$work/pipe"
+    "$bgp" "${judge[@]}" "$work/pipe" > /dev/null &
+    pid=$!
+    exec 3> "$work/pipe" 4< "$capture"
+    for offset in "$@"; do
+        head -c $((offset - at)) <&4 >&3
+        at=$offset
+        sleep 0.2
+        cut -d ' ' -f 1 "/proc/$pid/schedstat"
+    done
+    exec 3>&- 4<&-
+    wait "$pid" || true
+    rm "$work/pipe"
+}
+
+# The size of a capture with so many further records, with which each longer one begins.
+size_with() { "$maker" "$prefixes" "$1" | wc -c; }
 
 echo "cores: $(nproc)"
 for ending in ended ""; do
@@ -90,9 +109,16 @@ for ending in ended ""; do
     cost "0 $what" 0 $ending
     cost "100000 $what" 100000 $ending
     cost "2000000 $what" 2000000 $ending
-    echo "a further record, ${ending:-going on}:" \
-        "judge: $(between "${judging[0 $what]}" "${judging[100000 $what]}" 100000) us" \
-        "to 100000, $(between "${judging[100000 $what]}" "${judging[2000000 $what]}" 1900000) us" \
-        "from there to 2000000;" \
-        "decode --mrt: $(between "${decoding[0 $what]}" "${decoding[2000000 $what]}" 2000000) us"
 done
+
+# The last capture is still there: what a record takes early and late in one run, the least of five.
+offsets=($(for further in 0 100000 1900000 2000000; do size_with $further; done))
+early= late=
+for run in 1 2 3 4 5; do
+    spent=($(read_up_to "$work/capture" "${offsets[@]}"))
+    first=$((spent[1] - spent[0])) last=$((spent[3] - spent[2]))
+    if [[ -z $early ]] || ((first < early)); then early=$first; fi
+    if [[ -z $late ]] || ((last < late)); then late=$last; fi
+done
+echo "a further record, judged: $(thousandths $((early / 100000))) us of the first 100000," \
+    "$(thousandths $((late / 100000))) us of the last 100000 of 2000000"
