@@ -1,17 +1,25 @@
 //! Laws: contracts of functions that do nothing.
 
-ghost use Rattle.std.specs.Prelude.{◌≤◌};
+ghost use Rattle.std.specs.Prelude.{◌≡◌, ◌≤◌, ◌+◌};
 ghost use Rattle.std.specs.Mem.{type_size};
 ghost use Rattle.std.specs.contracts.alloc.Global.{the_row as global_row};
+ghost use Rattle.bgp_open.specs.contracts.config.Config.{the_row as config_row};
+ghost use Rattle.bgp_rib.specs.contracts.rib_in.RibIn.{the_row as table_row};
 ghost use Rattle.bgp_compact.specs.contracts.compact.CompactTracker.{the_row as tracker_row};
 ghost use Rattle.bgp_compact.specs.contracts.words.Words.{the_row as words_row};
 
 use std::alloc::{Allocator, Global};
 
-/// Law: a tracker over the program's own allocator takes at most 320 octets, of which its words are
-/// at most 96, whatever it took. Words and configuration are `Copy`, so that nothing of them lies
-/// elsewhere: what grows is its table alone.
+/// Law: a tracker over the program's own allocator takes at most 240 octets, whatever it took: its
+/// configuration, its words, at most 72 octets, and its one table, with nothing beside them.
+///
+/// Words and configuration are `Copy`, so that nothing of them lies elsewhere. What does is the
+/// table's own: its routes, and room to note what one UPDATE writes, which stays until the session
+/// ends.
 pub fn trackers_have_a_fixed_size()
-    ensures tracker { type_size (tracker_row global_row ⟦<Global as Allocator>⟧) ≤ 320 }
-    ensures words { type_size words_row ≤ 96 }
+    ensures tracker { type_size (tracker_row global_row ⟦<Global as Allocator>⟧) ≤ 240 }
+    ensures words { type_size words_row ≤ 72 }
+    ensures alone { type_size (tracker_row global_row ⟦<Global as Allocator>⟧)
+        ≡ type_size config_row + type_size words_row
+        + type_size (table_row global_row ⟦<Global as Allocator>⟧) }
 {}
