@@ -17,3 +17,4 @@ pub mod Images
 pub mod Making
 pub mod Behind
 pub mod Refusals
+pub mod OneTable

@@ -47,7 +47,7 @@ use Rattle.bgp_compact.specs.Members.IsMember.{Front, Fallen}
 use Rattle.bgp_compact.specs.Parts.{AreFine, HasNoBase, IsBase, free_member}
 use Rattle.bgp_compact.specs.Standing.{IsTableOf}
 use Rattle.bgp_compact.specs.Steps.{AreMade, AreMadeAt, IsOpen, table_behind}
-use Rattle.bgp_compact.specs.Table.{IsTableByMessage, IsTableChanged, IsTableFrom, IsTableNext, MayApply, table_by_change}
+use Rattle.bgp_compact.specs.Table.{IsTableBehind, IsTableByMessage, IsTableChanged, IsTableFrom, MayApply, table_by_change}
 use Rattle.bgp_compact.proofs.Bases.{idle_not_up}
 use Rattle.bgp_compact.proofs.FallsPaid.{paid_stays}
 use Rattle.bgp_compact.proofs.PartPaid.{Part, part}
@@ -57,8 +57,8 @@ use Rattle.bgp_compact.proofs.Ways.{falling_gives, given_then, hidden_gives, lea
 -- ---- one record more
 
 pub table_more : (config : Config) (t : Told) (table mid last : Routes) (records : List ShownRecord) (r : ShownRecord) → IsTableFrom config t table records mid
-    → IsTableNext config (told_from t records) r mid last → IsTableFrom config t table (records ++ r ∷ []) last
-table_more config t table mid last [] r from next = (last, subst (λ (v : Routes). IsTableNext config t r v last) from next, refl)
+    → IsTableBehind config (told_from t records) r mid last → IsTableFrom config t table (records ++ r ∷ []) last
+table_more config t table mid last [] r from next = (last, subst (λ (v : Routes). IsTableBehind config t r v last) from next, refl)
 table_more config t table mid last (x ∷ records) r from next = (from.0, from.1, table_more config (told_next t x) from.0 mid last records r from.2 next)
 
 fsm_heard : (f : Fsm) (t : Told) (octets : List ℕ) → (told_by_message f t octets).fsm ≡ t.fsm
@@ -235,7 +235,7 @@ NeedsBase r words = Unit {0}
 pub table_next : {X : Type 0} (config : Config) (words : Words) (table : Routes) (records : List ShownRecord) (r : ShownRecord) (given : Option (Changes X)) (shown : Fsm)
     → StandFor config (IsMember words table) records → IsTableOf words table → words.shown ≡ (told records).fsm
     → shown ≡ shown_after words.shown (going.told r) → AreMade config words r given → NeedsBase r words
-    → IsTableNext config (told records) r table (table_behind shown (changes_of given) table)
+    → IsTableBehind config (told records) r table (table_behind shown (changes_of given) table)
 table_next config words table records (Received u octets) given shown stand of is e made needs = elim made [
   | inl none ↦ absurd (needs none.0)
   | inr k ↦

@@ -35,20 +35,29 @@ abbrev pub table_by_change : Option Fsm → Routes → Routes
 table_by_change (Some fsms.Idle) table = no_routes
 table_by_change change table = table
 
--- what a record makes of it, behind records that told so
-abbrev pub IsTableNext : Config → Told → ShownRecord → Routes → Routes → Type 0
-IsTableNext config t (Received second octets) table next =
+-- what it is behind one record more, where those before told so
+abbrev pub IsTableBehind : Config → Told → ShownRecord → Routes → Routes → Type 0
+IsTableBehind config t (Received second octets) table next =
     IsTableByMessage t.fsm (link_told config t) octets table next
-IsTableNext config t (Sent second octets) table next = next ≡ table
-IsTableNext config t (Changed second old new) table next = next ≡ table_by_change (fsm_at new) table
+IsTableBehind config t (Sent second octets) table next = next ≡ table
+IsTableBehind config t (Changed second old new) table next =
+    next ≡ table_by_change (fsm_at new) table
 
 -- what records make of it, one after another
 abbrev pub IsTableFrom : Config → Told → Routes → List ShownRecord → Routes → Type 0
 IsTableFrom config t table [] last = last ≡ table
 IsTableFrom config t table (shown ∷ records) last =
-    (next : Routes) × IsTableNext config t shown table next
+    (next : Routes) × IsTableBehind config t shown table next
     × IsTableFrom config (told_next t shown) next records last
 
 -- the table that the records make
 abbrev pub IsTableMade : Config → List ShownRecord → Routes → Type 0
 IsTableMade config records table = IsTableFrom config fresh_told no_routes records table
+
+-- ---- the law
+
+-- records make one table
+abbrev pub RecordsMakeOneTable : Type 0
+RecordsMakeOneTable =
+    (config : Config) (records : List ShownRecord) (table other : Routes)
+    → IsTableMade config records table → IsTableMade config records other → table ≡ other

@@ -7,6 +7,7 @@ ghost use Rattle.bgp_open.specs.contracts.config.Config.{the_row as config_row};
 ghost use Rattle.bgp_rib.specs.contracts.rib_in.RibIn.{the_row as table_row};
 ghost use Rattle.bgp_compact.specs.contracts.compact.CompactTracker.{the_row as tracker_row};
 ghost use Rattle.bgp_compact.specs.contracts.words.Words.{the_row as words_row};
+ghost use Rattle.bgp_compact.specs.Table.{RecordsMakeOneTable};
 
 use std::alloc::{Allocator, Global};
 
@@ -22,4 +23,10 @@ pub fn trackers_have_a_fixed_size()
     ensures alone { type_size (tracker_row global_row ⟦<Global as Allocator>⟧)
         ≡ type_size config_row + type_size words_row
         + type_size (table_row global_row ⟦<Global as Allocator>⟧) }
+{}
+
+/// Law: a session's records make at most one table (`specs/Table`). So the table of a tracker that
+/// stands for them is the one that they make.
+pub fn records_make_one_table()
+    ensures { RecordsMakeOneTable }
 {}
