@@ -1,6 +1,8 @@
 //! The examples of `bgp judge`, from the words of the command line to the text and the status.
 
 use bgp_compact::CompactTracker;
+use bgp_judge::{PlainTracker, Tracker};
+use bgp_open::Config;
 use bgp_tool::{Command, command_line, judge_opened};
 use mrt::FromWrite;
 use std::alloc::Global;
@@ -24,8 +26,34 @@ const EXAMPLES: [(&str, u8); 12] = [
     ("two-ends.mrt", 0),
 ];
 
-/// Whether the words of an example are a judging, and it writes the example's text, answers this
-/// status and has nothing to tell.
+/// A capture, how it is judged, and what is printed and answered.
+#[derive(Drop)]
+struct Example<'a> {
+    config: Config,
+    file: &'a str,
+    octets: &'a [u8],
+    text: &'a str,
+    status: u8,
+}
+
+/// Whether judging an example with a tracker writes its text, answers its status and has nothing
+/// to tell.
+fn is_answered<T: Tracker<Global>>(alloc: Global, example: &Example<'_>) -> bool {
+    let mut sink = FromWrite::new(Vec::new(alloc));
+    let outcome = judge_opened::<Global, T, &[u8], Vec<u8>>(
+        alloc,
+        &example.config,
+        example.file,
+        Ok(example.octets),
+        &mut sink,
+    );
+    let written = sink.into_inner();
+    written.as_slice() == example.text.as_bytes()
+        && outcome.status == example.status
+        && outcome.note.is_none()
+}
+
+/// Whether the words of an example are a judging, and both trackers answer it as it says.
 fn is_so<R: Files + AllocGlobal>(rt: &R, name: &str, status: u8) -> io::Result<bool> {
     let alloc = rt.alloc();
     let capture = format!(in alloc; "judge/{name}")?;
@@ -40,16 +68,17 @@ fn is_so<R: Files + AllocGlobal>(rt: &R, name: &str, status: u8) -> io::Result<b
         return Ok(false);
     };
     let octets = fs::read(rt, file)?;
-    let mut sink = FromWrite::new(Vec::new(alloc));
-    let outcome = judge_opened::<Global, CompactTracker<Global>, &[u8], Vec<u8>>(
-        alloc,
-        &config,
+    let example = Example {
+        config,
         file,
-        Ok(octets.as_slice()),
-        &mut sink,
-    );
-    let written = sink.into_inner();
-    Ok(written.as_slice() == text.as_bytes() && outcome.status == status && outcome.note.is_none())
+        octets: octets.as_slice(),
+        text: text.as_str(),
+        status,
+    };
+    Ok(
+        is_answered::<PlainTracker<Global>>(alloc, &example)
+            && is_answered::<CompactTracker<Global>>(alloc, &example),
+    )
 }
 
 /// Prints each example that is not so, and then how many there were. Answers whether all are so.

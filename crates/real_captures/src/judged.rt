@@ -157,35 +157,39 @@ fn is_judged<T: Tracker<Global>>(alloc: Global, case: &Judged) -> Result<bool, A
 }
 
 /// Whether a source is told that fails behind the capture, if it isn't refused before.
-fn is_source_told(alloc: Global, case: &Judged) -> Result<bool, AllocError> {
+fn is_source_told<T: Tracker<Global>>(alloc: Global, case: &Judged) -> Result<bool, AllocError> {
     if case.status > 2 {
         return Ok(true);
     }
-    let (written, status) = answer_to::<PlainTracker<Global>>(alloc, case, Failing::Source)?;
+    let (written, status) = answer_to::<T>(alloc, case, Failing::Source)?;
     let length = case.capture.len();
     let text = format!(in alloc; "capture refused: 9 Device at {length}\n")?;
     Ok(written.as_slice() == text.as_bytes() && status == 5)
 }
 
 /// Whether a sink is told that fails.
-fn is_sink_told(alloc: Global, case: &Judged) -> Result<bool, AllocError> {
-    let (written, status) = answer_to::<PlainTracker<Global>>(alloc, case, Failing::Sink)?;
+fn is_sink_told<T: Tracker<Global>>(alloc: Global, case: &Judged) -> Result<bool, AllocError> {
+    let (written, status) = answer_to::<T>(alloc, case, Failing::Sink)?;
     Ok(written.is_empty() && status == 5)
 }
 
-/// Whether a case is so.
-fn is_so(alloc: Global, case: &Judged) -> Result<bool, AllocError> {
+/// Whether a case is so with a tracker.
+fn is_so<T: Tracker<Global>>(alloc: Global, case: &Judged) -> Result<bool, AllocError> {
     Ok(
-        is_judged::<PlainTracker<Global>>(alloc, case)?
-            && is_judged::<CompactTracker<Global>>(alloc, case)?
-            && is_source_told(alloc, case)?
-            && is_sink_told(alloc, case)?,
+        is_judged::<T>(alloc, case)?
+            && is_source_told::<T>(alloc, case)?
+            && is_sink_told::<T>(alloc, case)?,
     )
 }
 
+/// Whether a case is so with both trackers.
+fn is_so_with_both(alloc: Global, case: &Judged) -> Result<bool, AllocError> {
+    Ok(is_so::<PlainTracker<Global>>(alloc, case)? && is_so::<CompactTracker<Global>>(alloc, case)?)
+}
+
 /// Prints each case of a table that is not so, and then how many there were. Answers whether all
-/// are so. Both trackers judge each. It is also judged from a source that fails behind it, and into
-/// a sink that fails.
+/// are so. Both trackers judge each, also from a source that fails behind it, and into a sink that
+/// fails.
 pub(crate) fn compare_judged<R: Files + Print + AllocGlobal>(
     rt: &R,
     name: &str,
@@ -199,7 +203,7 @@ pub(crate) fn compare_judged<R: Files + Print + AllocGlobal>(
         }
         cases = cases.saturating_add(1);
         let case = read_judged(rt, block.trim_end())?;
-        if !is_so(rt.alloc(), &case)? {
+        if !is_so_with_both(rt.alloc(), &case)? {
             println!(rt; "{name}: case {cases} is not so:\n{block}")?;
             all = false;
         }

@@ -9,7 +9,7 @@
 //! was written apart from this one; `sessions.txt` was worked out by hand from RFC 4271, one
 //! session for each thing that it teaches, and `cuts.txt` is two records cut to each length. And
 //! each capture of `judged.txt` is altered twice: there both trackers answer alike. And the
-//! examples of `bgp judge` are, from the words of the command line on.
+//! examples of `bgp judge` are, by both trackers, from the words of the command line on.
 #![tactic(auto)]
 
 mod altered;
