@@ -18,3 +18,4 @@ pub mod Making
 pub mod Behind
 pub mod Refusals
 pub mod OneTable
+pub mod RunTables

@@ -256,7 +256,7 @@ table_next config words table records (Changed u x y) given shown stand of is e 
 
 -- ---- it is empty unless Established is shown
 
-up_or_not : (f : Fsm) → (f ≡ fsms.Established) ⊎ (f ≡ fsms.Established → ⊥)
+pub up_or_not : (f : Fsm) → (f ≡ fsms.Established) ⊎ (f ≡ fsms.Established → ⊥)
 up_or_not fsms.Idle = inr (λ e. cc)
 up_or_not fsms.Connect = inr (λ e. cc)
 up_or_not fsms.Active = inr (λ e. cc)

@@ -17,10 +17,8 @@ use Rattle.bgp_rib.specs.Routes.{Routes}
 use Rattle.bgp_judge.specs.Next.{Opens}
 use Rattle.bgp_judge.specs.Openings.{ListTakesMemory}
 use Rattle.bgp_judge.specs.Told.{Told, link_told, told}
-use Rattle.bgp_compact.specs.declared.base.Base.{Base}
 use Rattle.bgp_compact.specs.declared.words.Words.{Words}
 use Rattle.bgp_compact.specs.Memory.{BaseTakesMemory, TakesMemory}
-use Rattle.bgp_compact.specs.Parts.{IsBase}
 use Rattle.bgp_compact.specs.Standing.{Stands}
 use Rattle.bgp_compact.specs.Steps.{AreMade}
 use Rattle.bgp_compact.specs.Table.{MayApply}

@@ -426,7 +426,7 @@ up_head (OpenSent timer) e = absurd (let k : ⊥ = cc in k)
 up_head (OpenConfirm own timer) e = absurd (let k : ⊥ = cc in k)
 up_head (Established own timer) e = (own, timer, refl)
 
-on_up : (own : Link) (timer : HoldTimer) (t : ℕ) (m : Heard) → fsm_of (going_on (Established own timer) t m) ≡ fsms.Established
+pub on_up : (own : Link) (timer : HoldTimer) (t : ℕ) (m : Heard) → fsm_of (going_on (Established own timer) t m) ≡ fsms.Established
 on_up own timer t heard.TooShort = refl
 on_up own timer t (heard.ValidOpen link e) = refl
 on_up own timer t (heard.FaultyHeader f) = refl
@@ -436,7 +436,7 @@ on_up own timer t heard.Notification = refl
 on_up own timer t heard.Keepalive = refl
 on_up own timer t heard.Update = refl
 
-up_link : (head : Head) → fsm_of head ≡ fsms.Established → HasLink head
+pub up_link : (head : Head) → fsm_of head ≡ fsms.Established → HasLink head
 up_link head e = let k = up_head head e in subst HasLink (sym k.2) tt
 
 -- what is Established by itself stays so, or falls

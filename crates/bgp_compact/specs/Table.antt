@@ -11,7 +11,9 @@ use Rattle.bgp_machine.specs.declared.fsm.Fsm.{Fsm}
 use Rattle.bgp_machine.specs.declared.fsm.Fsm.TheVariants as fsms
 use Rattle.bgp_machine.specs.Going.{fsm_at}
 use Rattle.bgp_machine.specs.Heard.{Announces}
-use Rattle.bgp_rib.specs.Routes.{Routes, no_routes, routes_after}
+use Rattle.bgp_machine.specs.Run.{Run}
+use Rattle.bgp_machine.specs.State.{SessionState, fresh_state}
+use Rattle.bgp_rib.specs.Routes.{Routes, no_routes, routes_after, routes_without}
 use Rattle.bgp_judge.specs.Told.{Told, fresh_told, link_told, told_next}
 
 -- an UPDATE may be applied with these changes
@@ -54,10 +56,18 @@ IsTableFrom config t table (shown ∷ records) last =
 abbrev pub IsTableMade : Config → List ShownRecord → Routes → Type 0
 IsTableMade config records table = IsTableFrom config fresh_told no_routes records table
 
--- ---- the law
+-- ---- the laws
 
 -- records make one table
 abbrev pub RecordsMakeOneTable : Type 0
 RecordsMakeOneTable =
     (config : Config) (records : List ShownRecord) (table other : Routes)
     → IsTableMade config records table → IsTableMade config records other → table ≡ other
+
+-- each run that shows the records ends with the routes of the table that they make, but for those
+-- of the families that it has disabled
+abbrev pub EachRunEndsWithTheTable : Type 0
+EachRunEndsWithTheTable =
+    (config : Config) (records : List ShownRecord) (table : Routes) (e : SessionState)
+    → IsTableMade config records table → Run config fresh_state records e
+    → e.routes ≡ routes_without e.routes.disabled table

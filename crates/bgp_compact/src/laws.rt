@@ -7,7 +7,7 @@ ghost use Rattle.bgp_open.specs.contracts.config.Config.{the_row as config_row};
 ghost use Rattle.bgp_rib.specs.contracts.rib_in.RibIn.{the_row as table_row};
 ghost use Rattle.bgp_compact.specs.contracts.compact.CompactTracker.{the_row as tracker_row};
 ghost use Rattle.bgp_compact.specs.contracts.words.Words.{the_row as words_row};
-ghost use Rattle.bgp_compact.specs.Table.{RecordsMakeOneTable};
+ghost use Rattle.bgp_compact.specs.Table.{EachRunEndsWithTheTable, RecordsMakeOneTable};
 
 use std::alloc::{Allocator, Global};
 
@@ -29,4 +29,10 @@ pub fn trackers_have_a_fixed_size()
 /// stands for them is the one that they make.
 pub fn records_make_one_table()
     ensures { RecordsMakeOneTable }
+{}
+
+/// Law: where a run shows a session's records, the routes that it ends with are those of the table
+/// that they make, but for the routes of the families that it has disabled.
+pub fn each_run_ends_with_the_table()
+    ensures { EachRunEndsWithTheTable }
 {}
