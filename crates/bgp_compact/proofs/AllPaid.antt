@@ -1,6 +1,6 @@
 -- What a record leaves of members: of those that go on, and of all.
-use Rattle.std.proofs.Common.{◌≡◌, ◌↔◌, ◌⊎◌, inl, inr, IsTrue, List, Option, None, refl, sym, ap, subst, ◌∙◌}
-use Rattle.bgp_prefix.specs.Shown.{ShownRecord}
+use Rattle.std.proofs.Common.{◌≡◌, ◌↔◌, ◌⊎◌, ℕ, inl, inr, IsTrue, List, Option, None, refl, sym, ap, subst, ◌∙◌}
+use Rattle.bgp_prefix.specs.Shown.{ShownRecord, Received}
 use Rattle.bgp_open.specs.declared.config.Config.{Config}
 use Rattle.bgp_open.specs.declared.families.Families.{Families}
 use Rattle.bgp_machine.specs.declared.fsm.Fsm.{Fsm}
@@ -21,10 +21,11 @@ use Rattle.bgp_compact.specs.declared.falls.Fall.{Fall}
 use Rattle.bgp_compact.specs.declared.falls.Falls.{Falls}
 use Rattle.bgp_compact.specs.declared.words.Words.{Words}
 use Rattle.bgp_compact.specs.Disabled.{holds, no_sets}
-use Rattle.bgp_compact.specs.Members.{HasFall, GoesOn, IsMember, sets_where, front_member, fallen_member}
+use Rattle.bgp_compact.specs.Members.{HasFall, GoesOn, IsMember, sets_where, front_member, fallen_member, left_of, no_falls}
 use Rattle.bgp_compact.specs.Members.IsMember.{Front, Fallen}
 use Rattle.bgp_compact.specs.Parts.{shown_by, LeavesSends, NoFrontPaid, FrontLeaves, PaidTo, FallsTo, FallPaid, AreFallsOf, AreFine}
 use Rattle.bgp_compact.proofs.FallsPaid.{paid_stays}
+use Rattle.bgp_compact.proofs.OneFall.{none_falls}
 use Rattle.bgp_compact.proofs.PartPaid.{Part, part, link_none}
 use Rattle.bgp_compact.proofs.SetsOfSets.{holds_none}
 
@@ -173,3 +174,14 @@ paid_none config n r falls none fallen faults =
       falls = faults;
       stays = λ fall has. fall_stays config n r falls fall fallen has;
     }
+
+-- a message that was received leaves none
+
+pub none_left : (config : Config) (n next : Words) (t : ℕ) (octets : List ℕ) → next.shown ≡ n.shown → next.left ≡ left_of n → next.head ≡ n.head → next.wants ≡ n.wants
+    → next.sets ≡ no_sets → next.falls ≡ no_falls → PaidTo config n (Received t octets) next
+none_left config n next t octets shown left head wants sets falls =
+    subst (λ (v : Words). PaidTo config n (Received t octets) v)
+    (λ i. record { shown = sym shown i; left = sym left i; head = sym head i; wants = sym wants i; sets = sym sets i; falls = sym falls i })
+    (paid_none config n (Received t octets) no_falls (inr (λ left still pays. pays))
+    (λ m. (λ fallen. absurd (none_falls fallen.0 fallen.1), λ paid. absurd (paid.2.pays)))
+    (λ fall has. absurd (none_falls fall has)))

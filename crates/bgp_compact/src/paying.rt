@@ -169,6 +169,7 @@ fn paid_own(config: &Config, words: Words, shown: &Record<'_>) -> Words
 }
 
 /// Behind a message that was received: no member shows it next, so none of these is left.
+#[tactic(auto, using(crate::proofs::AllPaid::none_left))]
 fn unpaid(words: Words) -> Words
     ensures { (config : TheConfig) (t : ℕ) (octets : List ℕ)
         → PaidTo config words (Received t octets) result }
