@@ -2,6 +2,7 @@
 //! compared by the program `real_captures`.
 
 use super::*;
+use bgp_compact::CompactTracker;
 use bgp_judge::PlainTracker;
 use bgp_open::{Config, ConfigParts, Families};
 use bgp_prefix::{Address, Session};
@@ -9,6 +10,16 @@ use bgp_wire::vectors::{MP_REACH_TRANSITIVE, OPEN_A};
 use mrt::Record::{self, Change, In, Out};
 use mrt::{Sink, is_writable, write_record};
 use std::alloc::Allocator;
+
+/// What judges: the slow tracker that is easy to believe, or the one that `bgp judge` runs.
+#[derive(Clone, Copy)]
+pub(super) enum Judge {
+    Plain,
+    Compact,
+}
+
+/// Both of them.
+pub(super) const BOTH: [Judge; 2] = [Judge::Plain, Judge::Compact];
 
 /// What router A is configured to do.
 pub(super) const PARTS_A: ConfigParts = ConfigParts {
@@ -65,18 +76,31 @@ fn capture_of(alloc: Global, records: &[Record<'_>]) -> Result<Vec<u8>, Fail> {
 }
 
 /// What judging [`RECORDS`] with this memory writes and answers.
-fn judged<A: Allocator + Copy>(alloc: Global, memory: A) -> Result<(Vec<u8>, u8), Fail> {
+fn judged<A: Allocator + Copy>(
+    judge: Judge,
+    alloc: Global,
+    memory: A,
+) -> Result<(Vec<u8>, u8), Fail> {
     let config = Config::new(PARTS_A).ok_or("no configuration")?;
     let mut source = MemSource::new(capture_of(alloc, &RECORDS)?);
     let mut sink = MemSink::new(alloc);
-    let status = judge_capture::<A, PlainTracker<A>, _, _>(memory, &config, &mut source, &mut sink);
+    let status = match judge {
+        Judge::Plain => {
+            judge_capture::<A, PlainTracker<A>, _, _>(memory, &config, &mut source, &mut sink)
+        }
+        Judge::Compact => {
+            judge_capture::<A, CompactTracker<A>, _, _>(memory, &config, &mut source, &mut sink)
+        }
+    };
     Ok((sink.into_octets(), status))
 }
 
 #[test]
 fn ample_memory(rt: HostRuntime) -> Result<(), Fail> {
-    let (written, answer) = judged(rt.alloc(), rt.alloc())?;
-    same(&rt, written.as_slice(), answer, TEXT.as_bytes(), 0);
+    for judge in BOTH {
+        let (written, answer) = judged(judge, rt.alloc(), rt.alloc())?;
+        same(&rt, written.as_slice(), answer, TEXT.as_bytes(), 0);
+    }
     Ok(())
 }
 
@@ -92,18 +116,21 @@ fn refusals(alloc: Global) -> Result<Vec<String>, Fail> {
 
 /// With each size of heap: status 4, and memory was refused at such an octet; until the heap is
 /// large enough for the verdict.
-#[test]
-fn a_refused_growth_has_no_verdict(rt: HostRuntime) -> Result<(), Fail> {
-    let refusals = refusals(rt.alloc())?;
+fn is_refused_until_ample(
+    rt: &impl Abort,
+    alloc: Global,
+    judge: Judge,
+    refusals: &[String],
+) -> Result<(), Fail> {
     let (mut first, mut last) = (None, None);
     for size in (16usize..1 << 15).step_by(16) {
-        let heap = LocalHeap::new(rt.alloc(), size)?;
-        let (written, answer) = judged(rt.alloc(), &heap)?;
+        let heap = LocalHeap::new(alloc, size)?;
+        let (written, answer) = judged(judge, alloc, &heap)?;
         let place = refusals
             .iter()
             .position(|refusal| refusal.as_bytes() == written.as_slice());
         let Some(place) = place else {
-            same(&rt, written.as_slice(), answer, TEXT.as_bytes(), 0);
+            same(rt, written.as_slice(), answer, TEXT.as_bytes(), 0);
             assert!(rt;
                 first == Some(0) && last > Some(0),
                 "refused at {first:?} to {last:?}"
@@ -115,4 +142,13 @@ fn a_refused_growth_has_no_verdict(rt: HostRuntime) -> Result<(), Fail> {
         last = Some(place);
     }
     Err(Fail::new("no heap was large enough"))
+}
+
+#[test]
+fn a_refused_growth_has_no_verdict(rt: HostRuntime) -> Result<(), Fail> {
+    let refusals = refusals(rt.alloc())?;
+    for judge in BOTH {
+        is_refused_until_ample(&rt, rt.alloc(), judge, &refusals)?;
+    }
+    Ok(())
 }
