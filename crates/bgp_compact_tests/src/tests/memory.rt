@@ -124,3 +124,94 @@ fn a_refused_growth_gives_no_verdict(rt: HostRuntime) -> Result<(), Fail> {
     assert!(rt; refused && done);
     Ok(())
 }
+
+/// An UPDATE that announces 10.`high`.`low`.0/24.
+fn announces(high: u8, low: u8) -> [u8; 47] {
+    [
+        255, 255, 255, 255, 255, 255, 255, 255, 255, 255, 255, 255, 255, 255, 255, 255, // marker
+        0x00, 0x2f, // Length: 47
+        0x02, // Type: UPDATE
+        0x00, 0x00, // Withdrawn Routes Length: 0
+        0x00, 0x14, // Total Path Attribute Length: 20
+        0x40, 0x01, 0x01, 0x00, // ORIGIN: IGP
+        0x40, 0x02, 0x06, 0x02, 0x01, 0x00, 0x00, 0xfd, 0xea, // AS_PATH: a sequence of 65002
+        0x40, 0x03, 0x04, 0xc0, 0x00, 0x02, 0x02, // NEXT_HOP: 192.0.2.2
+        0x18, 0x0a, high, low, // NLRI: 10.high.low.0/24
+    ]
+}
+
+/// An UPDATE that withdraws 10.`high`.`low`.0/24.
+fn withdraws(high: u8, low: u8) -> [u8; 27] {
+    [
+        255, 255, 255, 255, 255, 255, 255, 255, 255, 255, 255, 255, 255, 255, 255, 255, // marker
+        0x00, 0x1b, // Length: 27
+        0x02, // Type: UPDATE
+        0x00, 0x04, // Withdrawn Routes Length: 4
+        0x18, 0x0a, high, low, // 10.high.low.0/24
+        0x00, 0x00, // Total Path Attribute Length: 0
+    ]
+}
+
+/// A tracker behind the records that open the session: they have no routes, so it holds nothing.
+fn opened<'a>(rt: &impl Abort, heap: &'a LocalHeap) -> Result<CompactTracker<&'a LocalHeap>, Fail> {
+    let config = router_a()?;
+    let mut tracker = CompactTracker::start(heap, &config)?;
+    assert!(rt; heap.used() == 0);
+    for shown in &TWO_ENDS[..8] {
+        assert!(rt; tracker.take(shown)? && heap.used() == 0);
+    }
+    Ok(tracker)
+}
+
+/// How much is held behind so many rounds: a route is announced, it is kept, and it is withdrawn.
+fn held_after(
+    rt: &impl Abort,
+    heap: &LocalHeap,
+    tracker: &mut CompactTracker<&LocalHeap>,
+    rounds: usize,
+) -> Result<usize, Fail> {
+    for _ in 0..rounds {
+        let announced = tracker.take(&In(102, &announces(0, 0)))?;
+        let kept = tracker.take(&In(102, &KEEPALIVE))?;
+        let withdrawn = tracker.take(&In(102, &withdraws(0, 0)))?;
+        assert!(rt; announced && kept && withdrawn);
+    }
+    Ok(heap.used())
+}
+
+#[test]
+fn what_is_held_does_not_grow(rt: HostRuntime) -> Result<(), Fail> {
+    let heap = LocalHeap::new(rt.alloc(), 1 << 14)?;
+    let mut tracker = opened(&rt, &heap)?;
+    let few = held_after(&rt, &heap, &mut tracker, 2)?;
+    let many = held_after(&rt, &heap, &mut tracker, 200)?;
+    assert!(rt; few == many, "{few} octets are held, then {many}");
+    assert!(rt; tracker.take(&Change(103, 6, 1))? && heap.used() == 0);
+    Ok(())
+}
+
+/// Announces 400 routes.
+fn announce_all(rt: &impl Abort, tracker: &mut CompactTracker<&LocalHeap>) -> Result<(), Fail> {
+    for high in 0..2 {
+        for low in 0..200 {
+            assert!(rt; tracker.take(&In(102, &announces(high, low)))?);
+        }
+    }
+    Ok(())
+}
+
+#[test]
+fn a_record_copies_no_route(rt: HostRuntime) -> Result<(), Fail> {
+    let ample = LocalHeap::new(rt.alloc(), 1 << 20)?;
+    let heap = LocalHeap::new(rt.alloc(), 1 << 18)?;
+    let mut tracker = opened(&rt, &heap)?;
+    announce_all(&rt, &mut tracker)?;
+    let _ballast = ballast(&heap, &ample, 2048)?;
+    assert!(rt;
+        tracker.table().copy().is_err(),
+        "there is memory for a copy"
+    );
+    held_after(&rt, &heap, &mut tracker, 1)?;
+    assert!(rt; tracker.table().len() == 399);
+    Ok(())
+}
