@@ -3,10 +3,10 @@
 # time, and memory before the ends are listed and with them. The program session_capture makes the
 # captures: a table that a peer sends in order, and then none, 100,000 and 2,000,000 further
 # records, UPDATEs of groups that are announced or withdrawn again and KEEPALIVEs; the peer ends the
-# session, or it goes on and its routes are printed. Beside the memory stands that of the table
-# alone, with the routes of the same UPDATEs and nothing else (`session_capture table`), and beside
-# its time that of the same changes in a table of hashes in C (bench/hash.c): no table of this size
-# costs less.
+# session, or it goes on and its routes are printed. One more goes on and has four ends. Beside the
+# memory stands that of the table alone, with the routes of the same UPDATEs and nothing else
+# (`session_capture table`), and beside its time that of the same changes in a table of hashes in C
+# (bench/hash.c): no table of this size costs less.
 #
 # Wants bash, coreutils, cc, GNU time for the memory with the ends, and the programs that `rt run`
 # built in crates/bgp/out/bgp and crates/session_capture/out/session_capture. Prints figures; it is
@@ -78,6 +78,7 @@ cost() {
     "${timed[@]}" "$bgp" "${judge[@]}" "$file" 2>&1 > "$text"
     read -r verdict < "$text"
     [[ $verdict == yes ]] || { echo "it is judged: $verdict" >&2; exit 1; }
+    echo "    ends: $(grep -c '^end ' "$text"), their routes: $(grep -c '^route ' "$text")"
 }
 
 # The nanoseconds that judging has run, by the kernel's count, once it has read the first octets of a
@@ -104,6 +105,9 @@ read_up_to() {
 size_with() { "$maker" "$prefixes" "$1" | wc -c; }
 
 echo "cores: $(nproc)"
+# Two of the four ends have the table. The others have IPv4 disabled, and no routes; each is a copy
+# of the table at first, so three copies stand at once.
+cost "two further records, four ends" 0 several
 for ending in ended ""; do
     what="further records${ending:+, ended}"
     cost "0 $what" 0 $ending

@@ -3,10 +3,10 @@
 //! with other paths or withdrawn, and KEEPALIVEs.
 //!
 //! The words are how many prefixes the table has and how many further records there are, and a
-//! third one, `ended`, if the peer is to end the session; the capture goes to standard output. The
-//! word `table` and the name of such a capture put its routes into a table, and nothing else is
-//! done. Without words, in the gate, small captures are made, and the routes that they leave are
-//! counted.
+//! third one, `ended`, if the peer is to end the session, or `several`, if it is to go on behind
+//! two UPDATEs more that leave four ends; the capture goes to standard output. The word `table` and
+//! the name of such a capture put its routes into a table, and nothing else is done. Without words,
+//! in the gate, small captures are made, and the routes that they leave are counted.
 #![tactic(auto)]
 
 mod addresses;
@@ -22,7 +22,7 @@ use feed::Feed;
 use mrt::{FromWrite, MemSink, MemSource};
 use parties::{link_of, peer_config};
 use recorder::Recorder;
-use session::{Wish, record_session};
+use session::{Ending, Wish, record_session};
 use std::io::{BufWriter, Write};
 use std::process::ExitCode;
 use std::rt::{Env, Files};
@@ -40,6 +40,16 @@ fn main(rt: HostRuntime) -> ExitCode {
     }
 }
 
+/// The ending that a word names, or that none does.
+fn ending_of(word: Option<&str>) -> io::Result<Ending> {
+    match word {
+        None => Ok(Ending::GoesOn),
+        Some("ended") => Ok(Ending::Ended),
+        Some("several") => Ok(Ending::Several),
+        Some(_) => Err(io::Error::from(io::ErrorKind::InvalidInput)),
+    }
+}
+
 /// Does what the words ask for. Answers whether sessions leave the routes that they are to leave.
 fn run<R: Files + Env + Print + AllocGlobal>(rt: &R) -> io::Result<bool> {
     let mut words = env::args(rt)?.skip(1);
@@ -53,13 +63,14 @@ fn run<R: Files + Env + Print + AllocGlobal>(rt: &R) -> io::Result<bool> {
     let (Ok(prefixes), Ok(further)) = (first.parse::<u32>(), second.parse::<u32>()) else {
         return Err(io::Error::from(io::ErrorKind::InvalidInput));
     };
-    let is_ended = words.next().is_some();
+    let third = words.next();
+    let ending = ending_of(third.as_ref().map(|word| word.as_str()))?;
     write_capture(
         rt,
         Wish {
             prefixes,
             further,
-            is_ended,
+            ending,
         },
     )?;
     Ok(true)
@@ -75,25 +86,34 @@ fn count<R: Print + AllocGlobal>(rt: &R, wish: Wish) -> io::Result<bool> {
     let mut source = MemSource::new(recorder.into_sink().into_octets());
     let routes = table_of(rt.alloc(), &mut source)?.len();
     println!(rt; "{records} records, {announced} prefixes announced, {routes} routes left")?;
-    Ok(routes == if wish.is_ended { 0 } else { announced })
+    let left = match wish.ending {
+        Ending::GoesOn | Ending::Several => announced,
+        Ending::Ended => 0,
+    };
+    Ok(routes == left)
 }
 
-/// Makes a session with nothing behind the table, one that goes on, and the same one ended.
+/// Makes a session with nothing behind the table, one that goes on, and the same one ended and with
+/// several ends.
 fn count_each<R: Print + AllocGlobal>(rt: &R) -> io::Result<bool> {
     let table = Wish {
         prefixes: 500,
         further: 0,
-        is_ended: false,
+        ending: Ending::GoesOn,
     };
     let going = Wish {
         further: 1000,
         ..table
     };
     let ended = Wish {
-        is_ended: true,
+        ending: Ending::Ended,
         ..going
     };
-    Ok(count(rt, table)? && count(rt, going)? && count(rt, ended)?)
+    let several = Wish {
+        ending: Ending::Several,
+        ..going
+    };
+    Ok(count(rt, table)? && count(rt, going)? && count(rt, ended)? && count(rt, several)?)
 }
 
 /// Writes the session's records to standard output.

@@ -2,20 +2,33 @@
 
 use crate::feed::Feed;
 use crate::recorder::Recorder;
-use bgp_wire::vectors::{ADMINISTRATIVE_SHUTDOWN, KEEPALIVE, OPEN_A, OPEN_B};
+use bgp_wire::vectors::{
+    ADMINISTRATIVE_SHUTDOWN, KEEPALIVE, MP_REACH_FOR_IPV4, MP_REACH_TRANSITIVE, OPEN_A, OPEN_B,
+};
 use mrt::Sink;
 use std::alloc::Global;
 use std::io;
 
-/// How long the session is.
+/// How a session's records end.
+#[derive(Clone, Copy, PartialEq, Eq)]
+pub(crate) enum Ending {
+    /// It goes on.
+    GoesOn,
+    /// The peer ends it.
+    Ended,
+    /// It goes on, behind two UPDATEs for each of which its family may be disabled or not
+    /// (RFC 4760, 7), so that the records leave four ends.
+    Several,
+}
+
+/// How long the session is, and how it ends.
 #[derive(Clone, Copy)]
 pub(crate) struct Wish {
     /// How many prefixes the table has.
     pub(crate) prefixes: u32,
     /// How many records there are behind the table.
     pub(crate) further: u32,
-    /// Whether the peer ends the session, or it goes on.
-    pub(crate) is_ended: bool,
+    pub(crate) ending: Ending,
 }
 
 /// Writes the records up to Established (RFC 4271, 8.2.2).
@@ -88,9 +101,15 @@ pub(crate) fn record_session<S: Sink>(
     open(recorder)?;
     send_table(alloc, wish.prefixes, feed, recorder)?;
     go_on(alloc, wish.further, feed, recorder)?;
-    if wish.is_ended {
-        recorder.received(&ADMINISTRATIVE_SHUTDOWN)?;
-        recorder.changed(6, 1)?;
+    match wish.ending {
+        Ending::GoesOn => Ok(()),
+        Ending::Ended => {
+            recorder.received(&ADMINISTRATIVE_SHUTDOWN)?;
+            recorder.changed(6, 1)
+        }
+        Ending::Several => {
+            recorder.received(&MP_REACH_TRANSITIVE)?;
+            recorder.received(&MP_REACH_FOR_IPV4)
+        }
     }
-    Ok(())
 }
