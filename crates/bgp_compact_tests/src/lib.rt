@@ -1,4 +1,4 @@
-//! Tests of `bgp_compact`: up to four ends, and refused memory. (`real_captures` and
+//! Tests of `bgp_compact`: up to four ends, refused memory, and what is held. (`real_captures` and
 //! `random_sessions` judge captures with both trackers.)
 //!
 //! They stand in a crate of their own, since a crate with tests is proved twice.

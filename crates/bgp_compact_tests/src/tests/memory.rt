@@ -1,4 +1,4 @@
-//! Memory: enough of it, and growths that are refused.
+//! Memory: enough of it, growths that are refused, and what is held.
 
 use super::*;
 use bgp_judge::Tracker;
