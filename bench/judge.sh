@@ -115,10 +115,10 @@ for ending in ended ""; do
     cost "2000000 $what" 2000000 $ending
 done
 
-# The last capture is still there: what a record takes early and late in one run, the least of five.
+# The last capture is still there: what a record takes early and late in one run, the least of 12.
 offsets=($(for further in 0 100000 1900000 2000000; do size_with $further; done))
 early= late=
-for run in 1 2 3 4 5; do
+for run in {1..12}; do
     spent=($(read_up_to "$work/capture" "${offsets[@]}"))
     first=$((spent[1] - spent[0])) last=$((spent[3] - spent[2]))
     if [[ -z $early ]] || ((first < early)); then early=$first; fi
