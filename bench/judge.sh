@@ -6,7 +6,7 @@
 # session, or it goes on and its routes are printed. One more goes on and has four ends. Beside the
 # memory stands that of the table alone, with the routes of the same UPDATEs and nothing else
 # (`session_capture table`), and beside its time that of the same changes in a table of hashes in C
-# (bench/hash.c): no table of this size costs less.
+# (bench/hash.c), which does nothing else.
 #
 # Wants bash, coreutils, cc, GNU time for the memory with the ends, and the programs that `rt run`
 # built in crates/bgp/out/bgp and crates/session_capture/out/session_capture. Prints figures; it is
@@ -81,8 +81,8 @@ cost() {
     echo "    ends: $(grep -c '^end ' "$text"), their routes: $(grep -c '^route ' "$text")"
 }
 
-# The nanoseconds that judging has run, by the kernel's count, once it has read the first octets of a
-# capture: as many as each further word says, which ascend.
+# The nanoseconds that judging has run, by the kernel's count, once it has read the first octets of
+# a capture: as many as each further word says, which ascend.
 read_up_to() {
     local capture=$1 pid at=0 offset
     shift

@@ -30,8 +30,8 @@ const FOUR: &[Expected<'static>] = &[
     (Fsm::Established, BOTH, &[]),
 ];
 
-/// Whether a tracker answers these ends, where each family may be disabled or not, and so many times
-/// more.
+/// Whether a tracker answers these ends, where each family may be disabled or not, and so many
+/// times more.
 fn has_four_ends<T: Tracker<Global>>(alloc: Global, further: usize) -> Result<bool, Fail> {
     let mut records = Vec::from_slice(alloc, &BEGINNING)?;
     for _ in 0..further {
