@@ -1,6 +1,6 @@
 /* A table that does as little as it can, for judge.sh: the IPv4 prefixes of a capture's UPDATEs put
- * and withdrawn in an open table of hashes with room for 2^21, a block of malloc for each UPDATE's path
- * attributes, which goes with the last prefix that has them. It knows no order, no family, no
+ * and withdrawn in an open table of hashes with room for 2^21, a block of malloc for each UPDATE's
+ * path attributes, which goes with the last prefix that has them. It knows no order, no family, no
  * memory that is refused, and reads the capture before the clock starts; messages are trusted.
  * Prints the milliseconds of the processor that all changes took. */
 #include <stdint.h>
