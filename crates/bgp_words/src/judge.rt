@@ -6,7 +6,7 @@ ghost use Rattle.clap.specs.declared.builder.command.Command.TheViews.{out-Comma
 ghost use Rattle.bgp_prefix.specs.declared.session.Session.{Session as Ends};
 ghost use Rattle.bgp_open.specs.declared.config.Config.{Config as Configured};
 ghost use Rattle.bgp_open.specs.declared.config.ConfigParts.{ConfigParts as Parts};
-ghost use Rattle.bgp_words.specs.Words.{judge_words};
+ghost use Rattle.bgp_words.specs.Words.{judge_start, judge_words};
 ghost use Rattle.bgp_words.specs.Judge.{IsSession, AreParts, IsJudge, IsJudging};
 
 use crate::misfit::Misfit;
@@ -54,15 +54,18 @@ pub(crate) fn judge_words<'a>(alloc: Global) -> Result<clap::Command<'a>, AllocE
     ensures words { IfOk result (λ judge. app_of judge ≡ judge_words) }
     ensures local { IfOk result (λ judge. (fields_of judge).has_globals ≡ false) }
 {
+    let judge = judge_start(alloc)?;
+    with_choices(alloc, judge)
+}
+
+/// The words that `judge` has to have.
+fn judge_start<'a>(alloc: Global) -> Result<clap::Command<'a>, AllocError>
+    ensures words { IfOk result (λ judge. app_of judge ≡ judge_start) }
+    ensures local { IfOk result (λ judge. (fields_of judge).has_globals ≡ false) }
+{
     let own_as = "The AS number of the system that recorded the session: 1 to 4294967295";
     let peer_as = "The peer's AS number: 1 to 4294967295";
     let id = "The system's BGP Identifier, as 192.0.2.1";
-    let hold = "The Hold Time that it offers, in seconds: 0, or 3 to 65535";
-    let families = "The families that it offers: v4, v6 or both";
-    let as2 = "It doesn't offer four-octet AS numbers";
-    let delay = "It may delay its OPEN (DelayOpen)";
-    let no_refresh = "It doesn't offer route refresh";
-    let large = "How many seconds it waits for the peer's OPEN: 1 to 4294967295";
     clap::Command::new(alloc, "judge")
         .about("Tells whether a capture of a session is one that RFC 4271 allows")
         .after_help(VERDICTS)
@@ -71,11 +74,29 @@ pub(crate) fn judge_words<'a>(alloc: Global) -> Result<clap::Command<'a>, AllocE
         .arg(required(alloc, "peer-as", peer_as))?
         .arg(required(alloc, "local-id", id))?
         .arg(required(alloc, "local", "The system's address"))?
-        .arg(required(alloc, "peer", "The peer's address"))?
+        .arg(required(alloc, "peer", "The peer's address"))
+}
+
+/// `judge` with the words that it may have.
+fn with_choices<'a>(
+    alloc: Global,
+    judge: clap::Command<'a>,
+) -> Result<clap::Command<'a>, AllocError>
+    ensures words { app_of judge.entry ≡ judge_start →
+        IfOk result (λ judge. app_of judge ≡ judge_words) }
+    ensures local { (fields_of judge.entry).has_globals ≡ false →
+        IfOk result (λ judge. (fields_of judge).has_globals ≡ false) }
+{
+    let hold = "The Hold Time that it offers, in seconds: 0, or 3 to 65535";
+    let families = "The families that it offers: v4, v6 or both";
+    let as2 = "It doesn't offer four-octet AS numbers";
+    let no_refresh = "It doesn't offer route refresh";
+    let large = "How many seconds it waits for the peer's OPEN: 1 to 4294967295";
+    judge
         .arg(default(alloc, "hold", "90", hold))?
         .arg(default(alloc, "families", "v4", families))?
         .arg(flag(alloc, "as2", as2))?
-        .arg(flag(alloc, "delay-open", delay))?
+        .arg(flag(alloc, "delay-open", "It may delay its OPEN (DelayOpen)"))?
         .arg(flag(alloc, "no-refresh", no_refresh))?
         .arg(default(alloc, "large-hold", "240", large))
 }

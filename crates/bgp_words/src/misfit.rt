@@ -4,7 +4,7 @@ use std::fmt;
 use std::fmt::Display;
 
 /// What an option wants for its value.
-#[derive(Clone, Copy, Debug, PartialEq, Eq)]
+#[derive(Clone, Copy)]
 pub(crate) enum Wanted {
     /// An address of either family.
     Address,
@@ -31,7 +31,7 @@ impl Display for Wanted {
 }
 
 /// Why words that clap takes are no command: one sentence.
-#[derive(Clone, Copy, Debug, PartialEq, Eq)]
+#[derive(Clone, Copy)]
 pub(crate) enum Misfit<'a> {
     /// None was named.
     NoCommand,

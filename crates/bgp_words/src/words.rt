@@ -122,10 +122,15 @@ fn usage(alloc: Global, matches: &ArgMatches<'_>, misfit: Misfit<'_>) -> Result<
     ensures { IfOk result (λ error. kind_of error ≡ ErrorKind.ValueValidation) }
 {
     let sentence = format!(in alloc; "{misfit}")?;
-    let mut command = match matches.subcommand_name() {
-        Some("decode") => decode_words(alloc)?.bin_name("bgp decode")?,
-        Some("judge") => judge_words(alloc)?.bin_name("bgp judge")?,
-        _ => program(alloc)?,
-    };
+    let mut command = words_of(alloc, matches)?;
     command.error(ErrorKind::ValueValidation, sentence.as_str())
+}
+
+/// What the words of the command that was named may be, or the program's where none was.
+fn words_of<'a>(alloc: Global, matches: &ArgMatches<'_>) -> Result<clap::Command<'a>, AllocError> {
+    match matches.subcommand_name() {
+        Some("decode") => decode_words(alloc)?.bin_name("bgp decode"),
+        Some("judge") => judge_words(alloc)?.bin_name("bgp judge"),
+        _ => program(alloc),
+    }
 }

@@ -2,7 +2,7 @@ use Rattle.std.proofs.Common.{◌≡◌, ◌∙◌, ◌||◌, ap, ap₂, codes}
 use Rattle.std.proofs.lemmas.Result.{IfOk-weaker}
 use Rattle.clap.specs.Words.{app_of, new_app, with_rule}
 use Rattle.clap.specs.Simple.{app_of_fields}
-use Rattle.bgp_words.proofs.judge.judge_words.Goals as goal
+use Rattle.bgp_words.proofs.judge.judge_start.Goals as goal
 
 pub returns-clause-words : goal.returns-clause-words
 returns-clause-words c =
@@ -13,13 +13,7 @@ returns-clause-words c =
     let rules3 = c.in_ok-arg-3.ensures.shape c.required-2.ensures.local ∙ ap₂ with_rule rules2 c.required-2.ensures.rule in
     let rules4 = c.in_ok-arg-4.ensures.shape c.required-3.ensures.local ∙ ap₂ with_rule rules3 c.required-3.ensures.rule in
     let rules5 = c.in_ok-arg-5.ensures.shape c.required-4.ensures.local ∙ ap₂ with_rule rules4 c.required-4.ensures.rule in
-    let rules6 = c.in_ok-arg-6.ensures.shape c.required-5.ensures.local ∙ ap₂ with_rule rules5 c.required-5.ensures.rule in
-    let rules7 = c.in_ok-arg-7.ensures.shape c.default.ensures.local ∙ ap₂ with_rule rules6 c.default.ensures.rule in
-    let rules8 = c.in_ok-arg-8.ensures.shape c.default-2.ensures.local ∙ ap₂ with_rule rules7 c.default-2.ensures.rule in
-    let rules9 = c.in_ok-arg-9.ensures.shape c.flag.ensures.local ∙ ap₂ with_rule rules8 c.flag.ensures.rule in
-    let rules10 = c.in_ok-arg-10.ensures.shape c.flag-2.ensures.local ∙ ap₂ with_rule rules9 c.flag-2.ensures.rule in
-    let rules11 = c.in_ok-arg-11.ensures.shape c.flag-3.ensures.local ∙ ap₂ with_rule rules10 c.flag-3.ensures.rule in
-    IfOk-weaker c.arg-12.result _ _ (λ judge adds. adds.shape c.default-3.ensures.local ∙ ap₂ with_rule rules11 c.default-3.ensures.rule) c.arg-12.ensures
+    IfOk-weaker c.arg-6.result _ _ (λ judge adds. adds.shape c.required-5.ensures.local ∙ ap₂ with_rule rules5 c.required-5.ensures.rule) c.arg-6.ensures
 
 pub returns-clause-local : goal.returns-clause-local
 returns-clause-local c =
@@ -29,10 +23,4 @@ returns-clause-local c =
     let rules3 = c.in_ok-arg-3.ensures.globals ∙ ap₂ ◌||◌ rules2 c.required-2.ensures.local in
     let rules4 = c.in_ok-arg-4.ensures.globals ∙ ap₂ ◌||◌ rules3 c.required-3.ensures.local in
     let rules5 = c.in_ok-arg-5.ensures.globals ∙ ap₂ ◌||◌ rules4 c.required-4.ensures.local in
-    let rules6 = c.in_ok-arg-6.ensures.globals ∙ ap₂ ◌||◌ rules5 c.required-5.ensures.local in
-    let rules7 = c.in_ok-arg-7.ensures.globals ∙ ap₂ ◌||◌ rules6 c.default.ensures.local in
-    let rules8 = c.in_ok-arg-8.ensures.globals ∙ ap₂ ◌||◌ rules7 c.default-2.ensures.local in
-    let rules9 = c.in_ok-arg-9.ensures.globals ∙ ap₂ ◌||◌ rules8 c.flag.ensures.local in
-    let rules10 = c.in_ok-arg-10.ensures.globals ∙ ap₂ ◌||◌ rules9 c.flag-2.ensures.local in
-    let rules11 = c.in_ok-arg-11.ensures.globals ∙ ap₂ ◌||◌ rules10 c.flag-3.ensures.local in
-    IfOk-weaker c.arg-12.result _ _ (λ judge adds. adds.globals ∙ ap₂ ◌||◌ rules11 c.default-3.ensures.local) c.arg-12.ensures
+    IfOk-weaker c.arg-6.result _ _ (λ judge adds. adds.globals ∙ ap₂ ◌||◌ rules5 c.required-5.ensures.local) c.arg-6.ensures
