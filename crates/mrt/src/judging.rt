@@ -17,7 +17,7 @@ use bgp_prefix::{Seconds, Session};
 use bgp_wire::{HEADER_LEN, HeaderVerdict, Limit, check_header, header_at};
 
 /// What a record of the session shows besides its second.
-#[derive(Clone, Copy, Debug)]
+#[derive(Clone, Copy)]
 pub(crate) enum Shows {
     Received,
     Sent,
@@ -25,7 +25,7 @@ pub(crate) enum Shows {
 }
 
 /// A record of the session, whose body somebody holds.
-#[derive(Clone, Copy, Debug)]
+#[derive(Clone, Copy)]
 pub(crate) struct Found {
     pub(crate) second: Seconds,
     pub(crate) shows: Shows,
@@ -36,7 +36,7 @@ pub(crate) struct Found {
 }
 
 /// What a whole record is to the session.
-#[derive(Clone, Copy, Debug)]
+#[derive(Clone, Copy)]
 pub(crate) enum Judged {
     /// Its subtype is unknown.
     Skipped,

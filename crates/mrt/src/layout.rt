@@ -17,7 +17,7 @@ use byteorder::{BigEndian, ByteOrder};
 pub(crate) const HEADER: usize = 12;
 
 /// The header of a record (RFC 6396, 2).
-#[derive(Clone, Copy, Debug)]
+#[derive(Clone, Copy)]
 pub(crate) struct RecordHeader {
     pub(crate) second: Seconds,
     pub(crate) kind: u16,
@@ -74,7 +74,7 @@ pub(crate) fn is_bgp4mp(kind: u16) -> bool
 }
 
 /// What a record is, by its subtype.
-#[derive(Clone, Copy, Debug, PartialEq, Eq)]
+#[derive(Clone, Copy)]
 pub(crate) enum Form {
     /// A change of state.
     Change,
@@ -161,7 +161,7 @@ fn read_address(family: Family, octets: &[u8]) -> Address
 }
 
 /// What stands in a body before its content.
-#[derive(Clone, Copy, Debug)]
+#[derive(Clone, Copy)]
 pub(crate) struct Fields {
     pub(crate) ends: Endpoints,
     /// Where the content begins.

@@ -9,7 +9,7 @@ use crate::record::Endpoints;
 use bgp_prefix::Seconds;
 
 /// How far a reader is.
-#[derive(Clone, Copy, Debug)]
+#[derive(Clone, Copy)]
 pub(crate) struct Progress {
     /// How many octets the records have that it answered or skipped.
     pub(crate) passed: u64,

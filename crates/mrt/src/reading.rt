@@ -21,7 +21,7 @@ use bgp_prefix::{Seconds, Session};
 pub(crate) const BODY: usize = 8192;
 
 /// What was read, and of a skipped record how many octets it has.
-#[derive(Clone, Copy, Debug)]
+#[derive(Clone, Copy)]
 pub(crate) enum Read {
     /// The source ended where a record could begin.
     End,
