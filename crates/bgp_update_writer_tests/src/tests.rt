@@ -11,8 +11,8 @@ use bgp_path::{AsPath, Items, NextHop, Origin, Path, PathParts, Segment, Segment
 use bgp_prefix::{Address, Family, Prefix, Session, read_prefix};
 use bgp_update_writer::{Update, UpdateFault, write_update};
 use bgp_wire::vectors::OPEN_B;
-use std::alloc::{AllocError, Allocator, Global};
-use std::test::Fail;
+use std::alloc::{AllocError, Global};
+use std::process::Abort;
 
 /// The router: AS 65001 at 192.0.2.1, with AS 65002 at 192.0.2.2, both families and four-octet AS
 /// numbers.
@@ -21,7 +21,7 @@ const PARTS_A: ConfigParts = ConfigParts {
     peer_as: 65002,
     local_id: 0xc000_0201,
     hold: 90,
-    families: Families { v4: true, v6: true },
+    families: BOTH,
     as4: true,
     delay_open: false,
     large_hold: 240,
@@ -32,25 +32,118 @@ const PARTS_A: ConfigParts = ConfigParts {
     },
 };
 
+const BOTH: Families = Families { v4: true, v6: true };
+
 /// 192.0.2.2
 const HOP: NextHop = NextHop::V4(0xc000_0202);
 
 /// 2001:db8::2
 const HOP_V6: NextHop = NextHop::V6(0x2001_0db8 << 96 | 2);
 
-/// What the router and its peer settle.
-fn link() -> Result<Link, Fail> {
-    let config = Config::new(PARTS_A).ok_or("a configuration")?;
-    let open = read_open(&OPEN_B).ok().ok_or("an OPEN")?;
-    Ok(negotiate(&config, &open))
+/// What is to come of an update.
+#[derive(Clone, Copy)]
+enum Wanted<'a> {
+    /// These octets are written.
+    Octets(&'a [u8]),
+    /// An UPDATE of so many octets is written.
+    Length(u16),
+    Fault(UpdateFault),
 }
 
-fn prefix(text: &str) -> Result<Prefix, Fail> {
-    Ok(read_prefix(text).ok_or("a prefix")?)
+/// What a path says beside ORIGIN IGP.
+#[derive(Clone, Copy)]
+struct Said<'a> {
+    /// The one AS of AS_PATH.
+    number: u32,
+    next_hop: NextHop,
+    local_pref: Option<u32>,
+    originator_id: Option<u32>,
+    cluster_list: &'a [u32],
+    communities: usize,
+}
+
+/// An update over a link, and what is to come of it.
+#[derive(Clone, Copy)]
+struct Row<'a> {
+    lesson: &'a str,
+    /// The families in use.
+    families: Families,
+    /// Whether AS numbers have four octets.
+    as4: bool,
+    /// Whether the peer is internal.
+    internal: bool,
+    /// By which path the prefixes are reachable; `None` where they are withdrawn.
+    path: Option<Said<'a>>,
+    family: Family,
+    /// So many times each of these.
+    prefixes: &'a [(usize, &'a str)],
+    wanted: Wanted<'a>,
+}
+
+/// The path by AS 65002 and 192.0.2.2.
+const BY_V4: Said<'static> = Said {
+    number: 65002,
+    next_hop: HOP,
+    local_pref: None,
+    originator_id: None,
+    cluster_list: &[],
+    communities: 0,
+};
+
+/// The path by AS 65002 and 2001:db8::2.
+const BY_V6: Said<'static> = Said {
+    next_hop: HOP_V6,
+    ..BY_V4
+};
+
+/// The announcement of 10.0.0.0/8, which is clean.
+const ANNOUNCE: Row<'static> = Row {
+    lesson: "",
+    families: BOTH,
+    as4: true,
+    internal: false,
+    path: Some(BY_V4),
+    family: Family::V4,
+    prefixes: &[(1, "10.0.0.0/8")],
+    wanted: Wanted::Length(45),
+};
+
+/// The withdrawal of 10.0.0.0/8, which is clean.
+const WITHDRAW: Row<'static> = Row {
+    path: None,
+    wanted: Wanted::Length(25),
+    ..ANNOUNCE
+};
+
+/// What the router and its peer settle, but for what a row says otherwise.
+fn link_of(rt: &impl Abort, row: &Row<'_>) -> Link {
+    let config = Config::new(PARTS_A).expect(rt, "a configuration");
+    let open = read_open(&OPEN_B).expect(rt, "an OPEN");
+    let mut link = negotiate(&config, &open);
+    link.families = row.families;
+    link.as4 = row.as4;
+    link.internal = row.internal;
+    link
+}
+
+/// So many times each prefix.
+fn prefixes_of(
+    rt: &impl Abort,
+    alloc: Global,
+    runs: &[(usize, &str)],
+) -> Result<Vec<Prefix>, AllocError> {
+    let mut prefixes = Vec::new(alloc);
+    for (count, text) in runs {
+        let prefix = read_prefix(text).expect(rt, "a prefix");
+        for _ in 0..*count {
+            prefixes.push(prefix)?;
+        }
+    }
+    Ok(prefixes)
 }
 
 /// The AS path of one AS.
-fn as_path<A: Allocator + Copy>(alloc: A, number: u32) -> Result<AsPath<A>, AllocError> {
+fn as_path(alloc: Global, number: u32) -> Result<AsPath, AllocError> {
     let mut as_path = AsPath::new(alloc);
     if let Some(segment) = Segment::new(SegmentKind::Sequence, vec![in alloc; number]?) {
         as_path.push(segment)?;
@@ -58,51 +151,93 @@ fn as_path<A: Allocator + Copy>(alloc: A, number: u32) -> Result<AsPath<A>, Allo
     Ok(as_path)
 }
 
-/// The parts of a path of ORIGIN 0, which is IGP, one AS and a next hop.
-fn parts<A: Allocator + Copy>(
-    alloc: A,
-    number: u32,
-    next_hop: NextHop,
-) -> Result<PathParts<A>, AllocError> {
-    Ok(PathParts {
+/// A path that says this.
+fn path_of(alloc: Global, said: &Said<'_>) -> Result<Path, AllocError> {
+    let as_path = as_path(alloc, said.number)?;
+    let cluster_list = Vec::from_slice(alloc, said.cluster_list)?;
+    let communities = vec![in alloc; 0xffff_ff01u32; said.communities]?;
+    let parts = PathParts {
         origin: Origin::Igp,
-        as_path: as_path(alloc, number)?,
-        next_hop,
+        as_path,
+        next_hop: said.next_hop,
         multi_exit_disc: None,
-        local_pref: None,
+        local_pref: said.local_pref,
         atomic_aggregate: false,
         aggregator: None,
-        communities: Items::new(alloc),
-        originator_id: None,
-        cluster_list: Items::new(alloc),
+        communities: Items::from(communities),
+        originator_id: said.originator_id,
+        cluster_list: Items::from(cluster_list),
         extended_communities: Items::new(alloc),
-    })
+    };
+    Path::new(alloc, parts)
 }
 
-/// The path by AS 65002 and a next hop.
-fn path(alloc: Global, next_hop: NextHop) -> Result<Path, Fail> {
-    Ok(Path::new(alloc, parts(alloc, 65002, next_hop)?)?)
-}
-
-fn announce<'a>(family: Family, prefixes: &'a [Prefix], path: &'a Path) -> Update<'a> {
-    Update::Announce {
-        family,
-        prefixes,
-        path,
+/// Whether this was appended to what stood there.
+fn is_right(
+    answer: Result<(), UpdateFault>,
+    out: &[u8],
+    stood: &[u8],
+    wanted: &Wanted<'_>,
+) -> bool {
+    let Some(appended) = out.strip_prefix(stood) else {
+        return false;
+    };
+    match (answer, wanted) {
+        (Ok(()), Wanted::Octets(octets)) => appended == *octets,
+        (Ok(()), Wanted::Length(length)) => {
+            let [high, low] = length.to_be_bytes();
+            let header = [high, low, 2]; // Length, UPDATE
+            appended.len() == usize::from(*length) && appended.get(16..19) == Some(&header)
+        }
+        (Err(fault), Wanted::Fault(wanted)) => appended.is_empty() && fault == *wanted,
+        _ => false,
     }
 }
 
-fn withdraw<'a>(family: Family, prefixes: &'a [Prefix]) -> Update<'a> {
-    Update::Withdraw { family, prefixes }
+/// Whether that comes of an update, behind an octet and where nothing stands.
+fn is_answered(alloc: Global, link: &Link, update: &Update<'_>, wanted: &Wanted<'_>) -> bool {
+    let mut out = Vec::new(alloc);
+    for stood in &[[].as_slice(), &[9]] {
+        out.clear();
+        if out.extend_from_slice(stood).is_err() {
+            return false;
+        }
+        let answer = write_update(link, update, &mut out);
+        if !is_right(answer, &out, stood, wanted) {
+            return false;
+        }
+    }
+    match wanted {
+        Wanted::Octets(octets) => memory::is_refused_and_then_written(alloc, link, update, octets),
+        _ => true,
+    }
 }
 
-/// What was appended for an update, behind an octet that stood there.
-fn written(alloc: Global, link: &Link, update: &Update<'_>) -> Result<Vec<u8>, Fail> {
-    let mut out = vec![in alloc; 9u8]?;
-    let is_written = write_update(link, update, &mut out).is_ok();
-    if !is_written || out.first() != Some(&9) {
-        return Err(Fail::from("it isn't written behind what stood there"));
+/// Whether that comes of the row's update.
+fn is_told(rt: &impl Abort, alloc: Global, row: &Row<'_>) -> bool {
+    let Ok(prefixes) = prefixes_of(rt, alloc, row.prefixes) else {
+        return false;
+    };
+    let link = link_of(rt, row);
+    let family = row.family;
+    let prefixes = prefixes.as_slice();
+    let Some(said) = &row.path else {
+        return is_answered(
+            alloc,
+            &link,
+            &Update::Withdraw { family, prefixes },
+            &row.wanted,
+        );
+    };
+    match path_of(alloc, said) {
+        Ok(path) => {
+            let update = Update::Announce {
+                family,
+                prefixes,
+                path: &path,
+            };
+            is_answered(alloc, &link, &update, &row.wanted)
+        }
+        Err(_) => false,
     }
-    out.remove(0);
-    Ok(out)
 }

@@ -55,60 +55,6 @@ const SAYS_NOTHING: [u8; 23] = [
     0x00, 0x00, 0x00, 0x00, // nothing is withdrawn, no attributes
 ];
 
-/// Whether these octets are written for an update.
-fn is_written(
-    alloc: Global,
-    link: &Link,
-    update: &Update<'_>,
-    wanted: &[u8],
-) -> Result<bool, Fail> {
-    Ok(written(alloc, link, update)?.as_slice() == wanted)
-}
-
-#[test]
-fn ipv4_stands_in_the_base_fields_and_ipv6_in_an_mp_attribute(rt: HostRuntime) -> Result<(), Fail> {
-    let link = link()?;
-    let ten = [prefix("10.0.0.0/8")?];
-    let db8 = [prefix("2001:db8::/32")?];
-    let by_v4 = path(rt.alloc(), HOP)?;
-    let by_v6 = path(rt.alloc(), HOP_V6)?;
-    let rows: [(Update<'_>, &[u8]); 5] = [
-        (announce(Family::V4, &ten, &by_v4), &ANNOUNCES_10),
-        (withdraw(Family::V4, &ten), &WITHDRAWS_10),
-        // The MP attribute comes first.
-        (announce(Family::V6, &db8, &by_v6), &ANNOUNCES_2001_DB8),
-        (withdraw(Family::V6, &db8), &WITHDRAWS_2001_DB8),
-        // No prefix at all is allowed.
-        (withdraw(Family::V4, &[]), &SAYS_NOTHING),
-    ];
-    for (update, octets) in &rows {
-        assert!(rt; is_written(rt.alloc(), &link, update, octets)?);
-    }
-    Ok(())
-}
-
-#[test]
-fn in_two_octets_as4_path_has_the_large_numbers(rt: HostRuntime) -> Result<(), Fail> {
-    let mut link = link()?;
-    link.as4 = false;
-    let prefixes = [prefix("10.0.0.0/8")?];
-    let path = Path::new(rt.alloc(), parts(rt.alloc(), 70000, HOP)?)?;
-    let announced = announce(Family::V4, &prefixes, &path);
-    assert!(rt; is_written(rt.alloc(), &link, &announced, &ANNOUNCES_10_BY_70000)?);
-    Ok(())
-}
-
-#[test]
-fn without_a_prefix_the_attributes_are_the_same(rt: HostRuntime) -> Result<(), Fail> {
-    let path = path(rt.alloc(), HOP)?;
-    let octets = written(rt.alloc(), &link()?, &announce(Family::V4, &[], &path))?;
-    let length = [0x00, 0x2b, 2]; // Length 43, UPDATE
-    assert!(rt;
-        octets.get(16..19) == Some(&length) && octets.get(19..) == ANNOUNCES_10.get(19..43)
-    );
-    Ok(())
-}
-
 /// The announcement of 2001:db8::/32 by AS 65002, 2001:db8::2 and fe80::1.
 const ANNOUNCES_BY_LINK_LOCAL: [u8; 81] = [
     255, 255, 255, 255, 255, 255, 255, 255, 255, 255, 255, 255, 255, 255, 255, 255, // marker
@@ -124,12 +70,81 @@ const ANNOUNCES_BY_LINK_LOCAL: [u8; 81] = [
     0x40, 2, 6, 2, 1, 0, 0, 0xfd, 0xea, // AS_PATH: 65002
 ];
 
+/// The announcement of no prefix at all by AS 65002 and 192.0.2.2.
+const ANNOUNCES_NOTHING: [u8; 43] = [
+    255, 255, 255, 255, 255, 255, 255, 255, 255, 255, 255, 255, 255, 255, 255, 255, // marker
+    0x00, 0x2b, 2, // Length 43, UPDATE
+    0x00, 0x00, // no withdrawn routes
+    0x00, 0x14, // 20 octets of attributes
+    0x40, 1, 1, 0, // ORIGIN: IGP
+    0x40, 2, 6, 2, 1, 0, 0, 0xfd, 0xea, // AS_PATH: 65002
+    0x40, 3, 4, 192, 0, 2, 2, // NEXT_HOP: 192.0.2.2
+];
+
+static ROWS: [Row<'static>; 8] = [
+    Row {
+        lesson: "10.0.0.0/8 is announced in the base fields",
+        wanted: Wanted::Octets(&ANNOUNCES_10),
+        ..ANNOUNCE
+    },
+    Row {
+        lesson: "10.0.0.0/8 is withdrawn in the base fields",
+        wanted: Wanted::Octets(&WITHDRAWS_10),
+        ..WITHDRAW
+    },
+    Row {
+        lesson: "2001:db8::/32 is announced in an MP attribute, which comes first",
+        path: Some(BY_V6),
+        family: Family::V6,
+        prefixes: &[(1, "2001:db8::/32")],
+        wanted: Wanted::Octets(&ANNOUNCES_2001_DB8),
+        ..ANNOUNCE
+    },
+    Row {
+        lesson: "2001:db8::/32 is withdrawn in an MP attribute",
+        family: Family::V6,
+        prefixes: &[(1, "2001:db8::/32")],
+        wanted: Wanted::Octets(&WITHDRAWS_2001_DB8),
+        ..WITHDRAW
+    },
+    Row {
+        lesson: "no prefix at all is withdrawn, which is allowed",
+        prefixes: &[],
+        wanted: Wanted::Octets(&SAYS_NOTHING),
+        ..WITHDRAW
+    },
+    Row {
+        lesson: "without a prefix the attributes are the same",
+        prefixes: &[],
+        wanted: Wanted::Octets(&ANNOUNCES_NOTHING),
+        ..ANNOUNCE
+    },
+    Row {
+        lesson: "in two octets AS4_PATH has the large numbers",
+        as4: false,
+        path: Some(Said {
+            number: 70000,
+            ..BY_V4
+        }),
+        wanted: Wanted::Octets(&ANNOUNCES_10_BY_70000),
+        ..ANNOUNCE
+    },
+    Row {
+        lesson: "a next hop of 32 octets has a link-local address",
+        path: Some(Said {
+            next_hop: NextHop::V6WithLinkLocal(0x2001_0db8 << 96 | 2, 0xfe80 << 112 | 1),
+            ..BY_V4
+        }),
+        family: Family::V6,
+        prefixes: &[(1, "2001:db8::/32")],
+        wanted: Wanted::Octets(&ANNOUNCES_BY_LINK_LOCAL),
+        ..ANNOUNCE
+    },
+];
+
 #[test]
-fn a_next_hop_of_32_octets_has_a_link_local_address(rt: HostRuntime) -> Result<(), Fail> {
-    let hop = NextHop::V6WithLinkLocal(0x2001_0db8 << 96 | 2, 0xfe80 << 112 | 1);
-    let path = path(rt.alloc(), hop)?;
-    let prefixes = [prefix("2001:db8::/32")?];
-    let announced = announce(Family::V6, &prefixes, &path);
-    assert!(rt; is_written(rt.alloc(), &link()?, &announced, &ANNOUNCES_BY_LINK_LOCAL)?);
-    Ok(())
+fn updates_are_written(rt: HostRuntime) {
+    for row in &ROWS {
+        assert!(rt; is_told(&rt, rt.alloc(), row), "{}", row.lesson);
+    }
 }
