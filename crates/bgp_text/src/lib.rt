@@ -17,8 +17,6 @@ mod messages;
 mod outlet;
 mod records;
 mod routes;
-#[cfg(test)]
-mod tests;
 mod updates;
 mod verdicts;
 
