@@ -1,18 +1,16 @@
 //! UPDATEs whose outcomes were worked out by hand from the standards.
 
-ghost use Rattle.std.specs.Prelude.{◌<◌, ◌≤◌, length};
-
 mod memory;
 mod messages;
 mod rules;
 
 use bgp_open::{Config, ConfigParts, Families, Link, negotiate, read_open};
+use bgp_path::{NextHop, Origin};
 use bgp_prefix::{Address, Prefix, Session, read_prefix};
-use bgp_update::{Changes, is_clean, read_update};
+use bgp_update::{Changes, Outcomes, Put, Subcodes, is_clean, read_update};
 use bgp_wire::vectors::OPEN_B;
 use std::alloc::{AllocError, Allocator, Global};
 use std::process::Abort;
-use std::test::Fail;
 
 const BOTH: Families = Families { v4: true, v6: true };
 
@@ -36,7 +34,7 @@ const ANY: [u8; 11] = [1, 2, 3, 4, 5, 6, 7, 8, 9, 10, 11];
 
 /// What both OPENs settle: those families, AS numbers of 4 octets or of 2, and the peer's AS 65002,
 /// which is ours too where the peer is internal.
-fn link_of(families: Families, as4: bool, internal: bool) -> Result<Link, Fail> {
+fn link_of(rt: &impl Abort, families: Families, as4: bool, internal: bool) -> Link {
     let session = Session {
         peer: Address::V4(0xc000_0202),
         local: Address::V4(0xc000_0201),
@@ -53,37 +51,47 @@ fn link_of(families: Families, as4: bool, internal: bool) -> Result<Link, Fail> 
         large_hold: 240,
         session,
     };
-    let config = Config::new(parts).ok_or("no configuration")?;
-    let open = read_open(&OPEN_B).ok().ok_or("no OPEN")?;
-    Ok(negotiate(&config, &open))
+    let config = Config::new(parts).expect(rt, "a configuration");
+    let open = read_open(&OPEN_B).expect(rt, "an OPEN");
+    negotiate(&config, &open)
 }
 
 /// The link of most tests: both families, AS numbers of 4 octets, an external peer.
-fn link() -> Result<Link, Fail> {
-    link_of(BOTH, true, false)
+fn link(rt: &impl Abort) -> Link {
+    link_of(rt, BOTH, true, false)
+}
+
+/// The parts, one behind another.
+fn joined(alloc: Global, parts: &[&[u8]]) -> Result<Vec<u8>, AllocError> {
+    let mut octets = Vec::new(alloc);
+    for part in parts {
+        octets.extend_from_slice(part)?;
+    }
+    Ok(octets)
 }
 
 /// An UPDATE with these fields.
 fn update(
+    rt: &impl Abort,
     alloc: Global,
     withdrawn: &[u8],
-    attributes: &[u8],
+    attributes: &[&[u8]],
     nlri: &[u8],
-) -> Result<Vec<u8>, AllocError>
-    requires withdrawn { length withdrawn.now < 1024 }
-    requires attributes { length attributes.now < 1024 }
-    requires nlri { length nlri.now < 8192 }
-{
-    let mut octets = vec![in alloc; 255u8; 16]?;
-    let len = 23 + withdrawn.len() + attributes.len() + nlri.len();
-    octets.extend_from_slice(&(len as u16).to_be_bytes())?;
-    octets.push(2)?;
-    octets.extend_from_slice(&(withdrawn.len() as u16).to_be_bytes())?;
-    octets.extend_from_slice(withdrawn)?;
-    octets.extend_from_slice(&(attributes.len() as u16).to_be_bytes())?;
-    octets.extend_from_slice(attributes)?;
-    octets.extend_from_slice(nlri)?;
-    Ok(octets)
+) -> Result<Vec<u8>, AllocError> {
+    let attributes = joined(alloc, attributes)?;
+    assert!(rt; withdrawn.len() < 1024 && attributes.len() < 1024 && nlri.len() < 8192);
+    let length = 23 + withdrawn.len() + attributes.len() + nlri.len();
+    let parts: [&[u8]; 8] = [
+        &[255; 16],
+        &(length as u16).to_be_bytes(),
+        &[2],
+        &(withdrawn.len() as u16).to_be_bytes(),
+        withdrawn,
+        &(attributes.len() as u16).to_be_bytes(),
+        &attributes,
+        nlri,
+    ];
+    joined(alloc, &parts)
 }
 
 /// What is allowed of an UPDATE.
@@ -97,77 +105,131 @@ struct Allowed<'a> {
     clean: bool,
 }
 
-/// It has to be applied so.
-fn applies<'a>(remove: &'a [&'a str], put: &'a [&'a str], clean: bool) -> Allowed<'a> {
-    Allowed {
-        applies: Some((remove, put)),
-        certain: NONE,
-        optional: NONE,
-        reset: &[],
-        clean,
-    }
-}
+/// Nothing is removed or put, and nothing is wrong.
+const CLEAN: Allowed<'static> = Allowed {
+    applies: Some((&[], &[])),
+    certain: NONE,
+    optional: NONE,
+    reset: &[],
+    clean: true,
+};
 
-/// The session has to be reset.
-fn resets(reset: &[u8]) -> Allowed<'_> {
-    Allowed {
-        applies: None,
-        certain: NONE,
-        optional: NONE,
-        reset,
-        clean: false,
-    }
-}
+/// The session has to be reset, by subcodes that a row names.
+const RESETS: Allowed<'static> = Allowed {
+    applies: None,
+    clean: false,
+    ..CLEAN
+};
 
-/// These are the prefixes.
-fn are_prefixes(rt: &impl Abort, prefixes: &[Prefix], texts: &[&str]) -> Result<(), Fail> {
-    assert_eq!(rt; prefixes.len(), texts.len());
+/// Whether these are the prefixes.
+fn are_prefixes(prefixes: &[Prefix], texts: &[&str]) -> bool {
     for (prefix, text) in prefixes.iter().zip(texts) {
-        assert_eq!(rt; Some(*prefix), read_prefix(text));
+        if Some(*prefix) != read_prefix(text) {
+            return false;
+        }
     }
-    Ok(())
+    prefixes.len() == texts.len()
 }
 
-/// These are the changes.
-fn are_changes<A: Allocator + Copy>(
-    rt: &impl Abort,
-    alloc: Global,
-    changes: &Changes<A>,
-    remove: &[&str],
-    put: &[&str],
-) -> Result<(), Fail> {
-    are_prefixes(rt, changes.remove.as_slice(), remove)?;
-    let mut all = Vec::new(alloc);
-    for group in changes.nlri.iter().chain(&changes.mp_reach_nlri) {
-        all.extend_from_slice(group.prefixes.as_slice())?;
+/// The prefixes that become reachable.
+fn put_of<A: Allocator>(put: &Option<Put<A>>) -> &[Prefix] {
+    match put {
+        Some(put) => put.prefixes.as_slice(),
+        None => &[],
     }
-    are_prefixes(rt, all.as_slice(), put)
 }
 
-/// The outcomes of the octets are these.
-fn check(
-    rt: &impl Abort,
-    alloc: Global,
+/// Whether these are the changes.
+fn are_changes<A: Allocator>(changes: &Changes<A>, remove: &[&str], put: &[&str]) -> bool {
+    let (first, then) = (put_of(&changes.nlri), put_of(&changes.mp_reach_nlri));
+    are_prefixes(changes.remove.as_slice(), remove)
+        && match put.split_at_checked(first.len()) {
+            Some((nlri, mp_reach)) => are_prefixes(first, nlri) && are_prefixes(then, mp_reach),
+            None => false,
+        }
+}
+
+/// Whether the set has just these subcodes.
+fn are_subcodes(set: Subcodes, subcodes: &[u8]) -> bool {
+    for subcode in 0..=255 {
+        if set.contains(subcode) != subcodes.contains(&subcode) {
+            return false;
+        }
+    }
+    set.least() == subcodes.first().copied() && set.is_empty() == subcodes.is_empty()
+}
+
+/// Whether these are the outcomes.
+fn are_outcomes<A: Allocator>(outcomes: &Outcomes<A>, allowed: &Allowed<'_>) -> bool {
+    are_subcodes(outcomes.reset, allowed.reset)
+        && outcomes.certain == allowed.certain
+        && outcomes.optional == allowed.optional
+        && match (&outcomes.changes, allowed.applies) {
+            (None, None) => true,
+            (Some(changes), Some((remove, put))) => are_changes(changes, remove, put),
+            _ => false,
+        }
+}
+
+/// Whether the outcomes of the octets are these. It is `None` where memory was refused.
+fn told<A: Allocator + Copy>(
+    alloc: A,
     link: &Link,
     octets: &[u8],
     allowed: &Allowed<'_>,
-) -> Result<(), Fail> {
-    let outcomes = read_update(alloc, link, octets)?;
-    for subcode in 0..=255 {
-        assert_eq!(rt;
-            outcomes.reset.contains(subcode),
-            allowed.reset.contains(&subcode)
-        );
+) -> Option<bool> {
+    let is_clean_or_not = is_clean(link, octets) == allowed.clean;
+    match read_update(alloc, link, octets) {
+        Ok(outcomes) => Some(is_clean_or_not && are_outcomes(&outcomes, allowed)),
+        Err(_) => None,
     }
-    assert_eq!(rt; outcomes.reset.least(), allowed.reset.first().copied());
-    assert_eq!(rt; outcomes.reset.is_empty(), allowed.reset.is_empty());
-    assert_eq!(rt; outcomes.certain, allowed.certain);
-    assert_eq!(rt; outcomes.optional, allowed.optional);
-    match (&outcomes.changes, allowed.applies) {
-        (None, None) => {}
-        (Some(changes), Some((remove, put))) => are_changes(rt, alloc, changes, remove, put)?,
-        _ => assert!(rt; false, "it may be applied, or may not"),
+}
+
+/// What is seen of routes that are put.
+#[derive(Clone, Copy, PartialEq, Eq)]
+struct Shown {
+    /// Whether MP_REACH_NLRI announces them.
+    is_mp: bool,
+    /// How many prefixes there are.
+    prefixes: usize,
+    origin: Origin,
+    next_hop: NextHop,
+    multi_exit_disc: Option<u32>,
+    /// The AS, where the path is one segment of one.
+    by: Option<u32>,
+}
+
+fn shown_of<A: Allocator>(is_mp: bool, put: &Put<A>) -> Shown {
+    let parts = put.path.parts();
+    let by = match parts.as_path.segments() {
+        [first] if first.numbers().len() == 1 => first.numbers().first().copied(),
+        _ => None,
+    };
+    Shown {
+        is_mp,
+        prefixes: put.prefixes.len(),
+        origin: parts.origin,
+        next_hop: parts.next_hop,
+        multi_exit_disc: parts.multi_exit_disc,
+        by,
     }
-    assert_eq!(rt; is_clean(link, octets), allowed.clean);
-    Ok(())
+}
+
+/// What is put, where it is the routes of one field.
+fn only_put(read: Result<Outcomes, AllocError>) -> Option<Shown> {
+    match &read {
+        Ok(
+            Outcomes {
+                changes: Some(changes),
+                ..
+            },
+        ) => {
+            match (&changes.nlri, &changes.mp_reach_nlri) {
+                (Some(put), None) => Some(shown_of(false, put)),
+                (None, Some(put)) => Some(shown_of(true, put)),
+                _ => None,
+            }
+        }
+        _ => None,
+    }
 }

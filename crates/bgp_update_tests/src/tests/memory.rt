@@ -10,57 +10,53 @@ const ATTRIBUTES: [u8; 20] = [
     0xc0, 0x00, 0x02, 0x02,
 ];
 
+/// 2026 times 10.0.0.0/8.
+const TENS: [&[u8]; 2026] = [&[8, 10]; 2026];
+
+/// What the greatest UPDATE puts.
+const ALL: Shown = Shown {
+    is_mp: false,
+    prefixes: 2027,
+    origin: Origin::Igp,
+    next_hop: NextHop::V4(0xc000_0202),
+    multi_exit_disc: None,
+    by: Some(65002),
+};
+
 #[test]
-fn ample_memory(rt: HostRuntime) -> Result<(), Fail> {
+fn ample_memory(rt: HostRuntime) -> Result<(), AllocError> {
     let alloc = rt.alloc();
     // 0.0.0.0/0 and 2026 times 10.0.0.0/8: 4053 octets, and 4096 in all
-    let mut nlri = vec![in alloc; 0u8]?;
-    for _ in 0..2026 {
-        nlri.extend_from_slice(&[8, 10])?;
-    }
-    assert!(rt; nlri.len() < 8192);
-    let octets = update(alloc, &[], &ATTRIBUTES, nlri.as_slice())?;
-    assert_eq!(rt; octets.len(), 4096);
-    let outcomes = read_update(alloc, &link()?, octets.as_slice())?;
-    let changes = outcomes.changes.ok_or("a reset")?;
-    let group = changes.nlri.ok_or("nothing is put")?;
-    assert_eq!(rt; group.prefixes.len(), 2027);
+    let tens = joined(alloc, &TENS)?;
+    let nlri = joined(alloc, &[&[0], &tens])?;
+    let octets = update(&rt, alloc, &[], &[&ATTRIBUTES], &nlri)?;
+    let put = only_put(read_update(alloc, &link(&rt), &octets));
+    assert!(rt; octets.len() == 4096 && put == Some(ALL));
     Ok(())
 }
 
-/// Whether the announcement was read with a heap of this size.
-fn reads(rt: &impl Abort, heap: &LocalHeap) -> Result<bool, Fail> {
-    let Ok(outcomes) = read_update(heap, &link()?, &ANNOUNCES_10) else {
-        return Ok(false);
-    };
-    let changes = outcomes.changes.ok_or("a reset")?;
-    assert_eq!(rt; changes.remove.len(), 0);
-    let group = changes.nlri.ok_or("nothing is put")?;
-    are_prefixes(rt, group.prefixes.as_slice(), &["10.0.0.0/8"])?;
-    Ok(true)
-}
+const PUTS_TEN: Allowed<'static> = Allowed {
+    applies: Some((&[], &["10.0.0.0/8"])),
+    ..CLEAN
+};
+
+const MALFORMED: Allowed<'static> = Allowed {
+    reset: &[1],
+    ..RESETS
+};
 
 #[test]
-fn a_refused_growth_is_told(rt: HostRuntime) -> Result<(), Fail> {
+fn a_refused_growth_is_told_and_a_reset_takes_no_memory(rt: HostRuntime) -> Result<(), AllocError> {
+    let link = link(&rt);
     let (mut refused, mut done) = (false, false);
     for step in 0..128 {
         let heap = LocalHeap::new(rt.alloc(), 16 * (step + 1))?;
-        if reads(&rt, &heap)? {
-            done = true;
-        } else {
-            refused = true;
-        }
+        let put = told(&heap, &link, &ANNOUNCES_10, &PUTS_TEN);
+        let reset = told(&heap, &link, &MP_UNREACH_TWICE, &MALFORMED);
+        assert!(rt; put != Some(false) && reset == Some(true), "{step}");
+        refused |= put.is_none();
+        done |= put.is_some();
     }
-    assert!(rt; refused, "nothing was refused");
-    assert!(rt; done, "a growth was refused to the end");
-    Ok(())
-}
-
-#[test]
-fn a_reset_takes_no_memory(rt: HostRuntime) -> Result<(), Fail> {
-    let heap = LocalHeap::new(rt.alloc(), 16)?;
-    let outcomes = read_update(&heap, &link()?, &MP_UNREACH_TWICE)?;
-    assert!(rt; outcomes.changes.is_none());
-    assert!(rt; outcomes.reset.contains(1));
+    assert!(rt; refused && done, "nothing was refused, or all");
     Ok(())
 }
