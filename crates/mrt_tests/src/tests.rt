@@ -6,52 +6,44 @@ mod written;
 use linked_list_allocator::LocalHeap;
 use mrt::*;
 use std::alloc::{AllocError, Allocator, Global};
-use std::fmt::Debug;
 use std::io;
 use std::io::{ErrorKind, Read, Write};
 use std::num::NonZeroUsize;
-use std::process::Abort;
 use std::test::Fail;
 
-/// The two are equal. A call of this is proved more quickly than `assert_eq!`.
-fn same<T: Copy + PartialEq + Debug>(rt: &impl Abort, value: T, wanted: T) {
-    assert_eq!(rt; value, wanted);
-}
+/// What a device answers to one call.
+type Answer = Result<usize, Failed>;
 
-/// What a source answers to so many reads with room for two octets, and the octets that it gave.
-fn answers_of<R: Source>(
-    alloc: Global,
-    source: &mut R,
-    reads: usize,
-) -> Result<(Vec<Result<usize, Failed>>, Vec<u8>), AllocError> {
-    let mut answers = Vec::new(alloc);
-    let mut octets = Vec::new(alloc);
+/// Whether a source answers so to reads with room for two octets, and gives just these octets.
+fn gives<R: Source>(source: &mut R, answers: &[Answer], octets: &[u8]) -> bool {
+    let mut left = octets;
     let mut buffer = [0; 2];
-    for _ in 0..reads {
-        if source.failures() < u64::MAX {
-            let answer = source.read(&mut buffer);
-            if let Ok(count) = answer {
-                octets.extend_from_slice(&buffer[..count])?;
-            }
-            answers.push(answer)?;
+    for wanted in answers {
+        if source.failures() == u64::MAX {
+            return false;
+        }
+        let answer = source.read(&mut buffer);
+        if answer != *wanted {
+            return false;
+        }
+        if let Ok(count) = answer {
+            let Some(rest) = left.strip_prefix(&buffer[..count]) else {
+                return false;
+            };
+            left = rest;
         }
     }
-    Ok((answers, octets))
+    left.is_empty()
 }
 
-/// What a sink answers to so many writes of `abc`.
-fn answers_to<W: Sink>(
-    alloc: Global,
-    sink: &mut W,
-    writes: usize,
-) -> Result<Vec<Result<usize, Failed>>, AllocError> {
-    let mut answers = Vec::new(alloc);
-    for _ in 0..writes {
-        if sink.failures() < u64::MAX {
-            answers.push(sink.write(b"abc"))?;
+/// Whether a sink answers so to writes of `abc`.
+fn takes<W: Sink>(sink: &mut W, answers: &[Answer]) -> bool {
+    for wanted in answers {
+        if sink.failures() == u64::MAX || sink.write(b"abc") != *wanted {
+            return false;
         }
     }
-    Ok(answers)
+    true
 }
 
 /// A reader that gives one octet a call, but for one call, which fails.
@@ -114,223 +106,292 @@ impl Write for FaultyWriter {
     }
 }
 
-#[test]
-fn a_reader_gives_its_octets_and_then_its_end(rt: HostRuntime) -> Result<(), Fail> {
+/// Whether a reader of `abcde` gives it, and then its end.
+fn is_given() -> bool {
     let mut source = FromRead::new(b"abcde".as_slice());
-    let (answers, octets) = answers_of(rt.alloc(), &mut source, 5)?;
-    same(
-        &rt,
-        answers.as_slice(),
-        [Ok(2), Ok(2), Ok(1), Ok(0), Ok(0)].as_slice(),
-    );
-    same(&rt, octets.as_slice(), b"abcde".as_slice());
-    same(&rt, source.failures(), 0);
-    same(&rt, source.given(), 5);
-    same(&rt, source.into_inner().len(), 0);
-    Ok(())
+    let answers = [Ok(2), Ok(2), Ok(1), Ok(0), Ok(0)];
+    gives(&mut source, &answers, b"abcde")
+        && source.failures() == 0
+        && source.given() == 5
+        && source.into_inner().is_empty()
 }
 
 #[test]
-fn each_error_of_a_reader_is_one_failure(rt: HostRuntime) -> Result<(), Fail> {
-    for error in [ErrorKind::Other, ErrorKind::Interrupted] {
-        for calls_before in 0..5 {
-            let mut source = FromRead::new(FailingReader {
-                octets: b"abc",
-                calls_before,
-                error,
-            });
-            let (answers, octets) = answers_of(rt.alloc(), &mut source, 5)?;
-            let mut wanted = [Ok(1), Ok(1), Ok(1), Ok(0), Ok(0)].to_vec(rt.alloc())?;
-            wanted.insert(calls_before as usize, Err(Failed))?;
-            assert_eq!(rt; answers.as_slice(), &wanted[..5], "at {calls_before}");
-            same(&rt, octets.as_slice(), b"abc".as_slice());
-            same(&rt, source.failures(), 1);
-            same(&rt, source.last_error(), Some(error));
-            same(&rt, source.given(), 3);
-        }
+fn a_reader_gives_its_octets_and_then_its_end(rt: HostRuntime) {
+    assert!(rt; is_given());
+}
+
+/// The call of a reader of `abc` that fails, and what five reads are answered.
+const READS: [(u32, [Answer; 5]); 5] = [
+    (0, [Err(Failed), Ok(1), Ok(1), Ok(1), Ok(0)]),
+    (1, [Ok(1), Err(Failed), Ok(1), Ok(1), Ok(0)]),
+    (2, [Ok(1), Ok(1), Err(Failed), Ok(1), Ok(0)]),
+    (3, [Ok(1), Ok(1), Ok(1), Err(Failed), Ok(0)]),
+    (4, [Ok(1), Ok(1), Ok(1), Ok(0), Err(Failed)]),
+];
+
+/// Whether an error of a reader of `abc` in this call is one failure, and these are the answers.
+fn fails_once_by(calls_before: u32, error: ErrorKind, answers: &[Answer]) -> bool {
+    let mut source = FromRead::new(FailingReader {
+        octets: b"abc",
+        calls_before,
+        error,
+    });
+    gives(&mut source, answers, b"abc")
+        && source.failures() == 1
+        && source.last_error() == Some(error)
+        && source.given() == 3
+}
+
+/// Whether each error of a reader of `abc` in this call is one failure.
+fn fails_once(calls_before: u32, answers: &[Answer]) -> bool {
+    fails_once_by(calls_before, ErrorKind::Other, answers)
+        && fails_once_by(calls_before, ErrorKind::Interrupted, answers)
+}
+
+#[test]
+fn each_error_of_a_reader_is_one_failure(rt: HostRuntime) {
+    for (call, answers) in &READS {
+        assert!(rt; fails_once(*call, answers), "at {call}");
     }
-    Ok(())
+}
+
+/// Whether a sink takes `ab`, and then nothing.
+fn takes_ab<W: Sink>(sink: &mut W) -> bool {
+    sink.failures() == 0
+        && write_all(sink, b"ab").is_ok()
+        && sink.failures() == 0
+        && write_all(sink, b"").is_ok()
 }
 
 #[test]
-fn a_vector_takes_all_that_is_written(rt: HostRuntime) -> Result<(), Fail> {
+fn a_vector_takes_all_that_is_written(rt: HostRuntime) {
     let mut sink = FromWrite::new(Vec::new(rt.alloc()));
-    same(&rt, write_all(&mut sink, b"ab"), Ok(()));
-    same(&rt, sink.failures(), 0);
-    same(&rt, write_all(&mut sink, b""), Ok(()));
-    same(&rt, sink.into_inner().as_slice(), b"ab".as_slice());
-    Ok(())
+    assert!(rt; takes_ab(&mut sink) && sink.into_inner().as_slice() == b"ab".as_slice());
+}
+
+/// What a writer does in its second call, and the error that is told.
+const WRITER_FAULTS: [(WriterFault, ErrorKind); 3] = [
+    (WriterFault::Error(ErrorKind::Other), ErrorKind::Other),
+    (
+        WriterFault::Error(ErrorKind::Interrupted),
+        ErrorKind::Interrupted,
+    ),
+    (WriterFault::TakesNothing, ErrorKind::WriteZero),
+];
+
+/// Whether a writer's fault in its second call is one failure, by this error.
+fn is_one_failure(alloc: Global, fault: WriterFault, error: ErrorKind) -> bool {
+    let mut sink = FromWrite::new(FaultyWriter {
+        octets: Vec::new(alloc),
+        calls_before: 1,
+        fault,
+    });
+    let is_told = takes(&mut sink, &[Ok(2), Err(Failed), Ok(2)])
+        && sink.failures() == 1
+        && sink.last_error() == Some(error)
+        && sink.taken() == 4;
+    is_told && sink.into_inner().octets.as_slice() == b"abab".as_slice()
 }
 
 #[test]
-fn an_error_and_a_write_that_takes_nothing_are_each_one_failure(
-    rt: HostRuntime,
-) -> Result<(), Fail> {
-    for (fault, error) in [
-        (WriterFault::Error(ErrorKind::Other), ErrorKind::Other),
-        (
-            WriterFault::Error(ErrorKind::Interrupted),
-            ErrorKind::Interrupted,
-        ),
-        (WriterFault::TakesNothing, ErrorKind::WriteZero),
-    ] {
-        let mut sink = FromWrite::new(FaultyWriter {
-            octets: Vec::new(rt.alloc()),
-            calls_before: 1,
-            fault,
-        });
-        let answers = answers_to(rt.alloc(), &mut sink, 3)?;
-        same(
-            &rt,
-            answers.as_slice(),
-            [Ok(2), Err(Failed), Ok(2)].as_slice(),
-        );
-        same(&rt, sink.failures(), 1);
-        same(&rt, sink.last_error(), Some(error));
-        same(&rt, sink.taken(), 4);
-        same(&rt, sink.into_inner().octets.as_slice(), b"abab".as_slice());
+fn an_error_and_a_write_that_takes_nothing_are_each_one_failure(rt: HostRuntime) {
+    for (fault, error) in &WRITER_FAULTS {
+        assert!(rt; is_one_failure(rt.alloc(), *fault, *error), "{error:?}");
     }
-    Ok(())
 }
 
 /// At most so many octets, which has to be a number above 0.
-fn at_most(count: usize) -> Result<NonZeroUsize, Fail> {
-    Ok(NonZeroUsize::new(count).ok_or("no octets")?)
+fn at_most(count: usize) -> NonZeroUsize {
+    NonZeroUsize::new(count).unwrap_or(NonZeroUsize::MIN)
+}
+
+/// A call, what a source of `abcde` does in it, what five reads are answered, and what it gives.
+type SourceRow = (u64, SourceUpset, [Answer; 5], &'static str);
+
+const UPSET_SOURCES: [SourceRow; 7] = [
+    (
+        0,
+        SourceUpset::Fail,
+        [Err(Failed), Ok(2), Ok(2), Ok(1), Ok(0)],
+        "abcde",
+    ),
+    (
+        1,
+        SourceUpset::Fail,
+        [Ok(2), Err(Failed), Ok(2), Ok(1), Ok(0)],
+        "abcde",
+    ),
+    (
+        3,
+        SourceUpset::Fail,
+        [Ok(2), Ok(2), Ok(1), Err(Failed), Ok(0)],
+        "abcde",
+    ),
+    (
+        9,
+        SourceUpset::Fail,
+        [Ok(2), Ok(2), Ok(1), Ok(0), Ok(0)],
+        "abcde",
+    ),
+    (
+        1,
+        SourceUpset::Short(NonZeroUsize::MIN),
+        [Ok(2), Ok(1), Ok(2), Ok(0), Ok(0)],
+        "abcde",
+    ),
+    (0, SourceUpset::End, [Ok(0), Ok(0), Ok(0), Ok(0), Ok(0)], ""),
+    (
+        1,
+        SourceUpset::End,
+        [Ok(2), Ok(0), Ok(0), Ok(0), Ok(0)],
+        "ab",
+    ),
+];
+
+/// Whether a source that is upset so answers so, and gives these octets.
+fn is_source_upset(alloc: Global, (call, upset, answers, given): &SourceRow) -> bool {
+    let Ok(octets) = b"abcde".to_vec(alloc) else {
+        return false;
+    };
+    let mut source = MemSource::new(octets).upset_at(*call, *upset);
+    let failed = answers.contains(&Err(Failed));
+    gives(&mut source, answers, given.as_bytes())
+        && source.failures() == u64::from(failed)
+        && source.given() == given.len()
+        && source.octets() == b"abcde".as_slice()
+}
+
+/// Whether a source that gives at most five octets in its second call, which has room for two,
+/// gives two.
+fn is_long_read_whole(alloc: Global) -> bool {
+    let long = SourceUpset::Short(at_most(5));
+    let answers = [Ok(2), Ok(2), Ok(1), Ok(0), Ok(0)];
+    is_source_upset(alloc, &(1, long, answers, "abcde"))
 }
 
 #[test]
-fn a_source_in_memory_is_upset_once_and_ends_for_good(rt: HostRuntime) -> Result<(), Fail> {
-    let short = SourceUpset::Short(NonZeroUsize::MIN);
-    let long = SourceUpset::Short(at_most(5)?);
-    for (call, upset, wanted) in [
-        (
-            0,
-            SourceUpset::Fail,
-            [Err(Failed), Ok(2), Ok(2), Ok(1), Ok(0)],
-        ),
-        (
-            1,
-            SourceUpset::Fail,
-            [Ok(2), Err(Failed), Ok(2), Ok(1), Ok(0)],
-        ),
-        (
-            3,
-            SourceUpset::Fail,
-            [Ok(2), Ok(2), Ok(1), Err(Failed), Ok(0)],
-        ),
-        (9, SourceUpset::Fail, [Ok(2), Ok(2), Ok(1), Ok(0), Ok(0)]),
-        (1, short, [Ok(2), Ok(1), Ok(2), Ok(0), Ok(0)]),
-        (1, long, [Ok(2), Ok(2), Ok(1), Ok(0), Ok(0)]),
-        (0, SourceUpset::End, [Ok(0), Ok(0), Ok(0), Ok(0), Ok(0)]),
-        (1, SourceUpset::End, [Ok(2), Ok(0), Ok(0), Ok(0), Ok(0)]),
-    ] {
-        let octets = b"abcde".to_vec(rt.alloc())?;
-        let mut source = MemSource::new(octets).upset_at(call, upset);
-        let (answers, given) = answers_of(rt.alloc(), &mut source, 5)?;
-        assert_eq!(rt;
-            answers.as_slice(),
-            wanted.as_slice(),
-            "{upset:?} at {call}"
-        );
-        let failed = answers.contains(&Err(Failed));
-        same(&rt, source.failures(), u64::from(failed));
-        same(&rt, source.given(), given.len());
-        assert!(rt; source.octets().starts_with(given.as_slice()));
-        same(&rt, source.octets(), b"abcde".as_slice());
+fn a_source_in_memory_is_upset_once_and_ends_for_good(rt: HostRuntime) {
+    for (row, upset) in UPSET_SOURCES.iter().enumerate() {
+        assert!(rt; is_source_upset(rt.alloc(), upset), "{row}");
     }
-    Ok(())
+    assert!(rt; is_long_read_whole(rt.alloc()));
 }
 
-#[test]
-fn a_source_in_memory_gives_in_pieces(rt: HostRuntime) -> Result<(), Fail> {
-    let octets = b"abc".to_vec(rt.alloc())?;
+/// Whether a source of `abc` gives it in pieces of one octet.
+fn is_in_pieces(alloc: Global) -> bool {
+    let Ok(octets) = b"abc".to_vec(alloc) else {
+        return false;
+    };
     let mut source = MemSource::new(octets).in_pieces_of(NonZeroUsize::MIN);
-    same(&rt, source.read(&mut []), Ok(0));
-    let (answers, given) = answers_of(rt.alloc(), &mut source, 4)?;
-    same(
-        &rt,
-        answers.as_slice(),
-        [Ok(1), Ok(1), Ok(1), Ok(0)].as_slice(),
-    );
-    same(&rt, given.as_slice(), b"abc".as_slice());
-    Ok(())
+    source.read(&mut []) == Ok(0) && gives(&mut source, &[Ok(1), Ok(1), Ok(1), Ok(0)], b"abc")
 }
 
 #[test]
-fn a_sink_in_memory_is_upset_once(rt: HostRuntime) -> Result<(), Fail> {
-    let short = SinkUpset::Short(at_most(2)?);
-    let long = SinkUpset::Short(at_most(4)?);
-    for (call, upset, wanted, taken) in [
-        (0, SinkUpset::Fail, [Err(Failed), Ok(3), Ok(3)], "abcabc"),
-        (1, SinkUpset::Fail, [Ok(3), Err(Failed), Ok(3)], "abcabc"),
-        (1, short, [Ok(3), Ok(2), Ok(3)], "abcababc"),
-        (1, long, [Ok(3), Ok(3), Ok(3)], "abcabcabc"),
-        (3, SinkUpset::Fail, [Ok(3), Ok(3), Ok(3)], "abcabcabc"),
-    ] {
-        let mut sink = MemSink::new(rt.alloc()).upset_at(call, upset);
-        same(&rt, sink.write(b""), Ok(0));
-        let answers = answers_to(rt.alloc(), &mut sink, 3)?;
-        assert_eq!(rt;
-            answers.as_slice(),
-            wanted.as_slice(),
-            "{upset:?} at {call}"
-        );
-        let failed = answers.contains(&Err(Failed));
-        same(&rt, sink.failures(), u64::from(failed));
-        same(&rt, sink.octets(), taken.as_bytes());
+fn a_source_in_memory_gives_in_pieces(rt: HostRuntime) {
+    assert!(rt; is_in_pieces(rt.alloc()));
+}
+
+/// A call of a sink, how many octets it takes then (`None`: it fails), what three writes of `abc`
+/// are answered, and what it took.
+type SinkRow = (u64, Option<usize>, [Answer; 3], &'static str);
+
+const UPSET_SINKS: [SinkRow; 5] = [
+    (0, None, [Err(Failed), Ok(3), Ok(3)], "abcabc"),
+    (1, None, [Ok(3), Err(Failed), Ok(3)], "abcabc"),
+    (1, Some(2), [Ok(3), Ok(2), Ok(3)], "abcababc"),
+    (1, Some(4), [Ok(3), Ok(3), Ok(3)], "abcabcabc"),
+    (3, None, [Ok(3), Ok(3), Ok(3)], "abcabcabc"),
+];
+
+/// Whether a sink that is upset so answers so, and takes these octets.
+fn is_sink_upset(alloc: Global, (call, most, answers, taken): &SinkRow) -> bool {
+    let upset = match most {
+        Some(most) => SinkUpset::Short(at_most(*most)),
+        None => SinkUpset::Fail,
+    };
+    let failed = answers.contains(&Err(Failed));
+    let mut sink = MemSink::new(alloc).upset_at(*call, upset);
+    sink.write(b"") == Ok(0)
+        && takes(&mut sink, answers)
+        && sink.failures() == u64::from(failed)
+        && sink.octets() == taken.as_bytes()
+}
+
+#[test]
+fn a_sink_in_memory_is_upset_once(rt: HostRuntime) {
+    for (row, upset) in UPSET_SINKS.iter().enumerate() {
+        assert!(rt; is_sink_upset(rt.alloc(), upset), "{row}");
     }
-    Ok(())
+}
+
+/// Whether `write_all` stops at the call that fails, where each call takes one octet.
+fn stops_at(alloc: Global, call: u64, text: &[u8]) -> bool {
+    let mut sink = MemSink::new(alloc)
+        .in_pieces_of(NonZeroUsize::MIN)
+        .upset_at(call, SinkUpset::Fail);
+    let is_written = write_all(&mut sink, text).is_ok();
+    let fails = call < text.len() as u64;
+    let taken = if fails { call as usize } else { text.len() };
+    is_written != fails && sink.failures() == u64::from(fails) && sink.octets() == &text[..taken]
 }
 
 #[test]
-fn write_all_stops_at_the_write_that_fails(rt: HostRuntime) -> Result<(), Fail> {
-    let text = b"abcde";
+fn write_all_stops_at_the_write_that_fails(rt: HostRuntime) {
     for call in 0..7 {
-        let mut sink = MemSink::new(rt.alloc())
-            .in_pieces_of(NonZeroUsize::MIN)
-            .upset_at(call, SinkUpset::Fail);
-        let answer = write_all(&mut sink, text);
-        let taken = (call as usize).min(text.len());
-        assert_eq!(rt; answer.is_ok(), call >= 5, "at {call}");
-        same(&rt, sink.failures(), u64::from(call < 5));
-        same(&rt, sink.octets(), &text[..taken]);
+        assert!(rt; stops_at(rt.alloc(), call, b"abcde"), "at {call}");
     }
-    Ok(())
+}
+
+/// Whether a sink that takes seven octets a call holds all of a text, or what it took of it.
+fn is_kept(sink: &MemSink<&LocalHeap>, text: &[u8], is_written: bool) -> bool {
+    let taken = sink.octets();
+    let is_counted = if is_written {
+        taken.len() == text.len() && sink.failures() == 0
+    } else {
+        taken.len() % 7 == 0 && sink.failures() == 1
+    };
+    is_counted && text.starts_with(taken)
+}
+
+/// Whether 100 octets are written to a sink in this heap: `None` where it doesn't hold what it took.
+fn is_written(heap: &LocalHeap) -> Option<bool> {
+    let text = [b'x'; 100];
+    let mut sink = MemSink::new(heap).in_pieces_of(at_most(7));
+    let is_written = write_all(&mut sink, &text).is_ok();
+    is_kept(&sink, &text, is_written).then_some(is_written)
+}
+
+/// The same, of a heap of this size.
+fn is_written_over(alloc: Global, size: usize) -> Option<bool> {
+    match LocalHeap::new(alloc, size) {
+        Ok(heap) => is_written(&heap),
+        Err(_) => None,
+    }
 }
 
 #[test]
-fn a_sink_keeps_what_it_took_where_memory_is_refused(rt: HostRuntime) -> Result<(), Fail> {
-    let text = [b'x'; 100];
-    let mut refusals = 0u64;
+fn a_sink_keeps_what_it_took_where_memory_is_refused(rt: HostRuntime) {
+    let (mut refused, mut done) = (false, false);
     for steps in 1..100 {
-        let heap = LocalHeap::new(rt.alloc(), 16 * steps)?;
-        let mut sink = MemSink::new(&heap).in_pieces_of(at_most(7)?);
-        let answer = write_all(&mut sink, &text);
-        let taken = sink.octets().len();
-        assert!(rt; text.starts_with(sink.octets()));
-        if answer.is_ok() {
-            same(&rt, taken, 100);
-            same(&rt, sink.failures(), 0);
-            assert!(rt; refusals > 0);
-            return Ok(());
-        }
-        same(&rt, taken % 7, 0);
-        same(&rt, sink.failures(), 1);
-        refusals = refusals.saturating_add(1);
+        let answer = is_written_over(rt.alloc(), 16 * steps);
+        assert!(rt; answer.is_some(), "{steps}");
+        done = answer == Some(true);
+        refused = refused || !done;
     }
-    Err(Fail::new("memory is always refused"))
+    assert!(rt; refused && done);
+}
+
+/// Whether octets are written one behind another.
+fn are_written(alloc: Global) -> bool {
+    let mut sink = MemSink::new(alloc);
+    sink.write(b"octets") == Ok(6)
+        && write_all(&mut sink, b" and more").is_ok()
+        && sink.into_octets().as_slice() == b"octets and more".as_slice()
 }
 
 /// Every call that takes memory, with enough of it.
 #[test]
-fn ample_memory(rt: HostRuntime) -> Result<(), Fail> {
-    let mut sink = MemSink::new(rt.alloc());
-    same(&rt, sink.write(b"octets"), Ok(6));
-    same(&rt, write_all(&mut sink, b" and more"), Ok(()));
-    same(
-        &rt,
-        sink.into_octets().as_slice(),
-        b"octets and more".as_slice(),
-    );
-    Ok(())
+fn ample_memory(rt: HostRuntime) {
+    assert!(rt; are_written(rt.alloc()));
 }

@@ -1,15 +1,22 @@
 //! Records that are written, octet by octet, and read again.
 
-use super::captures::{CHANGE, RECEIVED, SESSION, octets_of};
+use super::captures::{CHANGE, RECEIVED, SESSION};
 use super::*;
 use bgp_prefix::{Address, Session};
 use bgp_wire::vectors::KEEPALIVE;
 
-/// The first octets of a KEEPALIVE that is sent over IPv6 at second 7, up to its message:
-/// Timestamp, BGP4MP and MESSAGE_AS4_LOCAL, Length; AS numbers; interface index and AFI; addresses.
-const SENT: &str = "00000007 00100007 0000003f \
-    0000fdea 0000fde9 00000002 \
-    20010db8000000000000000000000002 20010db8000000000000000000000001";
+/// The first octets of a KEEPALIVE that is sent over IPv6 at second 7, up to its message.
+const SENT: [u8; 56] = [
+    0x00, 0x00, 0x00, 0x07, // Timestamp
+    0x00, 0x10, 0x00, 0x07, // BGP4MP, MESSAGE_AS4_LOCAL
+    0x00, 0x00, 0x00, 0x3f, // Length
+    0x00, 0x00, 0xfd, 0xea, 0x00, 0x00, 0xfd, 0xe9, // AS numbers
+    0x00, 0x00, 0x00, 0x02, // interface index, AFI
+    0x20, 0x01, 0x0d, 0xb8, 0x00, 0x00, 0x00, 0x00, // address of the peer
+    0x00, 0x00, 0x00, 0x00, 0x00, 0x00, 0x00, 0x02, // address of the peer
+    0x20, 0x01, 0x0d, 0xb8, 0x00, 0x00, 0x00, 0x00, // local address
+    0x00, 0x00, 0x00, 0x00, 0x00, 0x00, 0x00, 0x01, // local address
+];
 
 const OVER_IPV6: Session = Session {
     peer: Address::V6(0x2001_0db8_0000_0000_0000_0000_0000_0002),
@@ -17,52 +24,60 @@ const OVER_IPV6: Session = Session {
     refresh: false,
 };
 
-/// Writes a record that can be written.
-fn write(
+/// Whether that is answered to a record that can be written.
+fn answers(
     sink: &mut MemSink,
     session: &Session,
     shown: &Record<'_>,
-) -> Result<Result<(), WriteFault>, Fail> {
+    wanted: Result<(), WriteFault>,
+) -> bool {
     if sink.failures() == u64::MAX || !is_writable(session, shown) {
-        return Err(Fail::from("not writable"));
+        return false;
     }
-    Ok(write_record(sink, session, 65002, 65001, shown))
+    write_record(sink, session, 65002, 65001, shown) == wanted
+}
+
+/// Whether what begins with these parts, one behind another, has nothing else.
+fn is_joined(octets: &[u8], parts: &[&[u8]]) -> bool {
+    let mut left = octets;
+    for part in parts {
+        let Some(rest) = left.strip_prefix(part) else {
+            return false;
+        };
+        left = rest;
+    }
+    left.is_empty()
 }
 
 #[test]
-fn records_are_written_octet_by_octet(rt: HostRuntime) -> Result<(), Fail> {
+fn records_are_written_octet_by_octet(rt: HostRuntime) {
     let mut sink = MemSink::new(rt.alloc());
     let change = Record::Change(100, 1, 2);
     let received = Record::In(101, &KEEPALIVE);
     let sent = Record::Out(7, &KEEPALIVE);
-    same(&rt, write(&mut sink, &SESSION, &change)?, Ok(()));
-    same(&rt, write(&mut sink, &SESSION, &received)?, Ok(()));
-    same(&rt, write(&mut sink, &OVER_IPV6, &sent)?, Ok(()));
-    let mut wanted = Vec::new(rt.alloc());
-    for record in [CHANGE, RECEIVED, SENT] {
-        wanted.extend_from_slice(octets_of(rt.alloc(), record)?.as_slice())?;
-    }
-    wanted.extend_from_slice(&KEEPALIVE)?;
-    same(&rt, sink.octets(), wanted.as_slice());
-    Ok(())
+    let are_written = answers(&mut sink, &SESSION, &change, Ok(()))
+        && answers(&mut sink, &SESSION, &received, Ok(()))
+        && answers(&mut sink, &OVER_IPV6, &sent, Ok(()));
+    let wanted: [&[u8]; 4] = [&CHANGE, &RECEIVED, &SENT, &KEEPALIVE];
+    assert!(rt; are_written && is_joined(sink.octets(), &wanted));
+}
+
+/// Whether a record's beginning is written, up to the octet that the sink refuses.
+fn is_begun(alloc: Global, call: u64) -> bool {
+    let mut sink = MemSink::new(alloc)
+        .in_pieces_of(NonZeroUsize::MIN)
+        .upset_at(call, SinkUpset::Fail);
+    let received = Record::In(101, &KEEPALIVE);
+    let is_refused = answers(&mut sink, &SESSION, &received, Err(WriteFault::Device));
+    let taken = sink.octets();
+    is_refused && sink.failures() == 1 && taken.len() as u64 == call && RECEIVED.starts_with(taken)
 }
 
 #[test]
-fn a_sink_that_fails_has_a_beginning(rt: HostRuntime) -> Result<(), Fail> {
-    let received = Record::In(101, &KEEPALIVE);
-    let octets = octets_of(rt.alloc(), RECEIVED)?;
+fn a_sink_that_fails_has_a_beginning(rt: HostRuntime) {
     for call in 0..51 {
-        let mut sink = MemSink::new(rt.alloc())
-            .in_pieces_of(NonZeroUsize::MIN)
-            .upset_at(call, SinkUpset::Fail);
-        let answer = write(&mut sink, &SESSION, &received)?;
-        assert_eq!(rt; answer, Err(WriteFault::Device), "{call}");
-        assert_eq!(rt; sink.failures(), 1, "{call}");
-        let taken = sink.octets();
-        same(&rt, taken.len() as u64, call);
-        assert_eq!(rt; octets.starts_with(taken), true, "{call}");
+        assert!(rt; is_begun(rt.alloc(), call), "{call}");
     }
-    Ok(())
 }
 
 #[test]
@@ -74,11 +89,10 @@ fn a_record_of_two_families_or_too_long_a_body_is_not_writable(
         ..SESSION
     };
     let change = Record::Change(100, 1, 2);
-    same(&rt, is_writable(&mixed, &change), false);
-    for (count, wanted) in [(8172, true), (8173, false)] {
-        let message = vec![in rt.alloc(); 0; count]?;
-        let received = Record::In(101, message.as_slice());
-        assert_eq!(rt; is_writable(&SESSION, &received), wanted, "{count}");
-    }
+    let octets = vec![in rt.alloc(); 0; 8173]?;
+    let is_so = !is_writable(&mixed, &change)
+        && is_writable(&SESSION, &Record::In(101, &octets[..8172]))
+        && !is_writable(&SESSION, &Record::In(101, octets.as_slice()));
+    assert!(rt; is_so);
     Ok(())
 }
