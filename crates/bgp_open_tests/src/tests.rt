@@ -1,6 +1,15 @@
 //! OPEN and NOTIFICATION messages whose meaning was worked out by hand, and real routers' OPENs.
 
-ghost use Rattle.std.specs.Prelude.{◌<◌, length};
+/// A message of fewer than 256 octets: an all-255 marker, the first octet of the Length, and these:
+/// its second octet, the Type and the body.
+macro_rules! message {
+    ($($octet:expr),*) => {
+        &[
+            255, 255, 255, 255, 255, 255, 255, 255, 255, 255, 255, 255, 255, 255, 255, 255, 0,
+            $($octet),*
+        ]
+    };
+}
 
 mod captures;
 mod faults;
@@ -8,9 +17,10 @@ mod negotiation;
 mod reading;
 mod writing;
 
-use bgp_open::{Config, ConfigParts, Families, Link, OpenSubcodes, negotiate, read_open};
+use bgp_open::{
+    Config, ConfigParts, Families, OpenSubcodes, is_own_open, negotiate, open_faults, read_open,
+};
 use bgp_prefix::{Address, Session};
-use std::alloc::{AllocError, Global};
 use std::process::Abort;
 
 /// The session of router A: 192.0.2.1 with 192.0.2.2.
@@ -51,75 +61,80 @@ const PARTS_B: ConfigParts = ConfigParts {
     },
 };
 
+/// Router A with AS numbers of two octets alone.
+const TWO_OCTETS: ConfigParts = ConfigParts {
+    as4: false,
+    ..PARTS_A
+};
+
 const BOTH: Families = Families { v4: true, v6: true };
 
-/// The configuration of these parts.
-fn config_of(rt: &impl Abort, parts: ConfigParts) -> Config {
-    Config::new(parts).expect(rt, "no configuration")
+const V6: Families = Families {
+    v4: false,
+    v6: true,
+};
+
+const NO_FAMILY: Families = Families {
+    v4: false,
+    v6: false,
+};
+
+/// The row holds. A call of this is proved more quickly than an assertion with a message.
+fn assert_row(rt: &impl Abort, holds: bool, lesson: &str) {
+    assert!(rt; holds, "{lesson}");
 }
 
-/// What the local system's configuration and a peer's OPEN settle.
-fn link_with(rt: &impl Abort, config: &Config, open: &[u8]) -> Link {
-    negotiate(config, &read_open(open).ok().expect(rt, "no OPEN"))
-}
+/// The subcodes of the faults that any OPEN of version 4 may be refused for.
+const PERMITTED: u16 = 1 << 6 | 1 << 7;
 
-/// A message: an all-255 marker, the Length, the Type, and the body.
-fn message(alloc: Global, kind: u8, body: &[u8]) -> Result<Vec<u8>, AllocError>
-    requires { length body.now < 256 }
-{
-    let mut octets = vec![in alloc; 255; 16]?;
-    octets.extend_from_slice(&(19 + body.len() as u16).to_be_bytes())?;
-    octets.push(kind)?;
-    octets.extend_from_slice(body)?;
-    Ok(octets)
-}
-
-/// The fixed fields of an OPEN behind its version, up to the length of its parameters.
-const FIELDS: [u8; 8] = [
-    0xfd, 0xea, // My Autonomous System: 65002
-    0x00, 0x5a, // Hold Time: 90
-    0xc0, 0x00, 0x02, 0x02, // BGP Identifier: 192.0.2.2
-];
-
-/// An OPEN of a version with these fixed fields, which ends with these octets: the Optional
-/// Parameters Length and what follows.
-fn open_of(
-    alloc: Global,
-    version: u8,
-    fields: &[u8; 8],
-    behind: &[u8],
-) -> Result<Vec<u8>, AllocError>
-    requires { length behind.now < 200 }
-{
-    let mut body = vec![in alloc; version; 1]?;
-    body.extend_from_slice(fields)?;
-    body.extend_from_slice(behind)?;
-    message(alloc, 1, &body)
-}
-
-/// An OPEN of router B.
-fn open_with(alloc: Global, version: u8, behind: &[u8]) -> Result<Vec<u8>, AllocError>
-    requires { length behind.now < 200 }
-{
-    open_of(alloc, version, &FIELDS, behind)
-}
-
-/// The set has these subcodes and no others, and 1 only with its data.
-fn assert_subcodes(rt: &impl Abort, errors: &OpenSubcodes, wanted: &[u8], lesson: &str) {
+/// Whether the set has these subcodes and no others, and 1 only with its data. Subcode N is the bit
+/// of 2 to the power of N.
+fn has_just(errors: &OpenSubcodes, wanted: u16) -> bool {
+    let mut has_just = errors.is_empty() == (wanted == 0);
     for subcode in 0..9u8 {
-        let is_wanted = wanted.iter().any(|s| *s == subcode);
-        let version_4 = [0x00, 0x04];
-        assert_eq!(rt;
-            errors.contains(subcode, &version_4),
-            is_wanted,
-            "{subcode}: {lesson}"
-        );
+        let is_wanted = wanted >> subcode & 1 == 1;
         let is_free = is_wanted && subcode != 1;
-        assert_eq!(rt;
-            errors.contains(subcode, &[]),
-            is_free,
-            "{subcode} without data: {lesson}"
-        );
+        let version_4 = [0x00, 0x04];
+        has_just = has_just
+            && errors.contains(subcode, &version_4) == is_wanted
+            && errors.contains(subcode, &[]) == is_free;
     }
-    assert_eq!(rt; errors.is_empty(), wanted.is_empty(), "{lesson}");
+    has_just
+}
+
+/// Whether a system that is configured so finds just these faults in a peer's OPEN.
+fn finds(parts: &ConfigParts, open: &[u8], must: u16, may: u16) -> bool {
+    let Some(config) = Config::new(*parts) else {
+        return false;
+    };
+    let faults = open_faults(&config, open);
+    has_just(&faults.must, must) && has_just(&faults.may, may)
+}
+
+/// Whether an OPEN is one that a system that is configured so may send.
+fn is_own(parts: &ConfigParts, open: &[u8]) -> bool {
+    match Config::new(*parts) {
+        Some(config) => is_own_open(&config, open),
+        None => false,
+    }
+}
+
+/// What is settled.
+struct Settled {
+    hold: u16,
+    as4: bool,
+    families: Families,
+    internal: bool,
+}
+
+/// Whether a system that is configured so and a peer's OPEN settle just that.
+fn settle(parts: &ConfigParts, open: &[u8], settled: &Settled) -> bool {
+    let (Some(config), Ok(message)) = (Config::new(*parts), read_open(open)) else {
+        return false;
+    };
+    let link = negotiate(&config, &message);
+    link.hold == settled.hold
+        && link.as4 == settled.as4
+        && link.families == settled.families
+        && link.internal == settled.internal
 }

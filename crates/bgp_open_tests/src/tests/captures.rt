@@ -2,7 +2,6 @@
 //! and what both settle is written down from the octets by hand.
 
 use super::*;
-use bgp_open::{Link, is_own_open, open_faults};
 use bgp_wire::vectors::{OPEN_A, OPEN_B};
 
 /// BIRD 2.0.12, with its defaults, as AS 65001 (session bird-frr, and session refresh).
@@ -248,26 +247,30 @@ pub(crate) const OPENBGPD_OVER_IPV6: [u8; 49] = OPEN_A;
 pub(crate) const BIRD_OVER_IPV6: [u8; 49] = OPEN_B;
 
 /// One end of a session.
-#[derive(Clone, Copy)]
 struct End {
     /// What it is configured to do.
     parts: ConfigParts,
     /// The OPEN that it sent.
     open: &'static [u8],
-    /// The mandatory faults that it finds in the other's.
-    must: &'static [u8],
+    /// The subcodes of the mandatory faults that it finds in the other's.
+    must: u16,
 }
 
-/// The beginning of a session, and what both OPENs settle besides both families and an external
-/// peer.
-#[derive(Clone, Copy)]
+/// The beginning of a session, and what both OPENs settle.
 struct Opening {
     name: &'static str,
     a: End,
     b: End,
-    hold: u16,
-    as4: bool,
+    settled: Settled,
 }
+
+/// Both families, an external peer, Hold Time 90 and AS numbers of four octets.
+const WIDE: Settled = Settled {
+    hold: 90,
+    as4: true,
+    families: BOTH,
+    internal: false,
+};
 
 /// The session of router A where route refresh isn't agreed on.
 const WITHOUT_REFRESH: Session = Session {
@@ -281,129 +284,130 @@ const IPV6_A: Address = Address::V6(0x2001_0db8_0000_0000_0000_0000_0000_0001);
 /// And router B's: 2001:db8::2.
 const IPV6_B: Address = Address::V6(0x2001_0db8_0000_0000_0000_0000_0000_0002);
 
-/// The session of router A over IPv6.
-const A_OVER_IPV6: Session = Session {
-    peer: IPV6_B,
-    local: IPV6_A,
-    refresh: false,
-};
+static OPENINGS: [Opening; 6] = [
+    Opening {
+        name: "bird-frr and refresh",
+        a: End {
+            parts: PARTS_A,
+            open: &BIRD,
+            must: 0,
+        },
+        b: End {
+            parts: PARTS_B,
+            open: &FRR,
+            must: 0,
+        },
+        settled: WIDE,
+    },
+    Opening {
+        name: "openbgpd-gobgp",
+        a: End {
+            parts: PARTS_A,
+            open: &OPENBGPD,
+            must: 0,
+        },
+        b: End {
+            parts: PARTS_B,
+            open: &GOBGP,
+            must: 0,
+        },
+        settled: WIDE,
+    },
+    Opening {
+        name: "hold0",
+        a: End {
+            parts: ConfigParts {
+                hold: 0,
+                session: WITHOUT_REFRESH,
+                ..PARTS_A
+            },
+            open: &BIRD_HOLD_0,
+            must: 0,
+        },
+        b: End {
+            parts: ConfigParts { hold: 0, ..PARTS_B },
+            open: &FRR_HOLD_0,
+            must: 0,
+        },
+        settled: Settled { hold: 0, ..WIDE },
+    },
+    Opening {
+        name: "as-trans",
+        a: End {
+            parts: ConfigParts {
+                session: WITHOUT_REFRESH,
+                ..TWO_OCTETS
+            },
+            open: &OPENBGPD_TWO_OCTETS,
+            must: 0,
+        },
+        b: End {
+            parts: PARTS_B,
+            open: &FRR_AS_TRANS,
+            must: 0,
+        },
+        settled: Settled { as4: false, ..WIDE },
+    },
+    Opening {
+        name: "bad-as-frr",
+        a: End {
+            parts: ConfigParts {
+                peer_as: 65009,
+                ..PARTS_A
+            },
+            open: &FRR_BAD_AS,
+            must: 1 << 2,
+        },
+        b: End {
+            parts: PARTS_B,
+            open: &OPENBGPD_B,
+            must: 0,
+        },
+        settled: WIDE,
+    },
+    Opening {
+        name: "transport6",
+        a: End {
+            parts: ConfigParts {
+                session: Session {
+                    peer: IPV6_B,
+                    local: IPV6_A,
+                    refresh: false,
+                },
+                ..PARTS_A
+            },
+            open: &OPENBGPD_OVER_IPV6,
+            must: 0,
+        },
+        b: End {
+            parts: ConfigParts {
+                session: Session {
+                    peer: IPV6_A,
+                    local: IPV6_B,
+                    refresh: false,
+                },
+                ..PARTS_B
+            },
+            open: &BIRD_OVER_IPV6,
+            must: 0,
+        },
+        settled: WIDE,
+    },
+];
 
-/// And of router B.
-const B_OVER_IPV6: Session = Session {
-    peer: IPV6_A,
-    local: IPV6_B,
-    refresh: false,
-};
-
-/// An end that finds no mandatory fault.
-fn faultless(parts: ConfigParts, open: &'static [u8]) -> End {
-    End {
-        parts,
-        open,
-        must: &[],
-    }
-}
-
-/// What one end makes of its own OPEN and of the other's: the link, if that has no mandatory fault.
-fn link_at(rt: &impl Abort, name: &'static str, own: End, other: &'static [u8]) -> Link {
-    let config = config_of(rt, own.parts);
-    let (is_own, is_other) = (is_own_open(&config, own.open), is_own_open(&config, other));
-    assert!(rt; is_own && !is_other, "{name}");
-    let faults = open_faults(&config, other);
-    assert_subcodes(rt, &faults.must, own.must, name);
-    assert_subcodes(rt, &faults.may, &[6, 7], name);
-    link_with(rt, &config, other)
-}
-
-/// Each OPEN is its sender's own, and both ends settle the same.
-fn assert_session(rt: &impl Abort, row: Opening) {
-    let name = row.name;
-    let link_a = link_at(rt, name, row.a, row.b.open);
-    let link_b = link_at(rt, name, row.b, row.a.open);
-    for link in [link_a, link_b] {
-        assert!(rt; link.hold == row.hold && link.as4 == row.as4, "{name}");
-        assert!(rt; link.families == BOTH && !link.internal, "{name}");
-    }
+/// Whether an end's OPEN is its own and the other's isn't, and both settle what they are to.
+fn opens(own: &End, other: &[u8], settled: &Settled) -> bool {
+    is_own(&own.parts, own.open)
+        && !is_own(&own.parts, other)
+        && finds(&own.parts, other, own.must, PERMITTED)
+        && settle(&own.parts, other, settled)
 }
 
 #[test]
 fn real_routers_open_sessions(rt: HostRuntime) {
-    let hold_0 = [
-        ConfigParts {
-            hold: 0,
-            session: WITHOUT_REFRESH,
-            ..PARTS_A
-        },
-        ConfigParts { hold: 0, ..PARTS_B },
-    ];
-    let two_octets = ConfigParts {
-        as4: false,
-        session: WITHOUT_REFRESH,
-        ..PARTS_A
-    };
-    let expects_65009 = ConfigParts {
-        peer_as: 65009,
-        ..PARTS_A
-    };
-    let over_ipv6 = [
-        ConfigParts {
-            session: A_OVER_IPV6,
-            ..PARTS_A
-        },
-        ConfigParts {
-            session: B_OVER_IPV6,
-            ..PARTS_B
-        },
-    ];
-    let rows = [
-        Opening {
-            name: "bird-frr and refresh",
-            a: faultless(PARTS_A, &BIRD),
-            b: faultless(PARTS_B, &FRR),
-            hold: 90,
-            as4: true,
-        },
-        Opening {
-            name: "openbgpd-gobgp",
-            a: faultless(PARTS_A, &OPENBGPD),
-            b: faultless(PARTS_B, &GOBGP),
-            hold: 90,
-            as4: true,
-        },
-        Opening {
-            name: "hold0",
-            a: faultless(hold_0[0], &BIRD_HOLD_0),
-            b: faultless(hold_0[1], &FRR_HOLD_0),
-            hold: 0,
-            as4: true,
-        },
-        Opening {
-            name: "as-trans",
-            a: faultless(two_octets, &OPENBGPD_TWO_OCTETS),
-            b: faultless(PARTS_B, &FRR_AS_TRANS),
-            hold: 90,
-            as4: false,
-        },
-        Opening {
-            name: "bad-as-frr",
-            a: End {
-                parts: expects_65009,
-                open: &FRR_BAD_AS,
-                must: &[2],
-            },
-            b: faultless(PARTS_B, &OPENBGPD_B),
-            hold: 90,
-            as4: true,
-        },
-        Opening {
-            name: "transport6",
-            a: faultless(over_ipv6[0], &OPENBGPD_OVER_IPV6),
-            b: faultless(over_ipv6[1], &BIRD_OVER_IPV6),
-            hold: 90,
-            as4: true,
-        },
-    ];
-    for row in rows {
-        assert_session(&rt, row);
+    for row in &OPENINGS {
+        let is_open_at_a = opens(&row.a, row.b.open, &row.settled);
+        let is_open_at_b = opens(&row.b, row.a.open, &row.settled);
+        assert_row(&rt, is_open_at_a && is_open_at_b, row.name);
     }
 }

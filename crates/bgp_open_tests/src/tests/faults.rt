@@ -1,335 +1,387 @@
 //! The faults of a peer's OPEN.
 
 use super::*;
-use bgp_open::{OpenFaults, open_faults};
+use bgp_open::OpenFaults;
 use bgp_wire::vectors::{KEEPALIVE, OPEN_B};
 
-/// An OPEN of version 4.
-#[derive(Clone, Copy)]
-struct Said<'a> {
-    lesson: &'a str,
-    /// My Autonomous System, Hold Time and BGP Identifier.
-    fields: [u8; 8],
-    /// The Optional Parameters Length and the parameters.
-    behind: &'a [u8],
+/// An OPEN that a configured system receives.
+struct Received {
+    lesson: &'static str,
+    parts: ConfigParts,
+    open: &'static [u8],
     /// The subcodes of its mandatory faults.
-    must: &'a [u8],
+    must: u16,
+    /// Those of the faults that it may be refused for.
+    may: u16,
 }
 
-const ALL_OF_MALFORMED: [u8; 6] = [0, 2, 3, 4, 6, 7];
+const ALL_OF_MALFORMED: u16 = 1 | 1 << 2 | 1 << 3 | 1 << 4 | 1 << 6 | 1 << 7;
 
-/// The octets are an OPEN with just these faults.
-fn assert_faults(rt: &impl Abort, config: &Config, octets: &[u8], row: (&[u8], &[u8], &str)) {
-    let (must, may, lesson) = row;
-    let faults = open_faults(config, octets);
-    assert_subcodes(rt, &faults.must, must, lesson);
-    assert_subcodes(rt, &faults.may, may, lesson);
-}
+/// Router B's configuration for an internal peer.
+const INTERNAL: ConfigParts = ConfigParts {
+    local_as: 65002,
+    local_id: 0xc000_0202,
+    ..PARTS_A
+};
+
+/// [`OPEN_B`] with Hold Time 1.
+const B_WITH_HOLD_1: &[u8] = message![
+    49, 1, 4, 0xfd, 0xea, 0x00, 0x01, 192, 0, 2, 2, // the fixed fields
+    20, 2, 18, 1, 4, 0, 1, 0, 1, 1, 4, 0, 2, 0, 1, 65, 4, 0, 0, 0xfd, 0xea
+];
+
+/// [`OPEN_B`] with My Autonomous System 65003; the capability says 65002.
+const B_OF_65003: &[u8] = message![
+    49, 1, 4, 0xfd, 0xeb, 0x00, 0x5a, 192, 0, 2, 2, // the fixed fields
+    20, 2, 18, 1, 4, 0, 1, 0, 1, 1, 4, 0, 2, 0, 1, 65, 4, 0, 0, 0xfd, 0xea
+];
+
+static RECEIVED: [Received; 38] = [
+    Received {
+        lesson: "none",
+        parts: PARTS_A,
+        open: message![29, 1, 4, 0xfd, 0xea, 0x00, 0x5a, 192, 0, 2, 2, 0],
+        must: 0,
+        may: PERMITTED,
+    },
+    Received {
+        lesson: "none, at the identifier of the local system of an external peer",
+        parts: PARTS_A,
+        open: message![29, 1, 4, 0xfd, 0xea, 0x00, 0x5a, 192, 0, 2, 1, 0],
+        must: 0,
+        may: PERMITTED,
+    },
+    Received {
+        lesson: "another AS",
+        parts: PARTS_A,
+        open: message![29, 1, 4, 0xfd, 0xeb, 0x00, 0x5a, 192, 0, 2, 2, 0],
+        must: 1 << 2,
+        may: PERMITTED,
+    },
+    Received {
+        lesson: "the AS number of the capability, not My Autonomous System",
+        parts: PARTS_A,
+        open: message![
+            37, 1, 4, 0xfd, 0xeb, 0x00, 0x5a, 192, 0, 2, 2, 8, 2, 6, 65, 4, 0x00, 0x00, 0xfd, 0xea
+        ],
+        must: 0,
+        may: PERMITTED,
+    },
+    Received {
+        lesson: "the first capability counts",
+        parts: PARTS_A,
+        open: message![
+            43, 1, 4, 0xfd, 0xea, 0x00, 0x5a, 192, 0, 2, 2, 14, 2, 12, 65, 4, 0, 0, 0xfd, 0xeb, 65,
+            4, 0, 0, 0xfd, 0xea
+        ],
+        must: 1 << 2,
+        may: PERMITTED,
+    },
+    Received {
+        lesson: "identifier 0",
+        parts: PARTS_A,
+        open: message![29, 1, 4, 0xfd, 0xea, 0x00, 0x5a, 0, 0, 0, 0, 0],
+        must: 1 << 3,
+        may: PERMITTED,
+    },
+    Received {
+        lesson: "a parameter of type 1",
+        parts: PARTS_A,
+        open: message![32, 1, 4, 0xfd, 0xea, 0x00, 0x5a, 192, 0, 2, 2, 3, 1, 1, 0],
+        must: 1 << 4,
+        may: PERMITTED,
+    },
+    Received {
+        lesson: "Hold Time 1",
+        parts: PARTS_A,
+        open: message![29, 1, 4, 0xfd, 0xea, 0x00, 0x01, 192, 0, 2, 2, 0],
+        must: 1 << 6,
+        may: PERMITTED,
+    },
+    Received {
+        lesson: "Hold Time 2",
+        parts: PARTS_A,
+        open: message![29, 1, 4, 0xfd, 0xea, 0x00, 0x02, 192, 0, 2, 2, 0],
+        must: 1 << 6,
+        may: PERMITTED,
+    },
+    Received {
+        lesson: "none, at Hold Time 3",
+        parts: PARTS_A,
+        open: message![29, 1, 4, 0xfd, 0xea, 0x00, 0x03, 192, 0, 2, 2, 0],
+        must: 0,
+        may: PERMITTED,
+    },
+    Received {
+        lesson: "none, at Hold Time 0",
+        parts: PARTS_A,
+        open: message![29, 1, 4, 0xfd, 0xea, 0x00, 0x00, 192, 0, 2, 2, 0],
+        must: 0,
+        may: PERMITTED,
+    },
+    Received {
+        lesson: "Hold Time 2, and another AS",
+        parts: PARTS_A,
+        open: message![29, 1, 4, 0xfd, 0xeb, 0x00, 0x02, 192, 0, 2, 2, 0],
+        must: 1 << 2 | 1 << 6,
+        may: PERMITTED,
+    },
+    Received {
+        lesson: "identifier 0, and a parameter of type 1",
+        parts: PARTS_A,
+        open: message![32, 1, 4, 0xfd, 0xea, 0x00, 0x5a, 0, 0, 0, 0, 3, 1, 1, 0],
+        must: 1 << 3 | 1 << 4,
+        may: PERMITTED,
+    },
+    Received {
+        lesson: "another AS, and identifier 0",
+        parts: PARTS_A,
+        open: message![29, 1, 4, 0xfd, 0xeb, 0x00, 0x5a, 0, 0, 0, 0, 0],
+        must: 1 << 2 | 1 << 3,
+        may: PERMITTED,
+    },
+    Received {
+        lesson: "another AS, and a parameter of type 1",
+        parts: PARTS_A,
+        open: message![32, 1, 4, 0xfd, 0xeb, 0x00, 0x5a, 192, 0, 2, 2, 3, 1, 1, 0],
+        must: 1 << 2 | 1 << 4,
+        may: PERMITTED,
+    },
+    Received {
+        lesson: "identifier 0, and Hold Time 2",
+        parts: PARTS_A,
+        open: message![29, 1, 4, 0xfd, 0xea, 0x00, 0x02, 0, 0, 0, 0, 0],
+        must: 1 << 3 | 1 << 6,
+        may: PERMITTED,
+    },
+    Received {
+        lesson: "a parameter of type 1, and Hold Time 1",
+        parts: PARTS_A,
+        open: message![32, 1, 4, 0xfd, 0xea, 0x00, 0x01, 192, 0, 2, 2, 3, 1, 1, 0],
+        must: 1 << 4 | 1 << 6,
+        may: PERMITTED,
+    },
+    Received {
+        lesson: "all four",
+        parts: PARTS_A,
+        open: message![32, 1, 4, 0xfd, 0xeb, 0x00, 0x01, 0, 0, 0, 0, 3, 1, 1, 0],
+        must: 1 << 2 | 1 << 3 | 1 << 4 | 1 << 6,
+        may: PERMITTED,
+    },
+    Received {
+        lesson: "a capability without a length",
+        parts: PARTS_A,
+        open: message![32, 1, 4, 0xfd, 0xea, 0x00, 0x5a, 192, 0, 2, 2, 3, 2, 1, 65],
+        must: ALL_OF_MALFORMED,
+        may: PERMITTED,
+    },
+    Received {
+        lesson: "a capability without a length, and another AS",
+        parts: PARTS_A,
+        open: message![32, 1, 4, 0xfd, 0xeb, 0x00, 0x5a, 192, 0, 2, 2, 3, 2, 1, 65],
+        must: ALL_OF_MALFORMED,
+        may: PERMITTED,
+    },
+    Received {
+        lesson: "fewer parameters than their length",
+        parts: PARTS_A,
+        open: message![31, 1, 4, 0xfd, 0xea, 0x00, 0x5a, 192, 0, 2, 2, 3, 2, 0],
+        must: ALL_OF_MALFORMED,
+        may: PERMITTED,
+    },
+    Received {
+        lesson: "more parameters than their length",
+        parts: PARTS_A,
+        open: message![31, 1, 4, 0xfd, 0xea, 0x00, 0x5a, 192, 0, 2, 2, 0, 2, 0],
+        must: ALL_OF_MALFORMED,
+        may: PERMITTED,
+    },
+    Received {
+        lesson: "a parameter that runs over",
+        parts: PARTS_A,
+        open: message![31, 1, 4, 0xfd, 0xea, 0x00, 0x5a, 192, 0, 2, 2, 2, 2, 1],
+        must: ALL_OF_MALFORMED,
+        may: PERMITTED,
+    },
+    Received {
+        lesson: "a parameter of one octet",
+        parts: PARTS_A,
+        open: message![30, 1, 4, 0xfd, 0xea, 0x00, 0x5a, 192, 0, 2, 2, 1, 2],
+        must: ALL_OF_MALFORMED,
+        may: PERMITTED,
+    },
+    Received {
+        lesson: "a capability that runs over",
+        parts: PARTS_A,
+        open: message![
+            33, 1, 4, 0xfd, 0xea, 0x00, 0x5a, 192, 0, 2, 2, 4, 2, 2, 65, 4
+        ],
+        must: ALL_OF_MALFORMED,
+        may: PERMITTED,
+    },
+    Received {
+        lesson: "a parameter of type 1 that runs over",
+        parts: PARTS_A,
+        open: message![31, 1, 4, 0xfd, 0xea, 0x00, 0x5a, 192, 0, 2, 2, 2, 1, 1],
+        must: ALL_OF_MALFORMED,
+        may: PERMITTED,
+    },
+    Received {
+        lesson: "a capability without a length, and a parameter of type 1",
+        parts: PARTS_A,
+        open: message![
+            35, 1, 4, 0xfd, 0xea, 0x00, 0x5a, 192, 0, 2, 2, 6, 1, 1, 65, 2, 1, 65
+        ],
+        must: ALL_OF_MALFORMED,
+        may: PERMITTED,
+    },
+    Received {
+        lesson: "a parameter that runs over, and Hold Time 1",
+        parts: PARTS_A,
+        open: message![31, 1, 4, 0xfd, 0xea, 0x00, 0x01, 192, 0, 2, 2, 2, 2, 1],
+        must: ALL_OF_MALFORMED,
+        may: PERMITTED,
+    },
+    Received {
+        lesson: "version 3",
+        parts: PARTS_A,
+        open: message![
+            49, 1, 3, 0xfd, 0xea, 0x00, 0x5a, 192, 0, 2, 2, // the fixed fields
+            20, 2, 18, 1, 4, 0, 1, 0, 1, 1, 4, 0, 2, 0, 1, 65, 4, 0, 0, 0xfd, 0xea
+        ],
+        must: 1 << 1,
+        may: 0,
+    },
+    Received {
+        lesson: "version 3 with Hold Time 1, identifier 0 and a parameter that runs over",
+        parts: PARTS_A,
+        open: message![31, 1, 3, 0xfd, 0xea, 0x00, 0x01, 0, 0, 0, 0, 2, 2, 1],
+        must: 1 << 1,
+        may: 0,
+    },
+    Received {
+        lesson: "OPEN B as it is",
+        parts: PARTS_A,
+        open: &OPEN_B,
+        must: 0,
+        may: PERMITTED,
+    },
+    Received {
+        lesson: "OPEN B with Hold Time 1",
+        parts: PARTS_A,
+        open: B_WITH_HOLD_1,
+        must: 1 << 6,
+        may: PERMITTED,
+    },
+    Received {
+        lesson: "OPEN B with My Autonomous System 65003, where the capability says 65002",
+        parts: PARTS_A,
+        open: B_OF_65003,
+        must: 0,
+        may: PERMITTED,
+    },
+    Received {
+        lesson: "OPEN B with identifier 0",
+        parts: PARTS_A,
+        open: message![
+            49, 1, 4, 0xfd, 0xea, 0x00, 0x5a, 0, 0, 0, 0, // the fixed fields
+            20, 2, 18, 1, 4, 0, 1, 0, 1, 1, 4, 0, 2, 0, 1, 65, 4, 0, 0, 0xfd, 0xea
+        ],
+        must: 1 << 3,
+        may: PERMITTED,
+    },
+    Received {
+        lesson: "a KEEPALIVE",
+        parts: PARTS_A,
+        open: &KEEPALIVE,
+        must: ALL_OF_MALFORMED,
+        may: PERMITTED,
+    },
+    Received {
+        lesson: "an internal peer with the local system's identifier",
+        parts: INTERNAL,
+        open: &OPEN_B,
+        must: 1 << 3,
+        may: PERMITTED,
+    },
+    Received {
+        lesson: "and Hold Time 1",
+        parts: INTERNAL,
+        open: B_WITH_HOLD_1,
+        must: 1 << 3 | 1 << 6,
+        may: PERMITTED,
+    },
+    Received {
+        lesson: "in two octets My Autonomous System counts, whatever the capability says",
+        parts: TWO_OCTETS,
+        open: B_OF_65003,
+        must: 1 << 2,
+        may: PERMITTED,
+    },
+];
 
 #[test]
-fn each_mandatory_fault_stands_alone_and_with_another(rt: HostRuntime) -> Result<(), AllocError> {
-    let config = config_of(&rt, PARTS_A);
-    let rows = [
-        Said {
-            lesson: "none",
-            fields: [0xfd, 0xea, 0x00, 0x5a, 192, 0, 2, 2],
-            behind: &[0],
-            must: &[],
-        },
-        Said {
-            lesson: "none, at the identifier of the local system of an external peer",
-            fields: [0xfd, 0xea, 0x00, 0x5a, 192, 0, 2, 1],
-            behind: &[0],
-            must: &[],
-        },
-        Said {
-            lesson: "another AS",
-            fields: [0xfd, 0xeb, 0x00, 0x5a, 192, 0, 2, 2],
-            behind: &[0],
-            must: &[2],
-        },
-        Said {
-            lesson: "the AS number of the capability, not My Autonomous System",
-            fields: [0xfd, 0xeb, 0x00, 0x5a, 192, 0, 2, 2],
-            behind: &[8, 2, 6, 65, 4, 0x00, 0x00, 0xfd, 0xea],
-            must: &[],
-        },
-        Said {
-            lesson: "the first capability counts",
-            fields: [0xfd, 0xea, 0x00, 0x5a, 192, 0, 2, 2],
-            behind: &[14, 2, 12, 65, 4, 0, 0, 0xfd, 0xeb, 65, 4, 0, 0, 0xfd, 0xea],
-            must: &[2],
-        },
-        Said {
-            lesson: "identifier 0",
-            fields: [0xfd, 0xea, 0x00, 0x5a, 0, 0, 0, 0],
-            behind: &[0],
-            must: &[3],
-        },
-        Said {
-            lesson: "a parameter of type 1",
-            fields: [0xfd, 0xea, 0x00, 0x5a, 192, 0, 2, 2],
-            behind: &[3, 1, 1, 0],
-            must: &[4],
-        },
-        Said {
-            lesson: "Hold Time 1",
-            fields: [0xfd, 0xea, 0x00, 0x01, 192, 0, 2, 2],
-            behind: &[0],
-            must: &[6],
-        },
-        Said {
-            lesson: "Hold Time 2",
-            fields: [0xfd, 0xea, 0x00, 0x02, 192, 0, 2, 2],
-            behind: &[0],
-            must: &[6],
-        },
-        Said {
-            lesson: "none, at Hold Time 3",
-            fields: [0xfd, 0xea, 0x00, 0x03, 192, 0, 2, 2],
-            behind: &[0],
-            must: &[],
-        },
-        Said {
-            lesson: "none, at Hold Time 0",
-            fields: [0xfd, 0xea, 0x00, 0x00, 192, 0, 2, 2],
-            behind: &[0],
-            must: &[],
-        },
-        Said {
-            lesson: "Hold Time 2, and another AS",
-            fields: [0xfd, 0xeb, 0x00, 0x02, 192, 0, 2, 2],
-            behind: &[0],
-            must: &[2, 6],
-        },
-        Said {
-            lesson: "identifier 0, and a parameter of type 1",
-            fields: [0xfd, 0xea, 0x00, 0x5a, 0, 0, 0, 0],
-            behind: &[3, 1, 1, 0],
-            must: &[3, 4],
-        },
-        Said {
-            lesson: "another AS, and identifier 0",
-            fields: [0xfd, 0xeb, 0x00, 0x5a, 0, 0, 0, 0],
-            behind: &[0],
-            must: &[2, 3],
-        },
-        Said {
-            lesson: "another AS, and a parameter of type 1",
-            fields: [0xfd, 0xeb, 0x00, 0x5a, 192, 0, 2, 2],
-            behind: &[3, 1, 1, 0],
-            must: &[2, 4],
-        },
-        Said {
-            lesson: "identifier 0, and Hold Time 2",
-            fields: [0xfd, 0xea, 0x00, 0x02, 0, 0, 0, 0],
-            behind: &[0],
-            must: &[3, 6],
-        },
-        Said {
-            lesson: "a parameter of type 1, and Hold Time 1",
-            fields: [0xfd, 0xea, 0x00, 0x01, 192, 0, 2, 2],
-            behind: &[3, 1, 1, 0],
-            must: &[4, 6],
-        },
-        Said {
-            lesson: "all four",
-            fields: [0xfd, 0xeb, 0x00, 0x01, 0, 0, 0, 0],
-            behind: &[3, 1, 1, 0],
-            must: &[2, 3, 4, 6],
-        },
-        Said {
-            lesson: "a capability without a length",
-            fields: [0xfd, 0xea, 0x00, 0x5a, 192, 0, 2, 2],
-            behind: &[3, 2, 1, 65],
-            must: &ALL_OF_MALFORMED,
-        },
-        Said {
-            lesson: "a capability without a length, and another AS",
-            fields: [0xfd, 0xeb, 0x00, 0x5a, 192, 0, 2, 2],
-            behind: &[3, 2, 1, 65],
-            must: &ALL_OF_MALFORMED,
-        },
-        Said {
-            lesson: "fewer parameters than their length",
-            fields: [0xfd, 0xea, 0x00, 0x5a, 192, 0, 2, 2],
-            behind: &[3, 2, 0],
-            must: &ALL_OF_MALFORMED,
-        },
-        Said {
-            lesson: "more parameters than their length",
-            fields: [0xfd, 0xea, 0x00, 0x5a, 192, 0, 2, 2],
-            behind: &[0, 2, 0],
-            must: &ALL_OF_MALFORMED,
-        },
-        Said {
-            lesson: "a parameter that runs over",
-            fields: [0xfd, 0xea, 0x00, 0x5a, 192, 0, 2, 2],
-            behind: &[2, 2, 1],
-            must: &ALL_OF_MALFORMED,
-        },
-        Said {
-            lesson: "a parameter of one octet",
-            fields: [0xfd, 0xea, 0x00, 0x5a, 192, 0, 2, 2],
-            behind: &[1, 2],
-            must: &ALL_OF_MALFORMED,
-        },
-        Said {
-            lesson: "a capability that runs over",
-            fields: [0xfd, 0xea, 0x00, 0x5a, 192, 0, 2, 2],
-            behind: &[4, 2, 2, 65, 4],
-            must: &ALL_OF_MALFORMED,
-        },
-        Said {
-            lesson: "a parameter of type 1 that runs over",
-            fields: [0xfd, 0xea, 0x00, 0x5a, 192, 0, 2, 2],
-            behind: &[2, 1, 1],
-            must: &ALL_OF_MALFORMED,
-        },
-        Said {
-            lesson: "a capability without a length, and a parameter of type 1",
-            fields: [0xfd, 0xea, 0x00, 0x5a, 192, 0, 2, 2],
-            behind: &[6, 1, 1, 65, 2, 1, 65],
-            must: &ALL_OF_MALFORMED,
-        },
-        Said {
-            lesson: "a parameter that runs over, and Hold Time 1",
-            fields: [0xfd, 0xea, 0x00, 0x01, 192, 0, 2, 2],
-            behind: &[2, 2, 1],
-            must: &ALL_OF_MALFORMED,
-        },
-    ];
-    for row in rows {
-        assert!(rt; row.behind.len() < 200);
-        let octets = open_of(rt.alloc(), 4, &row.fields, row.behind)?;
-        assert_faults(&rt, &config, &octets, (row.must, &[6, 7], row.lesson));
+fn each_fault_is_found_alone_and_with_another(rt: HostRuntime) {
+    for row in &RECEIVED {
+        let holds = finds(&row.parts, row.open, row.must, row.may);
+        assert_row(&rt, holds, row.lesson);
     }
-    Ok(())
 }
 
-#[test]
-fn nothing_else_is_read_of_another_version(rt: HostRuntime) -> Result<(), AllocError> {
-    let config = config_of(&rt, PARTS_A);
-    let mut version_3 = OPEN_B;
-    version_3[19] = 3;
-    assert_faults(&rt, &config, &version_3, (&[1], &[], "version 3"));
+/// A set of each subcode alone.
+static ONE_EACH: [OpenSubcodes; 7] = [
+    OpenSubcodes {
+        unspecific: true,
+        ..OpenSubcodes::NONE
+    },
+    OpenSubcodes {
+        version: true,
+        ..OpenSubcodes::NONE
+    },
+    OpenSubcodes {
+        peer_as: true,
+        ..OpenSubcodes::NONE
+    },
+    OpenSubcodes {
+        identifier: true,
+        ..OpenSubcodes::NONE
+    },
+    OpenSubcodes {
+        parameter: true,
+        ..OpenSubcodes::NONE
+    },
+    OpenSubcodes {
+        hold: true,
+        ..OpenSubcodes::NONE
+    },
+    OpenSubcodes {
+        capability: true,
+        ..OpenSubcodes::NONE
+    },
+];
 
-    // Hold Time 1, identifier 0 and a parameter that runs over.
-    let faulty = message(
-        rt.alloc(),
-        1,
-        &[3, 0xfd, 0xea, 0x00, 0x01, 0, 0, 0, 0, 2, 2, 1],
-    )?;
-    let row: (&[u8], &[u8], &str) = (&[1], &[], "version 3 with other faults");
-    assert_faults(&rt, &config, &faulty, row);
-    Ok(())
-}
-
-#[test]
-fn a_changed_field_of_open_b_makes_a_fault(rt: HostRuntime) {
-    let config = config_of(&rt, PARTS_A);
-    let mut hold_1 = OPEN_B;
-    hold_1[23] = 1; // Hold Time: 1
-    let mut other_as = OPEN_B;
-    other_as[21] = 0xeb; // My Autonomous System: 65003, and the capability says 65002
-    let mut no_identifier = OPEN_B;
-    no_identifier[24] = 0;
-    no_identifier[26] = 0;
-    no_identifier[27] = 0; // BGP Identifier: 0
-    let rows: [(&str, &[u8], &[u8]); 5] = [
-        ("as it is", &OPEN_B, &[]),
-        ("Hold Time 1", &hold_1, &[6]),
-        ("My Autonomous System 65003", &other_as, &[]),
-        ("identifier 0", &no_identifier, &[3]),
-        ("a KEEPALIVE", &KEEPALIVE, &ALL_OF_MALFORMED),
-    ];
-    for (lesson, octets, must) in rows {
-        assert_faults(&rt, &config, octets, (must, &[6, 7], lesson));
-    }
-}
-
-#[test]
-fn what_is_configured_decides_on_as_and_identifier(rt: HostRuntime) {
-    // An internal peer must not have the local system's identifier.
-    let internal = config_of(
-        &rt,
-        ConfigParts {
-            local_as: 65002,
-            local_id: 0xc000_0202,
-            ..PARTS_A
-        },
-    );
-    let faults = open_faults(&internal, &OPEN_B);
-    assert_subcodes(&rt, &faults.must, &[3], "the local system's identifier");
-    let mut hold_1 = OPEN_B;
-    hold_1[23] = 1; // Hold Time: 1
-    let faults = open_faults(&internal, &hold_1);
-    assert_subcodes(&rt, &faults.must, &[3, 6], "and Hold Time 1");
-
-    // Without four-octet AS numbers My Autonomous System counts, whatever the capability says.
-    let two_octets = config_of(
-        &rt,
-        ConfigParts {
-            as4: false,
-            ..PARTS_A
-        },
-    );
-    let mut other_as = OPEN_B;
-    other_as[21] = 0xeb; // My Autonomous System: 65003
-    let faults = open_faults(&two_octets, &other_as);
-    assert_subcodes(&rt, &faults.must, &[2], "My Autonomous System 65003");
+/// Whether the faults differ from those with another set of either kind.
+fn differ(faults: OpenFaults, other: OpenSubcodes) -> bool {
+    let must = OpenFaults {
+        must: other,
+        ..faults
+    };
+    let may = OpenFaults {
+        may: other,
+        ..faults
+    };
+    faults != must && faults != may && other == other && other != OpenSubcodes::NONE
 }
 
 #[test]
 fn equal_faults_have_equal_fields(rt: HostRuntime) {
-    let config = config_of(&rt, PARTS_A);
+    let config = Config::new(PARTS_A).expect(&rt, "no configuration");
     let faults = open_faults(&config, &OPEN_B);
     let none = OpenSubcodes::NONE;
-    let rows = [
-        OpenSubcodes {
-            unspecific: true,
-            ..none
-        },
-        OpenSubcodes {
-            version: true,
-            ..none
-        },
-        OpenSubcodes {
-            peer_as: true,
-            ..none
-        },
-        OpenSubcodes {
-            identifier: true,
-            ..none
-        },
-        OpenSubcodes {
-            parameter: true,
-            ..none
-        },
-        OpenSubcodes { hold: true, ..none },
-        OpenSubcodes {
-            capability: true,
-            ..none
-        },
-    ];
-    assert!(rt; faults == open_faults(&config, &OPEN_B));
-    assert!(rt; faults.must == none && faults.may != none);
-    for other in rows {
-        assert!(rt; other == other && other != none);
-        assert!(rt;
-            faults
-                != OpenFaults {
-                    must: other,
-                    ..faults
-                }
-        );
-        assert!(rt;
-            faults
-                != OpenFaults {
-                    may: other,
-                    ..faults
-                }
-        );
+    let is_equal = faults == open_faults(&config, &OPEN_B);
+    assert!(rt; is_equal && faults.must == none && faults.may != none);
+    for (place, other) in ONE_EACH.iter().enumerate() {
+        assert!(rt; differ(faults, *other), "{place}");
     }
 }
 
@@ -341,29 +393,19 @@ fn a_union_has_the_subcodes_of_both_sets(rt: HostRuntime) {
     };
     let others = OpenSubcodes {
         unspecific: true,
+        version: false,
         peer_as: true,
         identifier: true,
         parameter: true,
         hold: true,
         capability: true,
-        ..OpenSubcodes::NONE
     };
-    assert_subcodes(
-        &rt,
-        &OpenSubcodes::NONE.union(of_version),
-        &[1],
-        "with none",
-    );
-    assert_subcodes(
-        &rt,
-        &others.union(others),
-        &[0, 2, 3, 4, 6, 7],
-        "with itself",
-    );
-    assert_subcodes(
-        &rt,
-        &others.union(of_version),
-        &[0, 1, 2, 3, 4, 6, 7],
-        "all",
+    let with_none = OpenSubcodes::NONE.union(of_version);
+    let with_itself = others.union(others);
+    let all = others.union(of_version);
+    assert!(rt;
+        has_just(&with_none, 1 << 1)
+            && has_just(&with_itself, ALL_OF_MALFORMED)
+            && has_just(&all, ALL_OF_MALFORMED | 1 << 1)
     );
 }

@@ -1,299 +1,325 @@
 //! Configurations, what both OPENs settle, and the local system's own OPEN.
 
 use super::*;
-use bgp_open::{OpenFaults, is_own_open, open_faults};
+use bgp_open::{Link, OpenFaults};
 use bgp_wire::vectors::{OPEN_A, OPEN_B};
+
+/// Parts, and whether they are a configuration.
+static PARTS: [(&str, ConfigParts, bool); 15] = [
+    ("as it is", PARTS_A, true),
+    (
+        "no local AS",
+        ConfigParts {
+            local_as: 0,
+            ..PARTS_A
+        },
+        false,
+    ),
+    (
+        "no peer AS",
+        ConfigParts {
+            peer_as: 0,
+            ..PARTS_A
+        },
+        false,
+    ),
+    (
+        "no identifier",
+        ConfigParts {
+            local_id: 0,
+            ..PARTS_A
+        },
+        false,
+    ),
+    ("Hold Time 0", ConfigParts { hold: 0, ..PARTS_A }, true),
+    ("Hold Time 1", ConfigParts { hold: 1, ..PARTS_A }, false),
+    ("Hold Time 2", ConfigParts { hold: 2, ..PARTS_A }, false),
+    ("Hold Time 3", ConfigParts { hold: 3, ..PARTS_A }, true),
+    (
+        "IPv6 alone",
+        ConfigParts {
+            families: V6,
+            ..PARTS_A
+        },
+        true,
+    ),
+    (
+        "no family",
+        ConfigParts {
+            families: NO_FAMILY,
+            ..PARTS_A
+        },
+        false,
+    ),
+    (
+        "no wait",
+        ConfigParts {
+            large_hold: 0,
+            ..PARTS_A
+        },
+        false,
+    ),
+    (
+        "two octets",
+        ConfigParts {
+            local_as: 65535,
+            ..TWO_OCTETS
+        },
+        true,
+    ),
+    (
+        "a wide local AS",
+        ConfigParts {
+            local_as: 65536,
+            ..TWO_OCTETS
+        },
+        false,
+    ),
+    (
+        "a wide peer AS",
+        ConfigParts {
+            peer_as: 65536,
+            ..TWO_OCTETS
+        },
+        false,
+    ),
+    (
+        "wide numbers",
+        ConfigParts {
+            local_as: 70000,
+            peer_as: 70001,
+            ..PARTS_A
+        },
+        true,
+    ),
+];
 
 #[test]
 fn a_configuration_has_numbers_a_family_and_a_wait(rt: HostRuntime) {
-    let no_family = Families {
-        v4: false,
-        v6: false,
-    };
-    let rows = [
-        ("as it is", PARTS_A, true),
-        (
-            "no local AS",
-            ConfigParts {
-                local_as: 0,
-                ..PARTS_A
-            },
-            false,
-        ),
-        (
-            "no peer AS",
-            ConfigParts {
-                peer_as: 0,
-                ..PARTS_A
-            },
-            false,
-        ),
-        (
-            "no identifier",
-            ConfigParts {
-                local_id: 0,
-                ..PARTS_A
-            },
-            false,
-        ),
-        ("Hold Time 0", ConfigParts { hold: 0, ..PARTS_A }, true),
-        ("Hold Time 1", ConfigParts { hold: 1, ..PARTS_A }, false),
-        ("Hold Time 2", ConfigParts { hold: 2, ..PARTS_A }, false),
-        ("Hold Time 3", ConfigParts { hold: 3, ..PARTS_A }, true),
-        (
-            "IPv6 alone",
-            ConfigParts {
-                families: Families {
-                    v4: false,
-                    v6: true,
-                },
-                ..PARTS_A
-            },
-            true,
-        ),
-        (
-            "no family",
-            ConfigParts {
-                families: no_family,
-                ..PARTS_A
-            },
-            false,
-        ),
-        (
-            "no wait",
-            ConfigParts {
-                large_hold: 0,
-                ..PARTS_A
-            },
-            false,
-        ),
-        (
-            "two octets",
-            ConfigParts {
-                as4: false,
-                local_as: 65535,
-                ..PARTS_A
-            },
-            true,
-        ),
-        (
-            "a wide local AS",
-            ConfigParts {
-                as4: false,
-                local_as: 65536,
-                ..PARTS_A
-            },
-            false,
-        ),
-        (
-            "a wide peer AS",
-            ConfigParts {
-                as4: false,
-                peer_as: 65536,
-                ..PARTS_A
-            },
-            false,
-        ),
-        (
-            "wide numbers",
-            ConfigParts {
-                local_as: 70000,
-                peer_as: 70001,
-                ..PARTS_A
-            },
-            true,
-        ),
-    ];
-    for (lesson, parts, is_config) in rows {
-        let config = Config::new(parts);
-        assert_eq!(rt; config.is_some(), is_config, "{lesson}");
-        if let Some(config) = config {
-            assert!(rt; config.parts == parts, "{lesson}");
-        }
+    for (lesson, parts, is_config) in &PARTS {
+        let is_told = match Config::new(*parts) {
+            Some(config) => *is_config && config.parts == *parts,
+            None => !*is_config,
+        };
+        assert_row(&rt, is_told, lesson);
     }
 }
 
-#[test]
-fn a_link_has_what_both_sides_offer(rt: HostRuntime) -> Result<(), AllocError> {
-    let config = config_of(&rt, PARTS_A);
-    let link = link_with(&rt, &config, &OPEN_B);
-    assert_eq!(rt; link.hold, 90);
-    assert!(rt; link.as4 && link.families == BOTH && !link.internal);
+/// A configuration, a peer's OPEN and what they settle.
+struct Row {
+    lesson: &'static str,
+    parts: ConfigParts,
+    open: &'static [u8],
+    settled: Settled,
+}
 
-    // Without capabilities: IPv4 alone, and AS numbers of two octets.
-    let plain = message(
-        rt.alloc(),
-        1,
-        &[4, 0xfd, 0xea, 0x00, 0x1e, 192, 0, 2, 2, 0], // Hold Time 30, no parameter
-    )?;
-    let link = link_with(&rt, &config, &plain);
-    assert_eq!(rt; link.hold, 30);
-    assert!(rt; !link.as4 && link.families == Families::V4 && !link.internal);
-
-    // The peer has a longer Hold Time, names IPv6 alone, and the reserved octet means nothing.
-    let ipv6 = open_with(
-        rt.alloc(),
-        4,
-        &[8, 2, 6, 1, 4, 0, 2, 7, 1], // one capability: AFI 2, reserved 7, SAFI 1
-    )?;
-    let internal = config_of(
-        &rt,
-        ConfigParts {
+static LINKS: [Row; 7] = [
+    Row {
+        lesson: "what both sides offer",
+        parts: PARTS_A,
+        open: &OPEN_B,
+        settled: Settled {
+            hold: 90,
+            as4: true,
+            families: BOTH,
+            internal: false,
+        },
+    },
+    Row {
+        lesson: "Hold Time 30, and no capabilities: IPv4 alone, and AS numbers of two octets",
+        parts: PARTS_A,
+        open: message![29, 1, 4, 0xfd, 0xea, 0x00, 0x1e, 192, 0, 2, 2, 0],
+        settled: Settled {
+            hold: 30,
+            as4: false,
+            families: Families::V4,
+            internal: false,
+        },
+    },
+    Row {
+        lesson: "an internal peer, a longer Hold Time, and IPv6 alone with a reserved octet of 7",
+        parts: ConfigParts {
             peer_as: 65001,
             hold: 3,
             ..PARTS_A
         },
-    );
-    let link = link_with(&rt, &internal, &ipv6);
-    assert_eq!(rt; link.hold, 3);
-    assert!(rt; !link.families.v4 && link.families.v6 && !link.as4 && link.internal);
-    Ok(())
-}
+        open: message![
+            37, 1, 4, 0xfd, 0xea, 0x00, 0x5a, 192, 0, 2, 2, 8, 2, 6, 1, 4, 0, 2, 7, 1
+        ],
+        settled: Settled {
+            hold: 3,
+            as4: false,
+            families: V6,
+            internal: true,
+        },
+    },
+    Row {
+        lesson: "a short capability 1",
+        parts: PARTS_A,
+        open: message![
+            36, 1, 4, 0xfd, 0xea, 0x00, 0x5a, 192, 0, 2, 2, 7, 2, 5, 1, 3, 0, 2, 1
+        ],
+        settled: Settled {
+            hold: 90,
+            as4: false,
+            families: Families::V4,
+            internal: false,
+        },
+    },
+    Row {
+        lesson: "AFI 25, SAFI 65",
+        parts: PARTS_A,
+        open: message![
+            37, 1, 4, 0xfd, 0xea, 0x00, 0x5a, 192, 0, 2, 2, 8, 2, 6, 1, 4, 0, 25, 0, 65
+        ],
+        settled: Settled {
+            hold: 90,
+            as4: false,
+            families: NO_FAMILY,
+            internal: false,
+        },
+    },
+    Row {
+        lesson: "multicast",
+        parts: PARTS_A,
+        open: message![
+            37, 1, 4, 0xfd, 0xea, 0x00, 0x5a, 192, 0, 2, 2, 8, 2, 6, 1, 4, 0, 1, 0, 2
+        ],
+        settled: Settled {
+            hold: 90,
+            as4: false,
+            families: NO_FAMILY,
+            internal: false,
+        },
+    },
+    Row {
+        lesson: "a short capability 65, and then a whole one",
+        parts: PARTS_A,
+        open: message![
+            41, 1, 4, 0xfd, 0xea, 0x00, 0x5a, 192, 0, 2, 2, // the fixed fields
+            12, 2, 10, 65, 2, 0xfd, 0xea, 65, 4, 0, 0, 0xfd, 0xea
+        ],
+        settled: Settled {
+            hold: 90,
+            as4: true,
+            families: Families::V4,
+            internal: false,
+        },
+    },
+];
 
 #[test]
-fn capabilities_of_another_length_or_family_offer_nothing(
-    rt: HostRuntime,
-) -> Result<(), AllocError> {
-    let config = config_of(&rt, PARTS_A);
-    let rows: [(&str, &[u8], bool, Families); 4] = [
-        (
-            "a short capability 1",
-            &[7, 2, 5, 1, 3, 0, 2, 1],
-            false,
-            Families::V4,
-        ),
-        (
-            "AFI 25, SAFI 65",
-            &[8, 2, 6, 1, 4, 0, 25, 0, 65],
-            false,
-            Families {
-                v4: false,
-                v6: false,
-            },
-        ),
-        (
-            "multicast",
-            &[8, 2, 6, 1, 4, 0, 1, 0, 2],
-            false,
-            Families {
-                v4: false,
-                v6: false,
-            },
-        ),
-        (
-            "a short capability 65, and then a whole one",
-            &[12, 2, 10, 65, 2, 0xfd, 0xea, 65, 4, 0, 0, 0xfd, 0xea],
-            true,
-            Families::V4,
-        ),
-    ];
-    for (lesson, behind, as4, families) in rows {
-        assert!(rt; behind.len() < 200);
-        let octets = open_with(rt.alloc(), 4, behind)?;
-        let link = link_with(&rt, &config, &octets);
-        assert_eq!(rt; link.as4, as4, "{lesson}");
-        assert!(rt; link.families == families, "{lesson}");
-    }
-    Ok(())
-}
-
-#[test]
-fn an_own_open_says_what_is_configured(rt: HostRuntime) {
-    let config = config_of(&rt, PARTS_A);
-    assert!(rt; is_own_open(&config, &OPEN_A));
-    assert!(rt; !is_own_open(&config, &OPEN_B));
-    assert!(rt; !is_own_open(&config, &OPEN_A[..48]));
-    let rows = [
-        (
-            "another local AS",
-            ConfigParts {
-                local_as: 65003,
-                ..PARTS_A
-            },
-        ),
-        (
-            "another Hold Time",
-            ConfigParts {
-                hold: 30,
-                ..PARTS_A
-            },
-        ),
-        (
-            "another identifier",
-            ConfigParts {
-                local_id: 1,
-                ..PARTS_A
-            },
-        ),
-        (
-            "IPv4 alone",
-            ConfigParts {
-                families: Families::V4,
-                ..PARTS_A
-            },
-        ),
-        (
-            "AS numbers of two octets",
-            ConfigParts {
-                as4: false,
-                ..PARTS_A
-            },
-        ),
-    ];
-    for (lesson, parts) in rows {
-        let other = config_of(&rt, parts);
-        assert!(rt; !is_own_open(&other, &OPEN_A), "{lesson}");
+fn a_link_has_what_both_sides_offer(rt: HostRuntime) {
+    for row in &LINKS {
+        let holds = settle(&row.parts, row.open, &row.settled);
+        assert_row(&rt, holds, row.lesson);
     }
 }
 
-// An AS number of more than two octets stands as AS_TRANS, 23456, in My Autonomous System.
-#[test]
-fn an_own_open_has_as_trans_for_a_large_number(rt: HostRuntime) -> Result<(), AllocError> {
-    let wide = config_of(
-        &rt,
+/// [`OPEN_A`] without its last octet.
+const A_CUT_SHORT: &[u8] = message![
+    49, 1, 4, 0xfd, 0xe9, 0x00, 0x5a, 192, 0, 2, 1, 20, 2, 18, 1, 4, 0, 1, 0, 1, 1, 4, 0, 2, 0, 1,
+    65, 4, 0, 0, 0xfd
+];
+
+/// Of AS 23456 (AS_TRANS), with the four-octet AS number 70000, and with enhanced route refresh in
+/// another parameter.
+const OF_AS_TRANS: &[u8] = message![
+    41, 1, 4, 0x5b, 0xa0, 0x00, 0x5a, 192, 0, 2, 1, // the fixed fields
+    12, 2, 6, 65, 4, 0x00, 0x01, 0x11, 0x70, 2, 2, 70, 0
+];
+
+/// AS numbers of two octets, and IPv4 alone.
+const TWO_OCTETS_V4: ConfigParts = ConfigParts {
+    families: Families::V4,
+    ..TWO_OCTETS
+};
+
+/// A configuration, octets, and whether they are an OPEN that it may send.
+static OWN: [(&str, ConfigParts, &[u8], bool); 13] = [
+    ("its own", PARTS_A, &OPEN_A, true),
+    ("the peer's", PARTS_A, &OPEN_B, false),
+    ("its own cut short", PARTS_A, A_CUT_SHORT, false),
+    (
+        "another local AS",
+        ConfigParts {
+            local_as: 65003,
+            ..PARTS_A
+        },
+        &OPEN_A,
+        false,
+    ),
+    (
+        "another Hold Time",
+        ConfigParts {
+            hold: 30,
+            ..PARTS_A
+        },
+        &OPEN_A,
+        false,
+    ),
+    (
+        "another identifier",
+        ConfigParts {
+            local_id: 1,
+            ..PARTS_A
+        },
+        &OPEN_A,
+        false,
+    ),
+    (
+        "IPv4 alone",
+        ConfigParts {
+            families: Families::V4,
+            ..PARTS_A
+        },
+        &OPEN_A,
+        false,
+    ),
+    ("AS numbers of two octets", TWO_OCTETS, &OPEN_A, false),
+    ("AS_TRANS for AS 65001", PARTS_A, OF_AS_TRANS, false),
+    // An AS number of more than two octets stands as AS_TRANS in My Autonomous System.
+    (
+        "AS_TRANS for AS 70000",
         ConfigParts {
             local_as: 70000,
             families: Families::V4,
             ..PARTS_A
         },
-    );
-    let trans = open_of(
-        rt.alloc(),
-        4,
-        &[0x5b, 0xa0, 0x00, 0x5a, 192, 0, 2, 1], // AS 23456, Hold Time 90, 192.0.2.1
-        &[
-            12, 2, 6, 65, 4, 0x00, 0x01, 0x11, 0x70, // four-octet AS number 70000
-            2, 2, 70, 0, // another parameter, with enhanced route refresh
+        OF_AS_TRANS,
+        true,
+    ),
+    // Without four-octet AS numbers a capability of that code and another length is free.
+    (
+        "in two octets, no capability 65",
+        TWO_OCTETS_V4,
+        message![29, 1, 4, 0xfd, 0xe9, 0x00, 0x5a, 192, 0, 2, 1, 0],
+        true,
+    ),
+    (
+        "in two octets, a capability 65 of two",
+        TWO_OCTETS_V4,
+        message![
+            35, 1, 4, 0xfd, 0xe9, 0x00, 0x5a, 192, 0, 2, 1, 6, 2, 4, 65, 2, 0xfd, 0xe9
         ],
-    )?;
-    assert!(rt; !is_own_open(&config_of(&rt, PARTS_A), &trans));
-    assert!(rt; is_own_open(&wide, &trans));
-    Ok(())
-}
+        true,
+    ),
+    (
+        "in two octets, a capability 65 of four",
+        TWO_OCTETS_V4,
+        message![
+            37, 1, 4, 0xfd, 0xe9, 0x00, 0x5a, 192, 0, 2, 1, 8, 2, 6, 65, 4, 0, 0, 0xfd, 0xe9
+        ],
+        false,
+    ),
+];
 
-// Without four-octet AS numbers a capability of that code and another length is free.
 #[test]
-fn an_own_open_in_two_octets_has_no_number_of_four(rt: HostRuntime) -> Result<(), AllocError> {
-    let two_octets = config_of(
-        &rt,
-        ConfigParts {
-            as4: false,
-            families: Families::V4,
-            ..PARTS_A
-        },
-    );
-    let rows: [(&str, &[u8], bool); 3] = [
-        ("none", &[0], true),
-        ("a length of 2", &[6, 2, 4, 65, 2, 0xfd, 0xe9], true),
-        ("a length of 4", &[8, 2, 6, 65, 4, 0, 0, 0xfd, 0xe9], false),
-    ];
-    for (lesson, behind, is_own) in rows {
-        assert!(rt; behind.len() < 200);
-        let fields = [0xfd, 0xe9, 0x00, 0x5a, 192, 0, 2, 1]; // AS 65001, Hold Time 90, 192.0.2.1
-        let octets = open_of(rt.alloc(), 4, &fields, behind)?;
-        assert!(rt; is_own_open(&two_octets, &octets) == is_own, "{lesson}");
+fn an_own_open_says_what_is_configured(rt: HostRuntime) {
+    for (lesson, parts, open, is_said) in &OWN {
+        let is_config = Config::new(*parts).is_some();
+        assert_row(&rt, is_config && is_own(parts, open) == *is_said, lesson);
     }
-    Ok(())
 }
 
 /// Only a `Copy` value can be given twice.
@@ -301,29 +327,23 @@ fn twice<T: Copy>(value: T) -> (T, T) {
     (value, value)
 }
 
-#[test]
-fn links_and_faults_are_small_and_copied(rt: HostRuntime) {
-    assert_eq!(rt; size_of::<Link>(), 6);
-    assert_eq!(rt; size_of::<OpenFaults>(), 14);
-    let config = config_of(&rt, PARTS_A);
-    let (link, other) = twice(link_with(&rt, &config, &OPEN_B));
-    assert!(rt; link == other);
-    let (faults, other) = twice(open_faults(&config, &OPEN_B));
-    assert!(rt; faults == other);
+/// Whether a link differs from those with another value in one field.
+fn differs(link: Link) -> bool {
+    let (mut hold, mut as4, mut families, mut internal) = (link, link, link, link);
+    hold.hold = 30;
+    as4.as4 = false;
+    families.families = Families::V4;
+    internal.internal = true;
+    link != hold && link != as4 && link != families && link != internal
 }
 
 #[test]
-fn equal_links_have_equal_fields(rt: HostRuntime) {
-    let config = config_of(&rt, PARTS_A);
-    let link = link_with(&rt, &config, &OPEN_B);
-    let same = link_with(&rt, &config, &OPEN_B);
-    assert!(rt; link == same);
-    let mut others = [link; 4];
-    others[0].hold = 30;
-    others[1].as4 = false;
-    others[2].families = Families::V4;
-    others[3].internal = true;
-    for other in others {
-        assert!(rt; link != other);
-    }
+fn links_and_faults_are_small_copied_and_compared(rt: HostRuntime) {
+    let config = Config::new(PARTS_A).expect(&rt, "no configuration");
+    let message = read_open(&OPEN_B).ok().expect(&rt, "no OPEN");
+    let (link, other) = twice(negotiate(&config, &message));
+    let again = negotiate(&config, &message);
+    assert!(rt; link == other && link == again && differs(link) && size_of::<Link>() == 6);
+    let (faults, other) = twice(open_faults(&config, &OPEN_B));
+    assert!(rt; faults == other && size_of::<OpenFaults>() == 14);
 }

@@ -1,275 +1,288 @@
 //! Messages are written.
 
+use super::reading::{AS_65001, IPV4_UNICAST, IPV6_UNICAST, reads_as};
 use super::*;
 use bgp_open::{
-    Capability, Notification, NotificationWriteFault, OpenFault, OpenWriteFault, is_own_open,
-    read_notification, read_open, write_notification, write_open,
+    Capability, Notification, NotificationWriteFault, OpenFault, OpenWriteFault, read_notification,
+    write_notification, write_open,
 };
 use bgp_wire::vectors::{ADMINISTRATIVE_SHUTDOWN, BAD_LENGTH_18, OPEN_A};
 use linked_list_allocator::LocalHeap;
-use std::alloc::Allocator;
+use std::alloc::{Allocator, Global};
 use std::fmt::Display;
-use std::test::Fail;
 
-/// The capabilities in [`OPEN_A`].
-const CAPABILITIES_A: [Capability<'static>; 3] = [
-    Capability {
-        code: 1,
-        value: &[0x00, 0x01, 0x00, 0x01], // IPv4 unicast
-    },
-    Capability {
-        code: 1,
-        value: &[0x00, 0x02, 0x00, 0x01], // IPv6 unicast
-    },
-    Capability {
-        code: 65,
-        value: &[0x00, 0x00, 0xfd, 0xe9], // AS 65001
-    },
-];
+/// What is written.
+#[derive(Drop)]
+enum Message<'a> {
+    /// An OPEN of this AS, Hold Time and identifier, with these capabilities.
+    Open(u16, u16, u32, &'a [Capability<'a>]),
+    Notification(Notification<'a>),
+}
 
-/// The data of a NOTIFICATION of a bad message length.
-const BAD_LENGTH: Notification<'static> = Notification {
-    code: 1,
-    subcode: 2,
-    detail: &[0x00, 0x12],
+/// A message that is to be written.
+#[derive(Drop)]
+struct Row<'a> {
+    lesson: &'static str,
+    message: Message<'a>,
+    /// The octets that it begins with and how many it has, or the number of its fault.
+    wanted: Result<(&'static [u8], usize), u8>,
+}
+
+/// One capability whose value has so many octets.
+macro_rules! long_capability {
+    ($len:expr) => {
+        &[Capability {
+            code: 9,
+            value: &[7; $len],
+        }]
+    };
+}
+
+/// The OPEN whose one capability fills its one parameter: 253 octets of it are capabilities.
+const LONGEST_OPEN: Row<'static> = Row {
+    lesson: "253 octets of capabilities",
+    message: Message::Open(65002, 90, 0xc000_0202, long_capability!(251)),
+    wanted: Ok((
+        &[
+            // marker
+            255, 255, 255, 255, 255, 255, 255, 255, 255, 255, 255, 255, 255, 255, 255, 255, 0x01,
+            0x1c, // Length: 284
+            0x01, // Type: OPEN
+            0x04, // version 4
+            0xfd, 0xea, // My Autonomous System: 65002
+            0x00, 0x5a, // Hold Time: 90
+            0xc0, 0x00, 0x02, 0x02, // BGP Identifier: 192.0.2.2
+            0xff, // Optional Parameters Length: 255
+            0x02, 0xfd, // Capabilities, 253 octets
+            0x09, 0xfb, // capability 9, 251 octets
+            7, 7,
+        ],
+        284,
+    )),
 };
 
-fn write_open_a<A: Allocator>(out: &mut Vec<u8, A>) -> Result<(), OpenWriteFault> {
-    write_open(65001, 90, 0xc000_0201, &CAPABILITIES_A, out)
-}
-
-#[test]
-fn ample_memory(rt: HostRuntime) -> Result<(), Fail> {
-    let mut out = Vec::new(rt.alloc());
-    write_open_a(&mut out)?;
-    assert!(rt; out.as_slice() == OPEN_A.as_slice());
-    let config = Config::new(PARTS_A).ok_or("a configuration")?;
-    assert!(rt; is_own_open(&config, &out));
-    write_notification(&BAD_LENGTH, &mut out)?;
-    assert_eq!(rt; out.len(), 72);
-    let (open, notification) = out.split_at(49);
-    assert!(rt; open == OPEN_A.as_slice());
-    assert!(rt; notification == BAD_LENGTH_18.as_slice());
-    Ok(())
-}
-
-#[test]
-fn an_open_without_capabilities_has_no_parameter(rt: HostRuntime) -> Result<(), Fail> {
-    let mut out = Vec::new(rt.alloc());
-    write_open(65002, 30, 0xc000_0202, &[], &mut out)?;
-    let plain = message(rt.alloc(), 1, &[4, 0xfd, 0xea, 0x00, 0x1e, 192, 0, 2, 2, 0])?;
-    assert!(rt; out.as_slice() == plain.as_slice());
-    Ok(())
-}
-
-#[test]
-fn a_parameter_has_room_for_42_capabilities_of_four_octets(rt: HostRuntime) -> Result<(), Fail> {
-    let mut out = Vec::new(rt.alloc());
-    let many = [CAPABILITIES_A[0]; 43];
-    write_open(65001, 90, 0xc000_0201, &many[..42], &mut out)?;
-    assert!(rt; out.len() == 283);
-    let written = write_open(65001, 90, 0xc000_0201, &many, &mut out);
-    assert!(rt; written == Err(OpenWriteFault::TooMany) && out.len() == 283);
-
-    // One capability of 251 octets fills a parameter, and 252 are too many; 256 have no length.
-    let long = vec![in rt.alloc(); 7u8; 256]?;
-    for (count, fits) in [(251, true), (252, false), (256, false)] {
-        let alone = [Capability {
-            code: 9,
-            value: long.get(..count).unwrap_or(&[]),
-        }];
-        let written = write_open(65001, 90, 0xc000_0201, &alone, &mut out);
-        assert!(rt; written.is_ok() == fits, "{count} octets");
-    }
-    assert_eq!(rt; out.len(), 283 + 284);
-    Ok(())
-}
-
-#[test]
-fn a_notification_has_at_most_4075_octets_of_data(rt: HostRuntime) -> Result<(), Fail> {
-    let mut out = Vec::new(rt.alloc());
-    let cease = Notification {
-        code: 6,
-        subcode: 2,
-        detail: &[],
-    };
-    write_notification(&cease, &mut out)?;
-    assert!(rt; out.as_slice() == ADMINISTRATIVE_SHUTDOWN.as_slice());
-
-    let long = vec![in rt.alloc(); 7u8; 4076]?;
-    let too_large = Notification {
-        detail: &long,
-        ..cease
-    };
-    let written = write_notification(&too_large, &mut out);
-    assert!(rt; written == Err(NotificationWriteFault::TooLarge) && out.len() == 21);
-    let largest = Notification {
-        detail: long.get(..4075).unwrap_or(&[]),
-        ..cease
-    };
-    write_notification(&largest, &mut out)?;
-    assert!(rt; out.len() == 21 + 4096);
-    let (_, message) = out.split_at(21);
-    assert!(rt; read_notification(message) == Some(largest));
-    Ok(())
-}
-
-/// The capability that fills the one parameter of an OPEN: 253 octets of it are capabilities.
-const LONGEST: [Capability<'static>; 1] = [Capability {
-    code: 9,
-    value: &[7; 251],
-}];
-
-#[test]
-fn an_open_of_253_octets_of_capabilities_is_written_and_read(rt: HostRuntime) -> Result<(), Fail> {
-    let mut out = Vec::new(rt.alloc());
-    write_open(65002, 90, 0xc000_0202, &LONGEST, &mut out)?;
-    assert_eq!(rt; out.len(), 284);
-    let (front, value) = out.split_at(33);
-    let wanted = [
-        255, 255, 255, 255, 255, 255, 255, 255, 255, 255, 255, 255, 255, 255, 255, 255, // marker
-        0x01, 0x1c, // Length: 284
-        0x01, // Type: OPEN
-        0x04, // version 4
-        0xfd, 0xea, // My Autonomous System: 65002
-        0x00, 0x5a, // Hold Time: 90
-        0xc0, 0x00, 0x02, 0x02, // BGP Identifier: 192.0.2.2
-        0xff, // Optional Parameters Length: 255
-        0x02, 0xfd, // Capabilities, 253 octets
-        0x09, 0xfb, // capability 9, 251 octets
-    ];
-    assert!(rt; front == wanted.as_slice());
-    assert!(rt; value == [7; 251].as_slice());
-    let open = read_open(&out)?;
-    let mut capabilities = open.caps();
-    assert!(rt; capabilities.next() == Some(LONGEST[0]));
-    assert!(rt; capabilities.next().is_none());
-    Ok(())
-}
-
-/// What came of a message that was written behind two octets into a small heap.
-#[derive(Clone, Copy, PartialEq, Eq)]
-enum Written {
-    /// Not even the two octets had room.
-    Nowhere,
-    /// Memory was refused, and the vector is as before.
-    Refused,
-    Whole,
-}
-
-fn written_open(rt: &impl Abort, heap: &LocalHeap) -> Written {
-    let Ok(mut out) = Vec::from_slice(heap, &[1, 2]) else {
-        return Written::Nowhere;
-    };
-    match write_open(65001, 90, 0xc000_0201, &LONGEST, &mut out) {
-        Err(fault) => {
-            assert_eq!(rt; fault, OpenWriteFault::Memory);
-            assert!(rt; out.as_slice() == [1, 2].as_slice());
-            Written::Refused
-        }
-        Ok(()) => {
-            assert_eq!(rt; out.len(), 2 + 284);
-            Written::Whole
-        }
-    }
-}
-
-fn written_notification(rt: &impl Abort, heap: &LocalHeap) -> Written {
-    let Ok(mut out) = Vec::from_slice(heap, &[1, 2]) else {
-        return Written::Nowhere;
-    };
-    let largest = Notification {
+const LONGEST_NOTIFICATION: Row<'static> = Row {
+    lesson: "4075 octets of data",
+    message: Message::Notification(Notification {
         code: 6,
         subcode: 2,
         detail: &[7; 4075],
+    }),
+    wanted: Ok((&[], 4096)),
+};
+
+static WRITTEN: [Row<'static>; 9] = [
+    Row {
+        lesson: "router A's OPEN",
+        message: Message::Open(
+            65001,
+            90,
+            0xc000_0201,
+            &[IPV4_UNICAST, IPV6_UNICAST, AS_65001],
+        ),
+        wanted: Ok((&OPEN_A, 49)),
+    },
+    Row {
+        lesson: "an OPEN without capabilities has no parameter",
+        message: Message::Open(65002, 30, 0xc000_0202, &[]),
+        wanted: Ok((
+            message![29, 1, 4, 0xfd, 0xea, 0x00, 0x1e, 192, 0, 2, 2, 0],
+            29,
+        )),
+    },
+    LONGEST_OPEN,
+    Row {
+        lesson: "252 octets are too many for a parameter",
+        message: Message::Open(65001, 90, 0xc000_0201, long_capability!(252)),
+        wanted: Err(1),
+    },
+    Row {
+        lesson: "256 octets have no length",
+        message: Message::Open(65001, 90, 0xc000_0201, long_capability!(256)),
+        wanted: Err(1),
+    },
+    Row {
+        lesson: "a NOTIFICATION with data",
+        message: Message::Notification(Notification {
+            code: 1,
+            subcode: 2,
+            detail: &[0x00, 0x12],
+        }),
+        wanted: Ok((&BAD_LENGTH_18, 23)),
+    },
+    Row {
+        lesson: "a NOTIFICATION without",
+        message: Message::Notification(Notification {
+            code: 6,
+            subcode: 2,
+            detail: &[],
+        }),
+        wanted: Ok((&ADMINISTRATIVE_SHUTDOWN, 21)),
+    },
+    LONGEST_NOTIFICATION,
+    Row {
+        lesson: "4076 octets of data",
+        message: Message::Notification(Notification {
+            code: 6,
+            subcode: 2,
+            detail: &[7; 4076],
+        }),
+        wanted: Err(1),
+    },
+];
+
+/// Appends a message, or tells the number of its fault.
+fn write<A: Allocator>(message: &Message<'_>, out: &mut Vec<u8, A>) -> Option<u8> {
+    match message {
+        Message::Open(my_as, hold, id, capabilities) => {
+            match write_open(*my_as, *hold, *id, capabilities, out) {
+                Ok(()) => None,
+                Err(fault) => Some(fault.number()),
+            }
+        }
+        Message::Notification(notification) => match write_notification(notification, out) {
+            Ok(()) => None,
+            Err(fault) => Some(fault.number()),
+        },
+    }
+}
+
+/// Whether the octets are read as the message.
+fn is_read(message: &Message<'_>, octets: &[u8]) -> bool {
+    match message {
+        Message::Open(my_as, hold, id, capabilities) => {
+            reads_as(octets, (*my_as, *hold, *id), capabilities)
+        }
+        Message::Notification(notification) => read_notification(octets) == Some(*notification),
+    }
+}
+
+/// Whether behind the octets 1 and 2 stand those that were to be written, or nothing for a fault.
+fn stands_in(out: &[u8], row: &Row<'_>, fault: Option<u8>) -> bool {
+    let [1, 2, octets @ ..] = out else {
+        return false;
     };
-    match write_notification(&largest, &mut out) {
-        Err(fault) => {
-            assert_eq!(rt; fault, NotificationWriteFault::Memory);
-            assert!(rt; out.as_slice() == [1, 2].as_slice());
-            Written::Refused
+    match (&row.wanted, fault) {
+        (Ok((front, len)), None) => {
+            octets.starts_with(front) && octets.len() == *len && is_read(&row.message, octets)
         }
-        Ok(()) => {
-            assert_eq!(rt; out.len(), 2 + 4096);
-            Written::Whole
-        }
+        (Err(number), Some(fault)) => *number == fault && octets.is_empty(),
+        _ => false,
+    }
+}
+
+/// Whether what is wanted is written behind the octets 1 and 2.
+fn is_written(alloc: Global, row: &Row<'_>) -> bool {
+    let Ok(mut out) = Vec::from_slice(alloc, &[1, 2]) else {
+        return false;
+    };
+    let fault = write(&row.message, &mut out);
+    stands_in(&out, row, fault)
+}
+
+#[test]
+fn messages_are_written_and_read_where_they_have_room(rt: HostRuntime) {
+    for row in &WRITTEN {
+        assert_row(&rt, is_written(rt.alloc(), row), row.lesson);
     }
 }
 
 #[test]
-fn an_open_that_is_refused_memory_leaves_the_vector(rt: HostRuntime) -> Result<(), Fail> {
-    let mut was_refused = false;
-    for step in 1usize..64 {
-        let heap = LocalHeap::new(rt.alloc(), 16 * step)?;
-        match written_open(&rt, &heap) {
-            Written::Nowhere => {}
-            Written::Refused => was_refused = true,
-            Written::Whole => {
-                assert!(rt; was_refused, "memory was refused");
-                return Ok(());
+fn a_parameter_has_room_for_42_capabilities_of_four_octets(rt: HostRuntime) {
+    let many = [IPV4_UNICAST; 43];
+    let most = Row {
+        lesson: "42 capabilities",
+        message: Message::Open(65001, 90, 0xc000_0201, &many[..42]),
+        wanted: Ok((&[], 283)),
+    };
+    let too_many = Row {
+        lesson: "43 capabilities",
+        message: Message::Open(65001, 90, 0xc000_0201, &many),
+        wanted: Err(1),
+    };
+    assert!(rt; is_written(rt.alloc(), &most) && is_written(rt.alloc(), &too_many));
+}
+
+/// Whether the message was written behind the octets 1 and 2 into a small heap. Where memory was
+/// refused the vector has to be as before, and else there is no answer.
+fn is_whole(heap: &LocalHeap, row: &Row<'_>) -> Option<bool> {
+    let Ok(mut out) = Vec::from_slice(heap, &[1, 2]) else {
+        return None;
+    };
+    let fault = write(&row.message, &mut out);
+    let is_refused = fault == Some(2) && out.as_slice() == [1, 2].as_slice();
+    if is_refused || stands_in(&out, row, fault) {
+        Some(!is_refused)
+    } else {
+        None
+    }
+}
+
+/// The same in a heap of so many octets.
+fn is_whole_in(alloc: Global, size: usize, row: &Row<'_>) -> Option<bool> {
+    match LocalHeap::new(alloc, size) {
+        Ok(heap) => is_whole(&heap, row),
+        Err(_) => None,
+    }
+}
+
+static LONGEST: [Row<'static>; 2] = [LONGEST_OPEN, LONGEST_NOTIFICATION];
+
+#[test]
+fn a_message_that_is_refused_memory_leaves_the_vector(rt: HostRuntime) {
+    for row in &LONGEST {
+        let (mut is_right, mut refused, mut whole) = (true, false, false);
+        // Two octets have room in each heap.
+        for step in 4usize..512 {
+            match is_whole_in(rt.alloc(), 16 * step, row) {
+                Some(true) => whole = true,
+                Some(false) => refused = true,
+                None => is_right = false,
             }
         }
+        assert_row(&rt, is_right && refused && whole, row.lesson);
     }
-    Err(Fail::from("no heap was large enough"))
+}
+
+/// Whether the value prints so.
+fn prints(alloc: Global, value: &impl Display, text: &str) -> bool {
+    match format!(in alloc; "{value}") {
+        Ok(printed) => printed.as_str() == text,
+        Err(_) => false,
+    }
 }
 
 #[test]
-fn a_notification_that_is_refused_memory_leaves_the_vector(rt: HostRuntime) -> Result<(), Fail> {
-    let mut was_refused = false;
-    for step in 1usize..512 {
-        let heap = LocalHeap::new(rt.alloc(), 16 * step)?;
-        match written_notification(&rt, &heap) {
-            Written::Nowhere => {}
-            Written::Refused => was_refused = true,
-            Written::Whole => {
-                assert!(rt; was_refused, "memory was refused");
-                return Ok(());
-            }
-        }
-    }
-    Err(Fail::from("no heap was large enough"))
-}
-
-/// The value prints so.
-fn prints(rt: &impl Abort, alloc: Global, value: &impl Display, text: &str) -> Result<(), Fail> {
-    assert!(rt; format!(in alloc; "{value}")?.as_str() == text, "{text}");
-    Ok(())
-}
-
-#[test]
-fn faults_are_told_in_words(rt: HostRuntime) -> Result<(), Fail> {
-    for (fault, text) in [
-        (OpenFault::Malformed, "malformed OPEN message"),
-        (OpenFault::Version, "unsupported version number"),
-        (OpenFault::Parameter, "unsupported optional parameter"),
-    ] {
-        prints(&rt, rt.alloc(), &fault, text)?;
-    }
-    for (fault, text) in [
-        (
-            OpenWriteFault::TooMany,
-            "too many capabilities for an OPEN message",
-        ),
-        (OpenWriteFault::Memory, "out of memory"),
-    ] {
-        prints(&rt, rt.alloc(), &fault, text)?;
-    }
-    for (fault, text) in [
-        (
-            NotificationWriteFault::TooLarge,
-            "the data of the NOTIFICATION are too large",
-        ),
-        (NotificationWriteFault::Memory, "out of memory"),
-    ] {
-        prints(&rt, rt.alloc(), &fault, text)?;
-    }
-    Ok(())
-}
-
-#[test]
-fn faults_of_writers_have_their_numbers(rt: HostRuntime) {
-    assert_eq!(rt; OpenWriteFault::TooMany.number(), 1);
-    assert_eq!(rt; OpenWriteFault::Memory.number(), 2);
-    assert_eq!(rt; NotificationWriteFault::TooLarge.number(), 1);
-    assert_eq!(rt; NotificationWriteFault::Memory.number(), 2);
+fn faults_have_their_words_and_numbers(rt: HostRuntime) {
+    let alloc = rt.alloc();
+    assert!(rt;
+        prints(alloc, &OpenFault::Malformed, "malformed OPEN message")
+            && prints(alloc, &OpenFault::Version, "unsupported version number")
+            && prints(
+                alloc,
+                &OpenFault::Parameter,
+                "unsupported optional parameter"
+            )
+    );
+    let (too_many, memory) = (OpenWriteFault::TooMany, OpenWriteFault::Memory);
+    assert!(rt;
+        prints(
+            alloc,
+            &too_many,
+            "too many capabilities for an OPEN message"
+        ) && prints(alloc, &memory, "out of memory")
+            && too_many.number() == 1
+            && memory.number() == 2
+    );
+    let too_large = NotificationWriteFault::TooLarge;
+    let memory = NotificationWriteFault::Memory;
+    assert!(rt;
+        prints(
+            alloc,
+            &too_large,
+            "the data of the NOTIFICATION are too large"
+        ) && prints(alloc, &memory, "out of memory")
+            && too_large.number() == 1
+            && memory.number() == 2
+    );
 }
