@@ -56,13 +56,18 @@ impl Feed {
         (family, first.min(end)..end)
     }
 
+    /// One of the prefixes.
+    fn prefix(&self, family: Family, index: u32) -> Option<Prefix> {
+        let number = if self.is_sorted { index } else { mixed(index) };
+        prefix(family, number)
+    }
+
     /// The prefixes of a group.
     fn group(&self, alloc: Global, group: u32) -> Result<Vec<Prefix>, AllocError> {
         let (family, members) = self.members(group);
         let mut prefixes = Vec::new(alloc);
         for index in members {
-            let number = if self.is_sorted { index } else { mixed(index) };
-            if let Some(prefix) = prefix(family, number) {
+            if let Some(prefix) = self.prefix(family, index) {
                 prefixes.push(prefix)?;
             }
         }
@@ -74,9 +79,10 @@ impl Feed {
         &self,
         alloc: Global,
         group: u32,
-        path: Path,
+        path: &Path,
     ) -> Result<Changes, AllocError> {
         let prefixes = self.group(alloc, group)?;
+        let path = path.clone()?;
         let put = Some(Put { path, prefixes });
         let (nlri, mp_reach_nlri) = if self.members(group).0 == Family::V4 {
             (put, None)
@@ -92,9 +98,12 @@ impl Feed {
 
     /// The octets of the group's prefixes (RFC 4271, 4.3).
     fn spelled(&self, alloc: Global, group: u32) -> Result<Vec<u8>, AllocError> {
+        let (family, members) = self.members(group);
         let mut octets = Vec::new(alloc);
-        for prefix in self.group(alloc, group)? {
-            prefix.write(&mut octets)?;
+        for index in members {
+            if let Some(prefix) = self.prefix(family, index) {
+                prefix.write(&mut octets)?;
+            }
         }
         Ok(octets)
     }
@@ -103,65 +112,122 @@ impl Feed {
     /// in MP_REACH_NLRI (RFC 4760, 3).
     pub fn announcing(&self, alloc: Global, group: u32) -> Result<Vec<u8>, AllocError> {
         let nlri = self.spelled(alloc, group)?;
-        let mut attributes = Vec::from_slice(alloc, b"\x40\x01\x01\x00\x40\x02\x12\x02\x04")?;
-        for number in [65002, 174, 3356, group] {
-            attributes.extend_from_slice(&number.to_be_bytes())?;
+        match self.members(group).0 {
+            Family::V4 => announcing_v4(alloc, group, &nlri),
+            Family::V6 => announcing_v6(alloc, group, &nlri),
         }
-        attributes.extend_from_slice(b"\xc0\x08\x08\xfd\xea\x00\x01")?;
-        attributes.extend_from_slice(&group.to_be_bytes())?;
-        if self.members(group).0 == Family::V4 {
-            attributes.extend_from_slice(b"\x40\x03\x04\xc0\x00\x02\x02")?;
-            return update(alloc, b"", &attributes, &nlri);
-        }
-        attributes.extend_from_slice(b"\x90\x0e")?;
-        put_count(&mut attributes, nlri.len().saturating_add(21))?;
-        attributes.extend_from_slice(b"\x00\x02\x01\x10\x20\x01\x0d\xb8")?;
-        attributes.extend_from_slice(&[0; 13])?;
-        attributes.extend_from_slice(&nlri)?;
-        update(alloc, b"", &attributes, b"")
     }
 
     /// The UPDATE by which the group is withdrawn: in its field of withdrawn routes (RFC 4271,
     /// 4.3), or for IPv6 in MP_UNREACH_NLRI (RFC 4760, 4).
     pub fn withdrawing(&self, alloc: Global, group: u32) -> Result<Vec<u8>, AllocError> {
         let withdrawn = self.spelled(alloc, group)?;
-        if self.members(group).0 == Family::V4 {
-            return update(alloc, &withdrawn, b"", b"");
+        match self.members(group).0 {
+            Family::V4 => update(alloc, &withdrawn, b"", b""),
+            Family::V6 => withdrawing_v6(alloc, &withdrawn),
         }
-        let mut attributes = Vec::from_slice(alloc, b"\x90\x0f")?;
-        put_count(&mut attributes, withdrawn.len().saturating_add(3))?;
-        attributes.extend_from_slice(b"\x00\x02\x01")?;
-        attributes.extend_from_slice(&withdrawn)?;
-        update(alloc, b"", &attributes, b"")
     }
 }
 
+/// ORIGIN, and of AS_PATH what is before the last of four AS numbers.
+const ORIGIN_AND_AS_PATH: [u8; 21] = [
+    0x40, 0x01, 0x01, 0x00, // ORIGIN: IGP
+    0x40, 0x02, 0x12, 0x02, 0x04, // AS_PATH: a sequence of four
+    0x00, 0x00, 0xfd, 0xea, // 65002
+    0x00, 0x00, 0x00, 0xae, // 174
+    0x00, 0x00, 0x0d, 0x1c, // 3356
+];
+
+/// Of COMMUNITIES what is before the last of two.
+const COMMUNITIES: [u8; 7] = [0xc0, 0x08, 0x08, 0xfd, 0xea, 0x00, 0x01];
+
+/// NEXT_HOP: 192.0.2.2.
+const NEXT_HOP: [u8; 7] = [0x40, 0x03, 0x04, 0xc0, 0x00, 0x02, 0x02];
+
+/// Of the value of MP_REACH_NLRI what is before its prefixes.
+const REACH_V6: [u8; 21] = [
+    0x00, 0x02, 0x01, 0x10, // IPv6 unicast, a next hop of 16 octets
+    0x20, 0x01, 0x0d, 0xb8, 0x00, 0x00, 0x00, 0x00, // 2001:db8::
+    0x00, 0x00, 0x00, 0x00, 0x00, 0x00, 0x00, 0x00, // its other half
+    0x00, // reserved
+];
+
+/// The UPDATE by which prefixes of IPv4 are announced.
+fn announcing_v4(alloc: Global, group: u32, nlri: &[u8]) -> Result<Vec<u8>, AllocError> {
+    let number = group.to_be_bytes();
+    let fields: [&[u8]; 5] = [
+        &ORIGIN_AND_AS_PATH,
+        &number,
+        &COMMUNITIES,
+        &number,
+        &NEXT_HOP,
+    ];
+    let attributes = joined(alloc, &fields)?;
+    update(alloc, b"", &attributes, nlri)
+}
+
+/// The UPDATE by which prefixes of IPv6 are announced.
+fn announcing_v6(alloc: Global, group: u32, nlri: &[u8]) -> Result<Vec<u8>, AllocError> {
+    let number = group.to_be_bytes();
+    let length = octets_of(nlri.len().saturating_add(21));
+    let fields: [&[u8]; 8] = [
+        &ORIGIN_AND_AS_PATH,
+        &number,
+        &COMMUNITIES,
+        &number,
+        b"\x90\x0e",
+        &length,
+        &REACH_V6,
+        nlri,
+    ];
+    let attributes = joined(alloc, &fields)?;
+    update(alloc, b"", &attributes, b"")
+}
+
+/// The UPDATE by which prefixes of IPv6 are withdrawn.
+fn withdrawing_v6(alloc: Global, withdrawn: &[u8]) -> Result<Vec<u8>, AllocError> {
+    let length = octets_of(withdrawn.len().saturating_add(3));
+    let fields: [&[u8]; 4] = [b"\x90\x0f", &length, b"\x00\x02\x01", withdrawn];
+    let attributes = joined(alloc, &fields)?;
+    update(alloc, b"", &attributes, b"")
+}
+
 /// The UPDATE of these fields (RFC 4271, 4.3).
-fn update(
+fn update<'a>(
     alloc: Global,
-    withdrawn: &[u8],
-    attributes: &[u8],
-    nlri: &[u8],
+    withdrawn: &'a [u8],
+    attributes: &'a [u8],
+    nlri: &'a [u8],
 ) -> Result<Vec<u8>, AllocError> {
-    let mut octets = Vec::from_slice(alloc, &[0xff; 16])?;
     let fields = withdrawn.len().saturating_add(attributes.len());
-    put_count(
-        &mut octets,
-        fields.saturating_add(nlri.len()).saturating_add(23),
-    )?;
-    octets.push(2)?;
-    put_count(&mut octets, withdrawn.len())?;
-    octets.extend_from_slice(withdrawn)?;
-    put_count(&mut octets, attributes.len())?;
-    octets.extend_from_slice(attributes)?;
-    octets.extend_from_slice(nlri)?;
+    let length = octets_of(fields.saturating_add(nlri.len()).saturating_add(23));
+    let of_withdrawn = octets_of(withdrawn.len());
+    let of_attributes = octets_of(attributes.len());
+    let fields: [&[u8]; 8] = [
+        &[0xff; 16],
+        &length,
+        &[2],
+        &of_withdrawn,
+        withdrawn,
+        &of_attributes,
+        attributes,
+        nlri,
+    ];
+    joined(alloc, &fields)
+}
+
+/// Octets, one field after another.
+fn joined(alloc: Global, fields: &[&[u8]]) -> Result<Vec<u8>, AllocError> {
+    let mut octets = Vec::new(alloc);
+    for field in fields {
+        octets.extend_from_slice(field)?;
+    }
     Ok(octets)
 }
 
-/// Appends a count as two octets, or the greatest that fits.
-fn put_count(octets: &mut Vec<u8>, count: usize) -> Result<(), AllocError> {
-    let count = u16::try_from(count).unwrap_or(u16::MAX);
-    octets.extend_from_slice(&count.to_be_bytes())
+/// A count as two octets, or the greatest that fits.
+fn octets_of(count: usize) -> [u8; 2] {
+    u16::try_from(count).unwrap_or(u16::MAX).to_be_bytes()
 }
 
 /// How many groups so many prefixes have.

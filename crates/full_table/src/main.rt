@@ -12,6 +12,7 @@ use bgp_rib::RibIn;
 use bgp_update::{Changes, read_update};
 use bgp_wire::vectors::OPEN_B;
 use feed::Feed;
+use std::alloc::Global;
 use std::process::ExitCode;
 use std::rt::{Clock, Env, Files};
 use std::time::{Duration, Instant};
@@ -39,26 +40,19 @@ struct Wish {
 /// What the program's words wish: numbers of prefixes of each family and of paths, and then
 /// `sorted` for prefixes that ascend, and any other word for one path.
 fn wishes<R: Env + AllocGlobal>(rt: &R) -> io::Result<Wish> {
-    let mut words = env::args(rt)?.skip(1);
     let mut numbers = [1000, 200, 200];
-    let mut is_measured = false;
-    for number in &mut numbers {
-        if let Some(word) = words.next() {
-            *number = word
-                .parse::<u32>()
-                .map_err(|_| io::Error::from(io::ErrorKind::InvalidInput))?;
-            is_measured = true;
+    let (mut is_sorted, mut is_shared, mut is_measured) = (false, false, false);
+    for (place, word) in env::args(rt)?.skip(1).enumerate() {
+        match numbers.get_mut(place) {
+            Some(number) => {
+                *number = number_of(word.as_str())?;
+                is_measured = true;
+            }
+            None if word.as_str() == "sorted" => is_sorted = true,
+            None => is_shared = true,
         }
     }
     let [v4, v6, paths] = numbers;
-    let (mut is_sorted, mut is_shared) = (false, false);
-    for word in words {
-        if word.as_str() == "sorted" {
-            is_sorted = true;
-        } else {
-            is_shared = true;
-        }
-    }
     Ok(Wish {
         feed: Feed::new(v4, v6, paths, is_sorted),
         is_measured,
@@ -66,38 +60,63 @@ fn wishes<R: Env + AllocGlobal>(rt: &R) -> io::Result<Wish> {
     })
 }
 
+/// The number that a word spells.
+fn number_of(word: &str) -> io::Result<u32> {
+    match word.parse::<u32>() {
+        Ok(number) => Ok(number),
+        Err(_) => Err(io::Error::from(io::ErrorKind::InvalidInput)),
+    }
+}
+
 /// Answers whether the listing had each route, in order.
 fn run<R: Files + Env + Clock + Print + AllocGlobal>(rt: &R) -> io::Result<bool> {
     let wish = wishes(rt)?;
-    let feed = wish.feed;
-    let shared = if wish.is_shared {
-        Some(feed::path(rt.alloc(), 0)?)
-    } else {
-        None
-    };
+    let link = link()?;
     let mut table = Timed {
         routes: RibIn::new(rt.alloc()),
-        link: link()?,
+        link,
         reading: Duration::ZERO,
         time: Duration::ZERO,
-        shared,
     };
-    fill(rt, &feed, &mut table)?;
+    fill_and_list(rt, &wish, &mut table)
+}
 
+/// Puts the routes that are wished, and lists them.
+fn fill_and_list<R: Files + Clock + Print + AllocGlobal>(
+    rt: &R,
+    wish: &Wish,
+    table: &mut Timed,
+) -> io::Result<bool> {
+    if wish.is_shared {
+        fill(rt, &wish.feed, Some(&feed::path(rt.alloc(), 0)?), table)?;
+    } else {
+        fill(rt, &wish.feed, None, table)?;
+    }
     let began = Instant::now(rt)?;
-    let is_listed = is_in_order(&table.routes, &feed);
+    let is_listed = is_in_order(&table.routes, &wish.feed);
     let listed = began.elapsed(rt)?;
     println!(rt; "{} routes in order: {is_listed}", table.routes.len())?;
     if wish.is_measured {
-        println!(rt;
-            "read {} us, apply {} us, list {} us, {}",
-            table.reading.as_micros(),
-            table.time.as_micros(),
-            listed.as_micros(),
-            peak(rt)?
-        )?;
+        print_times(rt, table, listed)?;
     }
     Ok(is_listed)
+}
+
+/// Prints how long it took, and the line of the system that tells the greatest memory so far.
+fn print_times<R: Files + Print + AllocGlobal>(
+    rt: &R,
+    table: &Timed,
+    listed: Duration,
+) -> io::Result<()> {
+    let status = fs::read_to_string(rt, "/proc/self/status")?;
+    let peak = status.lines().find(|line| line.starts_with("VmHWM:"));
+    println!(rt;
+        "read {} us, apply {} us, list {} us, {}",
+        table.reading.as_micros(),
+        table.time.as_micros(),
+        listed.as_micros(),
+        peak.unwrap_or("VmHWM:")
+    )
 }
 
 /// What the OPENs of AS 65001 and AS 65002 settle: AS numbers of four octets, and both families.
@@ -131,23 +150,29 @@ struct Timed {
     /// How long it took to read UPDATEs.
     reading: Duration,
     time: Duration,
-    /// The path of all routes, where they share one.
-    shared: Option<Path>,
+}
+
+/// What an UPDATE changes.
+fn changes_of(alloc: Global, link: &Link, octets: &[u8]) -> io::Result<Changes> {
+    match read_update(alloc, link, octets)?.changes {
+        Some(changes) => Ok(changes),
+        None => Err(io::Error::from(io::ErrorKind::InvalidData)),
+    }
 }
 
 impl Timed {
-    /// Puts the routes of a group.
+    /// Puts the routes of a group, by a path that all share or by its own.
     fn announce<R: Clock + AllocGlobal>(
         &mut self,
         rt: &R,
         feed: &Feed,
+        shared: Option<&Path>,
         group: u32,
     ) -> io::Result<()> {
-        if let Some(path) = &self.shared {
-            let path = path.clone()?;
-            return self.apply(rt, &feed.announcement(rt.alloc(), group, path)?);
+        match shared {
+            Some(path) => self.apply(rt, &feed.announcement(rt.alloc(), group, path)?),
+            None => self.hear(rt, &feed.announcing(rt.alloc(), group)?),
         }
-        self.hear(rt, &feed.announcing(rt.alloc(), group)?)
     }
 
     /// Takes the routes of a group away.
@@ -163,12 +188,19 @@ impl Timed {
     /// Reads an UPDATE, and applies what it changes.
     fn hear<R: Clock + AllocGlobal>(&mut self, rt: &R, octets: &[u8]) -> io::Result<()> {
         let began = Instant::now(rt)?;
-        let outcomes = read_update(rt.alloc(), &self.link, octets)?;
+        let changes = changes_of(rt.alloc(), &self.link, octets)?;
+        self.apply_read(rt, began, &changes)
+    }
+
+    /// Applies what was read since then.
+    fn apply_read<R: Clock>(
+        &mut self,
+        rt: &R,
+        began: Instant,
+        changes: &Changes,
+    ) -> io::Result<()> {
         self.reading = self.reading.saturating_add(began.elapsed(rt)?);
-        match outcomes.changes {
-            None => Err(io::Error::from(io::ErrorKind::InvalidData)),
-            Some(changes) => self.apply(rt, &changes),
-        }
+        self.apply(rt, changes)
     }
 
     /// Applies the changes.
@@ -181,13 +213,20 @@ impl Timed {
 }
 
 /// Puts all routes; and then takes each tenth group away and puts it again.
-fn fill<R: Clock + AllocGlobal>(rt: &R, feed: &Feed, table: &mut Timed) -> io::Result<()> {
+fn fill<R: Clock + AllocGlobal>(
+    rt: &R,
+    feed: &Feed,
+    shared: Option<&Path>,
+    table: &mut Timed,
+) -> io::Result<()> {
     for group in 0..feed.groups() {
-        table.announce(rt, feed, group)?;
+        table.announce(rt, feed, shared, group)?;
     }
-    for group in (0..feed.groups()).filter(|group| group % 10 == 0) {
-        table.withdraw(rt, feed, group)?;
-        table.announce(rt, feed, group)?;
+    for group in 0..feed.groups() {
+        if group % 10 == 0 {
+            table.withdraw(rt, feed, group)?;
+            table.announce(rt, feed, shared, group)?;
+        }
     }
     Ok(())
 }
@@ -204,11 +243,4 @@ fn is_in_order(routes: &RibIn, feed: &Feed) -> bool {
         count = count.saturating_add(1);
     }
     count == feed.prefixes()
-}
-
-/// The line of the system that tells the greatest memory so far.
-fn peak<R: Files + AllocGlobal>(rt: &R) -> io::Result<String> {
-    let status = fs::read_to_string(rt, "/proc/self/status")?;
-    let line = status.lines().find(|line| line.starts_with("VmHWM:"));
-    Ok(String::from_str(rt.alloc(), line.unwrap_or("VmHWM:"))?)
 }
