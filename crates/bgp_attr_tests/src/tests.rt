@@ -9,14 +9,9 @@ mod writing;
 
 use bgp_attr::*;
 use bgp_path::{Aggregator, AsPath, Items, NextHop, Origin, Path, PathParts, Segment, SegmentKind};
-use std::alloc::{AllocError, Allocator};
+use std::alloc::{AllocError, Global};
 use std::process::Abort;
 use std::test::Fail;
-
-/// The two are equal. A call of this is proved more quickly than `assert_eq!`.
-fn same<T: Copy + PartialEq>(rt: &impl Abort, value: T, wanted: T) {
-    assert!(rt; value == wanted);
-}
 
 /// An external peer, and AS numbers of four octets.
 const WIDE: Side = Side {
@@ -74,112 +69,114 @@ const IPV6_FIELD: &[u8] = &[
     0x80, 4, 4, 0, 0, 0, 0, // MULTI_EXIT_DISC: 0
 ];
 
-/// A segment of 1 to 255 numbers.
-fn segment<A: Allocator + Copy>(
-    alloc: A,
-    kind: SegmentKind,
-    numbers: &[u32],
-) -> Result<Segment<A>, AllocError> {
-    let numbers = Vec::from_slice(alloc, numbers)?;
-    Segment::new(kind, numbers).ok_or(AllocError)
-}
-
-/// The path of these segments.
-fn as_path<A: Allocator + Copy>(
-    alloc: A,
-    segments: &[(SegmentKind, &[u32])],
-) -> Result<AsPath<A>, AllocError> {
-    let mut path = AsPath::new(alloc);
-    for (kind, numbers) in segments {
-        path.push(segment(alloc, *kind, numbers)?)?;
-    }
-    Ok(path)
-}
-
-/// The lists that a path may have beside its segments.
-#[derive(Clone, Copy, Default)]
-struct Lists<'a> {
+/// The parts of a path, which take no memory: its segments and lists are slices.
+#[derive(Drop)]
+struct Parts<'a> {
+    origin: Origin,
+    /// Segments of 1 to 255 numbers.
+    as_path: &'a [(SegmentKind, &'a [u32])],
+    next_hop: NextHop,
+    multi_exit_disc: Option<u32>,
+    local_pref: Option<u32>,
+    atomic_aggregate: bool,
+    aggregator: Option<Aggregator>,
     communities: &'a [u32],
+    originator_id: Option<u32>,
     cluster_list: &'a [u32],
     extended_communities: &'a [u64],
 }
 
-/// A path of these segments and lists: IGP, and a next hop of four octets.
-fn with_lists<A: Allocator + Copy>(
-    alloc: A,
-    path: &[(SegmentKind, &[u32])],
-    lists: &Lists<'_>,
-) -> Result<PathParts<A>, AllocError> {
-    let communities = Vec::from_slice(alloc, lists.communities)?;
-    let cluster_list = Vec::from_slice(alloc, lists.cluster_list)?;
-    let extended_communities = Vec::from_slice(alloc, lists.extended_communities)?;
-    Ok(PathParts {
-        origin: Origin::Igp,
-        as_path: as_path(alloc, path)?,
-        next_hop: NextHop::V4(0xc000_0202),
-        multi_exit_disc: None,
-        local_pref: None,
-        atomic_aggregate: false,
-        aggregator: None,
-        communities: Items::from(communities),
-        originator_id: None,
-        cluster_list: Items::from(cluster_list),
-        extended_communities: Items::from(extended_communities),
-    })
-}
+/// The least path: IGP, no segments, a next hop of four octets.
+const LEAST: Parts<'static> = Parts {
+    origin: Origin::Igp,
+    as_path: &[],
+    next_hop: NextHop::V4(0xc000_0202),
+    multi_exit_disc: None,
+    local_pref: None,
+    atomic_aggregate: false,
+    aggregator: None,
+    communities: &[],
+    originator_id: None,
+    cluster_list: &[],
+    extended_communities: &[],
+};
 
-/// The least path: IGP, these segments, a next hop of four octets.
-fn plain<A: Allocator + Copy>(
-    alloc: A,
-    path: &[(SegmentKind, &[u32])],
-) -> Result<PathParts<A>, AllocError> {
-    with_lists(alloc, path, &Lists::default())
-}
+/// Of AS 65002 alone.
+const OF_65002: Parts<'static> = Parts {
+    as_path: &[(SegmentKind::Sequence, &[65002])],
+    ..LEAST
+};
 
 /// What FRR said in two octets, as a path.
-fn merged<A: Allocator + Copy>(alloc: A) -> Result<PathParts<A>, AllocError> {
-    let lists = Lists {
-        communities: &[0xfdea_0064, 0xffff_ff01],
-        cluster_list: &[],
-        extended_communities: &[],
-    };
-    let numbers: &[u32] = &[65002, 70000, 70001];
-    let mut parts = with_lists(alloc, &[(SegmentKind::Sequence, numbers)], &lists)?;
-    parts.multi_exit_disc = Some(7);
-    parts.atomic_aggregate = true;
-    parts.aggregator = Some(Aggregator {
+const MERGED: Parts<'static> = Parts {
+    as_path: &[(SegmentKind::Sequence, &[65002, 70000, 70001])],
+    multi_exit_disc: Some(7),
+    atomic_aggregate: true,
+    aggregator: Some(Aggregator {
         as_number: 70000,
         address: 0xc000_0202,
-    });
-    Ok(parts)
-}
+    }),
+    communities: &[0xfdea_0064, 0xffff_ff01],
+    ..LEAST
+};
 
 /// A path that an internal peer alone may say.
-fn internal<A: Allocator + Copy>(alloc: A) -> Result<PathParts<A>, AllocError> {
-    let lists = Lists {
-        communities: &[],
-        cluster_list: &[1, 2],
-        extended_communities: &[],
-    };
-    let mut parts = with_lists(alloc, &[(SegmentKind::Set, &[1, 2])], &lists)?;
-    parts.local_pref = Some(100);
-    parts.originator_id = Some(0xc000_0201);
-    Ok(parts)
-}
+const REFLECTED: Parts<'static> = Parts {
+    as_path: &[(SegmentKind::Set, &[1, 2])],
+    local_pref: Some(100),
+    originator_id: Some(0xc000_0201),
+    cluster_list: &[1, 2],
+    ..LEAST
+};
 
 /// What GoBGP announced, as a path.
-fn announced<A: Allocator + Copy>(alloc: A) -> Result<PathParts<A>, AllocError> {
-    let lists = Lists {
-        communities: &[0xfdea_0064, 0xffff_ff01],
-        cluster_list: &[],
-        extended_communities: &[0x0002_fdea_0000_0005],
-    };
-    let mut parts = with_lists(alloc, &[(SegmentKind::Sequence, &[65002])], &lists)?;
-    parts.origin = Origin::Incomplete;
-    parts.multi_exit_disc = Some(7);
-    parts.aggregator = Some(Aggregator {
+const ANNOUNCED: Parts<'static> = Parts {
+    origin: Origin::Incomplete,
+    multi_exit_disc: Some(7),
+    aggregator: Some(Aggregator {
         as_number: 65002,
         address: 0xc000_0202,
-    });
-    Ok(parts)
+    }),
+    communities: &[0xfdea_0064, 0xffff_ff01],
+    extended_communities: &[0x0002_fdea_0000_0005],
+    ..OF_65002
+};
+
+/// The path of these segments.
+fn as_path_of(alloc: Global, segments: &[(SegmentKind, &[u32])]) -> Result<AsPath, AllocError> {
+    let mut path = AsPath::new(alloc);
+    for (kind, numbers) in segments {
+        let segment = Segment::new(*kind, Vec::from_slice(alloc, numbers)?);
+        path.push(segment.ok_or(AllocError)?)?;
+    }
+    Ok(path)
+}
+
+/// The path of these parts.
+fn path_of(alloc: Global, parts: &Parts<'_>) -> Result<Path, AllocError> {
+    path_with(alloc, parts, parts.communities)
+}
+
+/// The path of these parts, but with these communities.
+fn path_with(alloc: Global, parts: &Parts<'_>, communities: &[u32]) -> Result<Path, AllocError> {
+    let communities = Vec::from_slice(alloc, communities)?;
+    let cluster_list = Vec::from_slice(alloc, parts.cluster_list)?;
+    let extended_communities = Vec::from_slice(alloc, parts.extended_communities)?;
+    let as_path = as_path_of(alloc, parts.as_path)?;
+    Path::new(
+        alloc,
+        PathParts {
+            origin: parts.origin,
+            as_path,
+            next_hop: parts.next_hop,
+            multi_exit_disc: parts.multi_exit_disc,
+            local_pref: parts.local_pref,
+            atomic_aggregate: parts.atomic_aggregate,
+            aggregator: parts.aggregator,
+            communities: Items::from(communities),
+            originator_id: parts.originator_id,
+            cluster_list: Items::from(cluster_list),
+            extended_communities: Items::from(extended_communities),
+        },
+    )
 }

@@ -2,188 +2,320 @@
 
 use super::SegmentKind::{Sequence, Set};
 use super::*;
-use std::alloc::Global;
+use std::alloc::Allocator;
 
-/// What is written for these parts.
-fn written(rt: &impl Abort, alloc: Global, side: Side, parts: PathParts) -> Result<Vec<u8>, Fail> {
-    let path = Path::new(alloc, parts)?;
-    assert!(rt; is_writable(side, &path));
-    let mut out = Vec::new(alloc);
-    write_path(side, &path, &mut out)?;
-    Ok(out)
-}
+/// A path that takes memory for each of its parts.
+pub(super) const OF_ALL_PARTS: Parts<'static> = Parts {
+    origin: Origin::Egp,
+    as_path: &[(Sequence, &[65001, 70000]), (Set, &[1, 2])],
+    multi_exit_disc: Some(7),
+    atomic_aggregate: true,
+    aggregator: Some(Aggregator {
+        as_number: 70000,
+        address: 1,
+    }),
+    communities: &[1, 2],
+    cluster_list: &[3],
+    extended_communities: &[4],
+    ..LEAST
+};
 
-/// These octets are written for these parts.
-fn writes(
-    rt: &impl Abort,
-    alloc: Global,
+/// What that path is written as in two octets.
+pub(super) const ALL_PARTS: &[u8] = &[
+    0x40, 1, 1, 1, // ORIGIN: EGP
+    0x40, 2, 12, 2, 2, 0xfd, 0xe9, 0x5b, 0xa0, 1, 2, 0, 1, 0, 2, // AS_PATH: 65001 23456 {1,2}
+    0x40, 3, 4, 192, 0, 2, 2, // NEXT_HOP: 192.0.2.2
+    0x80, 4, 4, 0, 0, 0, 7, // MULTI_EXIT_DISC: 7
+    0x40, 6, 0, // ATOMIC_AGGREGATE
+    0xc0, 7, 6, 0x5b, 0xa0, 0, 0, 0, 1, // AGGREGATOR: 23456, 0.0.0.1
+    0xc0, 8, 8, 0, 0, 0, 1, 0, 0, 0, 2, // COMMUNITIES: 0:1 0:2
+    0x80, 10, 4, 0, 0, 0, 3, // CLUSTER_LIST: 0.0.0.3
+    0xc0, 16, 8, 0, 0, 0, 0, 0, 0, 0, 4, // EXTENDED COMMUNITIES: 4
+    0xc0, 17, 20, 2, 2, 0, 0, 0xfd, 0xe9, 0, 1, 0x11, 0x70, // AS4_PATH: 65001 70000
+    1, 2, 0, 0, 0, 1, 0, 0, 0, 2, // {1,2}
+    0xc0, 18, 8, 0, 1, 0x11, 0x70, 0, 0, 0, 1, // AS4_AGGREGATOR: 70000, 0.0.0.1
+];
+
+/// A path, and the octets that it is written as on a session.
+struct Row {
     side: Side,
-    parts: PathParts,
-    octets: &[u8],
-) -> Result<(), Fail> {
-    assert!(rt; written(rt, alloc, side, parts)?.as_slice() == octets);
-    Ok(())
+    path: Parts<'static>,
+    octets: &'static [u8],
+    /// How many octets at the end are of a type that a path doesn't keep.
+    left: usize,
 }
 
-#[test]
-fn the_least_path_is_three_attributes(rt: HostRuntime) -> Result<(), Fail> {
-    let octets = [
-        0x40, 1, 1, 0, // ORIGIN: IGP
-        0x40, 2, 6, 2, 1, 0, 0, 0xfd, 0xea, // AS_PATH: 65002
-        0x40, 3, 4, 192, 0, 2, 2, // NEXT_HOP: 192.0.2.2
-    ];
-    let parts = plain(rt.alloc(), &[(Sequence, &[65002])])?;
-    writes(&rt, rt.alloc(), WIDE, parts, &octets)
+static ROWS: [Row; 8] = [
+    // The least path is three attributes.
+    Row {
+        side: WIDE,
+        path: OF_65002,
+        octets: &[
+            0x40, 1, 1, 0, // ORIGIN: IGP
+            0x40, 2, 6, 2, 1, 0, 0, 0xfd, 0xea, // AS_PATH: 65002
+            0x40, 3, 4, 192, 0, 2, 2, // NEXT_HOP: 192.0.2.2
+        ],
+        left: 0,
+    },
+    // A large number is said twice in two octets.
+    Row {
+        side: NARROW,
+        path: Parts {
+            as_path: &[(Sequence, &[70000])],
+            ..LEAST
+        },
+        octets: &[
+            0x40, 1, 1, 0, // ORIGIN: IGP
+            0x40, 2, 4, 2, 1, 0x5b, 0xa0, // AS_PATH: 23456, AS_TRANS
+            0x40, 3, 4, 192, 0, 2, 2, // NEXT_HOP: 192.0.2.2
+            0xc0, 17, 6, 2, 1, 0, 1, 0x11, 0x70, // AS4_PATH: 70000
+        ],
+        left: 0,
+    },
+    // A path without segments has an AS_PATH too, and a next hop of IPv6 stands in MP_REACH_NLRI
+    // alone.
+    Row {
+        side: WIDE,
+        path: Parts {
+            next_hop: NextHop::V6(1),
+            ..LEAST
+        },
+        octets: &[0x40, 1, 1, 0, 0x40, 2, 0], // ORIGIN: IGP, AS_PATH
+        left: 0,
+    },
+    Row {
+        side: WIDE,
+        path: Parts {
+            next_hop: NextHop::V6WithLinkLocal(1, 2),
+            ..LEAST
+        },
+        octets: &[0x40, 1, 1, 0, 0x40, 2, 0], // ORIGIN: IGP, AS_PATH
+        left: 0,
+    },
+    // Two octets say what a real router says: it used Extended Length for its two paths, and added
+    // a type that a path doesn't keep.
+    Row {
+        side: NARROW,
+        path: MERGED,
+        octets: &[
+            0x40, 1, 1, 0, // ORIGIN: IGP
+            0x40, 2, 8, 2, 3, 0xfd, 0xea, 0x5b, 0xa0, 0x5b, 0xa0, // AS_PATH
+            0x40, 3, 4, 192, 0, 2, 2, // NEXT_HOP: 192.0.2.2
+            0x80, 4, 4, 0, 0, 0, 7, // MULTI_EXIT_DISC: 7
+            0x40, 6, 0, // ATOMIC_AGGREGATE
+            0xc0, 7, 6, 0x5b, 0xa0, 192, 0, 2, 2, // AGGREGATOR: 23456, 192.0.2.2
+            0xc0, 8, 8, 0xfd, 0xea, 0, 100, 0xff, 0xff, 0xff, 1, // COMMUNITIES
+            0xc0, 17, 14, 2, 3, 0, 0, 0xfd, 0xea, 0, 1, 0x11, 0x70, 0, 1, 0x11, 0x71, // AS4_PATH
+            0xc0, 18, 8, 0, 1, 0x11, 0x70, 192, 0, 2, 2, // AS4_AGGREGATOR
+        ],
+        left: 0,
+    },
+    // To an external peer, though it may not say them.
+    Row {
+        side: WIDE,
+        path: REFLECTED,
+        octets: &[
+            0x40, 1, 1, 0, // ORIGIN: IGP
+            0x40, 2, 10, 1, 2, 0, 0, 0, 1, 0, 0, 0, 2, // AS_PATH: {1,2}
+            0x40, 3, 4, 192, 0, 2, 2, // NEXT_HOP: 192.0.2.2
+            0x40, 5, 4, 0, 0, 0, 100, // LOCAL_PREF: 100
+            0x80, 9, 4, 192, 0, 2, 1, // ORIGINATOR_ID: 192.0.2.1
+            0x80, 10, 8, 0, 0, 0, 1, 0, 0, 0, 2, // CLUSTER_LIST: 0.0.0.1 0.0.0.2
+        ],
+        left: 0,
+    },
+    Row {
+        side: NARROW,
+        path: OF_ALL_PARTS,
+        octets: ALL_PARTS,
+        left: 0,
+    },
+    // A real announcement is written as it came.
+    Row {
+        side: WIDE,
+        path: ANNOUNCED,
+        octets: FOUR_OCTET_FIELD,
+        left: 15,
+    },
+];
+
+/// Whether the path is writable, and was written.
+pub(super) fn is_written<A: Allocator>(side: Side, path: &Path, out: &mut Vec<u8, A>) -> bool {
+    is_writable(side, path) && write_path(side, path, out).is_ok()
 }
 
-#[test]
-fn a_large_number_is_said_twice_in_two_octets(rt: HostRuntime) -> Result<(), Fail> {
-    let octets = [
-        0x40, 1, 1, 0, // ORIGIN: IGP
-        0x40, 2, 4, 2, 1, 0x5b, 0xa0, // AS_PATH: 23456, AS_TRANS
-        0x40, 3, 4, 192, 0, 2, 2, // NEXT_HOP: 192.0.2.2
-        0xc0, 17, 6, 2, 1, 0, 1, 0x11, 0x70, // AS4_PATH: 70000
-    ];
-    let parts = plain(rt.alloc(), &[(Sequence, &[70000])])?;
-    writes(&rt, rt.alloc(), NARROW, parts, &octets)
-}
-
-#[test]
-fn a_path_without_segments_has_an_as_path_too(rt: HostRuntime) -> Result<(), Fail> {
-    let octets = [
-        0x40, 1, 1, 0, // ORIGIN: IGP
-        0x40, 2, 0, // AS_PATH
-    ];
-    // A next hop of IPv6 stands in MP_REACH_NLRI alone.
-    for next_hop in [NextHop::V6(1), NextHop::V6WithLinkLocal(1, 2)] {
-        let mut parts = plain(rt.alloc(), &[])?;
-        parts.next_hop = next_hop;
-        writes(&rt, rt.alloc(), WIDE, parts, &octets)?;
-    }
-    Ok(())
-}
-
-#[test]
-fn a_real_announcement_is_written_as_it_came(rt: HostRuntime) -> Result<(), Fail> {
-    // All but the last 15 octets, of a type that a path doesn't keep.
-    let octets = &FOUR_OCTET_FIELD[..FOUR_OCTET_FIELD.len() - 15];
-    writes(&rt, rt.alloc(), WIDE, announced(rt.alloc())?, octets)
-}
-
-#[test]
-fn two_octets_say_what_a_real_router_says(rt: HostRuntime) -> Result<(), Fail> {
-    let octets = written(&rt, rt.alloc(), NARROW, merged(rt.alloc())?)?;
-    // The router used Extended Length for its two paths, and added a type that a path doesn't keep.
-    let theirs = Attrs::new(TWO_OCTET_FIELD).filter(|attr| attr.kind != 32);
-    let mut ours = Attrs::new(&octets);
-    for attr in theirs {
-        let mine = Attr {
-            flags: attr.flags & 0xef,
-            ..attr
-        };
-        same(&rt, ours.next(), Some(mine));
-    }
-    assert!(rt; ours.next().is_none());
-    Ok(())
-}
-
-#[test]
-fn an_internal_path_has_its_preference_and_reflection(rt: HostRuntime) -> Result<(), Fail> {
-    let octets = [
-        0x40, 1, 1, 0, // ORIGIN: IGP
-        0x40, 2, 10, 1, 2, 0, 0, 0, 1, 0, 0, 0, 2, // AS_PATH: {1,2}
-        0x40, 3, 4, 192, 0, 2, 2, // NEXT_HOP: 192.0.2.2
-        0x40, 5, 4, 0, 0, 0, 100, // LOCAL_PREF: 100
-        0x80, 9, 4, 192, 0, 2, 1, // ORIGINATOR_ID: 192.0.2.1
-        0x80, 10, 8, 0, 0, 0, 1, 0, 0, 0, 2, // CLUSTER_LIST: 0.0.0.1 0.0.0.2
-    ];
-    writes(&rt, rt.alloc(), WIDE, internal(rt.alloc())?, &octets)
-}
-
-/// The path of so many communities.
-fn with_communities(alloc: Global, count: usize) -> Result<PathParts, AllocError> {
-    let communities = vec![in alloc; 1u32; count]?;
-    let lists = Lists {
-        communities: &communities,
-        cluster_list: &[],
-        extended_communities: &[],
+/// Whether behind an octet of 9 stand the row's octets, but for those that are left.
+fn stands_in(out: &[u8], row: &Row) -> bool {
+    let Some((9, written)) = out.split_first() else {
+        return false;
     };
-    with_lists(alloc, &[], &lists)
-}
-
-#[test]
-fn extended_length_is_for_more_than_255_octets(rt: HostRuntime) -> Result<(), Fail> {
-    let short = written(&rt, rt.alloc(), WIDE, with_communities(rt.alloc(), 63)?)?;
-    same(&rt, short.get(14..17), Some([0xc0, 8, 252].as_slice()));
-    let long = written(&rt, rt.alloc(), WIDE, with_communities(rt.alloc(), 64)?)?;
-    same(&rt, long.get(14..18), Some([0xd0, 8, 1, 0].as_slice()));
-    Ok(())
-}
-
-#[test]
-fn a_value_has_at_most_65535_octets(rt: HostRuntime) -> Result<(), Fail> {
-    for (count, holds) in [(16383, true), (16384, false)] {
-        let path = Path::new(rt.alloc(), with_communities(rt.alloc(), count)?)?;
-        same(&rt, is_writable(WIDE, &path), holds);
+    match row.octets.strip_prefix(written) {
+        Some(left) => left.len() == row.left,
+        None => false,
     }
-    Ok(())
+}
+
+/// Whether the octets are written for the path behind an octet of 9.
+fn writes(alloc: Global, row: &Row) -> bool {
+    let Ok(path) = path_of(alloc, &row.path) else {
+        return false;
+    };
+    match Vec::from_slice(alloc, &[9]) {
+        Ok(mut out) => is_written(row.side, &path, &mut out) && stands_in(&out, row),
+        Err(_) => false,
+    }
 }
 
 #[test]
-fn a_path_is_measured_before_it_is_written(rt: HostRuntime) -> Result<(), Fail> {
-    let path = Path::new(rt.alloc(), plain(rt.alloc(), &[(Sequence, &[65002])])?)?;
+fn a_path_is_written_as_attributes(rt: HostRuntime) {
+    for row in &ROWS {
+        assert!(rt; writes(rt.alloc(), row), "{:?}", row.octets);
+    }
+}
+
+/// The path of these parts, but with so many communities.
+pub(super) fn path_with_many(
+    alloc: Global,
+    parts: &Parts<'_>,
+    count: usize,
+) -> Result<Path, AllocError> {
+    let communities = vec![in alloc; 1u32; count]?;
+    path_with(alloc, parts, &communities)
+}
+
+/// The least path.
+static WITHOUT_LISTS: Parts<'static> = LEAST;
+
+/// Whether these octets stand behind the first 14, which are of other attributes.
+fn is_fourth(out: &[u8], header: &[u8]) -> bool {
+    match out.get(14..) {
+        Some(communities) => communities.starts_with(header),
+        None => false,
+    }
+}
+
+/// Whether so many communities are written with this header, or aren't writable.
+fn have_header(alloc: Global, count: usize, header: Option<&[u8]>) -> bool {
+    let Ok(path) = path_with_many(alloc, &WITHOUT_LISTS, count) else {
+        return false;
+    };
+    let mut out = Vec::new(alloc);
+    match header {
+        Some(header) => is_written(WIDE, &path, &mut out) && is_fourth(&out, header),
+        None => !is_writable(WIDE, &path),
+    }
+}
+
+/// How many communities, and the header that they are written with: a value has at most 65535
+/// octets.
+static HEADERS: [(usize, Option<&[u8]>); 4] = [
+    (63, Some(&[0xc0, 8, 252])),
+    (64, Some(&[0xd0, 8, 1, 0])),
+    (16383, Some(&[0xd0, 8, 0xff, 0xfc])),
+    (16384, None),
+];
+
+#[test]
+fn extended_length_is_for_more_than_255_octets(rt: HostRuntime) {
+    for (count, header) in &HEADERS {
+        assert!(rt; have_header(rt.alloc(), *count, *header), "{count}");
+    }
+}
+
+/// A path, and whether an external peer may say it.
+static FOR_PEERS: [(Parts<'static>, bool); 4] = [
+    (
+        Parts {
+            cluster_list: &[1],
+            ..LEAST
+        },
+        false,
+    ),
+    (
+        Parts {
+            local_pref: Some(100),
+            ..LEAST
+        },
+        false,
+    ),
+    (
+        Parts {
+            originator_id: Some(1),
+            ..LEAST
+        },
+        false,
+    ),
+    (ANNOUNCED, true),
+];
+
+/// Whether an internal peer may say the path, and an external one if that is wanted.
+fn is_for(alloc: Global, parts: &Parts<'_>, is_external: bool) -> bool {
+    match path_of(alloc, parts) {
+        Ok(path) => is_for_peer(WIDE, &path) == is_external && is_for_peer(INTERNAL, &path),
+        Err(_) => false,
+    }
+}
+
+#[test]
+fn preference_and_reflection_are_for_an_internal_peer(rt: HostRuntime) {
+    for (parts, is_external) in &FOR_PEERS {
+        assert!(rt;
+            is_for(rt.alloc(), parts, *is_external),
+            "{:?}",
+            parts.local_pref
+        );
+    }
+}
+
+/// Whether the path is put as these octets where there is room for no more.
+fn is_put(alloc: Global, path: &Path, octets: &[u8]) -> bool {
+    let Some(len) = path_len(WIDE, path, 65535) else {
+        return false;
+    };
+    match Vec::with_capacity(alloc, usize::from(len)) {
+        Ok(mut out) if is_writable(WIDE, path) => {
+            put_path(&mut out, WIDE, path);
+            out.as_slice() == octets
+        }
+        _ => false,
+    }
+}
+
+#[test]
+fn a_path_is_measured_and_put_where_there_is_room(rt: HostRuntime) -> Result<(), Fail> {
     // ORIGIN 4, AS_PATH 9 and NEXT_HOP 7 octets
-    for (most, len) in [(20, Some(20)), (65535, Some(20)), (19, None), (0, None)] {
-        same(&rt, path_len(WIDE, &path, most), len);
-    }
-    Ok(())
-}
-
-#[test]
-fn preference_and_reflection_are_for_an_internal_peer(rt: HostRuntime) -> Result<(), Fail> {
-    let alloc = rt.alloc();
-    for row in 0..3 {
-        let lists = Lists {
-            communities: &[],
-            cluster_list: if row == 0 { &[1] } else { &[] },
-            extended_communities: &[],
-        };
-        let mut parts = with_lists(alloc, &[], &lists)?;
-        parts.local_pref = if row == 1 { Some(100) } else { None };
-        parts.originator_id = if row == 2 { Some(1) } else { None };
-        let path = Path::new(alloc, parts)?;
-        assert!(rt; !is_for_peer(WIDE, &path) && is_for_peer(INTERNAL, &path));
-    }
-    assert!(rt; is_for_peer(WIDE, &Path::new(alloc, announced(alloc)?)?));
-    Ok(())
-}
-
-#[test]
-fn a_path_is_put_where_there_is_room(rt: HostRuntime) -> Result<(), Fail> {
-    let path = Path::new(rt.alloc(), plain(rt.alloc(), &[(Sequence, &[65002])])?)?;
-    assert!(rt; is_writable(WIDE, &path));
-    let len = path_len(WIDE, &path, 65535).ok_or("too long")?;
-    let mut out = Vec::with_capacity(rt.alloc(), usize::from(len))?;
-    put_path(&mut out, WIDE, &path);
-    let next_hop = [0x40, 3, 4, 192, 0, 2, 2];
-    let begins = out.get(..4) == Some(&[0x40, 1, 1, 0]);
-    assert!(rt; begins && out.len() == 20 && out.get(13..) == Some(&next_hop));
-    Ok(())
-}
-
-#[test]
-fn a_header_says_a_length_of_one_octet_or_two(rt: HostRuntime) -> Result<(), Fail> {
-    let rows: [(u16, &[u8]); 4] = [
-        (0, &[0x80, 14, 0]),
-        (255, &[0x80, 14, 255]),
-        (256, &[0x90, 14, 1, 0]),
-        (65535, &[0x90, 14, 255, 255]),
+    let octets = [
+        0x40, 1, 1, 0, 0x40, 2, 6, 2, 1, 0, 0, 0xfd, 0xea, 0x40, 3, 4, 192, 0, 2, 2,
     ];
-    for (len, octets) in rows {
-        let mut out = Vec::new(rt.alloc());
-        out.reserve(4)?;
-        put_attribute_header(&mut out, AttrType::MpReachNlri, len);
-        same(&rt, out.as_slice(), octets);
-    }
+    let path = path_of(rt.alloc(), &OF_65002)?;
+    assert!(rt;
+        path_len(WIDE, &path, 20) == Some(20)
+            && path_len(WIDE, &path, 65535) == Some(20)
+            && path_len(WIDE, &path, 19).is_none()
+            && path_len(WIDE, &path, 0).is_none()
+            && is_put(rt.alloc(), &path, &octets)
+    );
     Ok(())
+}
+
+/// Whether a header of this length is put as these octets.
+fn is_header(alloc: Global, len: u16, octets: &[u8]) -> bool {
+    match Vec::with_capacity(alloc, 4) {
+        Ok(mut out) => {
+            put_attribute_header(&mut out, AttrType::MpReachNlri, len);
+            out.as_slice() == octets
+        }
+        Err(_) => false,
+    }
+}
+
+#[test]
+fn a_header_says_a_length_of_one_octet_or_two(rt: HostRuntime) {
+    let alloc = rt.alloc();
+    assert!(rt;
+        is_header(alloc, 0, &[0x80, 14, 0])
+            && is_header(alloc, 255, &[0x80, 14, 255])
+            && is_header(alloc, 256, &[0x90, 14, 1, 0])
+            && is_header(alloc, 65535, &[0x90, 14, 255, 255])
+    );
 }
