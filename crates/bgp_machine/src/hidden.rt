@@ -23,8 +23,8 @@ use bgp_open::{Config, Link};
 use bgp_prefix::Seconds;
 
 /// What the rows of Idle make.
-fn idle_step(config: &Config, t: Seconds, row: HiddenRow) -> Option<Step>
-    ensures { MakesHidden config.now heads.Idle t row result }
+fn idle_step(row: HiddenRow) -> Option<Step>
+    ensures { (config : TheConfig) (t : ℕ) → MakesHidden config heads.Idle t row result }
 {
     let head = Head::Idle;
     match row {
@@ -71,8 +71,8 @@ fn active_step(config: &Config, delay: bool, t: Seconds, row: HiddenRow) -> Opti
 }
 
 /// What the rows of OpenSent make.
-fn open_sent_step(config: &Config, timer: HoldTimer, t: Seconds, row: HiddenRow) -> Option<Step>
-    ensures { MakesHidden config.now (heads.OpenSent timer) t row result }
+fn open_sent_step(timer: HoldTimer, t: Seconds, row: HiddenRow) -> Option<Step>
+    ensures { (config : TheConfig) → MakesHidden config (heads.OpenSent timer) t row result }
 {
     let head = Head::OpenSent(timer);
     let expired = falling(head, Wants::One(Want::HoldExpired));
@@ -86,14 +86,9 @@ fn open_sent_step(config: &Config, timer: HoldTimer, t: Seconds, row: HiddenRow)
 }
 
 /// What the rows of OpenConfirm make.
-fn open_confirm_step(
-    config: &Config,
-    link: Link,
-    timer: HoldTimer,
-    t: Seconds,
-    row: HiddenRow,
-) -> Option<Step>
-    ensures { MakesHidden config.now (heads.OpenConfirm link timer) t row result }
+fn open_confirm_step(link: Link, timer: HoldTimer, t: Seconds, row: HiddenRow) -> Option<Step>
+    ensures { (config : TheConfig)
+        → MakesHidden config (heads.OpenConfirm link timer) t row result }
 {
     let head = Head::OpenConfirm(link, timer);
     let expired = falling(head, Wants::One(Want::HoldExpired));
@@ -109,14 +104,9 @@ fn open_confirm_step(
 }
 
 /// What the rows of Established make.
-fn established_step(
-    config: &Config,
-    link: Link,
-    timer: HoldTimer,
-    t: Seconds,
-    row: HiddenRow,
-) -> Option<Step>
-    ensures { MakesHidden config.now (heads.Established link timer) t row result }
+fn established_step(link: Link, timer: HoldTimer, t: Seconds, row: HiddenRow) -> Option<Step>
+    ensures { (config : TheConfig)
+        → MakesHidden config (heads.Established link timer) t row result }
 {
     let head = Head::Established(link, timer);
     let expired = falling(head, Wants::One(Want::HoldExpired));
@@ -138,12 +128,12 @@ pub fn hidden_step(config: &Config, head: Head, t: Seconds, row: HiddenRow) -> O
     ensures { MakesHidden config.now head t row result }
 {
     match head {
-        Head::Idle => idle_step(config, t, row),
+        Head::Idle => idle_step(row),
         Head::Connect(delay) => connect_step(config, delay, t, row),
         Head::Active(delay) => active_step(config, delay, t, row),
-        Head::OpenSent(timer) => open_sent_step(config, timer, t, row),
-        Head::OpenConfirm(link, timer) => open_confirm_step(config, link, timer, t, row),
-        Head::Established(link, timer) => established_step(config, link, timer, t, row),
+        Head::OpenSent(timer) => open_sent_step(timer, t, row),
+        Head::OpenConfirm(link, timer) => open_confirm_step(link, timer, t, row),
+        Head::Established(link, timer) => established_step(link, timer, t, row),
     }
 }
 

@@ -1,6 +1,7 @@
 //! What a state does about octets that it receives.
 
-ghost use Rattle.std.specs.Prelude.{◌≡◌, ◌↔◌, [], IfOk, IsErr, IsSome, OnErr};
+ghost use Rattle.std.specs.Prelude.{◌≡◌, ◌↔◌, ℕ, List, [], IfOk, IsErr, IsSome, OnErr};
+ghost use Rattle.bgp_open.specs.declared.config.Config.{Config as TheConfig};
 ghost use Rattle.bgp_update.specs.Outcome.{IsOnlyReset};
 ghost use Rattle.bgp_machine.specs.Heard.{Hears};
 ghost use Rattle.bgp_machine.specs.Listed.{ListsReceived, MakesChanges, TakesMemory, changes_of};
@@ -34,69 +35,62 @@ pub struct MessageSteps<A: Allocator = Global> {
 /// Lists the steps about a message whose outcomes needn't be known, and answers that no changes
 /// stand beside them.
 fn plain_steps<A: Allocator>(
-    config: &Config,
     head: Head,
     t: Seconds,
-    octets: &[u8],
     heard: Heard,
     steps: &mut ArrayVec<Step, MOST_STEPS>,
 ) -> Option<Changes<A>>
-    requires heard { Hears config.now octets.now heard }
     requires plain { ¬ NeedsOutcomes head heard }
     requires none { steps.old.items ≡ [] }
-    ensures exact { ListsReceived config.now head t octets.now (changes_of result)
-        steps.new.items }
+    ensures exact { (config : TheConfig) (octets : List ℕ) → Hears config octets heard
+        → ListsReceived config head t octets (changes_of result) steps.new.items }
     ensures given { IsSome result ↔ Has MakesChanges steps.new.items }
 {
-    heard_steps(octets, head, t, heard, steps);
+    heard_steps(head, t, heard, steps);
     None
 }
 
 /// Lists the steps about an UPDATE in Established, and answers the changes beside them.
 fn established_steps<A: Allocator + Copy>(
     alloc: A,
-    config: &Config,
     own: Link,
     timer: HoldTimer,
     t: Seconds,
     octets: &[u8],
     steps: &mut ArrayVec<Step, MOST_STEPS>,
 ) -> Result<Option<Changes<A>>, AllocError>
-    requires heard { Hears config.now octets.now hearings.Update }
-    requires none { steps.old.items ≡ [] }
+    requires { steps.old.items ≡ [] }
     ensures memory { IsErr result → ¬ IsOnlyReset own octets.now }
-    ensures exact { IfOk result (λ changes. ListsReceived config.now
-        (heads.Established own timer) t octets.now (changes_of changes) steps.new.items) }
+    ensures exact { (config : TheConfig) → Hears config octets.now hearings.Update
+        → IfOk result (λ changes. ListsReceived config (heads.Established own timer) t octets.now
+        (changes_of changes) steps.new.items) }
     ensures given { IfOk result (λ changes. IsSome changes ↔ Has MakesChanges steps.new.items) }
     ensures err { OnErr result (steps.new ≡ steps.old) }
 {
     let outcomes = read_update(alloc, &own, octets)?;
-    update_steps(octets, own, timer, t, &outcomes, steps);
+    update_steps(own, timer, t, &outcomes, steps);
     Ok(outcomes.changes)
 }
 
 /// Lists the steps about an UPDATE, and answers the changes beside them.
 fn steps_on_update<A: Allocator + Copy>(
     alloc: A,
-    config: &Config,
     head: Head,
     t: Seconds,
     octets: &[u8],
     steps: &mut ArrayVec<Step, MOST_STEPS>,
 ) -> Result<Option<Changes<A>>, AllocError>
-    requires heard { Hears config.now octets.now hearings.Update }
-    requires none { steps.old.items ≡ [] }
-    ensures exact { IfOk result (λ changes. ListsReceived config.now head t octets.now
+    requires { steps.old.items ≡ [] }
+    ensures exact { (config : TheConfig) → Hears config octets.now hearings.Update
+        → IfOk result (λ changes. ListsReceived config head t octets.now
         (changes_of changes) steps.new.items) }
     ensures given { IfOk result (λ changes. IsSome changes ↔ Has MakesChanges steps.new.items) }
     ensures memory { IsErr result → TakesMemory head octets.now }
     ensures err { OnErr result (steps.new ≡ steps.old) }
 {
     match head {
-        Head::Established(own, timer) => {
-            established_steps(alloc, config, own, timer, t, octets, steps)
-        }
-        _ => Ok(plain_steps(config, head, t, octets, Heard::Update, steps)),
+        Head::Established(own, timer) => established_steps(alloc, own, timer, t, octets, steps),
+        _ => Ok(plain_steps(head, t, Heard::Update, steps)),
     }
 }
 
@@ -119,8 +113,8 @@ pub fn list_message_steps<A: Allocator + Copy>(
     ensures err { OnErr result (steps.new ≡ steps.old) }
 {
     match hear(config, octets) {
-        Heard::Update => steps_on_update(alloc, config, head, t, octets, steps),
-        heard => Ok(plain_steps(config, head, t, octets, heard, steps)),
+        Heard::Update => steps_on_update(alloc, head, t, octets, steps),
+        heard => Ok(plain_steps(head, t, heard, steps)),
     }
 }
 

@@ -1,9 +1,10 @@
 //! What a state does about a message (RFC 4271, 8.2.2 and 6.1 to 6.8), an UPDATE in Established
 //! apart.
 
-ghost use Rattle.std.specs.Prelude.{◌≡◌, ◌≢◌, ◌≤◌, ◌<◌, ◌+◌, ◌++◌, List, [], ◌∷◌, length};
+ghost use Rattle.std.specs.Prelude.{◌≡◌, ◌≢◌, ◌≤◌, ◌<◌, ◌+◌, ◌++◌, List, [], ◌∷◌, length, ℕ, ◌⊎◌};
 ghost use Rattle.std.specs.Prelude.{MatchOption, IsTrue, false};
 ghost use Rattle.arrayvec.specs.ArrayVec.{array_vec_len};
+ghost use Rattle.bgp_open.specs.declared.link.Link.{Link as TheLink};
 ghost use Rattle.bgp_machine.specs.Listed.{IsStep};
 ghost use Rattle.bgp_machine.specs.Rows.{HeardShown, ListsRows, MakesHeard};
 ghost use Rattle.bgp_machine.specs.Listed.{no_changes};
@@ -11,6 +12,7 @@ ghost use Rattle.bgp_machine.specs.Rows.{NeedsOutcomes, heard_rows};
 ghost use Rattle.bgp_machine.specs.State.{fsm_of, enters, settled as settled_with};
 ghost use Rattle.bgp_machine.specs.Step.{changed};
 ghost use Rattle.bgp_machine.specs.declared.fsm.Fsm.TheVariants as fsms;
+ghost use Rattle.bgp_machine.specs.declared.hearing.Heard.{Heard as TheHeard};
 ghost use Rattle.bgp_machine.specs.declared.hearing.Heard.TheVariants as hearings;
 ghost use Rattle.bgp_machine.specs.declared.rows.ReceivedRow.{ReceivedRow as TheRow};
 ghost use Rattle.bgp_machine.specs.declared.state.Head.TheVariants as heads;
@@ -29,8 +31,9 @@ use bgp_prefix::Seconds;
 use bgp_wire::HeaderFaults;
 
 /// What Idle does about a message.
-fn idle_on(octets: &[u8], t: Seconds, message: Heard, row: ReceivedRow) -> Option<Step>
-    ensures { MakesHeard heads.Idle t octets.now message row result }
+fn idle_on(row: ReceivedRow) -> Option<Step>
+    ensures { (t : ℕ) (octets : List ℕ) (message : TheHeard)
+        → MakesHeard heads.Idle t octets message row result }
 {
     match row {
         ReceivedRow::Ignores => Some(entering(Head::Idle, Wants::Nothing, Head::Idle)),
@@ -55,53 +58,17 @@ fn accepting(head: Head, delay: bool, link: Link, t: Seconds) -> Option<Step>
     ))
 }
 
-/// What Connect does about a message.
-fn connect_on(
-    octets: &[u8],
+/// What Connect and Active do about a message.
+fn unopened_on(
+    head: Head,
     delay: bool,
     t: Seconds,
     message: Heard,
     row: ReceivedRow,
 ) -> Option<Step>
-    ensures { MakesHeard (heads.Connect delay) t octets.now message row result }
+    requires { (head ≡ heads.Connect delay) ⊎ (head ≡ heads.Active delay) }
+    ensures { (octets : List ℕ) → MakesHeard head t octets message row result }
 {
-    let head = Head::Connect(delay);
-    match message {
-        Heard::ValidOpen(link, subcodes) => match row {
-            ReceivedRow::Accepts => accepting(head, delay, link, t),
-            ReceivedRow::Drops => Some(falling(head, Wants::Nothing)),
-            ReceivedRow::NamesFault => Some(naming(head, FaultSet::Open(subcodes))),
-            _ => None,
-        },
-        Heard::FaultyHeader(faults) => match row {
-            ReceivedRow::Drops => Some(falling(head, Wants::Nothing)),
-            ReceivedRow::NamesFault => Some(naming(head, FaultSet::Header(faults))),
-            _ => None,
-        },
-        Heard::InvalidOpen(subcodes) => match row {
-            ReceivedRow::Drops => Some(falling(head, Wants::Nothing)),
-            ReceivedRow::NamesFault => Some(naming(head, FaultSet::Open(subcodes))),
-            _ => None,
-        },
-        Heard::BadVersion | Heard::Notification | Heard::Keepalive | Heard::Update => match row {
-            ReceivedRow::Drops => Some(falling(head, Wants::Nothing)),
-            _ => None,
-        },
-        Heard::TooShort => None,
-    }
-}
-
-/// What Active does about a message.
-fn active_on(
-    octets: &[u8],
-    delay: bool,
-    t: Seconds,
-    message: Heard,
-    row: ReceivedRow,
-) -> Option<Step>
-    ensures { MakesHeard (heads.Active delay) t octets.now message row result }
-{
-    let head = Head::Active(delay);
     match message {
         Heard::ValidOpen(link, subcodes) => match row {
             ReceivedRow::Accepts => accepting(head, delay, link, t),
@@ -129,14 +96,14 @@ fn active_on(
 
 /// What OpenSent does about a valid OPEN.
 fn open_sent_on_open(
-    octets: &[u8],
     timer: HoldTimer,
     t: Seconds,
     link: Link,
     subcodes: OpenSubcodes,
     row: ReceivedRow,
 ) -> Option<Step>
-    ensures { MakesHeard (heads.OpenSent timer) t octets.now
+    ensures { (octets : List ℕ)
+        → MakesHeard (heads.OpenSent timer) t octets
         (hearings.ValidOpen link subcodes) row result }
 {
     let head = Head::OpenSent(timer);
@@ -151,13 +118,9 @@ fn open_sent_on_open(
 
 /// What OpenSent does about a NOTIFICATION other than 2/1. The standard has a Finite State Machine
 /// Error alone (profile).
-fn open_sent_on_notification(
-    octets: &[u8],
-    timer: HoldTimer,
-    t: Seconds,
-    row: ReceivedRow,
-) -> Option<Step>
-    ensures { MakesHeard (heads.OpenSent timer) t octets.now hearings.Notification row result }
+fn open_sent_on_notification(timer: HoldTimer, row: ReceivedRow) -> Option<Step>
+    ensures { (octets : List ℕ) (t : ℕ)
+        → MakesHeard (heads.OpenSent timer) t octets hearings.Notification row result }
 {
     let head = Head::OpenSent(timer);
     match row {
@@ -168,21 +131,14 @@ fn open_sent_on_notification(
 }
 
 /// What OpenSent does about a message.
-fn open_sent_on(
-    octets: &[u8],
-    timer: HoldTimer,
-    t: Seconds,
-    message: Heard,
-    row: ReceivedRow,
-) -> Option<Step>
-    ensures { MakesHeard (heads.OpenSent timer) t octets.now message row result }
+fn open_sent_on(timer: HoldTimer, t: Seconds, message: Heard, row: ReceivedRow) -> Option<Step>
+    ensures { (octets : List ℕ)
+        → MakesHeard (heads.OpenSent timer) t octets message row result }
 {
     let head = Head::OpenSent(timer);
     let unexpected = reporting(head, Unexpected::InOpenSent);
     match message {
-        Heard::ValidOpen(link, subcodes) => open_sent_on_open(
-            octets, timer, t, link, subcodes, row,
-        ),
+        Heard::ValidOpen(link, subcodes) => open_sent_on_open(timer, t, link, subcodes, row),
         Heard::FaultyHeader(faults) => match row {
             ReceivedRow::NamesFault => Some(naming(head, FaultSet::Header(faults))),
             _ => None,
@@ -195,7 +151,7 @@ fn open_sent_on(
             ReceivedRow::Drops => Some(falling(head, Wants::Nothing)),
             _ => None,
         },
-        Heard::Notification => open_sent_on_notification(octets, timer, t, row),
+        Heard::Notification => open_sent_on_notification(timer, row),
         Heard::Keepalive | Heard::Update => match row {
             ReceivedRow::ReportsError => Some(unexpected),
             _ => None,
@@ -206,15 +162,13 @@ fn open_sent_on(
 
 /// What OpenConfirm does about a second valid OPEN.
 fn open_confirm_on_open(
-    octets: &[u8],
     own: Link,
     timer: HoldTimer,
-    t: Seconds,
-    link: Link,
     subcodes: OpenSubcodes,
     row: ReceivedRow,
 ) -> Option<Step>
-    ensures { MakesHeard (heads.OpenConfirm own timer) t octets.now
+    ensures { (octets : List ℕ) (t : ℕ) (link : TheLink)
+        → MakesHeard (heads.OpenConfirm own timer) t octets
         (hearings.ValidOpen link subcodes) row result }
 {
     let head = Head::OpenConfirm(own, timer);
@@ -229,14 +183,13 @@ fn open_confirm_on_open(
 
 /// What OpenConfirm does about a header with faults.
 fn open_confirm_on_header(
-    octets: &[u8],
     own: Link,
     timer: HoldTimer,
-    t: Seconds,
     faults: HeaderFaults,
     row: ReceivedRow,
 ) -> Option<Step>
-    ensures { MakesHeard (heads.OpenConfirm own timer) t octets.now
+    ensures { (octets : List ℕ) (t : ℕ)
+        → MakesHeard (heads.OpenConfirm own timer) t octets
         (hearings.FaultyHeader faults) row result }
 {
     let head = Head::OpenConfirm(own, timer);
@@ -248,24 +201,20 @@ fn open_confirm_on_header(
 
 /// What OpenConfirm does about a message.
 fn open_confirm_on(
-    octets: &[u8],
     own: Link,
     timer: HoldTimer,
     t: Seconds,
     message: Heard,
     row: ReceivedRow,
 ) -> Option<Step>
-    ensures { MakesHeard (heads.OpenConfirm own timer) t octets.now message row result }
+    ensures { (octets : List ℕ)
+        → MakesHeard (heads.OpenConfirm own timer) t octets message row result }
 {
     let head = Head::OpenConfirm(own, timer);
     let confirmed = Head::Established(own, renewed(timer, t));
     match message {
-        Heard::ValidOpen(link, subcodes) => open_confirm_on_open(
-            octets, own, timer, t, link, subcodes, row,
-        ),
-        Heard::FaultyHeader(faults) => {
-            open_confirm_on_header(octets, own, timer, t, faults, row)
-        }
+        Heard::ValidOpen(_, subcodes) => open_confirm_on_open(own, timer, subcodes, row),
+        Heard::FaultyHeader(faults) => { open_confirm_on_header(own, timer, faults, row) }
         Heard::InvalidOpen(subcodes) => match row {
             ReceivedRow::NamesFault => Some(naming(head, FaultSet::Open(subcodes))),
             _ => None,
@@ -288,15 +237,13 @@ fn open_confirm_on(
 
 /// What Established does about a second valid OPEN.
 fn established_on_open(
-    octets: &[u8],
     own: Link,
     timer: HoldTimer,
-    t: Seconds,
-    link: Link,
     subcodes: OpenSubcodes,
     row: ReceivedRow,
 ) -> Option<Step>
-    ensures { MakesHeard (heads.Established own timer) t octets.now
+    ensures { (octets : List ℕ) (t : ℕ) (link : TheLink)
+        → MakesHeard (heads.Established own timer) t octets
         (hearings.ValidOpen link subcodes) row result }
 {
     let head = Head::Established(own, timer);
@@ -311,14 +258,13 @@ fn established_on_open(
 
 /// What Established does about a header with faults.
 fn established_on_header(
-    octets: &[u8],
     own: Link,
     timer: HoldTimer,
-    t: Seconds,
     faults: HeaderFaults,
     row: ReceivedRow,
 ) -> Option<Step>
-    ensures { MakesHeard (heads.Established own timer) t octets.now
+    ensures { (octets : List ℕ) (t : ℕ)
+        → MakesHeard (heads.Established own timer) t octets
         (hearings.FaultyHeader faults) row result }
 {
     let head = Head::Established(own, timer);
@@ -331,7 +277,6 @@ fn established_on_header(
 
 /// What Established does about a message other than an UPDATE.
 fn established_on(
-    octets: &[u8],
     own: Link,
     timer: HoldTimer,
     t: Seconds,
@@ -339,15 +284,14 @@ fn established_on(
     row: ReceivedRow,
 ) -> Option<Step>
     requires { message ≢ hearings.Update }
-    ensures { MakesHeard (heads.Established own timer) t octets.now message row result }
+    ensures { (octets : List ℕ)
+        → MakesHeard (heads.Established own timer) t octets message row result }
 {
     let head = Head::Established(own, timer);
     let alive = Head::Established(own, renewed(timer, t));
     match message {
-        Heard::ValidOpen(link, subcodes) => established_on_open(
-            octets, own, timer, t, link, subcodes, row,
-        ),
-        Heard::FaultyHeader(faults) => { established_on_header(octets, own, timer, t, faults, row) }
+        Heard::ValidOpen(_, subcodes) => established_on_open(own, timer, subcodes, row),
+        Heard::FaultyHeader(faults) => { established_on_header(own, timer, faults, row) }
         Heard::InvalidOpen(subcodes) => match row {
             ReceivedRow::NamesFault => Some(naming(head, FaultSet::Open(subcodes))),
             ReceivedRow::ReportsError => Some(reporting(head, Unexpected::InEstablished)),
@@ -366,29 +310,22 @@ fn established_on(
 }
 
 /// What a row about a message makes.
-fn heard_step(
-    octets: &[u8],
-    head: Head,
-    t: Seconds,
-    message: Heard,
-    row: ReceivedRow,
-) -> Option<Step>
+fn heard_step(head: Head, t: Seconds, message: Heard, row: ReceivedRow) -> Option<Step>
     requires { ¬ NeedsOutcomes head message }
-    ensures { MakesHeard head t octets.now message row result }
+    ensures { (octets : List ℕ) → MakesHeard head t octets message row result }
 {
     match head {
-        Head::Idle => idle_on(octets, t, message, row),
-        Head::Connect(delay) => connect_on(octets, delay, t, message, row),
-        Head::Active(delay) => active_on(octets, delay, t, message, row),
-        Head::OpenSent(timer) => open_sent_on(octets, timer, t, message, row),
-        Head::OpenConfirm(own, timer) => open_confirm_on(octets, own, timer, t, message, row),
-        Head::Established(own, timer) => established_on(octets, own, timer, t, message, row),
+        Head::Idle => idle_on(row),
+        Head::Connect(delay) => unopened_on(head, delay, t, message, row),
+        Head::Active(delay) => unopened_on(head, delay, t, message, row),
+        Head::OpenSent(timer) => open_sent_on(timer, t, message, row),
+        Head::OpenConfirm(own, timer) => open_confirm_on(own, timer, t, message, row),
+        Head::Established(own, timer) => established_on(own, timer, t, message, row),
     }
 }
 
 /// Adds what a row makes.
 fn add_heard(
-    octets: &[u8],
     head: Head,
     t: Seconds,
     message: Heard,
@@ -397,13 +334,13 @@ fn add_heard(
 )
     requires told { ¬ NeedsOutcomes head message }
     requires room { array_vec_len steps.old < 8 }
-    ensures listed { (rows : List TheRow)
-        → ListsRows (HeardShown head t octets.now message) no_changes rows steps.old.items
-        → ListsRows (HeardShown head t octets.now message) no_changes (rows ++ row ∷ [])
+    ensures listed { (octets : List ℕ) (rows : List TheRow)
+        → ListsRows (HeardShown head t octets message) no_changes rows steps.old.items
+        → ListsRows (HeardShown head t octets message) no_changes (rows ++ row ∷ [])
         steps.new.items }
     ensures count { array_vec_len steps.new ≤ array_vec_len steps.old + 1 }
 {
-    let Some(step) = heard_step(octets, head, t, message, row) else {
+    let Some(step) = heard_step(head, t, message, row) else {
         return;
     };
     add(steps, step);
@@ -449,7 +386,6 @@ fn rows_on(head: Head) -> &'static [ReceivedRow]
 
 /// Lists the steps that a state takes about a message.
 pub(crate) fn heard_steps(
-    octets: &[u8],
     head: Head,
     t: Seconds,
     message: Heard,
@@ -457,11 +393,12 @@ pub(crate) fn heard_steps(
 )
     requires plain { ¬ NeedsOutcomes head message }
     requires none { steps.old.items ≡ [] }
-    ensures { ListsRows (HeardShown head t octets.now message) no_changes (heard_rows head)
+    ensures { (octets : List ℕ)
+        → ListsRows (HeardShown head t octets message) no_changes (heard_rows head)
         steps.new.items }
 {
     let rows = rows_on(head);
     for row in rows {
-        add_heard(octets, head, t, message, *row, steps);
+        add_heard(head, t, message, *row, steps);
     }
 }

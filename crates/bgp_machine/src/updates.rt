@@ -1,6 +1,6 @@
 //! What Established does about an UPDATE (RFC 4271, 8.2.2, events 27 and 28; RFC 7606).
 
-ghost use Rattle.std.specs.Prelude.{◌≡◌, ◌↔◌, ◌⊎◌, ◌≤◌, ◌<◌, ◌+◌, ◌++◌, List, [], ◌∷◌, IsTrue};
+ghost use Rattle.std.specs.Prelude.{◌≡◌, ◌↔◌, ◌⊎◌, ◌≤◌, ◌<◌, ◌+◌, ◌++◌, List, [], ◌∷◌, ℕ, IsTrue};
 ghost use Rattle.arrayvec.specs.ArrayVec.{array_vec_len};
 ghost use Rattle.bgp_open.specs.Families.{contains};
 ghost use Rattle.bgp_update.specs.Disabled.{IsDisabled};
@@ -46,15 +46,14 @@ fn are_disabled_so(certain: Families, optional: Families, disabled: Families) ->
 
 /// The UPDATE is applied, and these families are disabled.
 fn applying<A: Allocator>(
-    octets: &[u8],
     own: Link,
     timer: HoldTimer,
     t: Seconds,
     outcomes: &Outcomes<A>,
     families: Families,
 ) -> Option<Step>
-    requires { AreOutcomes own octets.now outcomes.now }
-    ensures { MakesUpdate own timer t octets.now outcomes.now (the_rows.Applies families) result }
+    ensures { (octets : List ℕ) → AreOutcomes own octets outcomes.now
+        → MakesUpdate own timer t octets outcomes.now (the_rows.Applies families) result }
 {
     if outcomes.changes.is_none() {
         return None;
@@ -73,15 +72,9 @@ fn applying<A: Allocator>(
 }
 
 /// The UPDATE is refused.
-fn refusing<A: Allocator>(
-    octets: &[u8],
-    own: Link,
-    timer: HoldTimer,
-    t: Seconds,
-    outcomes: &Outcomes<A>,
-) -> Option<Step>
-    requires { AreOutcomes own octets.now outcomes.now }
-    ensures { MakesUpdate own timer t octets.now outcomes.now the_rows.NamesFault result }
+fn refusing<A: Allocator>(own: Link, timer: HoldTimer, outcomes: &Outcomes<A>) -> Option<Step>
+    ensures { (octets : List ℕ) (t : ℕ) → AreOutcomes own octets outcomes.now
+        → MakesUpdate own timer t octets outcomes.now the_rows.NamesFault result }
 {
     if outcomes.reset.is_empty() {
         return None;
@@ -93,26 +86,24 @@ fn refusing<A: Allocator>(
 
 /// What a row about an UPDATE makes.
 fn update_step<A: Allocator>(
-    octets: &[u8],
     own: Link,
     timer: HoldTimer,
     t: Seconds,
     outcomes: &Outcomes<A>,
     row: ReceivedRow,
 ) -> Option<Step>
-    requires { AreOutcomes own octets.now outcomes.now }
-    ensures { MakesUpdate own timer t octets.now outcomes.now row result }
+    ensures { (octets : List ℕ) → AreOutcomes own octets outcomes.now
+        → MakesUpdate own timer t octets outcomes.now row result }
 {
     match row {
-        ReceivedRow::NamesFault => refusing(octets, own, timer, t, outcomes),
-        ReceivedRow::Applies(families) => applying(octets, own, timer, t, outcomes, families),
+        ReceivedRow::NamesFault => refusing(own, timer, outcomes),
+        ReceivedRow::Applies(families) => applying(own, timer, t, outcomes, families),
         _ => None,
     }
 }
 
 /// Adds what a row makes.
 fn add_update<A: Allocator>(
-    octets: &[u8],
     own: Link,
     timer: HoldTimer,
     t: Seconds,
@@ -120,16 +111,15 @@ fn add_update<A: Allocator>(
     row: ReceivedRow,
     steps: &mut ArrayVec<Step, MOST_STEPS>,
 )
-    requires outcomes { AreOutcomes own octets.now outcomes.now }
-    requires room { array_vec_len steps.old < 8 }
-    ensures listed { (rows : List TheRow)
-        → ListsRows (UpdateShown own timer t octets.now) (changes_of outcomes.now.changes) rows
+    requires { array_vec_len steps.old < 8 }
+    ensures listed { (octets : List ℕ) (rows : List TheRow) → AreOutcomes own octets outcomes.now
+        → ListsRows (UpdateShown own timer t octets) (changes_of outcomes.now.changes) rows
         steps.old.items
-        → ListsRows (UpdateShown own timer t octets.now) (changes_of outcomes.now.changes)
+        → ListsRows (UpdateShown own timer t octets) (changes_of outcomes.now.changes)
         (rows ++ row ∷ []) steps.new.items }
     ensures count { array_vec_len steps.new ≤ array_vec_len steps.old + 1 }
 {
-    let Some(step) = update_step(octets, own, timer, t, outcomes, row) else {
+    let Some(step) = update_step(own, timer, t, outcomes, row) else {
         return;
     };
     add(steps, step);
@@ -137,17 +127,15 @@ fn add_update<A: Allocator>(
 
 /// Lists the steps that Established takes about an UPDATE with these outcomes.
 pub(crate) fn update_steps<A: Allocator>(
-    octets: &[u8],
     own: Link,
     timer: HoldTimer,
     t: Seconds,
     outcomes: &Outcomes<A>,
     steps: &mut ArrayVec<Step, MOST_STEPS>,
 )
-    requires outcomes { AreOutcomes own octets.now outcomes.now }
-    requires none { steps.old.items ≡ [] }
-    ensures { ListsRows (UpdateShown own timer t octets.now)
-        (changes_of outcomes.now.changes) update_rows
+    requires { steps.old.items ≡ [] }
+    ensures { (octets : List ℕ) → AreOutcomes own octets outcomes.now
+        → ListsRows (UpdateShown own timer t octets) (changes_of outcomes.now.changes) update_rows
         steps.new.items }
 {
     let rows = [
@@ -167,6 +155,6 @@ pub(crate) fn update_steps<A: Allocator>(
         ReceivedRow::Applies(Families { v4: true, v6: true }),
     ];
     for row in &rows {
-        add_update(octets, own, timer, t, outcomes, *row, steps);
+        add_update(own, timer, t, outcomes, *row, steps);
     }
 }

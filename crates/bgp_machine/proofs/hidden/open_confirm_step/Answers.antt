@@ -8,31 +8,31 @@ use Rattle.bgp_machine.proofs.OneStep.{one_step, guarded_step, no_step}
 use Rattle.bgp_machine.proofs.hidden.open_confirm_step.Goals as goal
 
 pub returns-in-Ceases : goal.returns-in-Ceases
-returns-in-Ceases c =
-    one_step c.args.config.now (OpenConfirm c.args.link c.args.timer) c.args.t c.args.row Ceases _ (wants.Cease ∷ []) falls
+returns-in-Ceases c config =
+    one_step config (OpenConfirm c.args.link c.args.timer) c.args.t c.args.row Ceases _ (wants.Cease ∷ []) falls
     c.in-Ceases.is (refl, refl) (λ w v h. h) tt c.falling.ensures
 
 pub returns-in-HoldExpires : goal.returns-in-HoldExpires
-returns-in-HoldExpires c =
-    guarded_step c.args.config.now (OpenConfirm c.args.link c.args.timer) c.args.t c.args.row HoldExpires (IsExpired c.args.timer c.args.t) _ _ _ (wants.HoldExpired ∷ []) falls
+returns-in-HoldExpires c config =
+    guarded_step config (OpenConfirm c.args.link c.args.timer) c.args.t c.args.row HoldExpires (IsExpired c.args.timer c.args.t) _ _ _ (wants.HoldExpired ∷ []) falls
     c.in-HoldExpires.is c.is_expired.ensures c.only_if.ensures (λ p. (p, refl, refl)) (λ w v h. h) tt c.falling-expired.ensures
 
 pub returns-in-KeepaliveExpires : goal.returns-in-KeepaliveExpires
-returns-in-KeepaliveExpires c =
-    guarded_step c.args.config.now (OpenConfirm c.args.link c.args.timer) c.args.t c.args.row KeepaliveExpires (IsRunning c.args.timer) _ _ _ (wants.KeepAlive ∷ []) (enters (OpenConfirm c.args.link c.args.timer))
+returns-in-KeepaliveExpires c config =
+    guarded_step config (OpenConfirm c.args.link c.args.timer) c.args.t c.args.row KeepaliveExpires (IsRunning c.args.timer) _ _ _ (wants.KeepAlive ∷ []) (enters (OpenConfirm c.args.link c.args.timer))
     c.in-KeepaliveExpires.is c.is_running.ensures c.only_if-in-KeepaliveExpires.ensures (λ p. (p, refl, refl)) (λ w v h. h) tt c.entering-alive.ensures
 
 pub returns-in-ConnectionFails : goal.returns-in-ConnectionFails
-returns-in-ConnectionFails c =
-    one_step c.args.config.now (OpenConfirm c.args.link c.args.timer) c.args.t c.args.row ConnectionFails _ [] falls
+returns-in-ConnectionFails c config =
+    one_step config (OpenConfirm c.args.link c.args.timer) c.args.t c.args.row ConnectionFails _ [] falls
     c.in-ConnectionFails.is (refl, refl) (λ w v h. h) tt c.falling-in-ConnectionFails.ensures
 
 pub returns-in-Notes : goal.returns-in-Notes
-returns-in-Notes c =
-    one_step c.args.config.now (OpenConfirm c.args.link c.args.timer) c.args.t c.args.row Notes _ [] (enters (OpenConfirm c.args.link c.args.timer))
+returns-in-Notes c config =
+    one_step config (OpenConfirm c.args.link c.args.timer) c.args.t c.args.row Notes _ [] (enters (OpenConfirm c.args.link c.args.timer))
     c.in-Notes.is (refl, refl) (λ w v h. h) tt c.noting.ensures
 
 pub returns-in_default : goal.returns-in_default
-returns-in_default c =
-    no_step c.args.config.now (OpenConfirm c.args.link c.args.timer) c.args.t c.args.row
+returns-in_default c config =
+    no_step config (OpenConfirm c.args.link c.args.timer) c.args.t c.args.row
     (c.in_default.not-Ceases, (c.in_default.not-HoldExpires, (c.in_default.not-KeepaliveExpires, (c.in_default.not-ConnectionFails, (c.in_default.not-Notes, tt)))))

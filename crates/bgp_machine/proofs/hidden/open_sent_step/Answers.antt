@@ -8,26 +8,26 @@ use Rattle.bgp_machine.proofs.OneStep.{one_step, guarded_step, no_step}
 use Rattle.bgp_machine.proofs.hidden.open_sent_step.Goals as goal
 
 pub returns-in-Ceases : goal.returns-in-Ceases
-returns-in-Ceases c =
-    one_step c.args.config.now (OpenSent c.args.timer) c.args.t c.args.row Ceases _ (wants.Cease ∷ []) falls
+returns-in-Ceases c config =
+    one_step config (OpenSent c.args.timer) c.args.t c.args.row Ceases _ (wants.Cease ∷ []) falls
     c.in-Ceases.is (refl, refl) (λ w v h. h) tt c.falling.ensures
 
 pub returns-in-HoldExpires : goal.returns-in-HoldExpires
-returns-in-HoldExpires c =
-    guarded_step c.args.config.now (OpenSent c.args.timer) c.args.t c.args.row HoldExpires (IsExpired c.args.timer c.args.t) _ _ _ (wants.HoldExpired ∷ []) falls
+returns-in-HoldExpires c config =
+    guarded_step config (OpenSent c.args.timer) c.args.t c.args.row HoldExpires (IsExpired c.args.timer c.args.t) _ _ _ (wants.HoldExpired ∷ []) falls
     c.in-HoldExpires.is c.is_expired.ensures c.only_if.ensures (λ p. (p, refl, refl)) (λ w v h. h) tt c.falling-expired.ensures
 
 pub returns-in-ConnectionFails : goal.returns-in-ConnectionFails
-returns-in-ConnectionFails c =
-    one_step c.args.config.now (OpenSent c.args.timer) c.args.t c.args.row ConnectionFails _ [] (enters (Active false))
+returns-in-ConnectionFails c config =
+    one_step config (OpenSent c.args.timer) c.args.t c.args.row ConnectionFails _ [] (enters (Active false))
     c.in-ConnectionFails.is (refl, refl) (λ w v h. h) tt c.entering.ensures
 
 pub returns-in-Notes : goal.returns-in-Notes
-returns-in-Notes c =
-    one_step c.args.config.now (OpenSent c.args.timer) c.args.t c.args.row Notes _ [] (enters (OpenSent c.args.timer))
+returns-in-Notes c config =
+    one_step config (OpenSent c.args.timer) c.args.t c.args.row Notes _ [] (enters (OpenSent c.args.timer))
     c.in-Notes.is (refl, refl) (λ w v h. h) tt c.noting.ensures
 
 pub returns-in_default : goal.returns-in_default
-returns-in_default c =
-    no_step c.args.config.now (OpenSent c.args.timer) c.args.t c.args.row
+returns-in_default c config =
+    no_step config (OpenSent c.args.timer) c.args.t c.args.row
     (c.in_default.not-Ceases, (c.in_default.not-HoldExpires, (c.in_default.not-ConnectionFails, (c.in_default.not-Notes, tt))))

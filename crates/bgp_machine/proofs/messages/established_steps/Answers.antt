@@ -12,17 +12,17 @@ use Rattle.bgp_machine.proofs.UpdateRows.{each_update}
 use Rattle.bgp_machine.proofs.messages.established_steps.Goals as goal
 
 pub returns-clause-exact : goal.returns-clause-exact
-returns-clause-exact g c =
+returns-clause-exact g c config hears =
     all_rows (UpdateShown c.args.own c.args.timer c.args.t c.args.octets.now) _ (changes_of c.in_ok-outcomes.outcomes.changes) update_rows _
-    (λ row ws ch u h. ((Update, row, c.requires.heard, h.0), h.1))
+    (λ row ws ch u h. ((Update, row, hears, h.0), h.1))
     (λ ws ch u h.
-    let same = one_heard c.args.config.now c.args.octets.now h.0.0 Update h.0.2 c.requires.heard in
+    let same = one_heard config c.args.octets.now h.0.0 Update h.0.2 hears in
     let is : ReceivedIn (Established c.args.own c.args.timer) c.args.t c.args.octets.now Update h.0.1 ws u =
     subst (λ (m : Heard). ReceivedIn (Established c.args.own c.args.timer) c.args.t c.args.octets.now m h.0.1 ws u) same h.0.3
     in
     (h.0.1, each_update c.args.own c.args.timer c.args.t c.args.octets.now h.0.1 ws ch u (is, h.1), (is, h.1)))
-    c.update_steps.ensures
+    (c.update_steps.ensures c.args.octets.now c.in_ok-outcomes.ensures.exact)
 
 pub returns-clause-given : goal.returns-clause-given
 returns-clause-given g c =
-    changes_beside c.args.own c.args.timer c.args.t c.args.octets.now c.in_ok-outcomes.outcomes _ c.in_ok-outcomes.ensures.exact c.update_steps.ensures
+    changes_beside c.args.own c.args.timer c.args.t c.args.octets.now c.in_ok-outcomes.outcomes _ c.in_ok-outcomes.ensures.exact (c.update_steps.ensures c.args.octets.now c.in_ok-outcomes.ensures.exact)

@@ -15,18 +15,18 @@ some_if None b e t n = let f : not b ≡ true = ap not t in cc
 some_if (Some x) b e t n = cc
 
 pub returns-then-is_none : goal.returns-then-is_none
-returns-then-is_none g c =
-    without_changes c.args.own c.args.timer c.args.t c.args.octets.now c.args.outcomes.now c.args.families c.requires
+returns-then-is_none g c octets are =
+    without_changes c.args.own c.args.timer c.args.t octets c.args.outcomes.now c.args.families are
     (none_if c.args.outcomes.now.changes c.is_none.result c.is_none.ensures c.if-is_none.true)
 
 pub returns-then-not-are_disabled_so : goal.returns-then-not-are_disabled_so
-returns-then-not-are_disabled_so g c =
-    not_disabled_so c.args.own c.args.timer c.args.t c.args.octets.now c.args.outcomes.now c.args.families c.requires
+returns-then-not-are_disabled_so g c octets are =
+    not_disabled_so c.args.own c.args.timer c.args.t octets c.args.outcomes.now c.args.families are
     (λ d. let t : IsTrue c.are_disabled_so.result = c.are_disabled_so.ensures.1 d in absurd (cc))
 
 pub returns : goal.returns
-returns g c =
-    applied c.args.own c.args.timer c.args.t c.args.octets.now c.args.outcomes.now c.args.families _ c.requires
+returns g c octets are =
+    applied c.args.own c.args.timer c.args.t octets c.args.outcomes.now c.args.families _ are
     (some_if c.args.outcomes.now.changes c.is_none.result c.is_none.ensures c.if-is_none.false)
     (c.are_disabled_so.ensures.0 c.if-not-are_disabled_so.false)
     (record {
