@@ -4,4 +4,3 @@ pub mod Message
 pub mod Text
 pub mod RouteText
 pub mod Capture
-pub mod VerdictText

@@ -1,8 +1,8 @@
 //! The text of what `bgp` prints, written piece by piece to a sink: messages, records of a capture,
-//! addresses, prefixes, routes and verdicts. It takes no memory.
+//! addresses, prefixes and routes. It takes no memory.
 //!
-//! What each text is, is stated in `specs/Text.antt`, `specs/RouteText.antt`, `specs/Capture.antt`
-//! and `specs/VerdictText.antt`. A text is put into [`Lines`] and then handed over:
+//! What each text is, is stated in `specs/Text.antt`, `specs/RouteText.antt` and
+//! `specs/Capture.antt`. A text is put into [`Lines`] and then handed over:
 //!
 //! ```text
 //! let mut lines = Lines::new(&mut sink);
@@ -18,11 +18,9 @@ mod outlet;
 mod records;
 mod routes;
 mod updates;
-mod verdicts;
 
 pub use addresses::{put_address, put_prefix};
 pub use lines::Lines;
 pub use messages::{put_fault, put_message, put_rest};
 pub use records::{put_record, put_refused};
 pub use routes::{put_route, write_route};
-pub use verdicts::{put_end, put_verdict};

@@ -3,7 +3,7 @@ use Rattle.std.proofs.Common.{◌≡◌, ◌∙◌, ℕ, List, sym, ap, refl, in
 use Rattle.bgp_prefix.specs.Shown.{ShownRecord}
 use Rattle.bgp_open.specs.declared.config.Config.{Config}
 use Rattle.bgp_judge.specs.Verdict.{VerdictValue, Yes, No, Unfinished, HasVerdict, HasOneVerdict, NeverNone}
-use Rattle.bgp_text.specs.VerdictText.{yes_text, no_line, unfinished_line}
+use Rattle.bgp_tool.specs.VerdictText.{yes_text, no_line, unfinished_line}
 use Rattle.bgp_tool.specs.Judging.{SaysVerdict}
 
 abbrev text_of : VerdictValue → List ℕ

@@ -4,7 +4,7 @@ use Rattle.mrt.specs.declared.fault.CaptureFault.{CaptureFault}
 use Rattle.bgp_judge.specs.declared.verdict.Verdict.{Verdict}
 use Rattle.bgp_judge.specs.declared.verdict.Verdict.TheVariants.{Yes, No, Unfinished}
 use Rattle.bgp_text.specs.Capture.{refused_line}
-use Rattle.bgp_text.specs.VerdictText.{verdict_text}
+use Rattle.bgp_tool.specs.VerdictText.{verdict_text}
 use Rattle.bgp_tool.specs.CaptureDecoding.{status_by}
 
 abbrev pub verdict_status : {X : Type 0} → Verdict X → ℕ

@@ -10,7 +10,7 @@ use Rattle.mrt.specs.declared.fault.CaptureFault.{CaptureFault}
 use Rattle.bgp_judge.specs.Ends.{ListsEnds}
 use Rattle.bgp_judge.specs.Judging.{IsRefusedFor, HasFailed, LacksMemory}
 use Rattle.bgp_text.specs.Capture.{refused_line}
-use Rattle.bgp_text.specs.VerdictText.{yes_text, no_line, unfinished_line}
+use Rattle.bgp_tool.specs.VerdictText.{yes_text, no_line, unfinished_line}
 use Rattle.bgp_tool.specs.CaptureDecoding.{status_by}
 
 -- The verdict on a session's records, by its text and its exit status: just one of three.

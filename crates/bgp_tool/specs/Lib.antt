@@ -1,3 +1,4 @@
+pub mod VerdictText
 pub mod Status
 pub mod Decoding
 pub mod Ending

@@ -8,8 +8,9 @@ ghost use Rattle.bgp_tool.specs.Answer.{verdict_status, answer_text, answer_stat
 use crate::captures;
 use crate::captures::hand_over;
 use crate::status::Status;
+use crate::verdicts::put_verdict;
 use bgp_judge::Verdict;
-use bgp_text::{Lines, put_refused, put_verdict};
+use bgp_text::{Lines, put_refused};
 use mrt::{CaptureFault, Sink};
 use std::alloc::Allocator;
 

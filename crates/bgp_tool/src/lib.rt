@@ -1,6 +1,7 @@
 //! The commands of the program `bgp`, each as one function over sources and sinks.
 //!
-//! What a command prints is stated in bgp_text's specs, and what it answers is an exit status:
+//! What a command prints is stated in bgp_text's specs, but for a verdict's text, which is stated in
+//! `specs/VerdictText.antt`; what it answers is an exit status:
 //!
 //! ```text
 //! let status = decode_raw(alloc, &mut source, &mut sink);
@@ -18,6 +19,7 @@ mod opened;
 mod opened_capture;
 mod opened_judging;
 mod status;
+mod verdicts;
 mod words;
 
 pub use bgp_words::{Command, command_line};
@@ -31,4 +33,5 @@ pub use opened::{Outcome, decode_opened};
 pub use opened_capture::decode_opened_capture;
 pub use opened_judging::judge_opened;
 pub use status::Status;
+pub use verdicts::{put_end, put_verdict};
 pub use words::words_status;

@@ -1,6 +1,6 @@
-use Rattle.bgp_text.specs.VerdictText.{no_line}
+use Rattle.bgp_tool.specs.VerdictText.{no_line}
 use Rattle.bgp_text.proofs.Pieces.{Joins, and_then}
-use Rattle.bgp_text.proofs.verdicts.put_no.Goals as goal
+use Rattle.bgp_tool.proofs.verdicts.put_no.Goals as goal
 
 pub returns : goal.returns
 unfolding no_line

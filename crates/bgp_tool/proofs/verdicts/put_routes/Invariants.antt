@@ -1,8 +1,8 @@
 use Rattle.std.proofs.Common.{◌≡◌, ◌++◌, List, ℕ}
 use Rattle.std.specs.List.{flat_map}
 use Rattle.bgp_text.specs.Lines.{Writes}
-use Rattle.bgp_text.specs.VerdictText.{route_line}
-use Rattle.bgp_text.proofs.verdicts.put_routes.Given as goal
+use Rattle.bgp_tool.specs.VerdictText.{route_line}
+use Rattle.bgp_tool.proofs.verdicts.put_routes.Given as goal
 
 -- what is written and what is left to write are the routes
 abbrev pub invariant-loop-prefix : goal.invariant-loop-prefix

@@ -2,9 +2,9 @@ use Rattle.std.proofs.Common.{◌≡◌, ◌∙◌, ◌++◌, List, [], ap, sym,
 use Rattle.std.specs.List.{flat_map}
 use Rattle.bgp_prefix.specs.Prefix.{PrefixBits}
 use Rattle.bgp_path.specs.Path.{PathValue}
-use Rattle.bgp_text.specs.VerdictText.{route_line}
+use Rattle.bgp_tool.specs.VerdictText.{route_line}
 use Rattle.bgp_text.proofs.Pieces.{Joins, and_then, nothing_yet}
-use Rattle.bgp_text.proofs.verdicts.put_routes.Goals as goal
+use Rattle.bgp_tool.proofs.verdicts.put_routes.Goals as goal
 
 pub loop-prefix-init : goal.loop-prefix-init
 loop-prefix-init g c = (

@@ -2,8 +2,8 @@ use Rattle.std.proofs.Common.{◌≡◌, ◌++◌, List, ℕ, drop}
 use Rattle.std.specs.List.{flat_map}
 use Rattle.bgp_judge.specs.Ends.{end_value}
 use Rattle.bgp_text.specs.Lines.{Writes}
-use Rattle.bgp_text.specs.VerdictText.{end_text}
-use Rattle.bgp_text.proofs.verdicts.put_ends.Given as goal
+use Rattle.bgp_tool.specs.VerdictText.{end_text}
+use Rattle.bgp_tool.proofs.verdicts.put_ends.Given as goal
 
 -- what is written and what is left to write are the ends
 abbrev pub invariant-loop-end : goal.invariant-loop-end

@@ -2,10 +2,10 @@ use Rattle.std.proofs.Common.{◌≡◌, ◌∙◌, ◌++◌, List, ℕ, [], ◌
 use Rattle.std.proofs.Math.ListN.{drop_of_length-le}
 use Rattle.std.specs.List.{flat_map}
 use Rattle.bgp_judge.specs.Ends.{end_value}
-use Rattle.bgp_text.specs.VerdictText.{end_text}
+use Rattle.bgp_tool.specs.VerdictText.{end_text}
 use Rattle.bgp_text.proofs.Joined.{one_more, none_left}
 use Rattle.bgp_text.proofs.Pieces.{Joins, and_then, nothing_yet}
-use Rattle.bgp_text.proofs.verdicts.put_ends.Goals as goal
+use Rattle.bgp_tool.proofs.verdicts.put_ends.Goals as goal
 
 -- texts of values that were told of elements
 of_values : {X Y : Type 0} (value : X → Y) (text : Y → List ℕ) (xs : List X)

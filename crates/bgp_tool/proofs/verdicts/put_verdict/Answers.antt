@@ -1,5 +1,5 @@
 use Rattle.bgp_text.proofs.Pieces.{Joins, and_then}
-use Rattle.bgp_text.proofs.verdicts.put_verdict.Goals as goal
+use Rattle.bgp_tool.proofs.verdicts.put_verdict.Goals as goal
 
 pub returns-in-Yes : goal.returns-in-Yes
 returns-in-Yes g c =

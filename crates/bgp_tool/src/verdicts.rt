@@ -4,17 +4,16 @@ ghost use Rattle.std.specs.Prelude.{◌≡◌, map};
 ghost use Rattle.std.specs.List.{flat_map};
 ghost use Rattle.bgp_judge.specs.Ends.{end_value};
 ghost use Rattle.bgp_text.specs.Lines.{Writes};
-ghost use Rattle.bgp_text.specs.VerdictText.{state_text, families_text, route_line, end_text};
-ghost use Rattle.bgp_text.specs.VerdictText.{no_line, verdict_text};
+ghost use Rattle.bgp_tool.specs.VerdictText.{state_text, families_text, route_line, end_text};
+ghost use Rattle.bgp_tool.specs.VerdictText.{no_line, verdict_text};
 
-use crate::lines::Lines;
-use crate::routes::put_route;
 use bgp_judge::{End, Verdict};
 use bgp_machine::Fsm;
 use bgp_open::Families;
 use bgp_path::Path;
 use bgp_prefix::Prefix;
 use bgp_rib::RibIn;
+use bgp_text::{Lines, put_route};
 use mrt::Sink;
 use std::alloc::Allocator;
 

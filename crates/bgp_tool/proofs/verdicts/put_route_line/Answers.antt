@@ -1,6 +1,6 @@
-use Rattle.bgp_text.specs.VerdictText.{route_line}
+use Rattle.bgp_tool.specs.VerdictText.{route_line}
 use Rattle.bgp_text.proofs.Pieces.{Joins, and_then}
-use Rattle.bgp_text.proofs.verdicts.put_route_line.Goals as goal
+use Rattle.bgp_tool.proofs.verdicts.put_route_line.Goals as goal
 
 pub returns : goal.returns
 unfolding route_line

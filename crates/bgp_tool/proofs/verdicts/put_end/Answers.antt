@@ -1,8 +1,8 @@
 use Rattle.std.proofs.Common.{◌∙◌, ap}
 use Rattle.bgp_open.specs.declared.families.Families.{Families}
-use Rattle.bgp_text.specs.VerdictText.{families_text, end_text}
+use Rattle.bgp_tool.specs.VerdictText.{families_text, end_text}
 use Rattle.bgp_text.proofs.Pieces.{Joins, and_then}
-use Rattle.bgp_text.proofs.verdicts.put_end.Goals as goal
+use Rattle.bgp_tool.proofs.verdicts.put_end.Goals as goal
 
 pub returns : goal.returns
 unfolding end_text
