@@ -35,7 +35,22 @@ fn announcement<'a>(prefixes: &'a [Prefix], path: &'a Path) -> Update<'a> {
 
 /// Appends the UPDATE that says this.
 fn put(link: &Link, update: &Update<'_>, message: &mut Vec<u8>) -> io::Result<()> {
-    write_update(link, update, message).map_err(|_| io::Error::from(io::ErrorKind::InvalidData))
+    match write_update(link, update, message) {
+        Ok(()) => Ok(()),
+        Err(_) => Err(io::Error::from(io::ErrorKind::InvalidData)),
+    }
+}
+
+/// Appends the UPDATE that announces a group by a path by chance.
+fn announce(
+    alloc: Global,
+    link: &Link,
+    random: &mut Pcg32,
+    prefixes: &[Prefix],
+    message: &mut Vec<u8>,
+) -> io::Result<()> {
+    let path = made_path(alloc, random)?;
+    put(link, &announcement(prefixes, &path), message)
 }
 
 impl Feed {
@@ -83,8 +98,7 @@ impl Feed {
         message: &mut Vec<u8>,
     ) -> io::Result<u32> {
         let prefixes = self.next_prefixes(alloc, most)?;
-        let path = made_path(alloc, &mut self.random)?;
-        put(&self.link, &announcement(&prefixes, &path), message)?;
+        announce(alloc, &self.link, &mut self.random, &prefixes, message)?;
         let count = u32::try_from(prefixes.len()).unwrap_or(most);
         self.groups.push(prefixes)?;
         Ok(count)

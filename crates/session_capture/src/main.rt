@@ -23,6 +23,7 @@ use mrt::{FromWrite, MemSink, MemSource};
 use parties::{link_of, peer_config};
 use recorder::Recorder;
 use session::{Ending, Wish, record_session};
+use std::alloc::Global;
 use std::io::{BufWriter, Write};
 use std::process::ExitCode;
 use std::rt::{Env, Files};
@@ -53,18 +54,31 @@ fn ending_of(word: Option<&str>) -> io::Result<Ending> {
 /// Does what the words ask for. Answers whether sessions leave the routes that they are to leave.
 fn run<R: Files + Env + Print + AllocGlobal>(rt: &R) -> io::Result<bool> {
     let mut words = env::args(rt)?.skip(1);
-    let (Some(first), Some(second)) = (words.next(), words.next()) else {
-        return count_each(rt);
-    };
-    if first.as_str() == "table" {
-        print_table(rt, second.as_str())?;
+    let (first, second, third) = (words.next(), words.next(), words.next());
+    match (&first, &second) {
+        (Some(first), Some(second)) => {
+            let third = third.as_ref().map(|word| word.as_str());
+            do_asked(rt, first.as_str(), second.as_str(), third)
+        }
+        _ => count_each(rt),
+    }
+}
+
+/// Does what these words ask for.
+fn do_asked<R: Files + Print + AllocGlobal>(
+    rt: &R,
+    first: &str,
+    second: &str,
+    third: Option<&str>,
+) -> io::Result<bool> {
+    if first == "table" {
+        print_table(rt, second)?;
         return Ok(true);
     }
     let (Ok(prefixes), Ok(further)) = (first.parse::<u32>(), second.parse::<u32>()) else {
         return Err(io::Error::from(io::ErrorKind::InvalidInput));
     };
-    let third = words.next();
-    let ending = ending_of(third.as_ref().map(|word| word.as_str()))?;
+    let ending = ending_of(third)?;
     write_capture(
         rt,
         Wish {
@@ -76,15 +90,33 @@ fn run<R: Files + Env + Print + AllocGlobal>(rt: &R) -> io::Result<bool> {
     Ok(true)
 }
 
+/// A peer that has announced nothing.
+fn new_feed(alloc: Global) -> io::Result<Feed> {
+    let link = link_of(&peer_config()?, &OPEN_A)?;
+    Ok(Feed::new(alloc, link))
+}
+
+/// Makes a session in memory: its capture, how many records it has, and how many prefixes the peer
+/// has announced.
+fn recorded(alloc: Global, wish: Wish) -> io::Result<(Vec<u8>, u64, usize)> {
+    let mut feed = new_feed(alloc)?;
+    let mut recorder = Recorder::new(MemSink::new(alloc));
+    record_session(alloc, wish, &mut feed, &mut recorder)?;
+    let (records, announced) = (recorder.records(), feed.announced());
+    Ok((recorder.into_sink().into_octets(), records, announced))
+}
+
+/// How many routes a capture leaves.
+fn routes_of(alloc: Global, capture: Vec<u8>) -> io::Result<usize> {
+    let mut source = MemSource::new(capture);
+    Ok(table_of(alloc, &mut source)?.len())
+}
+
 /// Makes a session in memory, and prints how long it is and how many routes it leaves. Answers
 /// whether these are as many as the peer has announced, or none where it ended the session.
 fn count<R: Print + AllocGlobal>(rt: &R, wish: Wish) -> io::Result<bool> {
-    let mut feed = Feed::new(rt.alloc(), link_of(&peer_config()?, &OPEN_A)?);
-    let mut recorder = Recorder::new(MemSink::new(rt.alloc()));
-    record_session(rt.alloc(), wish, &mut feed, &mut recorder)?;
-    let (records, announced) = (recorder.records(), feed.announced());
-    let mut source = MemSource::new(recorder.into_sink().into_octets());
-    let routes = table_of(rt.alloc(), &mut source)?.len();
+    let (capture, records, announced) = recorded(rt.alloc(), wish)?;
+    let routes = routes_of(rt.alloc(), capture)?;
     println!(rt; "{records} records, {announced} prefixes announced, {routes} routes left")?;
     let left = match wish.ending {
         Ending::GoesOn | Ending::Several => announced,
@@ -118,7 +150,7 @@ fn count_each<R: Print + AllocGlobal>(rt: &R) -> io::Result<bool> {
 
 /// Writes the session's records to standard output.
 fn write_capture<R: Print + AllocGlobal>(rt: &R, wish: Wish) -> io::Result<()> {
-    let mut feed = Feed::new(rt.alloc(), link_of(&peer_config()?, &OPEN_A)?);
+    let mut feed = new_feed(rt.alloc())?;
     let writer = BufWriter::new(rt.alloc(), io::writer(rt))?;
     let mut recorder = Recorder::new(FromWrite::new(writer));
     record_session(rt.alloc(), wish, &mut feed, &mut recorder)?;

@@ -34,7 +34,10 @@ fn config_of(local_as: u32, local_id: u32, peer_as: u32) -> io::Result<Config> {
         large_hold: 240,
         session: SESSION,
     });
-    config.ok_or(io::Error::from(io::ErrorKind::InvalidData))
+    match config {
+        Some(config) => Ok(config),
+        None => Err(io::Error::from(io::ErrorKind::InvalidData)),
+    }
 }
 
 /// The configuration of the local system.

@@ -47,9 +47,10 @@ impl<S: Sink> Recorder<S> {
             return Err(io::Error::from(io::ErrorKind::InvalidInput));
         }
         self.records = self.records.saturating_add(1);
-        write_record(&mut self.sink, &SESSION, PEER_AS, LOCAL_AS, shown).map_err(
-            |_| io::Error::from(io::ErrorKind::WriteZero),
-        )
+        match write_record(&mut self.sink, &SESSION, PEER_AS, LOCAL_AS, shown) {
+            Ok(()) => Ok(()),
+            Err(_) => Err(io::Error::from(io::ErrorKind::WriteZero)),
+        }
     }
 
     /// The local system received this message.

@@ -43,6 +43,21 @@ fn open<S: Sink>(recorder: &mut Recorder<S>) -> io::Result<()> {
     recorder.changed(5, 6)
 }
 
+/// Writes the UPDATE by which the peer sends a group of its table, of at most so many prefixes, and
+/// answers how many it has.
+fn send_group<S: Sink>(
+    alloc: Global,
+    most: u32,
+    feed: &mut Feed,
+    recorder: &mut Recorder<S>,
+    message: &mut Vec<u8>,
+) -> io::Result<u32> {
+    message.clear();
+    let count = feed.add_group(alloc, most, message)?;
+    recorder.received(message)?;
+    Ok(count)
+}
+
 /// Writes the UPDATEs by which the peer sends its table, some 8,000 a second.
 fn send_table<S: Sink>(
     alloc: Global,
@@ -56,15 +71,26 @@ fn send_table<S: Sink>(
         if left == 0 {
             break;
         }
-        message.clear();
-        let count = feed.add_group(alloc, left, &mut message)?;
+        let count = send_group(alloc, left, feed, recorder, &mut message)?;
         left = left.saturating_sub(count);
-        recorder.received(&message)?;
         if update % 8192 == 8191 {
             recorder.tick();
         }
     }
     Ok(())
+}
+
+/// Writes an UPDATE of a second later, by which a group changes.
+fn send_change<S: Sink>(
+    alloc: Global,
+    feed: &mut Feed,
+    recorder: &mut Recorder<S>,
+    message: &mut Vec<u8>,
+) -> io::Result<()> {
+    recorder.tick();
+    message.clear();
+    feed.change_group(alloc, message)?;
+    recorder.received(message)
 }
 
 /// Writes further records: an UPDATE a second, and a KEEPALIVE of each end where 30 seconds are
@@ -77,16 +103,12 @@ fn go_on<S: Sink>(
 ) -> io::Result<()> {
     let mut message = Vec::new(alloc);
     for record in 0..further {
-        match record % 32 {
-            30 => recorder.sent(&KEEPALIVE)?,
-            31 => recorder.received(&KEEPALIVE)?,
-            _ => {
-                recorder.tick();
-                message.clear();
-                feed.change_group(alloc, &mut message)?;
-                recorder.received(&message)?;
-            }
-        }
+        let written = match record % 32 {
+            30 => recorder.sent(&KEEPALIVE),
+            31 => recorder.received(&KEEPALIVE),
+            _ => send_change(alloc, feed, recorder, &mut message),
+        };
+        written?;
     }
     Ok(())
 }

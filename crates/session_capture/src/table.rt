@@ -25,22 +25,35 @@ fn apply(alloc: Global, link: &Link, message: &[u8], routes: &mut RibIn) -> io::
     Ok(())
 }
 
-/// The routes that the UPDATEs which were received leave. A change to Idle leaves none.
-pub(crate) fn table_of<S: Source>(alloc: Global, source: &mut S) -> io::Result<RibIn>
+/// Applies the UPDATEs that were received. A change to Idle leaves no routes.
+fn apply_all<S: Source>(
+    alloc: Global,
+    link: &Link,
+    source: &mut S,
+    routes: &mut RibIn,
+) -> io::Result<()>
     requires { S.failures source.old < u64.MAX }
 {
-    let link = link_of(&local_config()?, &OPEN_B)?;
     let mut records = Reader::new(alloc);
-    let mut routes = RibIn::new(alloc);
     for _ in 0..u64::MAX {
         match records.next_record(source, &SESSION) {
-            Ok(Some(Record::In(_, message))) => apply(alloc, &link, message, &mut routes)?,
+            Ok(Some(Record::In(_, message))) => apply(alloc, link, message, routes)?,
             Ok(Some(Record::Change(_, _, 1))) => routes.clear(),
             Ok(Some(_)) => {}
             Ok(None) => break,
             Err(_) => return Err(io::Error::from(io::ErrorKind::InvalidData)),
         }
     }
+    Ok(())
+}
+
+/// The routes that a capture leaves.
+pub(crate) fn table_of<S: Source>(alloc: Global, source: &mut S) -> io::Result<RibIn>
+    requires { S.failures source.old < u64.MAX }
+{
+    let link = link_of(&local_config()?, &OPEN_B)?;
+    let mut routes = RibIn::new(alloc);
+    apply_all(alloc, &link, source, &mut routes)?;
     Ok(routes)
 }
 
