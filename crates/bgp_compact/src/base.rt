@@ -12,7 +12,7 @@ use bgp_machine::{Fsm, Head, Wants};
 
 /// The members that have nothing left to show: their head, and the sets of families that they have
 /// disabled.
-#[derive(Clone, Copy, Debug, PartialEq, Eq)]
+#[derive(Clone, Copy)]
 pub(crate) struct Base {
     /// Their head.
     pub head: Head,

@@ -7,7 +7,7 @@ ghost use Rattle.bgp_compact.specs.Disabled.{holds, no_sets, only_none, shifted_
 use bgp_open::Families;
 
 /// Sets of families that members have disabled, a flag for each of the four sets.
-#[derive(Clone, Copy, Debug, PartialEq, Eq)]
+#[derive(Clone, Copy)]
 pub(crate) struct DisabledSets {
     /// No family is disabled.
     pub none: bool,

@@ -10,7 +10,7 @@ use crate::disabled::or;
 use bgp_machine::{FaultSet, Fsm, Unexpected, Want, Wants};
 
 /// What a step to Idle has still to send: nothing, or a NOTIFICATION.
-#[derive(Clone, Copy, Debug, PartialEq, Eq)]
+#[derive(Clone, Copy)]
 pub(crate) enum Fall {
     /// Nothing.
     Silent,
@@ -25,7 +25,7 @@ pub(crate) enum Fall {
 }
 
 /// What members on their way to Idle have still to send, each possibility once.
-#[derive(Clone, Copy, Debug, PartialEq, Eq)]
+#[derive(Clone, Copy)]
 pub(crate) struct Falls {
     /// Some member sends nothing.
     pub silent: bool,

@@ -12,7 +12,7 @@ use bgp_open::Link;
 /// show; they differ in the families that they have disabled. All others end in the fresh state,
 /// and differ in what they have still to send. What change of state a member has left to show, if
 /// any, is that from the state that was shown last to the name of its own.
-#[derive(Clone, Copy, Debug, PartialEq, Eq)]
+#[derive(Clone, Copy)]
 pub(crate) struct Words {
     /// The state that was shown last.
     pub shown: Fsm,
