@@ -7,75 +7,95 @@ use bgp_tool::{Outcome, decode_opened, decode_opened_capture, judge_opened};
 use mrt::FromWrite;
 use std::alloc::Global;
 use std::fs::OpenFile;
-use std::io::{BufReader, ErrorKind};
+use std::io::{BufReader, ErrorKind, Read};
 use std::rt::Files;
 use std::{fs, io};
 
 /// Runs `decode` on a file, or on standard input for `-`, and answers the exit status.
 pub fn decode<R: Files + Input + Print + Eprint + AllocGlobal>(rt: &R, file: &str) -> u8 {
-    let mut sink = FromWrite::new(io::writer(rt));
-    let outcome = if file == "-" {
-        decode_opened(rt.alloc(), file, Ok(rt.reader()), &mut sink)
+    if file == "-" {
+        decode_from(rt, file, Ok(rt.reader()))
     } else {
-        decode_opened(rt.alloc(), file, open(rt, file), &mut sink)
-    };
-    tell(rt, &outcome);
-    outcome.status
+        decode_from(rt, file, open(rt, file))
+    }
 }
 
-/// Runs `decode --mrt` on a file, or on standard input for `-`, and answers the exit status. The
-/// file is read through a buffer, since a record is asked for in two pieces.
+/// Runs `decode --mrt` on a file, or on standard input for `-`, and answers the exit status.
 pub fn decode_capture<R: Files + Input + Print + Eprint + AllocGlobal>(
     rt: &R,
     session: &Session,
     file: &str,
 ) -> u8 {
-    let mut sink = FromWrite::new(io::writer(rt));
-    let outcome = if file == "-" {
-        let reader = BufReader::new(rt.alloc(), rt.reader());
-        decode_opened_capture(rt.alloc(), session, file, reader, &mut sink)
+    if file == "-" {
+        decode_capture_from(rt, session, file, Ok(rt.reader()))
     } else {
-        let reader = buffered(rt, file);
-        decode_opened_capture(rt.alloc(), session, file, reader, &mut sink)
-    };
-    tell(rt, &outcome);
-    outcome.status
+        decode_capture_from(rt, session, file, open(rt, file))
+    }
 }
 
-/// Runs `judge` on a file, or on standard input for `-`, and answers the exit status. The file is
-/// read through a buffer, as by [`decode_capture`].
+/// Runs `judge` on a file, or on standard input for `-`, and answers the exit status.
 pub fn judge<R: Files + Input + Print + Eprint + AllocGlobal>(
     rt: &R,
     config: &Config,
     file: &str,
 ) -> u8 {
-    let mut sink = FromWrite::new(io::writer(rt));
-    let outcome = if file == "-" {
-        let reader = BufReader::new(rt.alloc(), rt.reader());
-        judge_opened::<Global, CompactTracker<Global>, _, _>(
-            rt.alloc(),
-            config,
-            file,
-            reader,
-            &mut sink,
-        )
+    if file == "-" {
+        judge_from(rt, config, file, Ok(rt.reader()))
     } else {
-        let reader = buffered(rt, file);
-        judge_opened::<Global, CompactTracker<Global>, _, _>(
-            rt.alloc(),
-            config,
-            file,
-            reader,
-            &mut sink,
-        )
-    };
-    tell(rt, &outcome);
-    outcome.status
+        judge_from(rt, config, file, open(rt, file))
+    }
 }
 
-/// Opens a file to read through a buffer.
-fn buffered<R: Files + AllocGlobal>(rt: &R, file: &str) -> io::Result<BufReader<R::File>> {
-    BufReader::new(rt.alloc(), open(rt, file)?)
+/// Decodes what a file's reader gives.
+fn decode_from<R: Print + Eprint + AllocGlobal, F: Read + Drop>(
+    rt: &R,
+    file: &str,
+    opened: io::Result<F>,
+) -> u8 {
+    let mut sink = FromWrite::new(io::writer(rt));
+    tell(rt, &decode_opened(rt.alloc(), file, opened, &mut sink))
+}
+
+/// Decodes the capture that a file's reader gives.
+fn decode_capture_from<R: Print + Eprint + AllocGlobal, F: Read + Drop>(
+    rt: &R,
+    session: &Session,
+    file: &str,
+    opened: io::Result<F>,
+) -> u8 {
+    let mut sink = FromWrite::new(io::writer(rt));
+    let reader = buffered(rt, opened);
+    tell(
+        rt,
+        &decode_opened_capture(rt.alloc(), session, file, reader, &mut sink),
+    )
+}
+
+/// Judges the capture that a file's reader gives.
+fn judge_from<R: Print + Eprint + AllocGlobal, F: Read + Drop>(
+    rt: &R,
+    config: &Config,
+    file: &str,
+    opened: io::Result<F>,
+) -> u8 {
+    let mut sink = FromWrite::new(io::writer(rt));
+    let reader = buffered(rt, opened);
+    let outcome = judge_opened::<Global, CompactTracker<Global>, _, _>(
+        rt.alloc(),
+        config,
+        file,
+        reader,
+        &mut sink,
+    );
+    tell(rt, &outcome)
+}
+
+/// Puts a buffer before the file of a capture, of which a record is asked for in two pieces.
+fn buffered<R: AllocGlobal, F: Read + Drop>(
+    rt: &R,
+    opened: io::Result<F>,
+) -> io::Result<BufReader<F>> {
+    BufReader::new(rt.alloc(), opened?)
 }
 
 /// Opens a file to read, and refuses a folder, which can be opened and not read.
@@ -87,11 +107,12 @@ fn open<R: Files>(rt: &R, file: &str) -> io::Result<R::File> {
     Ok(opened)
 }
 
-/// Tells what there is to tell of a command's end.
-fn tell<R: Eprint>(rt: &R, outcome: &Outcome<'_>) {
+/// Tells what there is to tell of a command's end, and answers its exit status.
+fn tell<R: Eprint>(rt: &R, outcome: &Outcome<'_>) -> u8 {
     if let Some(note) = outcome.note {
         let _ = eprintln!(rt; "bgp: {note}");
     }
+    outcome.status
 }
 
 /// Tells why standard output can't be written, unless a pipe was closed.
