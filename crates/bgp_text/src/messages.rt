@@ -1,6 +1,6 @@
 //! One line a message (RFC 4271, 4), and one for what is no message.
 
-ghost use Rattle.std.specs.Prelude.{◌≡◌};
+ghost use Rattle.std.specs.Prelude.{◌≡◌, ◌++◌, codes, is_some};
 ghost use Rattle.bgp_wire.specs.Header.{header_of, type_of};
 ghost use Rattle.bgp_wire.specs.Verdict.{type_code};
 ghost use Rattle.bgp_open.specs.Capability.{capability_of};
@@ -105,10 +105,22 @@ pub fn put_message<W: Sink>(lines: &mut Lines<'_, W>, kind: MessageType, frame: 
 }
 
 /// A text where something is so, and nothing where it isn't.
-pub fn text_if(is_so: bool, text: &str) -> &str
+fn text_if(is_so: bool, text: &str) -> &str
     ensures { result.now ≡ subcode_text is_so text.entry.now }
 {
     if is_so { text } else { "" }
+}
+
+/// The subcodes of a header's faults, ascending, and the end of the line.
+pub fn put_subcodes<W: Sink>(lines: &mut Lines<'_, W>, faults: HeaderFaults)
+    ensures { Writes lines.old lines.new (subcode_text faults.marker (codes " 1/1")
+        ++ (subcode_text (is_some faults.length) (codes " 1/2")
+        ++ (subcode_text (is_some faults.kind) (codes " 1/3") ++ codes "\n"))) }
+{
+    lines.put(text_if(faults.marker, " 1/1").as_bytes());
+    lines.put(text_if(faults.length.is_some(), " 1/2").as_bytes());
+    lines.put(text_if(faults.kind.is_some(), " 1/3").as_bytes());
+    lines.put(b"\n");
 }
 
 /// The line of a header with faults, which stands at this offset of the stream.
@@ -117,10 +129,7 @@ pub fn put_fault<W: Sink>(lines: &mut Lines<'_, W>, offset: u64, faults: HeaderF
 {
     lines.put(b"fault at ");
     lines.put_decimal(offset);
-    lines.put(text_if(faults.marker, " 1/1").as_bytes());
-    lines.put(text_if(faults.length.is_some(), " 1/2").as_bytes());
-    lines.put(text_if(faults.kind.is_some(), " 1/3").as_bytes());
-    lines.put(b"\n");
+    put_subcodes(lines, faults);
 }
 
 /// The line of a stream that ends this many octets after its last whole message.

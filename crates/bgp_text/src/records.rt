@@ -10,7 +10,7 @@ ghost use Rattle.bgp_text.specs.Capture.{faulty_line, IsMessageText, change_line
 ghost use Rattle.bgp_text.specs.Capture.{message_line, refused_line};
 
 use crate::lines::Lines;
-use crate::messages::{put_message, text_if};
+use crate::messages::{put_message, put_subcodes};
 use bgp_prefix::Seconds;
 use bgp_wire::{HeaderFaults, HeaderVerdict, Limit, check_header, header_at};
 use mrt::{CaptureFault, Record, Sink};
@@ -20,10 +20,7 @@ fn put_faulty<W: Sink>(lines: &mut Lines<'_, W>, faults: HeaderFaults)
     ensures { Writes lines.old lines.new (faulty_line faults) }
 {
     lines.put(b"fault");
-    lines.put(text_if(faults.marker, " 1/1").as_bytes());
-    lines.put(text_if(faults.length.is_some(), " 1/2").as_bytes());
-    lines.put(text_if(faults.kind.is_some(), " 1/3").as_bytes());
-    lines.put(b"\n");
+    put_subcodes(lines, faults);
 }
 
 /// The line of a message that a record holds.

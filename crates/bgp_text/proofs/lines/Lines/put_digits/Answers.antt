@@ -1,4 +1,4 @@
-use Rattle.std.proofs.Common.{◌≡◌, ◌∙◌, ◌++◌, List, [], ℕ, refl, sym, ap, subst, append_assoc}
+use Rattle.std.proofs.Common.{◌≡◌, ◌∙◌, ◌++◌, List, [], ℕ, refl, sym, ap, subst, append_assoc, arith}
 use Rattle.std.proofs.lemmas.List.{take-append-drop}
 use Rattle.hex.specs.Hex.{encode_lower, lower_digits}
 use Rattle.bgp_text.specs.Outlet.{Passes}
@@ -31,3 +31,12 @@ loop-rest-preserved g c =
       so_far.1 ∙ ap (λ (rest : List ℕ). so_far.0 ++ rest) split ∙ sym (append_assoc so_far.0 piece c.split_at.result.1.now),
       rw digits (and_then law so_far.2 put),
     )
+
+pub split_at-requires : goal.split_at-requires
+split_at-requires g c = omega arith
+
+pub overflow_mul-digits : goal.overflow_mul-digits
+overflow_mul-digits g c = omega arith
+
+pub slice_bounds-digits-end : goal.slice_bounds-digits-end
+slice_bounds-digits-end g c = omega arith
