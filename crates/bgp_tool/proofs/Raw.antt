@@ -1,5 +1,5 @@
 -- A decoding that began with a fresh text, told by what the sink took.
-use Rattle.std.proofs.Common.{◌≡◌, ◌≤◌, ◌∙◌, ◌++◌, ◌+◌, [], ℕ, List, Bool, true, false, refl, sym, ap, subst, inl, inr, append-nil, arith}
+use Rattle.std.proofs.Common.{◌≡◌, ◌≤◌, ◌∙◌, ◌+◌, ℕ, List, false, refl, sym, ap, subst, inl, inr, arith}
 use Rattle.mrt.specs.declared.sink.Sink as sinks
 use Rattle.bgp_tool.specs.declared.decoding.End.{End}
 use Rattle.bgp_tool.specs.declared.decoding.End.TheVariants as ends

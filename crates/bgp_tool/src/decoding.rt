@@ -13,7 +13,7 @@ use mrt::{Sink, Source};
 use std::alloc::Allocator;
 
 /// How a decoding ended.
-#[derive(Clone, Copy, Debug, PartialEq, Eq)]
+#[derive(Clone, Copy)]
 enum End {
     /// The stream ended behind a whole message, or was empty.
     BetweenMessages,

@@ -75,43 +75,58 @@ impl fmt::Display for Told<'_> {
 impl fmt::Display for Note<'_> {
     fn fmt<W: fmt::Write>(&self, f: &mut fmt::Formatter<W>) -> fmt::Result {
         match *self {
-            Note::Unopened { file, error } => {
-                let file = Told(file);
-                write!(f, "{file}: {error}")
-            }
-            Note::Unread { file, octet, error } => {
-                let file = Told(file);
-                match error {
-                    Some(error) => write!(f, "{file}: read failed at octet {octet}: {error}"),
-                    None => write!(f, "{file}: too long, read up to octet {octet}"),
-                }
-            }
-            Note::Unwritten { octet, error } => match error {
-                Some(error) => {
-                    write!(f, "standard output: write failed at octet {octet}: {error}")
-                }
-                None => write!(f, "standard output: write failed at octet {octet}"),
-            },
+            Note::Unopened { file, error } => write!(f, "{}: {error}", Told(file)),
+            Note::Unread { file, octet, error } => put_unread(f, file, octet, error),
+            Note::Unwritten { octet, error } => put_unwritten(f, octet, error),
             Note::OutOfMemory { file, octet } => {
-                let file = Told(file);
-                write!(f, "{file}: memory was refused at octet {octet}")
+                write!(f, "{}: memory was refused at octet {octet}", Told(file))
             }
-            Note::NoSession { file, other } => {
-                let file = Told(file);
-                match other {
-                    Some(Endpoints { peer, local }) => write!(
-                        f,
-                        "{file}: no record of this session was read; the first of another one has \
-                         the peer {peer} and the local address {local}"
-                    ),
-                    None => write!(f, "{file}: no record of this session was read"),
-                }
-            }
-            Note::NoStream { file, form } => {
-                let file = Told(file);
-                write!(f, "{file} {form}")
-            }
+            Note::NoSession { file, other } => put_no_session(f, file, other),
+            Note::NoStream { file, form } => write!(f, "{} {form}", Told(file)),
         }
+    }
+}
+
+/// The sentence on a read that failed, or on a file that is too long to be counted.
+fn put_unread<W: fmt::Write>(
+    f: &mut fmt::Formatter<W>,
+    file: &str,
+    octet: u64,
+    error: Option<ErrorKind>,
+) -> fmt::Result {
+    let file = Told(file);
+    match error {
+        Some(error) => write!(f, "{file}: read failed at octet {octet}: {error}"),
+        None => write!(f, "{file}: too long, read up to octet {octet}"),
+    }
+}
+
+/// The sentence on a write that failed.
+fn put_unwritten<W: fmt::Write>(
+    f: &mut fmt::Formatter<W>,
+    octet: u64,
+    error: Option<ErrorKind>,
+) -> fmt::Result {
+    match error {
+        Some(error) => write!(f, "standard output: write failed at octet {octet}: {error}"),
+        None => write!(f, "standard output: write failed at octet {octet}"),
+    }
+}
+
+/// The sentence on a capture of which no record of the session was read.
+fn put_no_session<W: fmt::Write>(
+    f: &mut fmt::Formatter<W>,
+    file: &str,
+    other: Option<Endpoints>,
+) -> fmt::Result {
+    let file = Told(file);
+    match other {
+        Some(Endpoints { peer, local }) => write!(
+            f,
+            "{file}: no record of this session was read; the first of another one has the peer \
+             {peer} and the local address {local}"
+        ),
+        None => write!(f, "{file}: no record of this session was read"),
     }
 }
 

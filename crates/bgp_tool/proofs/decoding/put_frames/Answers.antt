@@ -110,5 +110,5 @@ returns-in-Fault g c =
       last,
       so_far.1,
       is_last,
-      and_then law so_far.2 c.put_fault.ensures,
+      and_then law {ys = last} so_far.2 c.put_fault.ensures,
     )
