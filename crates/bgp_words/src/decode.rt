@@ -7,7 +7,7 @@ ghost use Rattle.bgp_words.specs.Words.{decode_words};
 ghost use Rattle.bgp_words.specs.Decode.{IsStream, IsCapture, IsDecoding};
 
 use crate::misfit::Misfit;
-use crate::options::{file, flag, option};
+use crate::options::{Word, with_words};
 use crate::values::{address_of, has_flag, has_value, value_of};
 use crate::words::Command;
 use bgp_prefix::Session;
@@ -53,22 +53,29 @@ A dash stands for nothing.
 
 The manual is README.md, at the top of the repository.";
 
+/// The words behind `decode`.
+static WORDS: [Word<'static>; 4] = [
+    Word::File,
+    Word::Flag(
+        "mrt",
+        "FILE is a capture of MRT records: prints those of one session",
+    ),
+    Word::Option("peer", "The address of the session's peer, with --mrt"),
+    Word::Option(
+        "local",
+        "The address of the system that recorded the session, with --mrt",
+    ),
+];
+
 /// What the words of `decode` may be.
 pub(crate) fn decode_words<'a>(alloc: Global) -> Result<clap::Command<'a>, AllocError>
     ensures words { IfOk result (λ decode. app_of decode ≡ decode_words) }
     ensures local { IfOk result (λ decode. (fields_of decode).has_globals ≡ false) }
 {
-    let about = "Prints the BGP messages of a raw stream or of a capture, one a line";
-    let mrt = "FILE is a capture of MRT records: prints those of one session";
-    let peer = "The address of the session's peer, with --mrt";
-    let local = "The address of the system that recorded the session, with --mrt";
-    clap::Command::new(alloc, "decode")
-        .about(about)
-        .after_help(LINES)
-        .arg(file(alloc))?
-        .arg(flag(alloc, "mrt", mrt))?
-        .arg(option(alloc, "peer", peer))?
-        .arg(option(alloc, "local", local))
+    let decode = clap::Command::new(alloc, "decode")
+        .about("Prints the BGP messages of a raw stream or of a capture, one a line")
+        .after_help(LINES);
+    with_words(alloc, decode, &WORDS)
 }
 
 /// The command that the values of `decode` are. The flag and both addresses are given, or none.

@@ -10,7 +10,7 @@ ghost use Rattle.bgp_words.specs.Words.{judge_start, judge_words};
 ghost use Rattle.bgp_words.specs.Judge.{IsSession, AreParts, IsJudge, IsJudging};
 
 use crate::misfit::Misfit;
-use crate::options::{default, file, flag, required};
+use crate::options::{Word, with_words};
 use crate::values::{
     address_of, families_of, has_flag, hold_of, identifier_of, positive_of, value_of,
 };
@@ -59,23 +59,50 @@ pub(crate) fn judge_words<'a>(alloc: Global) -> Result<clap::Command<'a>, AllocE
 }
 
 /// The words that `judge` has to have.
+static WANTED: [Word<'static>; 6] = [
+    Word::File,
+    Word::Required(
+        "local-as",
+        "The AS number of the system that recorded the session: 1 to 4294967295",
+    ),
+    Word::Required("peer-as", "The peer's AS number: 1 to 4294967295"),
+    Word::Required("local-id", "The system's BGP Identifier, as 192.0.2.1"),
+    Word::Required("local", "The system's address"),
+    Word::Required("peer", "The peer's address"),
+];
+
+/// `judge` with the words that it has to have.
 fn judge_start<'a>(alloc: Global) -> Result<clap::Command<'a>, AllocError>
     ensures words { IfOk result (λ judge. app_of judge ≡ judge_start) }
     ensures local { IfOk result (λ judge. (fields_of judge).has_globals ≡ false) }
 {
-    let own_as = "The AS number of the system that recorded the session: 1 to 4294967295";
-    let peer_as = "The peer's AS number: 1 to 4294967295";
-    let id = "The system's BGP Identifier, as 192.0.2.1";
-    clap::Command::new(alloc, "judge")
+    let judge = clap::Command::new(alloc, "judge")
         .about("Tells whether a capture of a session is one that RFC 4271 allows")
-        .after_help(VERDICTS)
-        .arg(file(alloc))?
-        .arg(required(alloc, "local-as", own_as))?
-        .arg(required(alloc, "peer-as", peer_as))?
-        .arg(required(alloc, "local-id", id))?
-        .arg(required(alloc, "local", "The system's address"))?
-        .arg(required(alloc, "peer", "The peer's address"))
+        .after_help(VERDICTS);
+    with_words(alloc, judge, &WANTED)
 }
+
+/// The words that `judge` may have.
+static CHOICES: [Word<'static>; 6] = [
+    Word::Default(
+        "hold",
+        "90",
+        "The Hold Time that it offers, in seconds: 0, or 3 to 65535",
+    ),
+    Word::Default(
+        "families",
+        "v4",
+        "The families that it offers: v4, v6 or both",
+    ),
+    Word::Flag("as2", "It doesn't offer four-octet AS numbers"),
+    Word::Flag("delay-open", "It may delay its OPEN (DelayOpen)"),
+    Word::Flag("no-refresh", "It doesn't offer route refresh"),
+    Word::Default(
+        "large-hold",
+        "240",
+        "How many seconds it waits for the peer's OPEN: 1 to 4294967295",
+    ),
+];
 
 /// `judge` with the words that it may have.
 fn with_choices<'a>(
@@ -87,18 +114,7 @@ fn with_choices<'a>(
     ensures local { (fields_of judge.entry).has_globals ≡ false →
         IfOk result (λ judge. (fields_of judge).has_globals ≡ false) }
 {
-    let hold = "The Hold Time that it offers, in seconds: 0, or 3 to 65535";
-    let families = "The families that it offers: v4, v6 or both";
-    let as2 = "It doesn't offer four-octet AS numbers";
-    let no_refresh = "It doesn't offer route refresh";
-    let large = "How many seconds it waits for the peer's OPEN: 1 to 4294967295";
-    judge
-        .arg(default(alloc, "hold", "90", hold))?
-        .arg(default(alloc, "families", "v4", families))?
-        .arg(flag(alloc, "as2", as2))?
-        .arg(flag(alloc, "delay-open", "It may delay its OPEN (DelayOpen)"))?
-        .arg(flag(alloc, "no-refresh", no_refresh))?
-        .arg(default(alloc, "large-hold", "240", large))
+    with_words(alloc, judge, &CHOICES)
 }
 
 /// The command that the values of `judge` are.

@@ -1,15 +1,76 @@
 //! What words a command may have: its file, flags and options.
 
-ghost use Rattle.std.specs.Prelude.{◌≡◌, false};
-ghost use Rattle.clap.specs.Words.{rule_of};
+ghost use Rattle.std.specs.Prelude.{◌≡◌, IfOk, fold, false};
+ghost use Rattle.clap.specs.Words.{app_of, rule_of};
+ghost use Rattle.clap.specs.declared.builder.command.Command.TheViews.{out-Command as fields_of};
 ghost use Rattle.bgp_words.specs.Words.{file_word, flag_word, option_word};
 ghost use Rattle.bgp_words.specs.Words.{required_word, default_word};
+ghost use Rattle.bgp_words.specs.Options.{AddsWord, rule_by, with_word};
 
-use clap::{Arg, ArgAction};
-use std::alloc::Global;
+use clap::{Arg, ArgAction, Command};
+use std::alloc::{AllocError, Global};
+
+/// A word that a command may have, with what help tells of it.
+#[derive(Clone, Copy)]
+pub(crate) enum Word<'a> {
+    /// The file that it reads.
+    File,
+    /// A flag: its name and its help.
+    Flag(&'a str, &'a str),
+    /// An option with a value: its name and its help.
+    Option(&'a str, &'a str),
+    /// An option that has to be given: its name and its help.
+    Required(&'a str, &'a str),
+    /// An option with a value for where it isn't given: its name, that value and its help.
+    Default(&'a str, &'a str, &'a str),
+}
+
+/// The command with these words behind its own.
+pub(crate) fn with_words<'a>(
+    alloc: Global,
+    command: Command<'a>,
+    words: &[Word<'a>],
+) -> Result<Command<'a>, AllocError>
+    ensures words { IfOk result (λ it. app_of it ≡ fold with_word (app_of command.entry) words.now) }
+    ensures local { (fields_of command.entry).has_globals ≡ false →
+        IfOk result (λ it. (fields_of it).has_globals ≡ false) }
+{
+    let mut command = command;
+    for word in words {
+        command = with_word(alloc, command, *word)?;
+    }
+    Ok(command)
+}
+
+/// The command with this word behind its own.
+fn with_word<'a>(
+    alloc: Global,
+    command: Command<'a>,
+    word: Word<'a>,
+) -> Result<Command<'a>, AllocError>
+    ensures words { IfOk result (λ it. AddsWord (app_of command.entry) word.entry (app_of it)) }
+    ensures local { (fields_of command.entry).has_globals ≡ false →
+        IfOk result (λ it. (fields_of it).has_globals ≡ false) }
+{
+    command.arg(arg_of(alloc, word))
+}
+
+/// A word, as clap has it.
+fn arg_of<'a>(alloc: Global, word: Word<'a>) -> Arg<'a>
+    ensures rule { rule_of result ≡ rule_by word.entry }
+    ensures local { result.global ≡ false }
+{
+    match word {
+        Word::File => file(alloc),
+        Word::Flag(name, help) => flag(alloc, name, help),
+        Word::Option(name, help) => option(alloc, name, help),
+        Word::Required(name, help) => required(alloc, name, help),
+        Word::Default(name, value, help) => default(alloc, name, value, help),
+    }
+}
 
 /// The file that a command reads.
-pub(crate) fn file<'a>(alloc: Global) -> Arg<'a>
+fn file<'a>(alloc: Global) -> Arg<'a>
     ensures rule { rule_of result ≡ file_word }
     ensures local { result.global ≡ false }
 {
@@ -19,7 +80,7 @@ pub(crate) fn file<'a>(alloc: Global) -> Arg<'a>
 }
 
 /// A flag by its name.
-pub(crate) fn flag<'a>(alloc: Global, name: &'a str, help: &'a str) -> Arg<'a>
+fn flag<'a>(alloc: Global, name: &'a str, help: &'a str) -> Arg<'a>
     ensures rule { rule_of result ≡ flag_word name.entry.now }
     ensures local { result.global ≡ false }
 {
@@ -30,7 +91,7 @@ pub(crate) fn flag<'a>(alloc: Global, name: &'a str, help: &'a str) -> Arg<'a>
 }
 
 /// An option with a value, by its name.
-pub(crate) fn option<'a>(alloc: Global, name: &'a str, help: &'a str) -> Arg<'a>
+fn option<'a>(alloc: Global, name: &'a str, help: &'a str) -> Arg<'a>
     ensures rule { rule_of result ≡ option_word name.entry.now }
     ensures local { result.global ≡ false }
 {
@@ -38,7 +99,7 @@ pub(crate) fn option<'a>(alloc: Global, name: &'a str, help: &'a str) -> Arg<'a>
 }
 
 /// An option that has to be given.
-pub(crate) fn required<'a>(alloc: Global, name: &'a str, help: &'a str) -> Arg<'a>
+fn required<'a>(alloc: Global, name: &'a str, help: &'a str) -> Arg<'a>
     ensures rule { rule_of result ≡ required_word name.entry.now }
     ensures local { result.global ≡ false }
 {
@@ -46,7 +107,7 @@ pub(crate) fn required<'a>(alloc: Global, name: &'a str, help: &'a str) -> Arg<'
 }
 
 /// An option with a value for where it isn't given.
-pub(crate) fn default<'a>(alloc: Global, name: &'a str, value: &'a str, help: &'a str) -> Arg<'a>
+fn default<'a>(alloc: Global, name: &'a str, value: &'a str, help: &'a str) -> Arg<'a>
     ensures rule { rule_of result ≡ default_word name.entry.now value.entry.now }
     ensures local { result.global ≡ false }
 {
