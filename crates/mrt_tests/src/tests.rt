@@ -354,7 +354,7 @@ fn is_kept(sink: &MemSink<&LocalHeap>, text: &[u8], is_written: bool) -> bool {
     is_counted && text.starts_with(taken)
 }
 
-/// Whether 100 octets are written to a sink in this heap: `None` where it doesn't hold what it took.
+/// Whether a sink in this heap takes 100 octets; `None` where it doesn't hold what it took.
 fn is_written(heap: &LocalHeap) -> Option<bool> {
     let text = [b'x'; 100];
     let mut sink = MemSink::new(heap).in_pieces_of(at_most(7));

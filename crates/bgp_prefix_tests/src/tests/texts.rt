@@ -363,8 +363,8 @@ fn prefix_texts_are_an_address_and_a_length(rt: HostRuntime) {
     }
 }
 
-/// Whether a prefix of zeros is written in the fewest octets, its length first, and prints as a text
-/// of its address and its length.
+/// Whether a prefix of zeros is written in the fewest octets, its length first, and prints as its
+/// address and its length.
 fn is_written(alloc: Global, zeros: Address, text: &str, length: u8) -> Result<bool, AllocError> {
     let Some(prefix) = Prefix::new(zeros, length) else {
         return Ok(false);

@@ -159,7 +159,7 @@ fn are_taken_by_record(reader: &mut Reader, source: &mut MemSource) -> bool {
         && reader.first_other().is_none()
 }
 
-/// Whether a reader of [`CHANGE`] and [`RECEIVED`] takes no octet beyond the record that it answers.
+/// Whether a reader of [`CHANGE`] and [`RECEIVED`] takes no octet after the record that it answers.
 fn are_read_one_by_one(alloc: Global) -> bool {
     match capture_of(alloc, &[&CHANGE, &RECEIVED]) {
         Ok(capture) => are_taken_by_record(&mut Reader::new(alloc), &mut MemSource::new(capture)),
