@@ -19,6 +19,19 @@ one_more {X} f xs i d lt =
     ∙ flat_map-append f (take i xs) (get_or xs i d ∷ [])
     ∙ ap (λ (os : List ℕ). flat_map f (take i xs) ++ os) (append-nil (f (get_or xs i d)))
 
+-- and so is it longer
+pub longer : {X : Type 0} (f : X → List ℕ) (xs : List X) (i : ℕ) (d : X) → i < length xs
+    → length (flat_map f (take (i + 1) xs)) ≡ length (flat_map f (take i xs)) + length (f (get_or xs i d))
+longer f xs i d lt = ap length (one_more f xs i d lt) ∙ length-append (flat_map f (take i xs)) (f (get_or xs i d))
+
+-- all of them are so long
+pub length_all : {X : Type 0} (f : X → List ℕ) (xs : List X) (i : ℕ) → i ≤ length xs → length xs ≤ i
+    → length (flat_map f (take i xs)) ≡ length (flat_map f xs)
+length_all {X} f xs i le ge =
+    let end : i ≡ length xs = omega arith in
+    let whole : take i xs ≡ xs = ap (λ (k : ℕ). take k xs) end ∙ take-length xs in
+    ap (λ (ys : List X). length (flat_map f ys)) whole
+
 pub filled_more : {X : Type 0} (f : X → List ℕ) (xs : List X) (i : ℕ) (d : X) (old mid new : List ℕ) (count room count' room' count'' room'' : ℕ) → i < length xs
     → IsFilled old count room (flat_map f (take i xs)) mid count' room' → new ≡ mid ++ f (get_or xs i d) → count'' ≡ count' + length (f (get_or xs i d)) → room' ≤ room''
     → IsFilled old count room (flat_map f (take (i + 1) xs)) new count'' room''
@@ -30,6 +43,13 @@ filled_more f xs i d old mid new count room count' room' count'' room'' lt befor
       len = omega (arith, len, before.len, ap length (one_more f xs i d lt), length-append front one);
       capacity = omega (arith, before.capacity);
     }
+
+-- with one that is the next
+pub filled_with : {X : Type 0} (f : X → List ℕ) (xs : List X) (i : ℕ) (d x : X) (old mid new : List ℕ) (count room count' room' count'' room'' : ℕ) → i < length xs → x ≡ get_or xs i d
+    → IsFilled old count room (flat_map f (take i xs)) mid count' room' → new ≡ mid ++ f x → count'' ≡ count' + length (f x) → room' ≤ room''
+    → IsFilled old count room (flat_map f (take (i + 1) xs)) new count'' room''
+filled_with {X} f xs i d x old mid new count room count' room' count'' room'' lt is before items len capacity =
+    filled_more f xs i d old mid new count room count' room' count'' room'' lt before (items ∙ ap (λ (y : X). mid ++ f y) is) (len ∙ ap (λ (y : X). count' + length (f y)) is) capacity
 
 -- there is room for the next
 pub filled_room : {X : Type 0} (f : X → List ℕ) (xs : List X) (i : ℕ) (d : X) (old mid : List ℕ) (count room count' room' : ℕ) → i < length xs

@@ -53,16 +53,56 @@ fn read_parts<A: Allocator + Copy>(
 {
     let plain = aggregator(side, first, AttrType::Aggregator, side.as4);
     let as4 = aggregator(side, first, AttrType::As4Aggregator, true);
+    let Lists {
+        as_path,
+        communities,
+        cluster_list,
+        extended_communities,
+    } = read_lists(alloc, side, first, is_as4_old(plain, as4))?;
     Ok(PathParts {
         origin: origin(side, first),
-        as_path: read_merged_path(alloc, side, first, is_as4_old(plain, as4))?,
+        as_path,
         next_hop,
         multi_exit_disc: number(side, first, AttrType::MultiExitDisc),
         local_pref: number(side, first, AttrType::LocalPref),
         atomic_aggregate: first.good(side, AttrType::AtomicAggregate).is_some(),
         aggregator: merged_aggregator(plain, as4),
-        communities: read_items(alloc, side, first, AttrType::Communities)?,
+        communities,
         originator_id: number(side, first, AttrType::OriginatorId),
+        cluster_list,
+        extended_communities,
+    })
+}
+
+/// The lists of a path.
+struct Lists<A: Allocator> {
+    as_path: AsPath<A>,
+    communities: Items<u32, A>,
+    cluster_list: Items<u32, A>,
+    extended_communities: Items<u64, A>,
+}
+
+/// The lists of that path, whose AS4_PATH is old or isn't.
+fn read_lists<A: Allocator + Copy>(
+    alloc: A,
+    side: Side,
+    first: &FirstAttrs<'_>,
+    is_old: bool,
+) -> Result<Lists<A>, AllocError>
+    ensures { IfOk result (λ lists. (lists.as_path ≡ merged_path is_old
+        (option_map_or (path_in (as_width side))
+        (value_by_type side (first_at first.now) types.AsPath) [])
+        (option_map (path_in 4) (value_by_type side (first_at first.now) types.As4Path)))
+        × (lists.communities
+        ≡ items_from 4 (value_by_type side (first_at first.now) types.Communities))
+        × (lists.cluster_list
+        ≡ items_from 4 (value_by_type side (first_at first.now) types.ClusterList))
+        × (lists.extended_communities
+        ≡ items_from 8 (value_by_type side (first_at first.now) types.ExtendedCommunities))) }
+{
+    Ok(Lists {
+        as_path: read_merged_path(alloc, side, first, is_old)?,
+        communities: read_items(alloc, side, first, AttrType::Communities)?,
         cluster_list: read_items(alloc, side, first, AttrType::ClusterList)?,
         extended_communities: read_long_items(alloc, side, first)?,
     })

@@ -11,7 +11,7 @@ use bgp_wire::{put_u8, put_u32, put_u64};
 use std::alloc::Allocator;
 
 /// The value of an attribute.
-#[derive(Clone, Copy)]
+#[derive(Drop)]
 pub(crate) enum AttrValue<'a, A: Allocator> {
     /// Nothing: the attribute says by being there.
     Empty,

@@ -2,7 +2,7 @@ use Rattle.std.proofs.Common.{◌≤◌, ◌+◌, length, subst, sym, vec_len, v
 use Rattle.bgp_path.specs.AsPath.{PathSegment}
 use Rattle.bgp_attr.specs.Segments.{segment_octets}
 use Rattle.bgp_attr.specs.Values.{wire_segment}
-use Rattle.bgp_attr.proofs.Filled.{filled_all, filled_room}
+use Rattle.bgp_attr.proofs.Filled.{filled_all, filled_room, filled_with}
 use Rattle.bgp_attr.proofs.segments.put_as_path.Goals as goal
 
 pub put_segment-requires : goal.put_segment-requires
@@ -19,3 +19,8 @@ returns-clause-items g c =
 pub returns-clause-len : goal.returns-clause-len
 returns-clause-len g c =
     (filled_all (λ s. segment_octets (wire_segment c.args.as4 s)) c.args.segments.now c.loop-segment.segment-index _ _ _ _ _ _ c.loop-segment.auto.segment-index-end c.loop-segment-test.false c.loop-segment.invariant).len
+
+pub loop-segment-preserved : goal.loop-segment-preserved
+loop-segment-preserved g c =
+    filled_with (λ s. segment_octets (wire_segment c.args.as4 s)) c.args.segments.now c.loop-segment.segment-index _ _ _ _ _ _ _ _ _ _ _ c.loop-segment-test.true c.segment-item.is
+    c.loop-segment.invariant c.put_segment.ensures.items c.put_segment.ensures.len c.put_segment.ensures.capacity
