@@ -61,3 +61,70 @@ loop-progress-smaller g c =
     let (octets, given, is) = rw c.in-Ok-SkippedSession.field-0-is at c.in-Ok-SkippedSession.ensures.ok in
     let counted = g.met.S.Source.counted _ _ octets given in
     let below = g.met.S.Source.below c.read_record.new.source in omega (arith, is.2)
+
+pub loop-progress-smaller-in-Ok-Skipped : goal.loop-progress-smaller-in-Ok-Skipped
+loop-progress-smaller-in-Ok-Skipped g c =
+    let (octets, given, is) = rw c.in-Ok-Skipped.field-0-is at c.in-Ok-Skipped.ensures.ok in
+    let counted = g.met.S.Source.counted _ _ octets given in
+    let below = g.met.S.Source.below c.read_record.new.source in omega (arith, is.1)
+
+pub skip-requires : goal.skip-requires
+skip-requires g c =
+    let (octets, given, is) = rw c.in-Ok-Skipped.field-0-is at c.in-Ok-Skipped.ensures.ok in
+    let counted = g.met.S.Source.counted _ _ octets given in
+    let below = g.met.S.Source.below c.read_record.new.source in omega (arith, is.1)
+
+pub skip_session-requires : goal.skip_session-requires
+skip_session-requires g c =
+    let (octets, given, is) = rw c.in-Ok-SkippedSession.field-0-is at c.in-Ok-SkippedSession.ensures.ok in
+    let counted = g.met.S.Source.counted _ _ octets given in
+    let below = g.met.S.Source.below c.read_record.new.source in omega (arith, is.2)
+
+pub answer-requires : goal.answer-requires
+answer-requires g c =
+    let (octets, given, is) = rw c.in-Ok-OfSession.field-0-is at c.in-Ok-OfSession.ensures.ok in
+    let counted = g.met.S.Source.counted _ _ octets given in
+    let below = g.met.S.Source.below c.read_record.new.source in omega (arith, is.1.count)
+
+pub overflow_add-found : goal.overflow_add-found
+overflow_add-found g c =
+    let (octets, given, is) = rw c.in-Ok-OfSession.field-0-is at c.in-Ok-OfSession.ensures.ok in
+    let counted = g.met.S.Source.counted _ _ octets given in
+    let below = g.met.S.Source.below c.read_record.new.source in omega (arith, is.1.count)
+
+pub returns-in-Ok-End-clause-one_source : goal.returns-in-Ok-End-clause-one_source
+returns-in-Ok-End-clause-one_source g c =
+    let (octets, given, is) = rw c.in-Ok-End.field-0-is at c.in-Ok-End.ensures.ok in
+    let counted = g.met.S.Source.counted _ _ octets given in
+    let passed = ap (λ (s : ReaderState). s.passed) c.end.ensures in omega arith
+
+pub returns-in-Ok-Refused-clause-one_source : goal.returns-in-Ok-Refused-clause-one_source
+returns-in-Ok-Refused-clause-one_source g c =
+    let (octets, given, is) = rw c.in-Ok-Refused.field-0-is at c.in-Ok-Refused.ensures.ok in
+    let counted = g.met.S.Source.counted _ _ octets given in
+    let passed = ap (λ (s : ReaderState). s.passed) c.refuse.ensures.state in omega arith
+
+pub returns-in-Ok-OfSession-clause-one_source : goal.returns-in-Ok-OfSession-clause-one_source
+returns-in-Ok-OfSession-clause-one_source g c =
+    let (octets, given, is) = rw c.in-Ok-OfSession.field-0-is at c.in-Ok-OfSession.ensures.ok in
+    let counted = g.met.S.Source.counted _ _ octets given in
+    let passed = ap (λ (s : ReaderState). s.passed) c.answer.ensures in omega (arith, is.1.count)
+
+pub returns-in-Err-clause-one_source : goal.returns-in-Err-clause-one_source
+returns-in-Err-clause-one_source g c =
+    let (taken, given, begun) = c.in-Err.ensures.err in
+    let counted = g.met.S.Source.counted _ _ taken given in
+    let passed = ap (λ (s : ReaderState). s.passed) c.refuse-in-Err.ensures.state in omega arith
+
+pub returns-in-Ok-End-clause-failures : goal.returns-in-Ok-End-clause-failures
+returns-in-Ok-End-clause-failures g c =
+    let calm = c.in-Ok-End.ensures.failures in omega (arith, c.loop-progress.invariant.calm)
+
+pub returns-in-Ok-OfSession-clause-failures : goal.returns-in-Ok-OfSession-clause-failures
+returns-in-Ok-OfSession-clause-failures g c =
+    let calm = c.in-Ok-OfSession.ensures.failures in omega (arith, c.loop-progress.invariant.calm)
+
+pub returns-in-Err-clause-failures : goal.returns-in-Err-clause-failures
+returns-in-Err-clause-failures g c =
+    let kind = ap (λ (f : CaptureFault). device_count f.kind) c.refuse-in-Err.ensures.fault in
+    let once = c.in-Err.ensures.failures in omega (arith, c.loop-progress.invariant.calm)
