@@ -15,6 +15,7 @@ use bgp_machine::{After, Head, HoldTimer, Routes, Step, Wants};
 use bgp_open::{Config, ConfigParts, Families, Link, negotiate, read_open};
 use bgp_prefix::{Address, Session};
 use bgp_wire::vectors::OPEN_B;
+use std::process::Abort;
 use std::test::Fail;
 
 /// What router A is configured to do: AS 65001 at 192.0.2.1, with AS 65002 at 192.0.2.2, Hold Time
@@ -59,21 +60,46 @@ const LARGE: HoldTimer = HoldTimer {
     span: 240,
 };
 
+/// A state as a table names it: the link is what routers A and B settle.
+#[derive(Clone, Copy)]
+enum Place {
+    Idle,
+    Connect,
+    ConnectDelayed,
+    Active,
+    ActiveDelayed,
+    Sent(HoldTimer),
+    Confirm(HoldTimer),
+    Up(HoldTimer),
+}
+
+/// Its head.
+fn head_of(place: Place, link: Link) -> Head {
+    match place {
+        Place::Idle => Head::Idle,
+        Place::Connect => Head::Connect(false),
+        Place::ConnectDelayed => Head::Connect(true),
+        Place::Active => Head::Active(false),
+        Place::ActiveDelayed => Head::Active(true),
+        Place::Sent(timer) => Head::OpenSent(timer),
+        Place::Confirm(timer) => Head::OpenConfirm(link, timer),
+        Place::Up(timer) => Head::Established(link, timer),
+    }
+}
+
 /// Router A.
-fn router_a(delay_open: bool) -> Result<Config, Fail> {
+fn router_a(rt: &impl Abort, delay_open: bool) -> Config {
     let parts = ConfigParts {
         delay_open,
         ..PARTS_A
     };
-    Ok(Config::new(parts).ok_or("no configuration")?)
+    Config::new(parts).expect(rt, "no configuration")
 }
 
 /// What routers A and B settle.
-fn link_of_a_and_b(config: &Config) -> Result<Link, Fail> {
-    let Ok(open) = read_open(&OPEN_B) else {
-        return Err("no OPEN".into());
-    };
-    Ok(negotiate(config, &open))
+fn link_of_a_and_b(rt: &impl Abort) -> Link {
+    let config = router_a(rt, false);
+    negotiate(&config, &read_open(&OPEN_B).ok().expect(rt, "no OPEN"))
 }
 
 /// The step that sends this and ends so.
@@ -96,7 +122,11 @@ fn leaves(from: Head, to: Head) -> After {
     }
 }
 
-/// Whether the step is listed.
-fn lists(steps: &[Step], step: Step) -> bool {
-    steps.iter().any(|listed| *listed == step)
+/// The step of a row of this state, taken from another one: a row that stays stays there.
+fn step_from(other: Head, here: Head, sends: Wants, to: Head) -> Step {
+    let mut after = leaves(here, to);
+    if to == here {
+        after.head = other;
+    }
+    ending(other, sends, after)
 }

@@ -4,64 +4,16 @@ use super::*;
 use HiddenRow::*;
 use bgp_machine::{Fsm, HiddenRow, Want, hidden_step, hidden_steps};
 
-/// Where a row is asked: a state, and a second.
-#[derive(Clone, Copy)]
-struct Place {
-    head: Head,
-    t: u32,
-}
+/// A row whose guard is the state, or a flag of it: the state where it holds, what it sends, where
+/// it ends, and a state where it doesn't hold, all at 120.
+type InState = (HiddenRow, Place, Wants, Place, Place);
 
-/// A row, where it holds, what it sends and where it ends; and where its guard fails by one, and
-/// whether another row has its effect there.
-#[derive(Clone, Copy)]
-struct Case {
-    row: HiddenRow,
-    holds: Place,
-    sends: Wants,
-    to: Head,
-    fails: Place,
-    is_anothers: bool,
-}
-
-fn at(head: Head, t: u32) -> Place {
-    Place { head, t }
-}
-
-/// A row whose guard is the state, or a flag of it.
-fn in_state(row: HiddenRow, head: Head, sends: Wants, to: Head, elsewhere: Head) -> Case {
-    Case {
-        row,
-        holds: at(head, 120),
-        sends,
-        to,
-        fails: at(elsewhere, 120),
-        is_anothers: false,
-    }
-}
-
-/// The same, where another row has the same effect elsewhere: a delay that is off can't expire, but
-/// the connection may be up; and a connection that fails does as a stop does.
-fn as_another(row: HiddenRow, head: Head, sends: Wants, to: Head, elsewhere: Head) -> Case {
-    Case {
-        is_anothers: true,
-        ..in_state(row, head, sends, to, elsewhere)
-    }
-}
-
-/// A row whose guard is the second.
-fn in_time(row: HiddenRow, head: Head, sends: Wants, to: Head, t: u32) -> Case {
-    Case {
-        row,
-        holds: at(head, t),
-        sends,
-        to,
-        fails: at(head, t.saturating_sub(1)),
-        is_anothers: false,
-    }
-}
+/// A row whose guard is the second: the state, what it sends, where it ends, and the first second
+/// at which it holds.
+type InTime = (HiddenRow, Place, Wants, Place, u32);
 
 /// The HoldTimer with which the peer's OPEN is waited for at 120.
-const WAITING: Head = Head::OpenSent(HoldTimer {
+const WAITING: Place = Place::Sent(HoldTimer {
     since: 120,
     span: 240,
 });
@@ -78,137 +30,137 @@ const ALIVE: Wants = Wants::One(Want::KeepAlive);
 
 const UPDATE: Wants = Wants::One(Want::CleanUpdate);
 
-const CONNECT: Head = Head::Connect(false);
+const IDLE: Place = Place::Idle;
 
-const CONNECT_DELAYED: Head = Head::Connect(true);
+const CONNECT: Place = Place::Connect;
 
-const ACTIVE: Head = Head::Active(false);
+const CONNECT_DELAYED: Place = Place::ConnectDelayed;
 
-const ACTIVE_DELAYED: Head = Head::Active(true);
+const ACTIVE: Place = Place::Active;
 
-const SENT: Head = Head::OpenSent(LARGE);
+const ACTIVE_DELAYED: Place = Place::ActiveDelayed;
 
-/// The rows up to OpenSent but the notes, and those that show no record.
-fn rows_before_an_open() -> [Case; 13] {
-    [
-        in_state(Starts, Head::Idle, NOTHING, CONNECT, SENT),
-        in_state(Listens, Head::Idle, NOTHING, ACTIVE, CONNECT),
-        in_state(Stops, CONNECT, NOTHING, Head::Idle, SENT),
-        as_another(DelayExpires, CONNECT_DELAYED, OPEN, WAITING, CONNECT),
-        in_state(ConnectionOpens, CONNECT, OPEN, WAITING, Head::Idle),
-        in_state(ConnectionFails, CONNECT_DELAYED, NOTHING, ACTIVE, CONNECT),
-        as_another(
-            ConnectionFails,
-            CONNECT,
-            NOTHING,
-            Head::Idle,
-            CONNECT_DELAYED,
-        ),
-        in_state(Stops, ACTIVE, NOTHING, Head::Idle, SENT),
-        in_state(Ceases, ACTIVE_DELAYED, CEASE, Head::Idle, ACTIVE),
-        in_state(RetryExpires, ACTIVE, NOTHING, CONNECT, SENT),
-        as_another(DelayExpires, ACTIVE_DELAYED, OPEN, WAITING, ACTIVE),
-        in_state(ConnectionOpens, ACTIVE, OPEN, WAITING, Head::Idle),
-        in_state(ConnectionFails, ACTIVE, NOTHING, Head::Idle, SENT),
-    ]
+const SENT: Place = Place::Sent(LARGE);
+
+const SHORT_SENT: Place = Place::Sent(SHORT);
+
+const STOPPED_SENT: Place = Place::Sent(STOPPED);
+
+const CONFIRM: Place = Place::Confirm(TIMER);
+
+const SHORT_CONFIRM: Place = Place::Confirm(SHORT);
+
+const STOPPED_CONFIRM: Place = Place::Confirm(STOPPED);
+
+const UP: Place = Place::Up(TIMER);
+
+const SHORT_UP: Place = Place::Up(SHORT);
+
+const STOPPED_UP: Place = Place::Up(STOPPED);
+
+/// The rows but the notes, and those that show no record, whose guard is the state. A HoldTimer of
+/// one second has run out at 120, and one of none never does.
+static ROWS: [InState; 22] = [
+    (Starts, IDLE, NOTHING, CONNECT, SENT),
+    (Listens, IDLE, NOTHING, ACTIVE, CONNECT),
+    (Stops, CONNECT, NOTHING, IDLE, SENT),
+    (ConnectionOpens, CONNECT, OPEN, WAITING, IDLE),
+    (ConnectionFails, CONNECT_DELAYED, NOTHING, ACTIVE, CONNECT),
+    (Stops, ACTIVE, NOTHING, IDLE, SENT),
+    (Ceases, ACTIVE_DELAYED, CEASE, IDLE, ACTIVE),
+    (RetryExpires, ACTIVE, NOTHING, CONNECT, SENT),
+    (ConnectionOpens, ACTIVE, OPEN, WAITING, IDLE),
+    (ConnectionFails, ACTIVE, NOTHING, IDLE, SENT),
+    (Ceases, SENT, CEASE, IDLE, CONNECT),
+    (HoldExpires, SHORT_SENT, EXPIRED, IDLE, STOPPED_SENT),
+    (ConnectionFails, SENT, NOTHING, ACTIVE, CONFIRM),
+    (Ceases, CONFIRM, CEASE, IDLE, ACTIVE),
+    (HoldExpires, SHORT_CONFIRM, EXPIRED, IDLE, STOPPED_CONFIRM),
+    (
+        KeepaliveExpires,
+        SHORT_CONFIRM,
+        ALIVE,
+        SHORT_CONFIRM,
+        STOPPED_CONFIRM,
+    ),
+    (ConnectionFails, CONFIRM, NOTHING, IDLE, SENT),
+    (Ceases, UP, CEASE, IDLE, CONNECT_DELAYED),
+    (HoldExpires, SHORT_UP, EXPIRED, IDLE, STOPPED_UP),
+    (KeepaliveExpires, SHORT_UP, ALIVE, SHORT_UP, STOPPED_UP),
+    (ConnectionFails, UP, NOTHING, IDLE, SENT),
+    (Announces, UP, UPDATE, UP, CONFIRM),
+];
+
+/// Rows that don't hold where another row has the same effect: a delay that is off can't expire,
+/// but the connection may be up; and a connection that fails does as a stop does.
+static AS_ANOTHER: [InState; 3] = [
+    (DelayExpires, CONNECT_DELAYED, OPEN, WAITING, CONNECT),
+    (ConnectionFails, CONNECT, NOTHING, IDLE, CONNECT_DELAYED),
+    (DelayExpires, ACTIVE_DELAYED, OPEN, WAITING, ACTIVE),
+];
+
+/// The rows whose guard is the second.
+static IN_TIME: [InTime; 3] = [
+    (HoldExpires, SENT, EXPIRED, IDLE, 340),
+    (HoldExpires, CONFIRM, EXPIRED, IDLE, 192),
+    (HoldExpires, UP, EXPIRED, IDLE, 192),
+];
+
+/// Whether the state lists the step.
+fn is_listed(config: &Config, head: Head, t: u32, step: Step) -> bool {
+    hidden_steps(config, head, t).as_slice().contains(&step)
 }
 
-/// The rows from OpenSent on but the notes. A HoldTimer of one second has run out at 120, and one
-/// of none never does.
-fn rows_after_an_open(link: Link) -> [Case; 15] {
-    let confirm = Head::OpenConfirm(link, TIMER);
-    let up = Head::Established(link, TIMER);
-    let short_sent = Head::OpenSent(SHORT);
-    let short_confirm = Head::OpenConfirm(link, SHORT);
-    let short_up = Head::Established(link, SHORT);
-    let stopped_sent = Head::OpenSent(STOPPED);
-    let stopped_confirm = Head::OpenConfirm(link, STOPPED);
-    let stopped_up = Head::Established(link, STOPPED);
-    [
-        in_state(Ceases, SENT, CEASE, Head::Idle, CONNECT),
-        in_time(HoldExpires, SENT, EXPIRED, Head::Idle, 340),
-        in_state(HoldExpires, short_sent, EXPIRED, Head::Idle, stopped_sent),
-        in_state(ConnectionFails, SENT, NOTHING, ACTIVE, confirm),
-        in_state(Ceases, confirm, CEASE, Head::Idle, ACTIVE),
-        in_time(HoldExpires, confirm, EXPIRED, Head::Idle, 192),
-        in_state(
-            HoldExpires,
-            short_confirm,
-            EXPIRED,
-            Head::Idle,
-            stopped_confirm,
-        ),
-        in_state(
-            KeepaliveExpires,
-            short_confirm,
-            ALIVE,
-            short_confirm,
-            stopped_confirm,
-        ),
-        in_state(ConnectionFails, confirm, NOTHING, Head::Idle, SENT),
-        in_state(Ceases, up, CEASE, Head::Idle, CONNECT_DELAYED),
-        in_time(HoldExpires, up, EXPIRED, Head::Idle, 192),
-        in_state(HoldExpires, short_up, EXPIRED, Head::Idle, stopped_up),
-        in_state(KeepaliveExpires, short_up, ALIVE, short_up, stopped_up),
-        in_state(ConnectionFails, up, NOTHING, Head::Idle, SENT),
-        in_state(Announces, up, UPDATE, up, confirm),
-    ]
+/// Whether the row itself makes the step, and the state lists it.
+fn is_made(config: &Config, row: HiddenRow, head: Head, t: u32, step: Step) -> bool {
+    hidden_step(config, head, t, row) == Some(step) && is_listed(config, head, t, step)
 }
 
-fn is_listed(config: &Config, place: Place, step: Step) -> bool {
-    lists(hidden_steps(config, place.head, place.t).as_slice(), step)
+/// Whether the row has its effect in its state; and not in the other one, where its effect is
+/// another row's or none's.
+fn is_right(config: &Config, link: Link, case: &InState, is_anothers: bool) -> bool {
+    let (row, here, sends, to, elsewhere) = *case;
+    let (here, to, other) = (
+        head_of(here, link),
+        head_of(to, link),
+        head_of(elsewhere, link),
+    );
+    let step = step_from(other, here, sends, to);
+    is_made(config, row, here, 120, step_from(here, here, sends, to))
+        && hidden_step(config, other, 120, row) != Some(step)
+        && is_listed(config, other, 120, step) == is_anothers
 }
 
-/// Whether the row itself makes the step.
-fn is_made(config: &Config, row: HiddenRow, place: Place, step: Step) -> bool {
-    hidden_step(config, place.head, place.t, row) == Some(step)
+/// Whether the row has its effect from its second on, and not a second before.
+fn is_right_in_time(config: &Config, link: Link, case: &InTime) -> bool {
+    let (row, here, sends, to, t) = *case;
+    let (here, to) = (head_of(here, link), head_of(to, link));
+    let step = step_from(here, here, sends, to);
+    let before = t.saturating_sub(1);
+    is_made(config, row, here, t, step)
+        && hidden_step(config, here, before, row) != Some(step)
+        && !is_listed(config, here, before, step)
 }
 
-/// The row's step, taken from a place: one that stays stays there.
-fn step_from(case: &Case, place: Place) -> Step {
-    let mut after = leaves(case.holds.head, case.to);
-    if case.to == case.holds.head {
-        after.head = place.head;
+/// Each row is right.
+fn are_right(rt: &impl Abort, config: &Config, link: Link) {
+    for case in &ROWS {
+        assert!(rt; is_right(config, link, case, false), "{:?}", case.0);
     }
-    ending(place.head, case.sends, after)
+    for case in &AS_ANOTHER {
+        assert!(rt; is_right(config, link, case, true), "{:?}", case.0);
+    }
+    for case in &IN_TIME {
+        assert!(rt; is_right_in_time(config, link, case), "{:?}", case.0);
+    }
 }
 
 #[test]
-fn each_row_is_listed_where_it_holds_and_nowhere_else(rt: HostRuntime) -> Result<(), Fail> {
-    let link = link_of_a_and_b(&router_a(false)?)?;
-    let before = rows_before_an_open();
-    let after = rows_after_an_open(link);
+fn each_row_is_listed_where_it_holds_and_nowhere_else(rt: HostRuntime) {
+    let link = link_of_a_and_b(&rt);
     // No row that shows a record looks at whether the OPEN may be delayed.
-    for delay_open in [false, true] {
-        let config = router_a(delay_open)?;
-        for case in before.iter().chain(after.iter()) {
-            let row = case.row;
-            let (holds, fails) = (case.holds, case.fails);
-            let step = step_from(case, holds);
-            assert!(rt;
-                is_made(&config, row, holds, step),
-                "{row:?} at {:?}",
-                holds.head
-            );
-            assert!(rt;
-                is_listed(&config, holds, step),
-                "{row:?} at {:?}",
-                holds.head
-            );
-            let step = step_from(case, fails);
-            assert!(rt;
-                !is_made(&config, row, fails, step),
-                "{row:?} at {:?}",
-                fails.head
-            );
-            assert!(rt;
-                is_listed(&config, fails, step) == case.is_anothers,
-                "{row:?} at {:?}",
-                fails.head
-            );
-        }
-    }
-    Ok(())
+    are_right(&rt, &router_a(&rt, false), link);
+    are_right(&rt, &router_a(&rt, true), link);
 }
 
 /// A note of a state.
@@ -223,52 +175,49 @@ fn note(head: Head, fsm: Fsm) -> Step {
     }
 }
 
-#[test]
-fn a_note_is_of_the_state_as_it_is(rt: HostRuntime) -> Result<(), Fail> {
-    let config = router_a(true)?;
-    let link = link_of_a_and_b(&config)?;
-    let confirm = Head::OpenConfirm(link, TIMER);
-    let rows = [
-        (Head::Idle, Fsm::Idle, CONNECT),
-        (CONNECT, Fsm::Connect, CONNECT_DELAYED),
-        (CONNECT_DELAYED, Fsm::Connect, CONNECT),
-        (ACTIVE, Fsm::Active, ACTIVE_DELAYED),
-        (ACTIVE_DELAYED, Fsm::Active, ACTIVE),
-        (SENT, Fsm::OpenSent, WAITING),
-        (confirm, Fsm::OpenConfirm, SENT),
-        (Head::Established(link, TIMER), Fsm::Established, confirm),
-    ];
-    for (head, fsm, other) in rows {
-        assert!(rt;
-            is_listed(&config, at(head, 120), note(head, fsm)),
-            "{Notes:?} at {head:?}"
-        );
-        assert!(rt;
-            !is_listed(&config, at(other, 120), note(head, fsm)),
-            "{Notes:?} at {other:?}"
-        );
-    }
-    Ok(())
-}
+/// States, their names, and other ones.
+static NOTES: [(Place, Fsm, Place); 8] = [
+    (IDLE, Fsm::Idle, CONNECT),
+    (CONNECT, Fsm::Connect, CONNECT_DELAYED),
+    (CONNECT_DELAYED, Fsm::Connect, CONNECT),
+    (ACTIVE, Fsm::Active, ACTIVE_DELAYED),
+    (ACTIVE_DELAYED, Fsm::Active, ACTIVE),
+    (SENT, Fsm::OpenSent, WAITING),
+    (CONFIRM, Fsm::OpenConfirm, SENT),
+    (UP, Fsm::Established, CONFIRM),
+];
 
 #[test]
-fn each_state_has_as_many_steps_as_its_rows_say(rt: HostRuntime) -> Result<(), Fail> {
-    let config = router_a(false)?;
-    let delayed = router_a(true)?;
-    let link = link_of_a_and_b(&config)?;
-    let up = Head::Established(link, TIMER);
-    let stopped = Head::Established(link, STOPPED);
-    let rows = [
-        (&config, Head::Idle, 100, 3),
-        (&config, CONNECT, 100, 3),
-        (&delayed, ACTIVE_DELAYED, 100, 5),
-        (&config, up, 191, 5),
-        (&config, up, 192, 6),
-        (&config, stopped, 192, 4),
-    ];
-    for (config, head, second, count) in rows {
-        let steps = hidden_steps(config, head, second);
-        assert_eq!(rt; steps.len(), count, "{head:?} at {second}");
+fn a_note_is_of_the_state_as_it_is(rt: HostRuntime) {
+    let config = router_a(&rt, true);
+    let link = link_of_a_and_b(&rt);
+    for (here, fsm, other) in &NOTES {
+        let (here, other) = (head_of(*here, link), head_of(*other, link));
+        let step = note(here, *fsm);
+        let is_its_own = is_listed(&config, here, 120, step);
+        assert!(rt;
+            is_its_own && !is_listed(&config, other, 120, step),
+            "{here:?}"
+        );
     }
-    Ok(())
+}
+
+/// Whether the OPEN may be delayed, a state, a second, and how many steps there are.
+static COUNTS: [(bool, Place, u32, usize); 6] = [
+    (false, IDLE, 100, 3),
+    (false, CONNECT, 100, 3),
+    (true, ACTIVE_DELAYED, 100, 5),
+    (false, UP, 191, 5),
+    (false, UP, 192, 6),
+    (false, STOPPED_UP, 192, 4),
+];
+
+#[test]
+fn each_state_has_as_many_steps_as_its_rows_say(rt: HostRuntime) {
+    let link = link_of_a_and_b(&rt);
+    for (may, place, second, count) in &COUNTS {
+        let head = head_of(*place, link);
+        let steps = hidden_steps(&router_a(&rt, *may), head, *second);
+        assert!(rt; steps.len() == *count, "{head:?} at {second}");
+    }
 }

@@ -12,72 +12,111 @@ use bgp_wire::vectors::{
 use bgp_wire::{HeaderVerdict, Limit, check_header};
 
 /// A NOTIFICATION without data.
-fn notification(code: u8, subcode: u8) -> [u8; 21] {
-    let mut octets = ADMINISTRATIVE_SHUTDOWN;
-    octets[19] = code;
-    octets[20] = subcode;
-    octets
+macro_rules! notification {
+    ($code:literal, $subcode:literal) => {
+        [
+            255, 255, 255, 255, 255, 255, 255, 255, 255, 255, 255, 255, 255, 255, 255, 255, 0, 21,
+            3, $code, $subcode,
+        ]
+    };
 }
 
-/// The faults of a KEEPALIVE of 18 octets.
-fn bad_length() -> Result<FaultSet, Fail> {
-    let mut header = [0u8; 19];
-    header.copy_from_slice(&KEEPALIVE_OF_18);
-    match check_header(&header, Limit::Plain) {
-        HeaderVerdict::Faulty(faults) => Ok(FaultSet::Header(faults)),
-        HeaderVerdict::Whole(_, _) => Err("no fault".into()),
-    }
+/// A message that isn't expected in OpenSent.
+const SENT: Want = Want::MachineError(Unexpected::InOpenSent);
+
+/// An OPEN's Unacceptable Hold Time.
+const OPEN: Want = Want::Faults(FaultSet::Open(OpenSubcodes {
+    hold: true,
+    ..OpenSubcodes::NONE
+}));
+
+/// An UPDATE's Invalid ORIGIN Attribute.
+const UPDATE: Want = Want::Faults(FaultSet::Update(Subcodes {
+    invalid_origin: true,
+    ..Subcodes::NONE
+}));
+
+/// A want, a message that meets it, and one that doesn't.
+static ROWS: [(Want, &'static [u8], &'static [u8]); 9] = [
+    (Want::OwnOpen, &OPEN_A, &OPEN_B),
+    (Want::KeepAlive, &KEEPALIVE, &KEEPALIVE_OF_18),
+    (Want::CleanUpdate, &EMPTY_UPDATE, &KEEPALIVE),
+    (Want::Cease, &ADMINISTRATIVE_SHUTDOWN, &HOLD_TIMER_EXPIRED),
+    (Want::HoldExpired, &HOLD_TIMER_EXPIRED, &notification!(4, 1)),
+    (SENT, &notification!(5, 1), &notification!(5, 2)),
+    (SENT, &notification!(5, 0), &notification!(4, 1)),
+    (OPEN, &notification!(2, 6), &notification!(2, 7)),
+    (UPDATE, &INVALID_ORIGIN, &OPTIONAL_ATTRIBUTE_ERROR),
+];
+
+/// Whether the first message meets the want, and the other doesn't.
+fn is_right(config: &Config, link: Link, want: Want, met: &[u8], not: &[u8]) -> bool {
+    meets(config, Some(link), want, met) && !meets(config, Some(link), want, not)
 }
 
 #[test]
-fn a_want_is_met_by_its_own_messages_alone(rt: HostRuntime) -> Result<(), Fail> {
-    let config = router_a(false)?;
-    let link = Some(link_of_a_and_b(&config)?);
-    let open = Want::Faults(FaultSet::Open(OpenSubcodes {
-        hold: true,
-        ..OpenSubcodes::NONE
-    }));
-    let update = Want::Faults(FaultSet::Update(Subcodes {
-        invalid_origin: true,
-        ..Subcodes::NONE
-    }));
-    let header = Want::Faults(bad_length()?);
-    let sent = Want::MachineError(Unexpected::InOpenSent);
-    let rows = [
-        (Want::OwnOpen, OPEN_A.as_slice(), OPEN_B.as_slice()),
-        (Want::KeepAlive, &KEEPALIVE, &KEEPALIVE_OF_18),
-        (Want::CleanUpdate, &EMPTY_UPDATE, &KEEPALIVE),
-        (Want::Cease, &ADMINISTRATIVE_SHUTDOWN, &HOLD_TIMER_EXPIRED),
-        (Want::HoldExpired, &HOLD_TIMER_EXPIRED, &notification(4, 1)),
-        (sent, &notification(5, 1), &notification(5, 2)),
-        (sent, &notification(5, 0), &notification(4, 1)),
-        (header, &BAD_LENGTH_18, &BAD_LENGTH_WITHOUT_DATA),
-        (open, &notification(2, 6), &notification(2, 7)),
-        (update, &INVALID_ORIGIN, &OPTIONAL_ATTRIBUTE_ERROR),
-    ];
-    for (want, met, not) in rows {
-        assert!(rt; meets(&config, link, want, met), "{want:?}");
-        assert!(rt; !meets(&config, link, want, not), "{want:?}");
+fn a_want_is_met_by_its_own_messages_alone(rt: HostRuntime) {
+    let config = router_a(&rt, false);
+    let link = link_of_a_and_b(&rt);
+    for (want, met, not) in &ROWS {
+        assert!(rt; is_right(&config, link, *want, met, not), "{want:?}");
     }
     // Without a link no UPDATE is clean.
     assert!(rt; !meets(&config, None, Want::CleanUpdate, &EMPTY_UPDATE));
-    Ok(())
 }
 
+// The faults are those of a KEEPALIVE of 18 octets.
 #[test]
-fn octets_behind_a_message_are_none_of_it(rt: HostRuntime) -> Result<(), Fail> {
-    let config = router_a(false)?;
-    let mut behind = [0u8; 20];
-    behind[..19].copy_from_slice(&KEEPALIVE);
-    // A KEEPALIVE that says the octets behind it are its own (RFC 4271, 4.4).
-    let mut long = [0u8; 25];
-    long[..19].copy_from_slice(&KEEPALIVE);
-    long[17] = 25; // Length
-    assert!(rt; meets(&config, None, Want::KeepAlive, &KEEPALIVE));
-    assert!(rt; !meets(&config, None, Want::KeepAlive, &behind));
-    assert!(rt; !meets(&config, None, Want::KeepAlive, &long));
-    assert!(rt; !meets(&config, None, Want::KeepAlive, &ANNOUNCES_10));
-    Ok(())
+fn header_faults_are_met_with_their_data(rt: HostRuntime) {
+    let config = router_a(&rt, false);
+    let link = link_of_a_and_b(&rt);
+    let is_met = match check_header(&KEEPALIVE_OF_18, Limit::Plain) {
+        HeaderVerdict::Faulty(faults) => {
+            let want = Want::Faults(FaultSet::Header(faults));
+            is_right(
+                &config,
+                link,
+                want,
+                &BAD_LENGTH_18,
+                &BAD_LENGTH_WITHOUT_DATA,
+            )
+        }
+        HeaderVerdict::Whole(_, _) => false,
+    };
+    assert!(rt; is_met);
+}
+
+/// A KEEPALIVE, and an octet behind it.
+const BEHIND: [u8; 20] = [
+    255, 255, 255, 255, 255, 255, 255, 255, 255, 255, 255, 255, 255, 255, 255, 255, // marker
+    0, 19, // Length
+    4, // Type: KEEPALIVE
+    0, // behind it
+];
+
+/// A KEEPALIVE that says the octets behind it are its own (RFC 4271, 4.4).
+const LONG: [u8; 25] = [
+    255, 255, 255, 255, 255, 255, 255, 255, 255, 255, 255, 255, 255, 255, 255, 255, // marker
+    0, 25, // Length
+    4, // Type: KEEPALIVE
+    0, 0, 0, 0, 0, 0, // behind it
+];
+
+/// Messages, and whether they are a KEEPALIVE.
+static KEEPALIVES: [(&'static [u8], bool); 4] = [
+    (&KEEPALIVE, true),
+    (&BEHIND, false),
+    (&LONG, false),
+    (&ANNOUNCES_10, false),
+];
+
+#[test]
+fn octets_behind_a_message_are_none_of_it(rt: HostRuntime) {
+    let config = router_a(&rt, false);
+    for (message, is_met) in &KEEPALIVES {
+        let is_right = meets(&config, None, Want::KeepAlive, message) == *is_met;
+        assert!(rt; is_right, "{message:?}");
+    }
 }
 
 /// An UPDATE whose three fields are empty (RFC 4724, 2).

@@ -12,47 +12,53 @@ const ACTIVE: Head = Head::Active(false);
 
 const ACTIVE_DELAYED: Head = Head::Active(true);
 
-/// A row, whether the OPEN may be delayed, from where to where it leads then; and where its guard
-/// fails by a state or a flag.
-#[derive(Clone, Copy)]
-struct Case {
-    row: HiddenRow,
-    holds: (bool, Head, Head),
-    fails: (bool, Head, Head),
-}
+/// Whether the OPEN may be delayed, and from where to where silence leads.
+type Way = (bool, Head, Head);
 
-const ROWS: [Case; 3] = [
-    Case {
-        row: RetryExpires,
-        holds: (false, CONNECT_DELAYED, CONNECT),
-        fails: (false, ACTIVE_DELAYED, ACTIVE),
-    },
-    Case {
-        row: DelayBegins,
-        holds: (true, CONNECT, CONNECT_DELAYED),
-        fails: (false, CONNECT, CONNECT_DELAYED),
-    },
-    Case {
-        row: DelayBegins,
-        holds: (true, ACTIVE, ACTIVE_DELAYED),
-        fails: (false, ACTIVE, ACTIVE_DELAYED),
-    },
+/// A row, where it leads; and where it doesn't, since its guard fails by a state or a flag.
+static ROWS: [(HiddenRow, Way, Way); 3] = [
+    (
+        RetryExpires,
+        (false, CONNECT_DELAYED, CONNECT),
+        (false, ACTIVE_DELAYED, ACTIVE),
+    ),
+    (
+        DelayBegins,
+        (true, CONNECT, CONNECT_DELAYED),
+        (false, CONNECT, CONNECT_DELAYED),
+    ),
+    (
+        DelayBegins,
+        (true, ACTIVE, ACTIVE_DELAYED),
+        (false, ACTIVE, ACTIVE_DELAYED),
+    ),
 ];
 
 /// Whether silence leads from one head to another.
-fn leads((may, from, to): (bool, Head, Head)) -> Result<bool, Fail> {
-    Ok(silent_steps(&router_a(may)?, from).as_slice().contains(&to))
+fn leads(rt: &impl Abort, (may, from, to): Way) -> bool {
+    silent_steps(&router_a(rt, may), from)
+        .as_slice()
+        .contains(&to)
 }
 
 #[test]
-fn each_silent_row_leads_where_it_holds_and_nowhere_else(rt: HostRuntime) -> Result<(), Fail> {
-    for case in ROWS {
-        let row = case.row;
-        assert!(rt; leads(case.holds)?, "{row:?}");
-        assert!(rt; !leads(case.fails)?, "{row:?}");
+fn each_silent_row_leads_where_it_holds_and_nowhere_else(rt: HostRuntime) {
+    for (row, holds, fails) in &ROWS {
+        assert!(rt; leads(&rt, *holds) && !leads(&rt, *fails), "{row:?}");
     }
-    Ok(())
 }
+
+/// Whether the OPEN may be delayed, a head, and just the heads that are reached, in this order.
+static REACHED: [(bool, Head, &'static [Head]); 8] = [
+    (true, CONNECT, &[CONNECT, CONNECT_DELAYED]),
+    (true, CONNECT_DELAYED, &[CONNECT, CONNECT_DELAYED]),
+    (true, ACTIVE, &[ACTIVE, ACTIVE_DELAYED]),
+    (true, ACTIVE_DELAYED, &[ACTIVE_DELAYED]),
+    (false, CONNECT, &[CONNECT]),
+    (false, ACTIVE, &[ACTIVE]),
+    (false, Head::Idle, &[Head::Idle]),
+    (false, Head::OpenSent(LARGE), &[Head::OpenSent(LARGE)]),
+];
 
 /// Whether just these heads are reached, in this order.
 fn reaches(config: &Config, head: Head, heads: &[Head]) -> bool {
@@ -60,17 +66,11 @@ fn reaches(config: &Config, head: Head, heads: &[Head]) -> bool {
 }
 
 #[test]
-fn silence_begins_or_ends_a_delay(rt: HostRuntime) -> Result<(), Fail> {
-    let may = router_a(true)?;
-    assert!(rt; reaches(&may, CONNECT, &[CONNECT, CONNECT_DELAYED]));
-    assert!(rt; reaches(&may, CONNECT_DELAYED, &[CONNECT, CONNECT_DELAYED]));
-    assert!(rt; reaches(&may, ACTIVE, &[ACTIVE, ACTIVE_DELAYED]));
-    assert!(rt; reaches(&may, ACTIVE_DELAYED, &[ACTIVE_DELAYED]));
-    let never = router_a(false)?;
-    let up = Head::Established(link_of_a_and_b(&never)?, TIMER);
-    assert!(rt; reaches(&may, up, &[up]));
-    for head in [CONNECT, ACTIVE, Head::Idle, Head::OpenSent(LARGE), up] {
-        assert!(rt; reaches(&never, head, &[head]), "{head:?}");
+fn silence_begins_or_ends_a_delay(rt: HostRuntime) {
+    for (may, head, heads) in &REACHED {
+        assert!(rt; reaches(&router_a(&rt, *may), *head, heads), "{head:?}");
     }
-    Ok(())
+    let up = Head::Established(link_of_a_and_b(&rt), TIMER);
+    let may = reaches(&router_a(&rt, true), up, &[up]);
+    assert!(rt; may && reaches(&router_a(&rt, false), up, &[up]));
 }
