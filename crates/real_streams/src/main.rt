@@ -12,7 +12,7 @@ use std::rt::Files;
 use std::{fs, io};
 
 /// The streams by session and direction; `examples/README.md` tells what the sessions are.
-const STREAMS: [&str; 14] = [
+static STREAMS: [&str; 14] = [
     "as-trans.a-to-b.bgp",
     "as-trans.b-to-a.bgp",
     "bad-as-frr.a-to-b.bgp",
@@ -42,7 +42,7 @@ fn main(rt: HostRuntime) -> ExitCode {
 
 /// Decodes all streams. Answers whether all UPDATEs are clean.
 fn run<R: Files + Print + AllocGlobal>(rt: &R) -> io::Result<bool> {
-    for name in STREAMS {
+    for name in &STREAMS {
         print_stream(rt, name)?;
     }
     print_sessions(rt)

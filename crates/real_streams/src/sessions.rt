@@ -4,6 +4,7 @@ use bgp_open::{Config, ConfigParts, Families, Link, negotiate, read_open};
 use bgp_prefix::{Address, Session};
 use bgp_update::is_clean;
 use bgp_wire::{Frames, Limit, MessageType, Next};
+use std::alloc::Global;
 use std::rt::Files;
 use std::{fs, io};
 
@@ -30,7 +31,7 @@ const B: End = End {
 };
 
 /// A stream, the end that receives it, and the one that sends it.
-const DIRECTIONS: [(&str, End, End); 14] = [
+static DIRECTIONS: [(&str, End, End); 14] = [
     ("as-trans.a-to-b.bgp", B, A_WITHOUT_AS4),
     ("as-trans.b-to-a.bgp", A_WITHOUT_AS4, B),
     ("bad-as-frr.a-to-b.bgp", B, A),
@@ -51,8 +52,8 @@ const DIRECTIONS: [(&str, End, End); 14] = [
 /// all are.
 pub(crate) fn print_sessions<R: Files + Print + AllocGlobal>(rt: &R) -> io::Result<bool> {
     let mut all = true;
-    for (name, to, from) in DIRECTIONS {
-        let Some(config) = config(to, from) else {
+    for (name, to, from) in &DIRECTIONS {
+        let Some(config) = config(*to, *from) else {
             return Ok(false);
         };
         let (updates, clean) = count_updates(rt, name, &config)?;
@@ -93,8 +94,13 @@ fn count_updates<R: Files + AllocGlobal>(
     config: &Config,
 ) -> io::Result<(u64, u64)> {
     let octets = fs::read(rt, name)?;
-    let mut frames = Frames::new(rt.alloc(), Limit::Plain);
-    frames.feed(&octets)?;
+    count_among(rt.alloc(), &octets, config)
+}
+
+/// How many UPDATEs are among the messages of a stream, and how many of them are clean.
+fn count_among(alloc: Global, octets: &[u8], config: &Config) -> io::Result<(u64, u64)> {
+    let mut frames = Frames::new(alloc, Limit::Plain);
+    frames.feed(octets)?;
     let mut link: Option<Link> = None;
     let (mut updates, mut clean) = (0u64, 0u64);
     for _ in 0..octets.len() {
