@@ -41,7 +41,7 @@ const PARTS: ConfigParts = ConfigParts {
 };
 
 /// How many sessions were judged so.
-#[derive(Clone, Copy, Debug, PartialEq, Eq)]
+#[derive(Clone, Copy)]
 struct Counts {
     yes: u64,
     no: u64,
@@ -64,18 +64,30 @@ fn main(rt: HostRuntime) -> ExitCode {
     }
 }
 
+/// Writes a record.
+fn put(sink: &mut MemSink, record: &Record<'_>) -> io::Result<()> {
+    if sink.failures() == u64::MAX || !is_writable(&PARTS.session, record) {
+        return Err(io::Error::from(io::ErrorKind::InvalidData));
+    }
+    match write_record(sink, &PARTS.session, 65002, 65001, record) {
+        Ok(()) => Ok(()),
+        Err(_) => Err(io::Error::from(io::ErrorKind::InvalidData)),
+    }
+}
+
 /// A capture of these records.
 fn capture_of(alloc: Global, records: &[Record<'_>]) -> io::Result<Vec<u8>> {
     let mut sink = MemSink::new(alloc);
     for record in records {
-        if sink.failures() == u64::MAX || !is_writable(&PARTS.session, record) {
-            return Err(io::Error::from(io::ErrorKind::InvalidData));
-        }
-        if write_record(&mut sink, &PARTS.session, 65002, 65001, record).is_err() {
-            return Err(io::Error::from(io::ErrorKind::InvalidData));
-        }
+        put(&mut sink, record)?;
     }
     Ok(sink.into_octets())
+}
+
+/// A capture of the next session.
+fn next_capture(alloc: Global, random: &mut Pcg32) -> io::Result<Vec<u8>> {
+    let records = random_session(alloc, random)?;
+    capture_of(alloc, &records)
 }
 
 /// What judging a capture with a tracker wrote and answered.
@@ -123,8 +135,32 @@ fn tally(counts: &mut Counts, text: &[u8], status: u8) {
     }
 }
 
-/// Judges the next session, and counts its verdict. Answers whether both trackers answer alike.
+/// Whether judging a capture with a tracker writes and answers this.
+fn answers<T: Tracker<Global>>(
+    alloc: Global,
+    config: &Config,
+    capture: &[u8],
+    text: &[u8],
+    status: u8,
+) -> Result<bool, AllocError> {
+    let (written, answer) = answer_to::<T>(alloc, config, capture)?;
+    Ok(written.as_slice() == text && answer == status)
+}
+
+/// Judges a capture, and counts its verdict. Answers whether both trackers answer alike.
 fn is_alike(
+    alloc: Global,
+    config: &Config,
+    capture: &[u8],
+    counts: &mut Counts,
+) -> Result<bool, AllocError> {
+    let (plain, status) = answer_to::<PlainTracker<Global>>(alloc, config, capture)?;
+    tally(counts, &plain, status);
+    answers::<CompactTracker<Global>>(alloc, config, capture, &plain, status)
+}
+
+/// Judges the next session, and counts its verdict. Answers whether both trackers answer alike.
+fn is_next_alike(
     alloc: Global,
     delay_open: bool,
     random: &mut Pcg32,
@@ -136,12 +172,8 @@ fn is_alike(
     }) else {
         return Ok(false);
     };
-    let records = random_session(alloc, random)?;
-    let capture = capture_of(alloc, records.as_slice())?;
-    let (plain, status) = answer_to::<PlainTracker<Global>>(alloc, &config, capture.as_slice())?;
-    let (compact, other) = answer_to::<CompactTracker<Global>>(alloc, &config, capture.as_slice())?;
-    tally(counts, plain.as_slice(), status);
-    Ok(plain.as_slice() == compact.as_slice() && status == other)
+    let capture = next_capture(alloc, random)?;
+    Ok(is_alike(alloc, &config, &capture, counts)?)
 }
 
 /// Judges all, and prints each that the trackers don't answer alike, and then how many had which
@@ -158,7 +190,7 @@ fn judge_all<R: Print + AllocGlobal>(rt: &R) -> io::Result<bool> {
     };
     let mut all = true;
     for number in 0..SESSIONS {
-        if !is_alike(rt.alloc(), number % 4 != 0, &mut random, &mut counts)? {
+        if !is_next_alike(rt.alloc(), number % 4 != 0, &mut random, &mut counts)? {
             println!(rt; "session {number} isn't judged alike")?;
             all = false;
         }

@@ -21,7 +21,7 @@ pub(crate) type Move = (Seconds, &'static [Record<'static>], Fsm);
 /// Moves of a state: some that keep or bring up a session, and others.
 pub(crate) type Moves = (&'static [Move], &'static [Move]);
 
-const OF_IDLE: Moves = (
+static OF_IDLE: Moves = (
     &[
         (0, &[Change(0, 1, 2)], Fsm::Connect),
         (0, &[Change(0, 1, 3)], Fsm::Active),
@@ -33,7 +33,7 @@ const OF_IDLE: Moves = (
     ],
 );
 
-const OF_CONNECT: Moves = (
+static OF_CONNECT: Moves = (
     &[
         (0, &[Out(0, &OPEN_A), Change(0, 2, 4)], Fsm::OpenSent),
         (0, &[Change(0, 2, 4), Out(0, &OPEN_A)], Fsm::OpenSent),
@@ -66,7 +66,7 @@ const OF_CONNECT: Moves = (
     ],
 );
 
-const OF_ACTIVE: Moves = (
+static OF_ACTIVE: Moves = (
     &[
         (0, &[Out(0, &OPEN_A), Change(0, 3, 4)], Fsm::OpenSent),
         (0, &[Change(0, 3, 4), Out(0, &OPEN_A)], Fsm::OpenSent),
@@ -83,7 +83,7 @@ const OF_ACTIVE: Moves = (
     ],
 );
 
-const OF_OPENSENT: Moves = (
+static OF_OPENSENT: Moves = (
     &[
         (
             0,
@@ -139,7 +139,7 @@ const OF_OPENSENT: Moves = (
     ],
 );
 
-const OF_OPENCONFIRM: Moves = (
+static OF_OPENCONFIRM: Moves = (
     &[
         (0, &[In(0, &KEEPALIVE), Change(0, 5, 6)], Fsm::Established),
         (0, &[Out(0, &KEEPALIVE)], Fsm::OpenConfirm),
@@ -177,7 +177,7 @@ const OF_OPENCONFIRM: Moves = (
     ],
 );
 
-const OF_ESTABLISHED: Moves = (
+static OF_ESTABLISHED: Moves = (
     &[
         (0, &[In(0, &ANNOUNCES_10)], Fsm::Established),
         (0, &[In(0, &ANNOUNCES_11_AND_12)], Fsm::Established),

@@ -33,6 +33,18 @@ fn at(record: Record<'static>, second: Seconds) -> Record<'static> {
     }
 }
 
+/// Appends records of this second.
+fn push_all(
+    records: &mut Vec<Record<'static>>,
+    shown: &[Record<'static>],
+    second: Seconds,
+) -> Result<(), AllocError> {
+    for record in shown {
+        records.push(at(*record, second))?;
+    }
+    Ok(())
+}
+
 /// The records of some moves, from Idle on.
 fn walk(alloc: Global, random: &mut Pcg32) -> Result<Vec<Record<'static>>, AllocError> {
     let mut records = Vec::new(alloc);
@@ -43,9 +55,7 @@ fn walk(alloc: Global, random: &mut Pcg32) -> Result<Vec<Record<'static>>, Alloc
             second = second
                 .saturating_add(wait)
                 .saturating_add(random.next_word() % 3);
-            for record in shown {
-                records.push(at(*record, second))?;
-            }
+            push_all(&mut records, shown, second)?;
             fsm = next;
         }
     }
