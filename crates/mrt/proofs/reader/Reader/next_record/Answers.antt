@@ -3,7 +3,7 @@ use Rattle.std.specs.Result.{is_err}
 use Rattle.mrt.specs.declared.fault.CaptureFault.{CaptureFault}
 use Rattle.mrt.specs.declared.fault.FaultKind.TheVariants as kinds
 use Rattle.mrt.specs.Progress.{state_of, fault_at}
-use Rattle.mrt.specs.Reader.{ReaderState, at_fault, device_count}
+use Rattle.mrt.specs.Reader.{ReaderState, Ends, at_fault, device_count}
 use Rattle.mrt.proofs.Kept.{room_kept}
 use Rattle.mrt.proofs.Refusing.{first_call, open_next, no_memory}
 use Rattle.mrt.proofs.reader.Reader.next_record.Goals as goal
@@ -70,3 +70,21 @@ invariant_of-self-in-None g c =
     let all = of_no_error c.make_room.result c.is_err.result c.is_err.ensures.value c.if-is_err.false c.make_room.ensures.ok in
     room_kept c.make_room.new.buffer.len c.advance.new.buffer c.make_room.new.buffer.items (state_of c.advance.new.progress) c.advance.ensures.room all
     c.make_room.new.buffer.ok.0
+
+pub returns-in-None : goal.returns-in-None
+returns-in-None g c =
+    let v : state_of c.self.inside.progress ≡ c.args.self.now = c.self.view_is in
+    let none : c.args.self.now.fault ≡ None = ap (λ (s : ReaderState). s.fault) (sym v) ∙ c.in_default.is in
+    let not_ended : c.args.self.now.is_ended ≡ false = ap (λ (s : ReaderState). s.is_ended) (sym v) ∙ c.if-self.false in
+    let ends = rw c.in-None.is at c.in_ok-found.ensures.next in (
+      (
+        refl,
+        λ _. tt,
+        (
+          open_next _ _ _ _ _ _ _ _ none not_ended
+              (subst (λ (s : ReaderState). Ends g.S.Source.gives g.S.Source.has_ended c.args.session.now c.args.source.now c.advance.new.source s (state_of c.advance.new.progress)) v ends),
+          c.in_ok-found.ensures.one_source,
+        ),
+      ),
+      record { after_borrow = tt; failures = c.in_ok-found.ensures.failures },
+    )
