@@ -20,22 +20,27 @@ const NONE: Families = Families {
     v6: false,
 };
 
+/// Prefixes as a test tells them.
+#[derive(Clone, Copy)]
+enum Named {
+    /// Those of these texts.
+    Texts(&'static [&'static str]),
+    /// Of those that ascend with their index, from the first index on, so many.
+    Numbers(Family, u32, u32),
+}
+
+/// A group of prefixes, and the mark of their path.
+type Group = (u32, Named);
+
+/// What is to change: prefixes to remove, and then groups to put, two at most.
+type Told = (Named, &'static [Group]);
+
+/// No prefix.
+const NOTHING: Named = Named::Texts(&[]);
+
 /// The prefix of a text.
 fn prefix(rt: &impl Abort, text: &str) -> Prefix {
     read_prefix(text).expect(rt, "no prefix")
-}
-
-/// The prefixes of texts.
-fn prefixes<A: Allocator + Copy>(
-    rt: &impl Abort,
-    alloc: A,
-    texts: &[&str],
-) -> Result<Vec<Prefix, A>, AllocError> {
-    let mut prefixes = Vec::new(alloc);
-    for text in texts {
-        prefixes.push(prefix(rt, text))?;
-    }
-    Ok(prefixes)
 }
 
 /// How many prefixes of 24 bits an UPDATE of 4096 octets has room for beside 43 octets of its
@@ -55,20 +60,40 @@ fn nth(rt: &impl Abort, family: Family, index: u32) -> Prefix {
     Prefix::new(address, length).expect(rt, "no prefix")
 }
 
-/// The first of those prefixes, as many as an UPDATE has room for.
-fn most<A: Allocator>(
+/// How many prefixes those are.
+fn count_of(named: Named) -> usize {
+    match named {
+        Named::Texts(texts) => texts.len(),
+        Named::Numbers(_, _, count) => count as usize,
+    }
+}
+
+/// The one of them at an index.
+fn prefix_at(rt: &impl Abort, named: Named, index: usize) -> Prefix {
+    match named {
+        Named::Texts(texts) => prefix(rt, texts.get(index).expect(rt, "no text")),
+        Named::Numbers(family, first, _) => {
+            let index = u32::try_from(index).unwrap_or(0);
+            nth(rt, family, first.saturating_add(index))
+        }
+    }
+}
+
+/// The prefixes.
+fn prefixes<A: Allocator>(
     rt: &impl Abort,
     alloc: A,
-    family: Family,
+    named: Named,
 ) -> Result<Vec<Prefix, A>, AllocError> {
     let mut prefixes = Vec::new(alloc);
-    for index in 0..MOST {
-        prefixes.push(nth(rt, family, index))?;
+    for index in 0..count_of(named) {
+        prefixes.push(prefix_at(rt, named, index))?;
     }
     Ok(prefixes)
 }
 
-/// Whether the routes are those prefixes of the families, each with a path of the family's mark.
+/// Whether the routes are the first of those prefixes, as many as an UPDATE has room for, of these
+/// families, each with a path of the family's mark.
 fn are_most<A: Allocator>(rt: &impl Abort, rib: &RibIn<A>, families: &[(Family, u32)]) -> bool {
     let mut found = rib.routes();
     for (family, number) in families {
@@ -83,58 +108,82 @@ fn are_most<A: Allocator>(rt: &impl Abort, rib: &RibIn<A>, families: &[(Family, 
     found.next().is_none()
 }
 
-/// A path that takes memory for its parts, told from others by its LOCAL_PREF.
-fn path<A: Allocator + Copy>(alloc: A, mark: u32) -> Result<Path<A>, AllocError> {
-    let numbers = Vec::from_slice(alloc, &[65002, 70000])?;
+/// The AS_PATH of these ASes.
+fn as_path<A: Allocator + Copy>(alloc: A, numbers: &[u32]) -> Result<AsPath<A>, AllocError> {
+    let numbers = Vec::from_slice(alloc, numbers)?;
+    let segment = Segment::new(SegmentKind::Sequence, numbers).ok_or(AllocError)?;
     let mut as_path = AsPath::new(alloc);
-    as_path.push(Segment::new(SegmentKind::Sequence, numbers).ok_or(AllocError)?)?;
-    Path::new(
-        alloc,
-        PathParts {
-            origin: Origin::Igp,
-            as_path,
-            next_hop: NextHop::V4(0xc000_0202),
-            multi_exit_disc: None,
-            local_pref: Some(mark),
-            atomic_aggregate: false,
-            aggregator: None,
-            communities: Items::new(alloc),
-            originator_id: None,
-            cluster_list: Items::new(alloc),
-            extended_communities: Items::new(alloc),
-        },
-    )
+    as_path.push(segment)?;
+    Ok(as_path)
 }
 
-/// The changes that remove the prefixes, and then put the groups, two at most, each with a path of
-/// its mark.
-fn changes<A: Allocator + Copy>(
-    rt: &impl Abort,
+/// The path by these ASes, with a LOCAL_PREF or without one.
+fn path_by<A: Allocator + Copy>(
     alloc: A,
-    remove: &[&str],
-    groups: &[(u32, &[&str])],
-) -> Result<Changes<A>, AllocError> {
-    assert!(rt; groups.len() <= 2);
-    Ok(Changes {
-        remove: prefixes(rt, alloc, remove)?,
-        nlri: group(rt, alloc, groups.first())?,
-        mp_reach_nlri: group(rt, alloc, groups.get(1))?,
-    })
+    numbers: &[u32],
+    local_pref: Option<u32>,
+) -> Result<Path<A>, AllocError> {
+    let parts = PathParts {
+        origin: Origin::Igp,
+        as_path: as_path(alloc, numbers)?,
+        next_hop: NextHop::V4(0xc000_0202),
+        multi_exit_disc: None,
+        local_pref,
+        atomic_aggregate: false,
+        aggregator: None,
+        communities: Items::new(alloc),
+        originator_id: None,
+        cluster_list: Items::new(alloc),
+        extended_communities: Items::new(alloc),
+    };
+    Path::new(alloc, parts)
+}
+
+/// A path that takes memory for its parts, told from others by its LOCAL_PREF.
+fn path<A: Allocator + Copy>(alloc: A, mark: u32) -> Result<Path<A>, AllocError> {
+    path_by(alloc, &[65002, 70000], Some(mark))
 }
 
 /// A group with a path of its mark, where there is one.
 fn group<A: Allocator + Copy>(
     rt: &impl Abort,
     alloc: A,
-    told: Option<&(u32, &[&str])>,
+    told: Option<&Group>,
 ) -> Result<Option<Put<A>>, AllocError> {
-    let Some((mark, texts)) = told else {
+    let Some((mark, named)) = told else {
         return Ok(None);
     };
-    Ok(Some(Put {
-        path: path(alloc, *mark)?,
-        prefixes: prefixes(rt, alloc, texts)?,
-    }))
+    let prefixes = prefixes(rt, alloc, *named)?;
+    let path = path(alloc, *mark)?;
+    Ok(Some(Put { path, prefixes }))
+}
+
+/// The changes that are told of.
+fn changes<A: Allocator + Copy>(
+    rt: &impl Abort,
+    alloc: A,
+    (named, groups): Told,
+) -> Result<Changes<A>, AllocError> {
+    assert!(rt; groups.len() <= 2);
+    let remove = prefixes(rt, alloc, named)?;
+    let nlri = group(rt, alloc, groups.first())?;
+    let mp_reach_nlri = group(rt, alloc, groups.get(1))?;
+    Ok(Changes {
+        remove,
+        nlri,
+        mp_reach_nlri,
+    })
+}
+
+/// Makes the changes in memory of their own, and applies them.
+fn change<A: Allocator + Copy>(
+    rt: &impl Abort,
+    rib: &mut RibIn<A>,
+    alloc: A,
+    told: Told,
+) -> Result<(), AllocError> {
+    let changes = changes(rt, alloc, told)?;
+    rib.apply(&changes)
 }
 
 /// The mark of a path.

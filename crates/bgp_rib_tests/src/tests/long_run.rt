@@ -1,19 +1,15 @@
-//! Ten thousand changes of a few hundred prefixes, beside a sorted list that the test keeps itself.
+//! Ten thousand changes of a few hundred prefixes, beside a list that the test keeps itself.
 
 use super::*;
-use std::cmp::Ordering;
 
-/// A prefix as plain numbers: its family, address and length.
-type Key = (u8, u128, u8);
-
-/// How many prefixes there are.
+/// How many prefixes there are: of IPv4 those with an even number, of IPv6 the others.
 const PREFIXES: u32 = 300;
 
 /// How many changes.
 const CHANGES: u32 = 10_000;
 
 /// Numbers that repeat after 2^64 turns (Knuth's MMIX).
-#[derive(Drop)]
+#[derive(Clone, Copy)]
 struct Dice(u64);
 
 impl Dice {
@@ -31,179 +27,220 @@ impl Dice {
     }
 }
 
-/// The prefix of a number: some of each family, one inside another.
-fn key(index: u32) -> Key {
-    let (address, length) = (u128::from(index / 12), index % 12 / 2);
-    if index % 2 == 0 {
-        (4, address << 22, 10 + u8::try_from(length).unwrap_or(0))
+/// The family of a number's prefix.
+fn family_of(number: u32) -> Family {
+    if number % 2 == 0 {
+        Family::V4
     } else {
-        (6, address << 100, 28 + u8::try_from(length).unwrap_or(0))
+        Family::V6
     }
 }
 
-/// The prefix of plain numbers.
-fn prefix_of(rt: &impl Abort, key: Key) -> Prefix {
-    let address = match u32::try_from(key.1) {
-        Ok(number) if key.0 == 4 => Address::V4(number),
-        _ => Address::V6(key.1),
+/// The prefix of a number: those of a family ascend with it, some one inside another.
+fn prefix_of(rt: &impl Abort, number: u32) -> Prefix {
+    let network = number / 12;
+    let more = u8::try_from(number % 12 / 2).unwrap_or(0);
+    let (address, length) = match family_of(number) {
+        Family::V4 => (Address::V4(network << 22), 10),
+        Family::V6 => (Address::V6(u128::from(network) << 100), 28),
     };
-    Prefix::new(address, key.2).expect(rt, "no prefix")
+    Prefix::new(address, more.saturating_add(length)).expect(rt, "no prefix")
 }
 
-/// The routes as pairs in ascending order, each with the mark of its path; and what is disabled.
+/// For each number the mark of its route's path, where there is a route; and what is disabled.
 #[derive(Drop)]
 struct Plain {
-    routes: Vec<(Key, u32)>,
-    v4: bool,
-    v6: bool,
+    marks: Vec<Option<u32>>,
+    disabled: Families,
 }
 
 impl Plain {
-    fn is_disabled(&self, family: u8) -> bool {
-        if family == 4 { self.v4 } else { self.v6 }
-    }
-
-    fn remove(&mut self, key: Key) {
-        self.routes.retain(|route| route.0 != key);
-    }
-
-    fn put(&mut self, key: Key, mark: u32) -> Result<(), Fail> {
-        if self.is_disabled(key.0) {
-            return Ok(());
+    /// Sets the mark of a number's route, or takes the route away.
+    fn set(&mut self, number: u32, mark: Option<u32>) {
+        let index = number as usize;
+        if index < self.marks.len() {
+            self.marks[index] = mark;
         }
-        self.remove(key);
-        let mut place = self.routes.len();
-        for (index, route) in self.routes.iter().enumerate() {
-            if route.0.cmp(&key) == Ordering::Greater {
-                place = index;
-                break;
+    }
+
+    /// The mark of a number's route.
+    fn get(&self, number: u32) -> Option<u32> {
+        *self.marks.get(number as usize)?
+    }
+
+    /// Takes all routes of a family away.
+    fn hide(&mut self, family: Family) {
+        for number in 0..PREFIXES {
+            if family_of(number) == family {
+                self.set(number, None);
             }
         }
-        if place <= self.routes.len() {
-            self.routes.insert(place, (key, mark))?;
-        }
-        Ok(())
     }
 
+    /// Disables a family.
     fn disable(&mut self, family: Family) {
+        self.hide(family);
         match family {
-            Family::V4 => {
-                self.v4 = true;
-                self.routes.retain(|route| route.0.0 != 4);
-            }
-            Family::V6 => {
-                self.v6 = true;
-                self.routes.retain(|route| route.0.0 != 6);
-            }
+            Family::V4 => self.disabled.v4 = true,
+            Family::V6 => self.disabled.v6 = true,
         }
     }
 
+    /// Clears all.
     fn clear(&mut self) {
-        self.routes.clear();
-        self.v4 = false;
-        self.v6 = false;
+        self.hide(Family::V4);
+        self.hide(Family::V6);
+        self.disabled = NONE;
     }
 
-    /// Whether these are the routes, in this order.
-    fn is_listed(&self, rt: &impl Abort, rib: &RibIn) -> bool {
-        let mut told = self.routes.iter();
-        for (found, path) in rib.routes() {
-            match told.next() {
-                Some((key, number)) if prefix_of(rt, *key) == *found && *number == mark(path) => {}
-                _ => return false,
+    /// Puts or removes the prefixes that the dice is about to tell.
+    fn note(&mut self, mut dice: Dice, mark: Option<u32>) {
+        for _ in 0..dice.below(6) {
+            let number = dice.below(PREFIXES);
+            let is_disabled = match family_of(number) {
+                Family::V4 => self.disabled.v4,
+                Family::V6 => self.disabled.v6,
+            };
+            if !is_disabled {
+                self.set(number, mark);
             }
         }
-        told.next().is_none() && rib.len() == self.routes.len()
+    }
+
+    /// Whether these are the routes, those of IPv4 first, and each family's in ascending order.
+    fn is_listed(&self, rt: &impl Abort, rib: &RibIn) -> bool {
+        let mut found = rib.routes();
+        for first in 0..2 {
+            for half in 0..PREFIXES / 2 {
+                let number = 2 * half + first;
+                let Some(told) = self.get(number) else {
+                    continue;
+                };
+                match found.next() {
+                    Some((prefix, path))
+                        if *prefix == prefix_of(rt, number) && mark(path) == told => {}
+                    _ => return false,
+                }
+            }
+        }
+        found.next().is_none() && rib.disabled() == self.disabled
+    }
+
+    /// How many routes there are.
+    fn count(&self) -> usize {
+        self.marks.iter().filter(|mark| mark.is_some()).count()
     }
 }
 
 /// Some prefixes, up to five of them.
-fn some_keys(dice: &mut Dice, alloc: Global) -> Result<Vec<Key>, AllocError> {
-    let mut keys = Vec::new(alloc);
+fn some_prefixes(
+    rt: &impl Abort,
+    alloc: Global,
+    dice: &mut Dice,
+) -> Result<Vec<Prefix>, AllocError> {
+    let mut prefixes = Vec::new(alloc);
     for _ in 0..dice.below(6) {
-        keys.push(key(dice.below(PREFIXES)))?;
+        prefixes.push(prefix_of(rt, dice.below(PREFIXES)))?;
     }
-    Ok(keys)
+    Ok(prefixes)
 }
 
-/// Puts some prefixes in the list with that number, and answers them as a group.
-fn some_group<R: Abort + AllocGlobal>(
-    rt: &R,
+/// Puts some prefixes in the list with that mark, and answers them as a group; or none.
+fn some_group(
+    rt: &impl Abort,
+    alloc: Global,
     dice: &mut Dice,
-    number: u32,
+    mark: Option<u32>,
     plain: &mut Plain,
-) -> Result<Put, Fail> {
-    let alloc = rt.alloc();
-    let mut prefixes = Vec::new(alloc);
-    for key in some_keys(dice, alloc)? {
-        plain.put(key, number)?;
-        prefixes.push(prefix_of(rt, key))?;
-    }
-    Ok(Put {
-        path: path(alloc, number)?,
-        prefixes,
+) -> Result<Option<Put>, AllocError> {
+    let Some(number) = mark else {
+        return Ok(None);
+    };
+    plain.note(*dice, mark);
+    let prefixes = some_prefixes(rt, alloc, dice)?;
+    let path = path(alloc, number)?;
+    Ok(Some(Put { path, prefixes }))
+}
+
+/// Changes the list, and answers the same for the table.
+fn some_changes(
+    rt: &impl Abort,
+    alloc: Global,
+    dice: &mut Dice,
+    turn: u32,
+    plain: &mut Plain,
+) -> Result<Changes, AllocError> {
+    plain.note(*dice, None);
+    let remove = some_prefixes(rt, alloc, dice)?;
+    let groups = dice.below(3);
+    let number = turn.saturating_mul(2);
+    let first = if groups > 0 { Some(number) } else { None };
+    let second = if groups > 1 {
+        Some(number.saturating_add(1))
+    } else {
+        None
+    };
+    let nlri = some_group(rt, alloc, dice, first, plain)?;
+    let mp_reach_nlri = some_group(rt, alloc, dice, second, plain)?;
+    Ok(Changes {
+        remove,
+        nlri,
+        mp_reach_nlri,
     })
 }
 
 /// Changes the table and the list alike.
-fn change<R: Abort + AllocGlobal>(
+fn take_turn<R: Abort + AllocGlobal>(
     rt: &R,
     dice: &mut Dice,
     turn: u32,
     rib: &mut RibIn,
     plain: &mut Plain,
-) -> Result<(), Fail> {
-    let alloc = rt.alloc();
-    let mut remove = Vec::new(alloc);
-    for key in some_keys(dice, alloc)? {
-        plain.remove(key);
-        remove.push(prefix_of(rt, key))?;
+) -> Result<(), AllocError> {
+    let family = family_of(dice.below(2));
+    match dice.below(200) {
+        0 => {
+            rib.disable(family);
+            plain.disable(family);
+        }
+        1 | 2 => {
+            rib.clear();
+            plain.clear();
+        }
+        _ => {
+            let changes = some_changes(rt, rt.alloc(), dice, turn, plain)?;
+            return rib.apply(&changes);
+        }
     }
-    let number = turn.saturating_mul(2);
-    let groups = dice.below(3);
-    let mut changes = Changes {
-        remove,
-        nlri: None,
-        mp_reach_nlri: None,
-    };
-    if groups > 0 {
-        changes.nlri = Some(some_group(rt, dice, number, plain)?);
-    }
-    if groups > 1 {
-        changes.mp_reach_nlri = Some(some_group(rt, dice, number.saturating_add(1), plain)?);
-    }
-    rib.apply(&changes)?;
     Ok(())
+}
+
+/// Whether table and list have the same once both were changed.
+fn is_alike_after<R: Abort + AllocGlobal>(
+    rt: &R,
+    dice: &mut Dice,
+    turn: u32,
+    rib: &mut RibIn,
+    plain: &mut Plain,
+) -> bool {
+    take_turn(rt, dice, turn, rib, plain).is_ok()
+        && plain.is_listed(rt, rib)
+        && rib.len() == plain.count()
 }
 
 #[test]
 fn ten_thousand_changes_leave_what_a_sorted_list_has(rt: HostRuntime) -> Result<(), Fail> {
+    let mut plain = Plain {
+        marks: vec![in rt.alloc(); None; 300]?,
+        disabled: NONE,
+    };
     let mut dice = Dice(1);
     let mut rib = RibIn::new(rt.alloc());
-    let mut plain = Plain {
-        routes: Vec::new(rt.alloc()),
-        v4: false,
-        v6: false,
-    };
     for turn in 0..CHANGES {
-        let family = if dice.below(2) == 0 {
-            Family::V4
-        } else {
-            Family::V6
-        };
-        match dice.below(200) {
-            0 => {
-                rib.disable(family);
-                plain.disable(family);
-            }
-            1 | 2 => {
-                rib.clear();
-                plain.clear();
-            }
-            _ => change(&rt, &mut dice, turn, &mut rib, &mut plain)?,
-        }
-        assert!(rt; plain.is_listed(&rt, &rib), "the routes differ");
-        assert!(rt; rib.disabled().v4 == plain.v4 && rib.disabled().v6 == plain.v6);
+        assert!(rt;
+            is_alike_after(&rt, &mut dice, turn, &mut rib, &mut plain),
+            "turn {turn}"
+        );
     }
     Ok(())
 }
