@@ -1,40 +1,46 @@
 //! Equality of paths.
 
-use super::SegmentKind::Sequence;
+use super::memory::{Row, SMALL, SMALL_ROW, path_of};
 use super::*;
-use std::alloc::Global;
 
-/// The path of 65002, with communities and more.
-fn announced(alloc: Global) -> Result<PathParts, AllocError> {
-    Ok(PathParts {
-        origin: Origin::Incomplete,
-        as_path: as_path(alloc, &[(Sequence, &[65002])])?,
-        next_hop: NextHop::V4(0xc000_0202),
-        multi_exit_disc: Some(7),
-        local_pref: None,
-        atomic_aggregate: false,
-        aggregator: Some(Aggregator {
-            as_number: 65002,
-            address: 0xc000_0202,
-        }),
-        communities: Items::from(vec![in alloc; 0xfdea_0064, 0xffff_ff01]?),
-        originator_id: None,
-        cluster_list: Items::new(alloc),
-        extended_communities: Items::from(vec![in alloc; 0x0002_fdea_0000_0005]?),
-    })
+/// Whether two paths are equal, if that is wanted.
+fn are_equal<'h>(
+    path: &Path<&'h LocalHeap>,
+    other: Result<Path<&'h LocalHeap>, AllocError>,
+    is_wanted: bool,
+) -> bool {
+    match other {
+        Ok(other) => (*path == other) == is_wanted,
+        Err(_) => false,
+    }
 }
+
+/// Whether paths of the same contents are equal, and those of others aren't.
+fn are_compared(heap: &LocalHeap) -> bool {
+    match path_of(heap, &SMALL) {
+        Ok(path) => {
+            are_equal(&path, path_of(heap, &ROOMY), true)
+                && are_equal(&path, path_of(heap, &OTHER), false)
+        }
+        Err(_) => false,
+    }
+}
+
+/// Room that isn't used makes no difference.
+static ROOMY: Row<'static> = Row {
+    room: 100,
+    ..SMALL_ROW
+};
+
+/// Another MULTI_EXIT_DISC does.
+static OTHER: Row<'static> = Row {
+    multi_exit_disc: 8,
+    ..SMALL_ROW
+};
 
 #[test]
 fn equal_paths_have_equal_contents(rt: HostRuntime) -> Result<(), Fail> {
-    let path = Path::new(rt.alloc(), announced(rt.alloc())?)?;
-    // Room that isn't used makes no difference.
-    let mut roomy = announced(rt.alloc())?;
-    let mut communities = Vec::with_capacity(rt.alloc(), 100)?;
-    communities.extend_from_slice(roomy.communities.as_slice())?;
-    roomy.communities = Items::from(communities);
-    assert!(rt; path == Path::new(rt.alloc(), roomy)?);
-    let mut other = announced(rt.alloc())?;
-    other.multi_exit_disc = Some(8);
-    assert!(rt; path != Path::new(rt.alloc(), other)?);
+    let heap = LocalHeap::new(rt.alloc(), AMPLE)?;
+    assert!(rt; are_compared(&heap));
     Ok(())
 }

@@ -1,228 +1,366 @@
 //! Memory: enough of it, and growths that are refused.
 
-use super::SegmentKind::{Sequence, Set};
+use super::as_paths::{MERGES, merges};
 use super::*;
-use linked_list_allocator::LocalHeap;
-use std::process::Abort;
+
+/// What a path is made of beside what all paths here have.
+#[derive(Drop)]
+pub(super) struct Row<'a> {
+    pub(super) segments: Segments<'a>,
+    pub(super) communities: &'a [u32],
+    /// How many communities there is room for.
+    pub(super) room: usize,
+    pub(super) cluster_list: &'a [u32],
+    pub(super) extended_communities: &'a [u64],
+    pub(super) multi_exit_disc: u32,
+}
 
 /// A path that takes memory for each of its parts.
-fn parts<A: Allocator + Copy>(alloc: A) -> Result<PathParts<A>, AllocError> {
+pub(super) const SMALL_ROW: Row<'static> = Row {
+    segments: &[(Sequence, &[65001, 70000]), (Set, &[1, 2])],
+    communities: &[1, 2],
+    room: 2,
+    cluster_list: &[3],
+    extended_communities: &[4],
+    multi_exit_disc: 7,
+};
+
+pub(super) static SMALL: Row<'static> = SMALL_ROW;
+
+/// Items with room for so many.
+fn with_room<'h>(
+    heap: &'h LocalHeap,
+    items: &[u32],
+    room: usize,
+) -> Result<Vec<u32, &'h LocalHeap>, AllocError> {
+    let mut roomy = Vec::with_capacity(heap, room)?;
+    roomy.extend_from_slice(items)?;
+    Ok(roomy)
+}
+
+/// The parts of a path.
+fn parts<'h>(heap: &'h LocalHeap, row: &Row<'_>) -> Result<PathParts<&'h LocalHeap>, AllocError> {
+    let communities = with_room(heap, row.communities, row.room)?;
+    let cluster_list = Vec::from_slice(heap, row.cluster_list)?;
+    let extended_communities = Vec::from_slice(heap, row.extended_communities)?;
+    let as_path = as_path(heap, row.segments)?;
     Ok(PathParts {
         origin: Origin::Egp,
-        as_path: as_path(alloc, &[(Sequence, &[65001, 70000]), (Set, &[1, 2])])?,
+        as_path,
         next_hop: NextHop::V4(0xc000_0202),
-        multi_exit_disc: Some(7),
+        multi_exit_disc: Some(row.multi_exit_disc),
         local_pref: None,
         atomic_aggregate: true,
         aggregator: Some(Aggregator {
             as_number: 70000,
             address: 1,
         }),
-        communities: Items::from(Vec::from_slice(alloc, &[1, 2])?),
+        communities: Items::from(communities),
         originator_id: None,
-        cluster_list: Items::from(Vec::from_slice(alloc, &[3])?),
-        extended_communities: Items::from(Vec::from_slice(alloc, &[4])?),
+        cluster_list: Items::from(cluster_list),
+        extended_communities: Items::from(extended_communities),
     })
 }
 
-#[test]
-fn ample_memory(rt: HostRuntime) -> Result<(), AllocError> {
-    let alloc = rt.alloc();
-    let mut path = AsPath::with_capacity(alloc, 2)?;
-    let segment = segment(alloc, Set, &[1, 2])?;
-    path.push(segment.clone()?)?;
-    assert!(rt; path.clone()? == path);
-    assert!(rt; merge(alloc, &path, &AsPath::new(alloc))? == path);
-    Ok(())
+/// The path of these parts.
+pub(super) fn path_of<'h>(
+    heap: &'h LocalHeap,
+    row: &Row<'_>,
+) -> Result<Path<&'h LocalHeap>, AllocError> {
+    Path::new(heap, parts(heap, row)?)
 }
 
-#[test]
-fn ample_memory_for_items_and_paths(rt: HostRuntime) -> Result<(), AllocError> {
-    let alloc = rt.alloc();
-    let numbers = Items::from(vec![in alloc; 1u32, 2]?);
-    assert!(rt; numbers.clone()? == numbers);
-    let path = Path::new(alloc, parts(alloc)?)?;
-    assert!(rt; path.clone()? == path);
-    Ok(())
-}
-
-/// The numbers of the longest AS_PATH that a value of 65535 octets holds: 64 whole segments in four
-/// octets a number, and 127 in two.
-const LONGEST: usize = 127;
-
-/// A path of so many segments that are as long as one can be, all of that number.
-fn long_path<A: Allocator + Copy>(
-    alloc: A,
-    segments: usize,
-    number: u32,
-) -> Result<AsPath<A>, AllocError> {
-    let mut path = AsPath::new(alloc);
-    for _ in 0..segments {
-        let numbers = vec![in alloc; number; 255]?;
-        path.push(Segment::new(Sequence, numbers).ok_or(AllocError)?)?;
+/// Whether a copy of an AS path is equal to it.
+fn is_copied(path: &HeapPath<'_>) -> bool {
+    match path.clone() {
+        Ok(copy) => copy == *path,
+        Err(_) => false,
     }
+}
+
+/// Whether a copy of a segment is equal to it.
+fn is_copy<'h>(
+    copy: Result<Segment<&'h LocalHeap>, AllocError>,
+    segment: &Segment<&'h LocalHeap>,
+) -> bool {
+    match copy {
+        Ok(copy) => copy == *segment,
+        Err(_) => false,
+    }
+}
+
+/// Whether a segment is copied.
+fn is_segment_copied(heap: &LocalHeap) -> bool {
+    match segment(heap, Set, &[1, 2]) {
+        Ok(segment) => is_copy(segment.clone(), &segment),
+        Err(_) => false,
+    }
+}
+
+/// A path of one segment, with room for two.
+fn roomy_path(heap: &LocalHeap) -> Result<HeapPath<'_>, AllocError> {
+    let mut path = AsPath::with_capacity(heap, 2)?;
+    path.push(segment(heap, Set, &[1, 2])?)?;
     Ok(path)
 }
 
-#[test]
-fn ample_memory_for_the_longest_as_paths(rt: HostRuntime) -> Result<(), AllocError> {
-    let alloc = rt.alloc();
-    let path = long_path(alloc, LONGEST, 1)?;
-    let as4 = long_path(alloc, 64, 2)?;
-    let merged = merge(alloc, &path, &as4)?;
-    assert!(rt; path.count() == 127 * 255 && merged.count() == path.count());
-    assert!(rt; merged.segments().get(..63) == path.segments().get(..63));
-    assert!(rt; merged.segments().get(63..) == Some(as4.segments()));
-    assert!(rt; merged.clone()? == merged);
-    assert!(rt; merge(alloc, &as4, &path)? == as4);
-    Ok(())
+/// Whether a path stays as it is where it merges with an empty one.
+fn stays_beside_none<'h>(heap: &'h LocalHeap, path: &HeapPath<'h>) -> bool {
+    let none = AsPath::new(heap);
+    stays(heap, path, &none)
+}
+
+/// Whether a path is copied, and merges with an empty one.
+fn is_copied_and_merged(heap: &LocalHeap) -> bool {
+    match roomy_path(heap) {
+        Ok(path) => is_copied(&path) && stays_beside_none(heap, &path),
+        Err(_) => false,
+    }
 }
 
 #[test]
-fn ample_memory_for_the_greatest_values(rt: HostRuntime) -> Result<(), AllocError> {
-    let alloc = rt.alloc();
-    let parts = PathParts {
-        as_path: long_path(alloc, LONGEST, 1)?,
-        communities: Items::from(vec![in alloc; u32::MAX; 16383]?),
-        cluster_list: Items::from(vec![in alloc; u32::MAX; 16383]?),
-        extended_communities: Items::from(vec![in alloc; u64::MAX; 8191]?),
-        ..parts(alloc)?
-    };
-    assert!(rt; parts.communities.clone()? == parts.communities);
-    assert!(rt; parts.extended_communities.clone()? == parts.extended_communities);
-    let path = Path::new(alloc, parts)?;
-    assert!(rt; path.clone()? == path);
+fn ample_memory(rt: HostRuntime) -> Result<(), Fail> {
+    let heap = LocalHeap::new(rt.alloc(), AMPLE)?;
+    assert!(rt; is_segment_copied(&heap) && is_copied_and_merged(&heap));
     Ok(())
 }
 
-#[test]
-fn a_copy_of_a_path_takes_no_memory(rt: HostRuntime) -> Result<(), Fail> {
-    let heap = LocalHeap::new(rt.alloc(), 8192)?;
-    let path = Path::new(&heap, parts(&heap)?)?;
+/// Whether a copy of a path is equal to it and takes no memory.
+fn is_shared(heap: &LocalHeap, path: &Path<&LocalHeap>) -> bool {
     let used = heap.used();
-    let copy = path.clone()?;
-    assert_eq!(rt; heap.used(), used);
-    assert!(rt; copy == path);
+    match path.clone() {
+        Ok(copy) => heap.used() == used && copy == *path,
+        Err(_) => false,
+    }
+}
+
+/// Whether copies of a path's communities are equal to them.
+fn are_copied(path: &PathParts<&LocalHeap>) -> bool {
+    let (communities, extended) = (&path.communities, &path.extended_communities);
+    let copy: Result<_, _> = communities.clone();
+    let is_same = match copy {
+        Ok(copy) => copy == *communities,
+        Err(_) => false,
+    };
+    let copy: Result<_, _> = extended.clone();
+    match copy {
+        Ok(copy) => is_same && copy == *extended,
+        Err(_) => false,
+    }
+}
+
+/// Whether items of a path are copied, and a copy of it takes no memory.
+fn is_copied_or_shared(heap: &LocalHeap, row: &Row<'_>) -> bool {
+    match path_of(heap, row) {
+        Ok(path) => are_copied(path.parts()) && is_shared(heap, &path),
+        Err(_) => false,
+    }
+}
+
+#[test]
+fn items_are_copied_and_paths_shared(rt: HostRuntime) -> Result<(), Fail> {
+    let heap = LocalHeap::new(rt.alloc(), 8192)?;
+    assert!(rt; is_copied_or_shared(&heap, &SMALL));
     Ok(())
 }
 
-/// Whether a push into a heap of this size was done. Where it was refused, the path is as before.
-fn pushes(rt: &impl Abort, heap: &LocalHeap, ample: &LocalHeap) -> Result<bool, AllocError> {
-    let segment = segment(ample, Set, &[1])?;
+/// A segment as long as one can be.
+const ONES: (SegmentKind, &[u32]) = (Sequence, &[1; 255]);
+
+/// And of another number.
+const TWOS: (SegmentKind, &[u32]) = (Sequence, &[2; 255]);
+
+/// The segments of the longest AS_PATH that a value of 65535 octets holds in two octets a number.
+static LONGEST: [(SegmentKind, &[u32]); 127] = [ONES; 127];
+
+/// And in four.
+static LONGEST_IN_FOUR: [(SegmentKind, &[u32]); 64] = [TWOS; 64];
+
+/// Whether a path is the first 63 of the longest segments and 64 others.
+fn is_joined(merged: &HeapPath<'_>) -> bool {
+    let Some(front) = merged.segments().get(..63) else {
+        return false;
+    };
+    let Some(behind) = merged.segments().get(63..) else {
+        return false;
+    };
+    are_of(front, &LONGEST[..63]) && are_of(behind, &LONGEST_IN_FOUR)
+}
+
+/// Whether the longest paths merge as they are to.
+fn are_merged<'h>(heap: &'h LocalHeap, path: &HeapPath<'h>, as4: &HeapPath<'h>) -> bool {
+    match merge(heap, path, as4) {
+        Ok(merged) => { merged.count() == path.count() && is_joined(&merged) && is_copied(&merged) }
+        Err(_) => false,
+    }
+}
+
+/// Whether AS_PATH stays as it is beside an AS4_PATH.
+fn stays<'h>(heap: &'h LocalHeap, path: &HeapPath<'h>, as4: &HeapPath<'h>) -> bool {
+    match merge(heap, path, as4) {
+        Ok(merged) => merged == *path,
+        Err(_) => false,
+    }
+}
+
+/// Whether the longest paths merge, and the shorter one stays beside the longer.
+fn longest_paths_merge(heap: &LocalHeap) -> bool {
+    let Ok(path) = as_path(heap, &LONGEST) else {
+        return false;
+    };
+    match as_path(heap, &LONGEST_IN_FOUR) {
+        Ok(as4) => {
+            path.count() == 127 * 255 && are_merged(heap, &path, &as4) && stays(heap, &as4, &path)
+        }
+        Err(_) => false,
+    }
+}
+
+#[test]
+fn ample_memory_for_the_longest_as_paths(rt: HostRuntime) -> Result<(), Fail> {
+    let heap = LocalHeap::new(rt.alloc(), AMPLE)?;
+    assert!(rt; longest_paths_merge(&heap));
+    Ok(())
+}
+
+/// Whether a path whose lists are as long as these are is copied.
+fn is_long_path_copied(heap: &LocalHeap, numbers: &[u32], wide: &[u64]) -> bool {
+    let row = Row {
+        segments: &LONGEST,
+        communities: numbers,
+        room: numbers.len(),
+        cluster_list: numbers,
+        extended_communities: wide,
+        multi_exit_disc: 7,
+    };
+    is_copied_or_shared(heap, &row)
+}
+
+#[test]
+fn ample_memory_for_the_greatest_values(rt: HostRuntime) -> Result<(), Fail> {
+    let heap = LocalHeap::new(rt.alloc(), AMPLE)?;
+    let numbers = vec![in rt.alloc(); u32::MAX; 16383]?;
+    let wide = vec![in rt.alloc(); u64::MAX; 8191]?;
+    assert!(rt; is_long_path_copied(&heap, &numbers, &wide));
+    Ok(())
+}
+
+static ONE_SEGMENT: [(SegmentKind, &[u32]); 1] = [(Set, &[1])];
+
+/// What comes of a push of a segment onto an empty path in a heap.
+fn pushed<'h>(heap: &'h LocalHeap, segment: Segment<&'h LocalHeap>) -> Outcome {
     let mut path = AsPath::new(heap);
-    let pushed = path.push(segment).is_ok();
-    assert!(rt; path.segments().len() == if pushed { 1 } else { 0 });
-    Ok(pushed)
-}
-
-/// Whether a merge into a heap of this size was done. In any case both paths are as before.
-fn merges(rt: &impl Abort, heap: &LocalHeap, ample: &LocalHeap) -> Result<bool, AllocError> {
-    let path = as_path(ample, &[(Sequence, &[65001, 23456, 23456])])?;
-    let same = as_path(ample, &[(Sequence, &[65001, 23456, 23456])])?;
-    let as4 = as_path(ample, &[(Sequence, &[70000, 70001])])?;
-    let same4 = as_path(ample, &[(Sequence, &[70000, 70001])])?;
-    let whole = as_path(ample, &[(Sequence, &[65001]), (Sequence, &[70000, 70001])])?;
-    let merged: Result<_, _> = merge(heap, &path, &as4);
-    assert!(rt; path == same && as4 == same4);
-    match merged {
-        Ok(merged) => {
-            assert!(rt; merged == whole);
-            Ok(true)
-        }
-        Err(_) => Ok(false),
+    if path.push(segment).is_ok() {
+        done_if(is_of(&path, &ONE_SEGMENT))
+    } else {
+        kept(Outcome::Refused, path.segments().is_empty())
     }
 }
 
-/// Whether an AS path was copied in a heap of this size: none where there is no room even for it.
-/// In any case it is as before.
-fn copies_path(
-    rt: &impl Abort,
-    heap: &LocalHeap,
-    ample: &LocalHeap,
-) -> Result<Option<bool>, AllocError> {
-    let whole = as_path(ample, &[(Sequence, &[65001, 70000]), (Set, &[1, 2])])?;
-    let Ok(path) = as_path(heap, &[(Sequence, &[65001, 70000]), (Set, &[1, 2])]) else {
-        return Ok(None);
-    };
-    let copy: Result<_, _> = path.clone();
-    assert!(rt; path == whole);
-    match copy {
-        Ok(copy) => {
-            assert!(rt; copy == whole);
-            Ok(Some(true))
-        }
-        Err(_) => Ok(Some(false)),
+/// What comes of a push into a heap.
+fn pushes<'h>(heap: &'h LocalHeap, ample: &'h LocalHeap) -> Outcome {
+    match segment(ample, Set, &[1]) {
+        Ok(segment) => pushed(heap, segment),
+        Err(_) => Outcome::Nowhere,
     }
 }
 
-/// The same of communities.
-fn copies_items(
-    rt: &impl Abort,
-    heap: &LocalHeap,
-    ample: &LocalHeap,
-) -> Result<Option<bool>, AllocError> {
-    let whole = Items::from(Vec::from_slice(ample, &[1u32, 2])?);
-    let Ok(numbers) = Vec::from_slice(heap, &[1u32, 2]) else {
-        return Ok(None);
-    };
-    let items = Items::from(numbers);
+/// What comes of a copy of an AS path in a heap.
+fn copies_path(heap: &LocalHeap) -> Outcome {
+    match as_path(heap, SMALL.segments) {
+        Ok(path) => kept(
+            came_of(path.clone(), SMALL.segments),
+            is_of(&path, SMALL.segments),
+        ),
+        Err(_) => Outcome::Nowhere,
+    }
+}
+
+static COMMUNITIES: [u32; 2] = [1, 2];
+
+/// What comes of a copy of these communities.
+fn copies(items: &Items<u32, &LocalHeap>) -> Outcome {
     let copy: Result<_, _> = items.clone();
-    assert!(rt; items == whole);
-    match copy {
-        Ok(copy) => {
-            assert!(rt; copy == whole);
-            Ok(Some(true))
-        }
-        Err(_) => Ok(Some(false)),
+    let outcome = match copy {
+        Ok(copy) => done_if(copy == *items),
+        Err(_) => Outcome::Refused,
+    };
+    kept(outcome, items.as_slice() == COMMUNITIES.as_slice())
+}
+
+/// What comes of a copy of communities in a heap.
+fn copies_items(heap: &LocalHeap) -> Outcome {
+    match Vec::from_slice(heap, &COMMUNITIES) {
+        Ok(numbers) => copies(&Items::from(numbers)),
+        Err(_) => Outcome::Nowhere,
     }
 }
 
-/// Whether a path was made in a heap of this size: none where there is no room even for its lists.
-fn makes(rt: &impl Abort, heap: &LocalHeap, ample: &LocalHeap) -> Result<Option<bool>, AllocError> {
-    let whole = Path::new(ample, parts(ample)?)?;
-    let Ok(parts) = parts(heap) else {
-        return Ok(None);
-    };
-    let Ok(path) = Path::new(heap, parts) else {
-        return Ok(Some(false));
-    };
-    assert!(rt; path == whole);
-    Ok(Some(true))
+/// What came of a path that was to be made.
+fn came_of_path<'h>(
+    made: Result<Path<&'h LocalHeap>, AllocError>,
+    whole: &Path<&'h LocalHeap>,
+) -> Outcome {
+    match made {
+        Ok(path) => done_if(path == *whole),
+        Err(_) => Outcome::Refused,
+    }
 }
 
-/// What was met in heaps of rising size.
-#[derive(Clone, Copy, Default)]
-struct Met {
-    refused: bool,
-    done: bool,
+/// What comes of a path in a heap.
+fn makes<'h>(heap: &'h LocalHeap, ample: &'h LocalHeap) -> Outcome {
+    let Ok(whole) = path_of(ample, &SMALL) else {
+        return Outcome::Nowhere;
+    };
+    match parts(heap, &SMALL) {
+        Ok(parts) => came_of_path(Path::new(heap, parts), &whole),
+        Err(_) => Outcome::Nowhere,
+    }
 }
 
-impl Met {
-    /// One more call, if it was made.
-    fn note(&mut self, done: Option<bool>) {
-        match done {
-            Some(true) => self.done = true,
-            Some(false) => self.refused = true,
-            None => {}
-        }
+/// A call that takes memory.
+enum Call {
+    Push,
+    Merge,
+    CopyOfPath,
+    CopyOfItems,
+    Make,
+}
+
+static CALLS: [(&str, Call); 5] = [
+    ("a push", Call::Push),
+    ("a merge", Call::Merge),
+    ("a copy of an AS path", Call::CopyOfPath),
+    ("a copy of items", Call::CopyOfItems),
+    ("a path", Call::Make),
+];
+
+/// What comes of a call in a heap beside an ample one.
+fn outcome_of<'h>(call: &Call, heap: &'h LocalHeap, ample: &'h LocalHeap) -> Outcome {
+    match call {
+        Call::Push => pushes(heap, ample),
+        Call::Merge => merges(heap, ample, &MERGES[0]),
+        Call::CopyOfPath => copies_path(heap),
+        Call::CopyOfItems => copies_items(heap),
+        Call::Make => makes(heap, ample),
     }
 }
 
 #[test]
 fn a_refused_growth_changes_nothing(rt: HostRuntime) -> Result<(), Fail> {
-    let ample = LocalHeap::new(rt.alloc(), 8192)?;
-    let mut met = [Met::default(); 5];
-    for step in 0..128 {
-        let heap = LocalHeap::new(rt.alloc(), 16 * (step + 1))?;
-        met[0].note(Some(pushes(&rt, &heap, &ample)?));
-        met[1].note(Some(merges(&rt, &heap, &ample)?));
-        met[2].note(copies_path(&rt, &heap, &ample)?);
-        met[3].note(copies_items(&rt, &heap, &ample)?);
-        met[4].note(makes(&rt, &heap, &ample)?);
-    }
-    for met in met {
-        assert!(rt; met.refused, "nothing was refused");
-        assert!(rt; met.done, "a growth was refused to the end");
+    let ample = LocalHeap::new(rt.alloc(), AMPLE)?;
+    for (name, call) in &CALLS {
+        let (mut refused, mut done, mut is_right) = (false, false, true);
+        for step in 0..128 {
+            let heap = LocalHeap::new(rt.alloc(), 16 * (step + 1))?;
+            match outcome_of(call, &heap, &ample) {
+                Outcome::Nowhere => {}
+                Outcome::Refused => refused = true,
+                Outcome::Done => done = true,
+                Outcome::Wrong => is_right = false,
+            }
+        }
+        assert!(rt; refused && done && is_right, "{name}");
     }
     Ok(())
 }
