@@ -6,14 +6,12 @@ mod captures;
 mod memory;
 mod sessions;
 
-use bgp_judge::{PlainTracker, Verdict, judge, judge_records};
+use bgp_judge::{End, PlainTracker, Verdict, judge, judge_records};
 use bgp_machine::Fsm;
 use bgp_open::{Config, ConfigParts, Families};
 use bgp_prefix::{Address, Session, read_prefix};
-use mrt::{CaptureFault, MemSink, MemSource, Record, Sink, is_writable, write_record};
+use mrt::{FaultKind, MemSink, MemSource, Record, Sink, is_writable, write_record};
 use std::alloc::{AllocError, Allocator, Global};
-use std::process::Abort;
-use std::test::Fail;
 
 /// What router A is configured to do: AS 65001 at 192.0.2.1, with AS 65002 at 192.0.2.2, Hold Time
 /// 90, both families and four-octet AS numbers.
@@ -46,37 +44,35 @@ const V6: Families = Families {
 };
 
 /// Router A, which may delay its OPEN or not.
-fn router_a(delay_open: bool) -> Result<Config, Fail> {
-    let parts = ConfigParts {
+fn router_a(delay_open: bool) -> Option<Config> {
+    Config::new(ConfigParts {
         delay_open,
         ..PARTS_A
-    };
-    Ok(Config::new(parts).ok_or("no configuration")?)
+    })
 }
 
 /// An end: the state, the disabled families and the prefixes of its routes.
 type Expected<'a> = (Fsm, Families, &'a [&'a str]);
 
-/// Whether the verdict is yes with just these ends, in this order.
-fn is_yes<A: Allocator>(verdict: &Verdict<A>, expected: &[Expected<'_>]) -> bool {
-    let Verdict::Yes(ends) = verdict else {
-        return false;
-    };
+/// Whether an end is that.
+fn is_end<A: Allocator>(end: &End<A>, (fsm, disabled, texts): &Expected<'_>) -> bool {
+    let mut texts = texts.iter();
+    for (prefix, _) in end.rib.routes() {
+        match texts.next() {
+            Some(text) if read_prefix(text) == Some(*prefix) => {}
+            _ => return false,
+        }
+    }
+    texts.next().is_none() && end.fsm == *fsm && end.rib.disabled() == *disabled
+}
+
+/// Whether these are just the ends, in this order.
+fn are_ends<A: Allocator>(ends: &[End<A>], expected: &[Expected<'_>]) -> bool {
     if ends.len() != expected.len() {
         return false;
     }
-    for (end, (fsm, disabled, texts)) in ends.as_slice().iter().zip(expected) {
-        let mut count = 0;
-        for (prefix, _) in end.rib.routes() {
-            let is_next = texts
-                .get(count)
-                .is_some_and(|text| { read_prefix(text) == Some(*prefix) });
-            if !is_next {
-                return false;
-            }
-            count = count.saturating_add(1);
-        }
-        if end.fsm != *fsm || end.rib.disabled() != *disabled || count != texts.len() {
+    for (end, wanted) in ends.iter().zip(expected) {
+        if !is_end(end, wanted) {
             return false;
         }
     }
@@ -84,7 +80,7 @@ fn is_yes<A: Allocator>(verdict: &Verdict<A>, expected: &[Expected<'_>]) -> bool
 }
 
 /// What is expected of a session.
-#[derive(Drop)]
+#[derive(Clone, Copy)]
 enum Answer {
     Yes(&'static [Expected<'static>]),
     No(u64),
@@ -94,51 +90,46 @@ enum Answer {
 /// Whether the verdict is that.
 fn is<A: Allocator>(verdict: &Verdict<A>, answer: &Answer) -> bool {
     match (verdict, answer) {
-        (Verdict::Yes(_), Answer::Yes(ends)) => is_yes(verdict, ends),
+        (Verdict::Yes(ends), Answer::Yes(expected)) => are_ends(ends.as_slice(), expected),
         (Verdict::No(count), Answer::No(expected)) => count == expected,
         (Verdict::Unfinished, Answer::Unfinished) => true,
         _ => false,
     }
 }
 
-/// A capture of these records.
-fn capture_of(alloc: Global, config: &Config, records: &[Record<'_>]) -> Result<Vec<u8>, Fail> {
+/// Whether the record is written.
+fn is_put(sink: &mut MemSink, config: &Config, record: &Record<'_>) -> bool {
     let session = &config.parts.session;
+    sink.failures() < u64::MAX
+        && is_writable(session, record)
+        && write_record(sink, session, 65002, 65001, record).is_ok()
+}
+
+/// A capture of these records.
+fn capture_of(alloc: Global, config: &Config, records: &[Record<'_>]) -> Option<Vec<u8>> {
     let mut sink = MemSink::new(alloc);
     for record in records {
-        if sink.failures() == u64::MAX || !is_writable(session, record) {
-            return Err(Fail::from("not writable"));
-        }
-        if write_record(&mut sink, session, 65002, 65001, record).is_err() {
-            return Err(Fail::from("not written"));
+        if !is_put(&mut sink, config, record) {
+            return None;
         }
     }
-    let mut capture = Vec::new(alloc);
-    capture.extend_from_slice(sink.octets())?;
-    Ok(capture)
+    Some(sink.into_octets())
 }
 
-/// The verdict of the plain tracker on a capture.
-fn judged<A: Allocator + Copy>(
-    alloc: A,
-    config: &Config,
-    capture: Vec<u8>,
-) -> Result<Verdict<A>, CaptureFault> {
-    judge::<A, PlainTracker<A>, _>(alloc, config, &mut MemSource::new(capture))
-}
+/// How a capture is judged: the answer, or the kind of its fault and the octet.
+type Told = Result<Answer, (FaultKind, u64)>;
 
-/// These records, and then those.
-fn joined<'a>(
-    alloc: Global,
-    records: &[Record<'a>],
-    more: &[Record<'a>],
-) -> Result<Vec<Record<'a>>, AllocError> {
-    let mut all = Vec::new(alloc);
-    for record in records {
-        all.push(*record)?;
+/// Whether the plain tracker judges a capture so.
+fn is_told<A: Allocator + Copy>(alloc: A, config: &Config, capture: Vec<u8>, told: &Told) -> bool {
+    let mut source = MemSource::new(capture);
+    match judge::<A, PlainTracker<A>, _>(alloc, config, &mut source) {
+        Ok(verdict) => match told {
+            Ok(answer) => is(&verdict, answer),
+            Err(_) => false,
+        },
+        Err(fault) => match told {
+            Ok(_) => false,
+            Err((kind, offset)) => fault.kind == *kind && fault.offset == *offset,
+        },
     }
-    for record in more {
-        all.push(*record)?;
-    }
-    Ok(all)
 }

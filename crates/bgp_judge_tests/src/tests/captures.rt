@@ -4,7 +4,7 @@ use super::sessions::DOWN;
 use super::*;
 use bgp_judge::judge_with;
 use bgp_wire::vectors::KEEPALIVE;
-use mrt::{Endpoints, FaultKind, Reader, SourceUpset};
+use mrt::{Endpoints, Reader, Source, SourceUpset};
 
 /// A change from Idle to Connect at second 100.
 const CHANGE: [u8; 36] = [
@@ -25,28 +25,31 @@ const TOO_LONG: [u8; 12] = [0, 0, 0, 100, 0, 16, 0, 4, 0, 0, 32, 1];
 
 const CONNECT: Expected<'static> = (Fsm::Connect, NONE, &[]);
 
-/// Whether the capture that these octets join to is judged so.
-fn is_judged(
-    alloc: Global,
-    parts: &[&[u8]],
-    wanted: &Result<Answer, (FaultKind, u64)>,
-) -> Result<bool, Fail> {
-    let mut capture = Vec::new(alloc);
+/// The octets that these parts join to.
+fn join(alloc: Global, parts: &[&[u8]]) -> Result<Vec<u8>, AllocError> {
+    let mut octets = Vec::new(alloc);
     for part in parts {
-        capture.extend_from_slice(part)?;
+        octets.extend_from_slice(part)?;
     }
-    Ok(match (judged(alloc, &router_a(false)?, capture), wanted) {
-        (Ok(verdict), Ok(answer)) => is(&verdict, answer),
-        (Err(fault), Err((kind, offset))) => fault.kind == *kind && fault.offset == *offset,
-        _ => false,
-    })
+    Ok(octets)
+}
+
+/// Whether the capture that these octets join to is judged so.
+fn is_judged(alloc: Global, parts: &[&[u8]], told: &Told) -> bool {
+    let Some(config) = router_a(false) else {
+        return false;
+    };
+    match join(alloc, parts) {
+        Ok(capture) => is_told(alloc, &config, capture, told),
+        Err(_) => false,
+    }
 }
 
 /// A capture in parts, and how it is judged.
-type Row<'a> = (&'a [&'a [u8]], Result<Answer, (FaultKind, u64)>);
+type Row<'a> = (&'a [&'a [u8]], Told);
 
 #[test]
-fn a_capture_has_a_verdict_or_a_first_fault(rt: HostRuntime) -> Result<(), Fail> {
+fn a_capture_has_a_verdict_or_a_first_fault(rt: HostRuntime) {
     let cut = &CHANGE[..35];
     let earlier = &CHANGE[4..];
     // From Active, where no session begins.
@@ -65,36 +68,88 @@ fn a_capture_has_a_verdict_or_a_first_fault(rt: HostRuntime) -> Result<(), Fail>
         // A fault behind an impossible record is found.
         (&[front, &[3], back, cut], Err((FaultKind::Truncated, 36))),
     ];
-    for (count, (parts, answer)) in rows.iter().enumerate() {
-        assert!(rt; is_judged(rt.alloc(), parts, answer)?, "{count}");
+    for (count, (parts, told)) in rows.iter().enumerate() {
+        assert!(rt; is_judged(rt.alloc(), parts, told), "{count}");
     }
-    Ok(())
+}
+
+/// The capture of one KEEPALIVE, with another type of message.
+fn is_other_type_told(alloc: Global, message_type: u8, told: &Told) -> bool {
+    let Some(config) = router_a(false) else {
+        return false;
+    };
+    match capture_of(alloc, &config, &[Record::In(101, &KEEPALIVE)]) {
+        Some(capture) => match capture.as_slice().split_last() {
+            Some((_, before)) => is_judged(alloc, &[before, &[message_type]], told),
+            None => false,
+        },
+        None => false,
+    }
 }
 
 #[test]
-fn a_route_refresh_is_refused(rt: HostRuntime) -> Result<(), Fail> {
-    let config = router_a(false)?;
-    let keepalive = capture_of(rt.alloc(), &config, &[Record::In(101, &KEEPALIVE)])?;
-    let (_, before) = keepalive.as_slice().split_last().ok_or("no octet")?;
+fn a_route_refresh_is_refused(rt: HostRuntime) {
     let refused = Err((FaultKind::RouteRefresh, 0));
-    assert!(rt; is_judged(rt.alloc(), &[before, &[5]], &refused)?);
-    Ok(())
+    assert!(rt; is_other_type_told(rt.alloc(), 5, &refused));
+}
+
+/// Whether a source's failure is told at the octet where the second record would begin.
+fn is_told_of(alloc: Global, config: &Config, source: &mut MemSource) -> bool {
+    if source.failures() == u64::MAX {
+        return false;
+    }
+    match judge::<_, PlainTracker, _>(alloc, config, source) {
+        Ok(_) => false,
+        Err(fault) => fault.kind == FaultKind::Device && fault.offset == 36,
+    }
+}
+
+/// Whether that of a source of one record is: the header and the body are read, and then no more.
+fn is_failure_told(alloc: Global) -> bool {
+    let Some(config) = router_a(false) else {
+        return false;
+    };
+    match join(alloc, &[&CHANGE]) {
+        Ok(capture) => {
+            let mut source = MemSource::new(capture).upset_at(2, SourceUpset::Fail);
+            is_told_of(alloc, &config, &mut source)
+        }
+        Err(_) => false,
+    }
 }
 
 #[test]
-fn a_failing_source_is_told(rt: HostRuntime) -> Result<(), Fail> {
-    let mut capture = Vec::new(rt.alloc());
-    capture.extend_from_slice(&CHANGE)?;
-    // The header and the body are read, and then no more.
-    let mut source = MemSource::new(capture).upset_at(2, SourceUpset::Fail);
-    let verdict = judge::<_, PlainTracker, _>(rt.alloc(), &router_a(false)?, &mut source);
-    let fault = verdict.err().ok_or("a verdict")?;
-    assert!(rt; fault.kind == FaultKind::Device && fault.offset == 36);
-    Ok(())
+fn a_failing_source_is_told(rt: HostRuntime) {
+    assert!(rt; is_failure_told(rt.alloc()));
+}
+
+/// Whether a reader has answered a record of the session, and which ends of another one it skipped
+/// first, once the capture was judged.
+fn found(alloc: Global, config: &Config, capture: Vec<u8>) -> Option<(bool, Option<Endpoints>)> {
+    let mut source = MemSource::new(capture);
+    let mut reader = Reader::new(alloc);
+    let is_judged = judge_with::<_, PlainTracker, _>(
+        &mut reader,
+        alloc,
+        config,
+        &mut source,
+    ).is_ok();
+    is_judged.then_some((reader.has_answered(), reader.first_other()))
+}
+
+/// Whether it has found that in these octets.
+fn has_found(alloc: Global, parts: &[&[u8]], wanted: (bool, Option<Endpoints>)) -> bool {
+    let Some(config) = router_a(false) else {
+        return false;
+    };
+    match join(alloc, parts) {
+        Ok(capture) => found(alloc, &config, capture) == Some(wanted),
+        Err(_) => false,
+    }
 }
 
 #[test]
-fn a_reader_tells_what_it_found(rt: HostRuntime) -> Result<(), Fail> {
+fn a_reader_tells_what_it_found(rt: HostRuntime) {
     // The addresses exchanged, so that the record isn't the session's.
     let other = [
         &CHANGE[..24],
@@ -107,32 +162,16 @@ fn a_reader_tells_what_it_found(rt: HostRuntime) -> Result<(), Fail> {
         peer: session.local,
         local: session.peer,
     };
-    let rows: [(&[&[u8]], bool, Option<Endpoints>); 4] = [
-        (&[], false, None),
-        (&[&CHANGE], true, None),
-        (&other, false, Some(exchanged)),
+    let rows: [(&[&[u8]], (bool, Option<Endpoints>)); 4] = [
+        (&[], (false, None)),
+        (&[&CHANGE], (true, None)),
+        (&other, (false, Some(exchanged))),
         (
             &[&CHANGE, other[0], other[1], other[2], other[3]],
-            true,
-            Some(exchanged),
+            (true, Some(exchanged)),
         ),
     ];
-    for (parts, has_answered, first_other) in rows {
-        let mut capture = Vec::new(rt.alloc());
-        for part in parts {
-            capture.extend_from_slice(part)?;
-        }
-        let mut reader = Reader::new(rt.alloc());
-        let mut source = MemSource::new(capture);
-        let config = router_a(false)?;
-        let answer = judge_with::<_, PlainTracker, _>(
-            &mut reader,
-            rt.alloc(),
-            &config,
-            &mut source,
-        );
-        let is_found = reader.has_answered() == has_answered && reader.first_other() == first_other;
-        assert!(rt; answer.is_ok() && is_found);
+    for (count, (parts, wanted)) in rows.iter().enumerate() {
+        assert!(rt; has_found(rt.alloc(), parts, *wanted), "{count}");
     }
-    Ok(())
 }

@@ -1,16 +1,17 @@
 //! Memory: enough of it, and growths that are refused.
 
+use super::sessions::is_verdict;
 use super::*;
-use bgp_judge::{Tracker, judge_with, openings};
+use bgp_judge::{OpenedSteps, Tracker, judge_with, openings};
 use bgp_machine::{Head, HoldTimer};
 use bgp_open::{negotiate, read_open};
 use bgp_wire::vectors::{ANNOUNCES_10, KEEPALIVE, MP_REACH_TRANSITIVE, OPEN_A, OPEN_B};
 use linked_list_allocator::LocalHeap;
+use mrt::Reader;
 use mrt::Record::{Change, In, Out};
-use mrt::{FaultKind, Reader};
 
 /// A session whose last UPDATE may disable IPv6 or not.
-const TWO_ENDS: [Record<'static>; 10] = [
+static TWO_ENDS: [Record<'static>; 10] = [
     Change(100, 1, 2),
     Out(100, &OPEN_A),
     Change(100, 2, 4),
@@ -24,144 +25,208 @@ const TWO_ENDS: [Record<'static>; 10] = [
 ];
 
 /// Its ends.
-const ENDS: [Expected<'static>; 2] = [
+static ENDS: [Expected<'static>; 2] = [
     (Fsm::Established, NONE, &["10.0.0.0/8"]),
     (Fsm::Established, V6, &["10.0.0.0/8"]),
 ];
 
-/// How many steps that stay in Established the last UPDATE opens.
-fn staying<A: Allocator + Copy>(alloc: A) -> Result<Option<usize>, Fail> {
-    let config = router_a(false)?;
-    let Ok(open) = read_open(&OPEN_B) else {
-        return Err(Fail::from("no OPEN"));
-    };
+/// The session before its last record.
+fn up(config: &Config) -> Option<Head> {
+    let open = read_open(&OPEN_B).ok()?;
     let timer = HoldTimer {
         since: 102,
         span: 90,
     };
-    let up = Head::Established(negotiate(&config, &open), timer);
-    let (last, _) = TWO_ENDS.split_last().ok_or("no record")?;
-    let opened: Result<_, _> = openings(alloc, &config, up, last);
-    let Ok(opened) = opened else {
-        return Ok(None);
-    };
-    let stays = opened
+    Some(Head::Established(negotiate(config, &open), timer))
+}
+
+/// How many of the steps stay in Established.
+fn staying<A: Allocator>(opened: &OpenedSteps<A>) -> usize {
+    opened
         .steps
         .iter()
-        .filter(|step| step.after.head.fsm() == Fsm::Established);
-    Ok(Some(stays.count()))
+        .filter(|step| step.after.head.fsm() == Fsm::Established)
+        .count()
 }
 
-#[test]
-fn ample_memory(rt: HostRuntime) -> Result<(), Fail> {
+/// Whether memory for the steps that the last UPDATE opens is given: `None` where two of them
+/// don't stay in Established.
+fn opens_two<A: Allocator + Copy>(alloc: A) -> Option<bool> {
     let config = router_a(false)?;
-    let mut tracker: PlainTracker<Global> = PlainTracker::start(rt.alloc(), &config)?;
-    let mut are_alive = staying(rt.alloc())? == Some(2);
-    for shown in &TWO_ENDS {
-        are_alive = tracker.take(shown)? && are_alive;
+    let up = up(&config)?;
+    let opened: Result<OpenedSteps<A>, _> = openings(alloc, &config, up, &TWO_ENDS[9]);
+    match opened {
+        Ok(opened) => (staying(&opened) == 2).then_some(true),
+        Err(_) => Some(false),
     }
-    assert!(rt; are_alive && is_yes(&Verdict::Yes(tracker.ends()?), &ENDS));
-    let verdict = judge_records::<_, PlainTracker>(rt.alloc(), &config, &TWO_ENDS)?;
-    let mut source = MemSource::new(capture_of(rt.alloc(), &config, &TWO_ENDS)?);
-    let mut reader = Reader::new(rt.alloc());
-    let with = judge_with::<_, PlainTracker, _>(&mut reader, rt.alloc(), &config, &mut source);
-    assert!(rt; is_yes(&verdict, &ENDS) && with.is_ok_and(|v| is_yes(&v, &ENDS)));
-    let judged = judged(
-        rt.alloc(),
-        &config,
-        capture_of(rt.alloc(), &config, &TWO_ENDS)?,
-    );
-    assert!(rt; judged.is_ok_and(|v| is_yes(&v, &ENDS)));
-    Ok(())
+}
+
+/// A tracker of router A.
+fn started<A: Allocator + Copy>(alloc: A) -> Option<PlainTracker<A>> {
+    PlainTracker::start(alloc, &router_a(false)?).ok()
+}
+
+/// Whether the tracker takes each of the records.
+fn takes_all<A: Allocator + Copy>(tracker: &mut PlainTracker<A>, records: &[Record<'_>]) -> bool {
+    for shown in records {
+        if tracker.take(shown) != Ok(true) {
+            return false;
+        }
+    }
+    true
+}
+
+/// Whether a tracker answers these ends.
+fn has_ends<A: Allocator + Copy>(tracker: &PlainTracker<A>, expected: &[Expected<'_>]) -> bool {
+    match tracker.ends() {
+        Ok(ends) => are_ends(ends.as_slice(), expected),
+        Err(_) => false,
+    }
+}
+
+/// Whether a tracker takes the session and answers its ends.
+fn is_tracked<A: Allocator + Copy>(alloc: A) -> bool {
+    match started(alloc) {
+        Some(mut tracker) => takes_all(&mut tracker, &TWO_ENDS) && has_ends(&tracker, &ENDS),
+        None => false,
+    }
+}
+
+/// Whether a capture of the session is judged so, with a reader that is lent.
+fn is_told_with(alloc: Global, config: &Config, capture: Vec<u8>) -> bool {
+    let mut source = MemSource::new(capture);
+    let mut reader = Reader::new(alloc);
+    match judge_with::<_, PlainTracker, _>(&mut reader, alloc, config, &mut source) {
+        Ok(verdict) => is(&verdict, &Answer::Yes(&ENDS)),
+        Err(_) => false,
+    }
+}
+
+/// Whether each function answers the ends of the session.
+fn are_all_right(alloc: Global) -> bool {
+    let Some(config) = router_a(false) else {
+        return false;
+    };
+    let are_told = match capture_of(alloc, &config, &TWO_ENDS) {
+        Some(capture) => is_told_with(alloc, &config, capture),
+        None => false,
+    };
+    are_told && is_tracked(alloc) && is_verdict(alloc, false, &TWO_ENDS, &Answer::Yes(&ENDS))
 }
 
 #[test]
-fn refused_steps_are_no_steps(rt: HostRuntime) -> Result<(), Fail> {
+fn ample_memory(rt: HostRuntime) {
+    assert!(rt; opens_two(rt.alloc()) == Some(true) && are_all_right(rt.alloc()));
+}
+
+/// Whether memory for the steps is given by a heap of this size: `None` where they are wrong.
+fn opens_two_with(alloc: Global, size: usize) -> Option<bool> {
+    let heap = LocalHeap::new(alloc, size).ok()?;
+    opens_two(&heap)
+}
+
+#[test]
+fn refused_steps_are_no_steps(rt: HostRuntime) {
     let (mut refused, mut done) = (false, false);
     for step in 1..128 {
-        let heap = LocalHeap::new(rt.alloc(), 16 * step)?;
-        match staying(&heap)? {
-            None => refused = true,
-            Some(count) => {
-                done = true;
-                assert_eq!(rt; count, 2);
-            }
-        }
+        let answer = opens_two_with(rt.alloc(), 16 * step);
+        assert!(rt; answer.is_some(), "{step}");
+        refused = refused || answer == Some(false);
+        done = done || answer == Some(true);
     }
     assert!(rt; refused && done);
-    Ok(())
 }
 
-/// Judges the records with a heap of this size. With less memory there is no verdict.
-fn is_told_of_records(rt: &impl Abort, alloc: Global, size: usize) -> Result<bool, Fail> {
-    let heap = LocalHeap::new(alloc, size)?;
-    let config = router_a(false)?;
-    match judge_records::<_, PlainTracker<&LocalHeap>>(&heap, &config, &TWO_ENDS) {
-        Ok(verdict) => {
-            assert!(rt; is_yes(&verdict, &ENDS));
-            Ok(true)
-        }
-        Err(_) => Ok(false),
+/// Whether the records are judged with this memory: `None` where the verdict is wrong. With less
+/// there is no verdict.
+fn are_judged<A: Allocator + Copy>(alloc: A) -> Option<bool> {
+    match judge_records::<A, PlainTracker<A>>(alloc, &router_a(false)?, &TWO_ENDS) {
+        Ok(verdict) => is(&verdict, &Answer::Yes(&ENDS)).then_some(true),
+        Err(_) => Some(false),
     }
+}
+
+/// The same with a heap of this size.
+fn are_judged_with(alloc: Global, size: usize) -> Option<bool> {
+    let heap = LocalHeap::new(alloc, size).ok()?;
+    are_judged(&heap)
 }
 
 #[test]
-fn refused_records_have_no_verdict(rt: HostRuntime) -> Result<(), Fail> {
+fn refused_records_have_no_verdict(rt: HostRuntime) {
     let (mut refused, mut done) = (false, false);
     for step in 1..1024 {
-        done = is_told_of_records(&rt, rt.alloc(), 16 * step)?;
+        let answer = are_judged_with(rt.alloc(), 16 * step);
+        assert!(rt; answer.is_some(), "{step}");
+        done = answer == Some(true);
         refused = refused || !done;
     }
     assert!(rt; refused && done);
-    Ok(())
 }
 
-/// Judges the session with a heap of this size, and answers the octet where memory was refused.
-/// With less memory there is no verdict.
-fn refused_at(rt: &impl Abort, alloc: Global, size: usize) -> Result<Option<u64>, Fail> {
-    let heap = LocalHeap::new(alloc, size)?;
-    let config = router_a(false)?;
-    match judged(&heap, &config, capture_of(alloc, &config, &TWO_ENDS)?) {
-        Ok(verdict) => {
-            assert!(rt; is_yes(&verdict, &ENDS));
-            Ok(None)
-        }
-        Err(fault) => {
-            assert_eq!(rt; fault.kind, FaultKind::Memory);
-            Ok(Some(fault.offset))
-        }
+/// What came of a capture with little memory.
+#[derive(Clone, Copy)]
+enum Outcome {
+    /// The right verdict.
+    Verdict,
+    /// Memory was refused at this octet.
+    Refused(u64),
+    /// Another verdict, or another fault.
+    Wrong,
+}
+
+/// What comes of a capture of the session with this memory. With less there is no verdict.
+fn outcome_of<A: Allocator + Copy>(alloc: A, config: &Config, capture: Vec<u8>) -> Outcome {
+    let mut source = MemSource::new(capture);
+    match judge::<A, PlainTracker<A>, _>(alloc, config, &mut source) {
+        Ok(verdict) if is(&verdict, &Answer::Yes(&ENDS)) => Outcome::Verdict,
+        Err(fault) if fault.kind == FaultKind::Memory => Outcome::Refused(fault.offset),
+        _ => Outcome::Wrong,
     }
+}
+
+/// The same with a heap of this size: `None` where there is no memory for it.
+fn outcome_with(alloc: Global, size: usize) -> Option<Outcome> {
+    let config = router_a(false)?;
+    let heap = LocalHeap::new(alloc, size).ok()?;
+    let capture = capture_of(alloc, &config, &TWO_ENDS)?;
+    Some(outcome_of(&heap, &config, capture))
 }
 
 /// Whether a record of the session begins there, or the capture ends.
-fn is_a_place(alloc: Global, offset: u64) -> Result<bool, Fail> {
-    let config = router_a(false)?;
-    for count in 0..=TWO_ENDS.len() {
-        let before = capture_of(alloc, &config, &TWO_ENDS[..count])?;
-        if before.len() as u64 == offset {
-            return Ok(true);
+fn is_a_place(alloc: Global, offset: u64) -> bool {
+    let Some(config) = router_a(false) else {
+        return false;
+    };
+    let mut sink = MemSink::new(alloc);
+    let mut is_found = offset == 0;
+    for record in &TWO_ENDS {
+        if !is_put(&mut sink, &config, record) {
+            return false;
         }
+        is_found = is_found || sink.octets().len() as u64 == offset;
     }
-    Ok(false)
+    is_found
 }
 
 #[test]
-fn a_refused_growth_gives_no_verdict(rt: HostRuntime) -> Result<(), Fail> {
+fn a_refused_growth_gives_no_verdict(rt: HostRuntime) {
     let mut last = Some(0);
     let mut places = 0;
     for step in 1..2048 {
-        let refused = refused_at(&rt, rt.alloc(), 16 * step)?;
+        let (is_right, refused) = match outcome_with(rt.alloc(), 16 * step) {
+            Some(Outcome::Verdict) => (true, None),
+            Some(Outcome::Refused(offset)) => (is_a_place(rt.alloc(), offset), Some(offset)),
+            _ => (false, None),
+        };
+        assert!(rt; is_right, "{step}: {refused:?}");
         if refused != last {
             places = u32::saturating_add(places, 1);
-            if let Some(offset) = refused {
-                assert!(rt; is_a_place(rt.alloc(), offset)?, "{offset}");
-            }
         }
         last = refused;
     }
-    assert_eq!(rt; last, None, "a growth was refused to the end");
-    assert!(rt; places > 2, "no growth was refused behind the first record");
-    Ok(())
+    // A growth was refused behind the first record, and none to the end.
+    assert!(rt; last.is_none() && places > 2, "{places}");
 }
 
 /// Takes all but so many octets of a heap, in small pieces, so that what is left lies together.
@@ -183,41 +248,58 @@ fn ballast<'a>(
     Ok(pieces)
 }
 
-/// Whether the last record was taken with so many octets left. Refused it is taken again, with
-/// memory, and the ends are the same.
-fn takes(rt: &impl Abort, alloc: Global, left: usize) -> Result<bool, Fail> {
-    let ample = LocalHeap::new(alloc, 1 << 16)?;
-    let heap = LocalHeap::new(alloc, 1 << 14)?;
-    let config = router_a(false)?;
-    let mut tracker: PlainTracker<&LocalHeap> = PlainTracker::start(&heap, &config)?;
-    let (last, others) = TWO_ENDS.split_last().ok_or("no record")?;
-    for shown in others {
-        assert!(rt; tracker.take(shown)?);
-    }
-    let ballast = ballast(&heap, &ample, left)?;
-    let taken: Result<_, _> = tracker.take(last);
+/// Whether a record is taken with so many octets left.
+fn takes_beside<'a>(
+    heap: &'a LocalHeap,
+    ample: &'a LocalHeap,
+    tracker: &mut PlainTracker<&'a LocalHeap>,
+    left: usize,
+    shown: &Record<'_>,
+) -> Option<bool> {
+    let ballast = ballast(heap, ample, left).ok()?;
+    let is_taken = tracker.take(shown).is_ok();
     drop(ballast);
-    let is_done = taken.is_ok();
-    if !is_done {
-        assert_eq!(rt; tracker.ends()?.len(), 1);
-        assert!(rt; tracker.take(last)?);
+    Some(is_taken)
+}
+
+/// Whether the last record was taken with so many octets left: `None` where what follows is wrong.
+/// Refused it is taken again, with memory, and the ends are the same.
+fn takes_last<'a>(
+    heap: &'a LocalHeap,
+    ample: &'a LocalHeap,
+    tracker: &mut PlainTracker<&'a LocalHeap>,
+    left: usize,
+) -> Option<bool> {
+    let (last, others) = TWO_ENDS.split_last()?;
+    if !takes_all(tracker, others) {
+        return None;
     }
-    assert!(rt; is_yes(&Verdict::Yes(tracker.ends()?), &ENDS));
-    Ok(is_done)
+    let is_taken = takes_beside(heap, ample, tracker, left, last)?;
+    let is_kept = is_taken || has_ends(tracker, &ENDS[..1]) && tracker.take(last) == Ok(true);
+    (is_kept && has_ends(tracker, &ENDS)).then_some(is_taken)
+}
+
+/// The same of a tracker of its own.
+fn takes(heap: &LocalHeap, ample: &LocalHeap, left: usize) -> Option<bool> {
+    let mut tracker = started(heap)?;
+    takes_last(heap, ample, &mut tracker, left)
+}
+
+/// The same of heaps of its own.
+fn takes_with(alloc: Global, left: usize) -> Option<bool> {
+    let ample = LocalHeap::new(alloc, 1 << 16).ok()?;
+    let heap = LocalHeap::new(alloc, 1 << 14).ok()?;
+    takes(&heap, &ample, left)
 }
 
 #[test]
-fn a_refused_record_can_be_taken_again(rt: HostRuntime) -> Result<(), Fail> {
-    let mut refused = 0;
-    let mut done = 0;
+fn a_refused_record_can_be_taken_again(rt: HostRuntime) {
+    let (mut refused, mut done) = (false, false);
     for step in 0..128 {
-        if takes(&rt, rt.alloc(), 32 * step)? {
-            done = u32::saturating_add(done, 1);
-        } else {
-            refused = u32::saturating_add(refused, 1);
-        }
+        let answer = takes_with(rt.alloc(), 32 * step);
+        assert!(rt; answer.is_some(), "{step}");
+        refused = refused || answer == Some(false);
+        done = done || answer == Some(true);
     }
-    assert!(rt; refused > 0, "nothing was refused");
-    assert!(rt; done > 0, "a growth was refused to the end");
-    Ok(())
+    assert!(rt; refused && done);
 }

@@ -10,7 +10,7 @@ use bgp_wire::vectors::{
 use mrt::Record::{Change, In, Out};
 
 /// A session comes up.
-const OPENING: [Record<'static>; 8] = [
+static OPENING: [Record<'static>; 8] = [
     Change(100, 1, 2),
     Out(100, &OPEN_A),
     Change(100, 2, 4),
@@ -38,7 +38,7 @@ pub(super) const DOWN: Expected<'static> = (Fsm::Idle, NONE, &[]);
 type Row = (&'static str, &'static [Record<'static>], Answer);
 
 /// Records behind the opening.
-const BEHIND_THE_OPENING: [Row; 17] = [
+static BEHIND_THE_OPENING: [Row; 17] = [
     (
         "a route is announced",
         &[In(102, &ANNOUNCES_10)],
@@ -147,7 +147,7 @@ const BEHIND_THE_OPENING: [Row; 17] = [
 ];
 
 /// Records from the start, where the own OPEN isn't delayed.
-const FROM_THE_START: [Row; 10] = [
+static FROM_THE_START: [Row; 10] = [
     ("nothing happens", &[], Answer::Yes(&[DOWN])),
     (
         "a KEEPALIVE is owed",
@@ -249,7 +249,7 @@ const FROM_THE_START: [Row; 10] = [
 ];
 
 /// The peer's OPEN is accepted before the own one is sent.
-const ACCEPTED_FIRST: [Record<'static>; 7] = [
+static ACCEPTED_FIRST: [Record<'static>; 7] = [
     Change(100, 1, 2),
     In(100, &OPEN_B),
     Out(100, &OPEN_A),
@@ -259,41 +259,60 @@ const ACCEPTED_FIRST: [Record<'static>; 7] = [
     Change(100, 5, 6),
 ];
 
+/// Whether that is the verdict on the records.
+fn is_of_records<A: Allocator + Copy>(
+    alloc: A,
+    config: &Config,
+    records: &[Record<'_>],
+    answer: &Answer,
+) -> bool {
+    match judge_records::<A, PlainTracker<A>>(alloc, config, records) {
+        Ok(verdict) => is(&verdict, answer),
+        Err(_) => false,
+    }
+}
+
 /// Whether that is the verdict on the records, and on a capture of them.
-fn is_verdict(
+pub(super) fn is_verdict(
     alloc: Global,
     delay_open: bool,
     records: &[Record<'_>],
     answer: &Answer,
-) -> Result<bool, Fail> {
-    let config = router_a(delay_open)?;
-    let verdict = judge_records::<_, PlainTracker>(alloc, &config, records)?;
-    let capture = capture_of(alloc, &config, records)?;
-    let judged = judged(alloc, &config, capture);
-    Ok(is(&verdict, answer) && judged.is_ok_and(|verdict| is(&verdict, answer)))
+) -> bool {
+    let Some(config) = router_a(delay_open) else {
+        return false;
+    };
+    let Some(capture) = capture_of(alloc, &config, records) else {
+        return false;
+    };
+    is_of_records(alloc, &config, records, answer) && is_told(alloc, &config, capture, &Ok(*answer))
+}
+
+/// Whether that is the verdict on the opening with these records behind it.
+fn is_verdict_behind(alloc: Global, more: &[Record<'static>], answer: &Answer) -> bool {
+    let Ok(mut records) = Vec::from_slice(alloc, &OPENING) else {
+        return false;
+    };
+    records.extend_from_slice(more).is_ok() && is_verdict(alloc, false, records.as_slice(), answer)
 }
 
 #[test]
-fn sessions_that_came_up(rt: HostRuntime) -> Result<(), Fail> {
+fn sessions_that_came_up(rt: HostRuntime) {
     for (about, more, answer) in &BEHIND_THE_OPENING {
-        let records = joined(rt.alloc(), &OPENING, more)?;
-        assert!(rt; is_verdict(rt.alloc(), false, &records, answer)?, "{about}");
+        assert!(rt; is_verdict_behind(rt.alloc(), more, answer), "{about}");
     }
-    Ok(())
 }
 
 #[test]
-fn sessions_from_the_start(rt: HostRuntime) -> Result<(), Fail> {
+fn sessions_from_the_start(rt: HostRuntime) {
     for (about, records, answer) in &FROM_THE_START {
-        assert!(rt; is_verdict(rt.alloc(), false, records, answer)?, "{about}");
+        assert!(rt; is_verdict(rt.alloc(), false, records, answer), "{about}");
     }
-    Ok(())
 }
 
 #[test]
-fn an_open_is_accepted_before_the_own_where_it_may_be_delayed(rt: HostRuntime) -> Result<(), Fail> {
-    for (delay_open, answer) in [(false, Answer::No(2)), (true, Answer::Yes(&[UP]))] {
-        assert!(rt; is_verdict(rt.alloc(), delay_open, &ACCEPTED_FIRST, &answer)?);
-    }
-    Ok(())
+fn an_open_is_accepted_before_the_own_where_it_may_be_delayed(rt: HostRuntime) {
+    let is_refused = is_verdict(rt.alloc(), false, &ACCEPTED_FIRST, &Answer::No(2));
+    let is_accepted = is_verdict(rt.alloc(), true, &ACCEPTED_FIRST, &Answer::Yes(&[UP]));
+    assert!(rt; is_refused && is_accepted);
 }
