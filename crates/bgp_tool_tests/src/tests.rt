@@ -5,7 +5,7 @@ mod commands;
 mod devices;
 mod great;
 mod judging;
-mod opened_judging;
+mod opened;
 mod updates;
 
 use bgp_tool::*;
@@ -15,7 +15,7 @@ use bgp_wire::vectors::{
 };
 use linked_list_allocator::LocalHeap;
 use mrt::{MemSink, MemSource, SinkUpset, SourceUpset};
-use std::alloc::{AllocError, Global};
+use std::alloc::{AllocError, Allocator, Global};
 use std::num::NonZeroUsize;
 use std::process::Abort;
 use std::test::Fail;
@@ -79,16 +79,9 @@ keepalive
 rest 5
 ";
 
-/// That was written and answered. A call of this is proved more quickly than `assert_eq!`.
-fn same(rt: &impl Abort, written: &[u8], answer: u8, text: &[u8], status: u8) {
-    assert_eq!(rt; written, text);
-    assert_eq!(rt; answer, status);
-}
-
-/// That is the outcome.
-fn same_outcome(rt: &impl Abort, outcome: Outcome<'_>, status: u8, note: Option<Note<'_>>) {
-    assert_eq!(rt; outcome.status, status);
-    assert_eq!(rt; outcome.note, note);
+/// Whether that was written and answered.
+fn same(written: &[u8], answer: u8, text: &[u8], status: u8) -> bool {
+    written == text && answer == status
 }
 
 /// Messages as a stream, one after another.
@@ -100,13 +93,90 @@ fn joined(alloc: Global, messages: &[&[u8]]) -> Result<Vec<u8>, AllocError> {
     Ok(octets)
 }
 
+/// How many octets a call of a source gives at most, and in which call it is upset; and how many a
+/// call of a sink takes, and when that is.
+#[derive(Clone, Copy)]
+struct Handling {
+    gives: NonZeroUsize,
+    source: Option<(u64, SourceUpset)>,
+    takes: NonZeroUsize,
+    sink: Option<(u64, SinkUpset)>,
+}
+
+/// A source that gives all, and a sink that takes all.
+const WHOLE: Handling = Handling {
+    gives: NonZeroUsize::MAX,
+    source: None,
+    takes: NonZeroUsize::MAX,
+    sink: None,
+};
+
+/// A source that gives one octet a call.
+const SLOW_SOURCE: Handling = Handling {
+    gives: NonZeroUsize::MIN,
+    source: None,
+    takes: NonZeroUsize::MAX,
+    sink: None,
+};
+
+/// Such a source, and a sink that takes one octet a call.
+const SLOW: Handling = Handling {
+    gives: NonZeroUsize::MIN,
+    source: None,
+    takes: NonZeroUsize::MIN,
+    sink: None,
+};
+
+/// What decoding octets handled so, and with this memory, writes and answers.
+fn decoded<A: Allocator + Copy>(
+    memory: A,
+    alloc: Global,
+    octets: Vec<u8>,
+    handling: Handling,
+) -> (Vec<u8>, u8) {
+    let mut source = MemSource::new(octets).in_pieces_of(handling.gives);
+    if let Some((call, upset)) = handling.source {
+        source = source.upset_at(call, upset);
+    }
+    let mut sink = MemSink::new(alloc).in_pieces_of(handling.takes);
+    if let Some((call, upset)) = handling.sink {
+        sink = sink.upset_at(call, upset);
+    }
+    let answer = decode_raw(memory, &mut source, &mut sink);
+    (sink.into_octets(), answer)
+}
+
+/// Whether decoding messages handled so writes this text and answers this status.
+fn are_decoded(
+    alloc: Global,
+    messages: &[&[u8]],
+    handling: Handling,
+    text: &[u8],
+    status: u8,
+) -> bool {
+    let Ok(octets) = joined(alloc, messages) else {
+        return false;
+    };
+    let (written, answer) = decoded(alloc, alloc, octets, handling);
+    same(&written, answer, text, status)
+}
+
+/// Whether messages in memory have this text and this status.
+fn have_text(alloc: Global, messages: &[&[u8]], text: &[u8], status: u8) -> bool {
+    let Ok(octets) = joined(alloc, messages) else {
+        return false;
+    };
+    let (written, answer) = text_and_status(alloc, octets);
+    same(&written, answer, text, status)
+}
+
 /// The line of [`ANNOUNCES_10`].
 const ANNOUNCES_10_LINE: &str = "\
 update - | 64.1:00 64.2:02010000fdea 64.3:c0000202 | 10.0.0.0/8
 ";
 
 /// Streams, their text, and the exit status.
-const STREAMS: [(&[&[u8]], &str, u8); 13] = [
+static STREAMS: [(&[&[u8]], &str, u8); 13] = [
     (&SESSION, SESSION_TEXT, 2),
     (&[], "", 0),
     (&[&TEN_OCTETS], "rest 10\n", 2),
@@ -135,120 +205,112 @@ const STREAMS: [(&[&[u8]], &str, u8); 13] = [
 ];
 
 #[test]
-fn each_stream_has_its_lines_and_its_status(rt: HostRuntime) -> Result<(), Fail> {
-    for (messages, text, status) in STREAMS {
-        for most in [NonZeroUsize::MAX, NonZeroUsize::MIN] {
-            let octets = joined(rt.alloc(), messages)?;
-            let mut source = MemSource::new(octets).in_pieces_of(most);
-            let mut sink = MemSink::new(rt.alloc());
-            let answer = decode_raw(rt.alloc(), &mut source, &mut sink);
-            same(&rt, sink.octets(), answer, text.as_bytes(), status);
-        }
+fn each_stream_has_its_lines_and_its_status(rt: HostRuntime) {
+    for (messages, text, status) in &STREAMS {
+        let wanted = text.as_bytes();
+        let is_so = are_decoded(rt.alloc(), messages, WHOLE, wanted, *status)
+            && are_decoded(rt.alloc(), messages, SLOW_SOURCE, wanted, *status);
+        assert!(rt; is_so, "{text}");
     }
-    Ok(())
 }
 
 #[test]
-fn octets_in_memory_have_their_text_and_their_status(rt: HostRuntime) -> Result<(), Fail> {
-    for (messages, text, status) in STREAMS {
-        let octets = joined(rt.alloc(), messages)?;
-        let (written, answer) = text_and_status(rt.alloc(), octets);
-        same(&rt, written.as_slice(), answer, text.as_bytes(), status);
+fn octets_in_memory_have_their_text_and_their_status(rt: HostRuntime) {
+    for (messages, text, status) in &STREAMS {
+        assert!(rt;
+            have_text(rt.alloc(), messages, text.as_bytes(), *status),
+            "{text}"
+        );
     }
-    Ok(())
 }
 
-#[test]
-fn a_failing_read_leaves_the_lines_of_the_whole_frames(rt: HostRuntime) -> Result<(), Fail> {
-    // At which reads, of one octet each, and what has been written by then.
-    let rows = [
-        (0..49, ""),
-        (
-            49..70,
-            "open as 65002 hold 90 id 192.0.2.2 caps 1:00010001 1:00020001 65:0000fdea\n",
-        ),
-        (
-            70..89,
-            "\
+/// The lines of [`SESSION`], and the read, of one octet, that ends the message behind each.
+static LINES: [(u64, &str); 4] = [
+    (49, ""),
+    (
+        70,
+        "open as 65002 hold 90 id 192.0.2.2 caps 1:00010001 1:00020001 65:0000fdea\n",
+    ),
+    (
+        89,
+        "\
 open as 65002 hold 90 id 192.0.2.2 caps 1:00010001 1:00020001 65:0000fdea
 notification 6/2 -
 ",
-        ),
-        (
-            89..95,
-            "\
+    ),
+    (
+        95,
+        "\
 open as 65002 hold 90 id 192.0.2.2 caps 1:00010001 1:00020001 65:0000fdea
 notification 6/2 -
 keepalive
 ",
-        ),
-    ];
-    for (reads, text) in rows {
-        for read in reads {
-            let mut source = MemSource::new(joined(rt.alloc(), &SESSION)?)
-                .in_pieces_of(NonZeroUsize::MIN)
-                .upset_at(read, SourceUpset::Fail);
-            let mut sink = MemSink::new(rt.alloc()).in_pieces_of(NonZeroUsize::MIN);
-            let answer = decode_raw(rt.alloc(), &mut source, &mut sink);
-            same(&rt, sink.octets(), answer, text.as_bytes(), 5);
+    ),
+];
+
+#[test]
+fn a_failing_read_leaves_the_lines_of_the_whole_frames(rt: HostRuntime) {
+    let mut read = 0u64;
+    for (end, text) in &LINES {
+        for _ in read..*end {
+            let handling = Handling {
+                source: Some((read, SourceUpset::Fail)),
+                ..SLOW
+            };
+            let is_so = are_decoded(rt.alloc(), &SESSION, handling, text.as_bytes(), 5);
+            assert!(rt; is_so, "at read {read}");
+            read = read.saturating_add(1);
         }
     }
-    Ok(())
+    assert!(rt; read == 95);
 }
 
 #[test]
-fn a_failing_write_leaves_a_beginning_of_the_text(rt: HostRuntime) -> Result<(), Fail> {
-    for (write, _) in SESSION_TEXT.as_bytes().iter().enumerate() {
-        let mut source = MemSource::new(joined(rt.alloc(), &SESSION)?).in_pieces_of(
-            NonZeroUsize::MIN,
-        );
-        let mut sink = MemSink::new(rt.alloc())
-            .in_pieces_of(NonZeroUsize::MIN)
-            .upset_at(write as u64, SinkUpset::Fail);
-        let answer = decode_raw(rt.alloc(), &mut source, &mut sink);
-        same(
-            &rt,
-            sink.octets(),
-            answer,
-            &SESSION_TEXT.as_bytes()[..write],
-            5,
-        );
+fn a_failing_write_leaves_a_beginning_of_the_text(rt: HostRuntime) {
+    let text = SESSION_TEXT.as_bytes();
+    for write in 0..text.len() {
+        let handling = Handling {
+            sink: Some((write as u64, SinkUpset::Fail)),
+            ..SLOW
+        };
+        let is_so = are_decoded(rt.alloc(), &SESSION, handling, &text[..write], 5);
+        assert!(rt; is_so, "at write {write}");
     }
-    Ok(())
 }
 
 #[test]
-fn a_short_call_changes_nothing(rt: HostRuntime) -> Result<(), Fail> {
-    let mut source = MemSource::new(joined(rt.alloc(), &SESSION)?).upset_at(
-        0,
-        SourceUpset::Short(NonZeroUsize::MIN),
-    );
-    let mut sink = MemSink::new(rt.alloc()).upset_at(1, SinkUpset::Short(NonZeroUsize::MIN));
-    let answer = decode_raw(rt.alloc(), &mut source, &mut sink);
-    same(&rt, sink.octets(), answer, SESSION_TEXT.as_bytes(), 2);
-    Ok(())
+fn a_short_call_changes_nothing(rt: HostRuntime) {
+    let handling = Handling {
+        source: Some((0, SourceUpset::Short(NonZeroUsize::MIN))),
+        sink: Some((1, SinkUpset::Short(NonZeroUsize::MIN))),
+        ..WHOLE
+    };
+    assert!(rt; are_decoded(rt.alloc(), &SESSION, handling, SESSION_TEXT.as_bytes(), 2));
 }
 
+/// At which read a stream ends, the text of what it gave, and the status.
+static ENDS: [(u64, &str, u8); 4] = [
+    (0, "", 0),
+    (10, "rest 10\n", 2),
+    (19, "keepalive\n", 0),
+    (20, "keepalive\nrest 1\n", 2),
+];
+
 #[test]
-fn a_stream_that_ends_early_has_a_rest(rt: HostRuntime) -> Result<(), Fail> {
-    for (read, text, status) in [
-        (0, "", 0),
-        (10, "rest 10\n", 2),
-        (19, "keepalive\n", 0),
-        (20, "keepalive\nrest 1\n", 2),
-    ] {
-        let mut source = MemSource::new(joined(rt.alloc(), &[&KEEPALIVE, &OPEN_B])?)
-            .in_pieces_of(NonZeroUsize::MIN)
-            .upset_at(read, SourceUpset::End);
-        let mut sink = MemSink::new(rt.alloc());
-        let answer = decode_raw(rt.alloc(), &mut source, &mut sink);
-        same(&rt, sink.octets(), answer, text.as_bytes(), status);
+fn a_stream_that_ends_early_has_a_rest(rt: HostRuntime) {
+    for (read, text, status) in &ENDS {
+        let handling = Handling {
+            source: Some((*read, SourceUpset::End)),
+            ..SLOW_SOURCE
+        };
+        let messages: [&[u8]; 2] = [&KEEPALIVE, &OPEN_B];
+        let is_so = are_decoded(rt.alloc(), &messages, handling, text.as_bytes(), *status);
+        assert!(rt; is_so, "at read {read}");
     }
-    Ok(())
 }
 
 /// Short messages, and then a longer one, for which the splitter's room may have to grow.
-const SHUTDOWN_BEFORE_OPEN: [&[u8]; 4] = [
+static SHUTDOWN_BEFORE_OPEN: [&[u8]; 4] = [
     &KEEPALIVE,
     &ADMINISTRATIVE_SHUTDOWN,
     &OPEN_B,
@@ -263,85 +325,99 @@ open as 65002 hold 90 id 192.0.2.2 caps 1:00010001 1:00020001 65:0000fdea
 rest 5
 ";
 
+/// What decoding these messages on a heap of this size writes and answers.
+fn decoded_on(
+    alloc: Global,
+    size: usize,
+    messages: &[&[u8]],
+    handling: Handling,
+) -> Result<(Vec<u8>, u8), AllocError> {
+    let octets = joined(alloc, messages)?;
+    let heap = LocalHeap::new(alloc, size)?;
+    Ok(decoded(&heap, alloc, octets, handling))
+}
+
 #[test]
 fn a_refused_growth_leaves_a_beginning_of_the_text(rt: HostRuntime) -> Result<(), Fail> {
     let text = SHUTDOWN_BEFORE_OPEN_TEXT.as_bytes();
     let mut longest = 0;
     for size in (16usize..1 << 16).step_by(16) {
-        let heap = LocalHeap::new(rt.alloc(), size)?;
-        let mut source = MemSource::new(joined(rt.alloc(), &SHUTDOWN_BEFORE_OPEN)?).in_pieces_of(
-            NonZeroUsize::MIN,
-        );
-        let mut sink = MemSink::new(rt.alloc());
-        let answer = decode_raw(&heap, &mut source, &mut sink);
+        let (written, answer) = decoded_on(rt.alloc(), size, &SHUTDOWN_BEFORE_OPEN, SLOW_SOURCE)?;
         if answer != 4 {
-            same(&rt, sink.octets(), answer, text, 2);
-            assert!(rt; 0 < longest, "no refusal came behind a line");
+            let is_so = 0 < longest && same(&written, answer, text, 2);
+            assert!(rt; is_so, "on a heap of {size}, behind {longest} octets");
             return Ok(());
         }
-        assert!(rt; text.starts_with(sink.octets()), "on a heap of {size}");
-        longest = sink.octets().len().max(longest);
+        assert!(rt; text.starts_with(&written), "on a heap of {size}");
+        longest = written.len().max(longest);
     }
     Err(Fail::new("no heap was large enough"))
+}
+
+/// The status of a message in memory, where there is room for it.
+fn status_on(heap: &LocalHeap, message: &[u8]) -> Option<u8> {
+    let mut stream = Vec::new(heap);
+    stream.extend_from_slice(message).ok()?;
+    let (_, answer) = text_and_status(heap, stream);
+    Some(answer)
 }
 
 /// Memory is refused to the splitter first, and where that has enough to the text.
 #[test]
 fn refused_memory_has_the_status_of_what_wanted_it(rt: HostRuntime) -> Result<(), Fail> {
-    let mut answers = Vec::new(rt.alloc());
+    let (mut count, mut last) = (0usize, None);
     for size in (16usize..1 << 13).step_by(16) {
         let heap = LocalHeap::new(rt.alloc(), size)?;
-        let mut stream = Vec::new(&heap);
-        if stream.extend_from_slice(&KEEPALIVE).is_ok() {
-            let (_, answer) = text_and_status(&heap, stream);
-            if answers.last() != Some(&answer) {
-                answers.push(answer)?;
-            }
+        let answer = status_on(&heap, &KEEPALIVE);
+        if answer.is_some() && answer != last {
+            assert!(rt;
+                [4, 5, 0].get(count) == answer.as_ref(),
+                "on a heap of {size}"
+            );
+            count = count.saturating_add(1);
+            last = answer;
         }
     }
-    assert_eq!(rt; answers.as_slice(), [4, 5, 0].as_slice());
+    assert!(rt; count == 3);
     Ok(())
 }
 
 #[test]
 fn memory_does_not_grow_with_the_stream(rt: HostRuntime) -> Result<(), Fail> {
-    let heap = LocalHeap::new(rt.alloc(), 1 << 19)?;
     let mut octets = Vec::new(rt.alloc());
     for _ in 0..10_000 {
         octets.extend_from_slice(&ANNOUNCES_10)?;
     }
-    let mut source = MemSource::new(octets);
-    let mut sink = MemSink::new(rt.alloc());
-    assert_eq!(rt; decode_raw(&heap, &mut source, &mut sink), 0);
-    assert_eq!(rt; sink.octets().len(), 10_000 * ANNOUNCES_10_LINE.len());
+    let heap = LocalHeap::new(rt.alloc(), 1 << 19)?;
+    let (written, answer) = decoded(&heap, rt.alloc(), octets, WHOLE);
+    assert!(rt; answer == 0 && written.len() == 10_000 * ANNOUNCES_10_LINE.len());
     Ok(())
 }
 
 /// The calls that may want memory, with enough of it.
 #[test]
-fn ample_memory(rt: HostRuntime) -> Result<(), Fail> {
-    let octets = joined(rt.alloc(), &[&ADMINISTRATIVE_SHUTDOWN, &KEEPALIVE])?;
+fn ample_memory(rt: HostRuntime) {
+    let messages: [&[u8]; 2] = [&ADMINISTRATIVE_SHUTDOWN, &KEEPALIVE];
     let text = b"notification 6/2 -\nkeepalive\n".as_slice();
-    let mut source = MemSource::new(octets.clone()?);
-    let mut sink = MemSink::new(rt.alloc());
-    let answer = decode_raw(rt.alloc(), &mut source, &mut sink);
-    same(&rt, sink.octets(), answer, text, 0);
-    let (written, status) = text_and_status(rt.alloc(), octets);
-    same(&rt, written.as_slice(), status, text, 0);
-    Ok(())
+    let is_so = are_decoded(rt.alloc(), &messages, WHOLE, text, 0)
+        && have_text(rt.alloc(), &messages, text, 0);
+    assert!(rt; is_so);
 }
+
+/// Each status, and its number.
+static CODES: [(Status, u8); 7] = [
+    (Status::Done, 0),
+    (Status::No, 1),
+    (Status::Unfinished, 2),
+    (Status::Refused, 3),
+    (Status::Memory, 4),
+    (Status::Device, 5),
+    (Status::Usage, 64),
+];
 
 #[test]
 fn each_status_has_its_number(rt: HostRuntime) {
-    for (status, code) in [
-        (Status::Done, 0),
-        (Status::No, 1),
-        (Status::Unfinished, 2),
-        (Status::Refused, 3),
-        (Status::Memory, 4),
-        (Status::Device, 5),
-        (Status::Usage, 64),
-    ] {
-        assert_eq!(rt; status.code(), code);
+    for (status, code) in &CODES {
+        assert!(rt; status.code() == *code, "{code}");
     }
 }

@@ -1,16 +1,19 @@
 //! What decoding a capture does where a device fails or memory is refused. Its lines are compared
 //! by the program `real_captures`.
 
-use super::devices::{Breaking, Full};
 use super::*;
 use bgp_prefix::{Address, Session};
-use mrt::{Endpoints, FromWrite, Reader};
-use std::io;
-use std::io::ErrorKind;
+use mrt::{Endpoints, Reader};
+
+/// The address of the peer.
+const PEER: Address = Address::V4(0xc000_0202);
+
+/// The address of the local system.
+const LOCAL: Address = Address::V4(0xc000_0201);
 
 pub(super) const SESSION: Session = Session {
-    peer: Address::V4(0xc000_0202),
-    local: Address::V4(0xc000_0201),
+    peer: PEER,
+    local: LOCAL,
     refresh: false,
 };
 
@@ -36,162 +39,92 @@ pub(super) fn changes(alloc: Global, count: usize) -> Result<Vec<u8>, AllocError
     Ok(capture)
 }
 
+/// What decoding changes wrote and answered, how many octets the source had given then, and whether
+/// the reader had answered.
+#[derive(Drop)]
+struct Answer {
+    text: Vec<u8>,
+    status: u8,
+    given: usize,
+    has_answered: bool,
+}
+
+/// Decodes so many changes with this memory, from a source and into a sink that may be upset.
+fn decoded<A: Allocator + Copy>(
+    memory: A,
+    alloc: Global,
+    count: usize,
+    handling: Handling,
+) -> Result<Answer, AllocError> {
+    let mut source = MemSource::new(changes(alloc, count)?);
+    if let Some((call, upset)) = handling.source {
+        source = source.upset_at(call, upset);
+    }
+    let mut sink = MemSink::new(alloc);
+    if let Some((call, upset)) = handling.sink {
+        sink = sink.upset_at(call, upset);
+    }
+    let mut reader = Reader::new(memory);
+    let status = decode_capture(&mut reader, &SESSION, &mut source, &mut sink);
+    Ok(Answer {
+        text: sink.into_octets(),
+        status,
+        given: source.given(),
+        has_answered: reader.has_answered(),
+    })
+}
+
 #[test]
 fn a_failing_source_is_told(rt: HostRuntime) -> Result<(), Fail> {
-    let mut source = MemSource::new(changes(rt.alloc(), 2)?).upset_at(2, SourceUpset::Fail);
-    let mut sink = MemSink::new(rt.alloc());
-    let mut reader = Reader::new(rt.alloc());
-    let answer = decode_capture(&mut reader, &SESSION, &mut source, &mut sink);
-    let text = b"@100 change 1 2\ncapture refused: 9 Device at 36\n".as_slice();
-    same(&rt, sink.octets(), answer, text, 5);
-    assert_eq!(rt; reader.has_answered(), true);
+    let handling = Handling {
+        source: Some((2, SourceUpset::Fail)),
+        ..WHOLE
+    };
+    let answer = decoded(rt.alloc(), rt.alloc(), 2, handling)?;
+    let text = b"@100 change 1 2\ncapture refused: 9 Device at 36\n";
+    assert!(rt; same(&answer.text, answer.status, text, 5) && answer.has_answered);
     Ok(())
 }
 
 #[test]
 fn a_failing_sink_ends_the_reading(rt: HostRuntime) -> Result<(), Fail> {
-    let capture = changes(rt.alloc(), 5000)?;
-    let whole = capture.len();
-    let mut source = MemSource::new(capture);
-    let mut sink = MemSink::new(rt.alloc()).upset_at(0, SinkUpset::Fail);
-    let mut reader = Reader::new(rt.alloc());
-    let answer = decode_capture(&mut reader, &SESSION, &mut source, &mut sink);
-    same(&rt, sink.octets(), answer, b"".as_slice(), 5);
-    assert!(rt; source.given() < whole);
+    let handling = Handling {
+        sink: Some((0, SinkUpset::Fail)),
+        ..WHOLE
+    };
+    let answer = decoded(rt.alloc(), rt.alloc(), 5000, handling)?;
+    let whole = 5000 * CHANGE.len();
+    assert!(rt; same(&answer.text, answer.status, b"", 5) && answer.given < whole);
     Ok(())
 }
+
+/// Sizes of heaps, and the status and the text of a change that is decoded with one.
+static SIZES: [(usize, u8, &str); 3] = [
+    (64, 4, "capture refused: 10 Memory at 0\n"),
+    (8000, 4, "capture refused: 10 Memory at 0\n"),
+    (16384, 0, "@100 change 1 2\n"),
+];
 
 #[test]
 fn refused_memory_is_told_and_ample_memory_is_not(rt: HostRuntime) -> Result<(), Fail> {
-    for (size, status, text) in [
-        (64, 4, "capture refused: 10 Memory at 0\n"),
-        (8000, 4, "capture refused: 10 Memory at 0\n"),
-        (16384, 0, "@100 change 1 2\n"),
-    ] {
-        let heap = LocalHeap::new(rt.alloc(), size)?;
-        let mut source = MemSource::new(changes(rt.alloc(), 1)?);
-        let mut sink = MemSink::new(rt.alloc());
-        let mut reader = Reader::new(&heap);
-        let answer = decode_capture(&mut reader, &SESSION, &mut source, &mut sink);
-        same(&rt, sink.octets(), answer, text.as_bytes(), status);
+    for (size, status, text) in &SIZES {
+        let heap = LocalHeap::new(rt.alloc(), *size)?;
+        let answer = decoded(&heap, rt.alloc(), 1, WHOLE)?;
+        let is_so = same(&answer.text, answer.status, text.as_bytes(), *status);
+        assert!(rt; is_so, "on a heap of {size}");
     }
     Ok(())
 }
 
-#[test]
-fn a_capture_without_the_session_is_told(rt: HostRuntime) -> Result<(), Fail> {
-    let capture = changes(rt.alloc(), 1)?;
-    let exchanged = Session {
-        peer: SESSION.local,
-        local: SESSION.peer,
-        refresh: false,
-    };
-    let first = Endpoints {
-        peer: SESSION.peer,
-        local: SESSION.local,
-    };
-    for (session, octets, note, told) in [
-        (SESSION, capture.as_slice(), None, ""),
-        (
-            exchanged,
-            capture.as_slice(),
-            Some(Some(first)),
-            "a: no record of this session was read; the first of another one has the peer \
-             192.0.2.2 and the local address 192.0.2.1",
-        ),
-        (
-            SESSION,
-            b"".as_slice(),
-            Some(None),
-            "a: no record of this session was read",
-        ),
-    ] {
-        let mut sink = FromWrite::new(Vec::new(rt.alloc()));
-        let alloc = rt.alloc();
-        let outcome = decode_opened_capture(alloc, &session, "a", Ok(octets), &mut sink);
-        let note = note.map(|other| Note::NoSession { file: "a", other });
-        same_outcome(&rt, outcome, 0, note);
-        if let Some(note) = outcome.note {
-            let text = format!(in rt.alloc(); "{note}")?;
-            assert_eq!(rt; text.as_str(), told);
-        }
-    }
-    Ok(())
-}
+/// [`SESSION`] as its other end names it.
+pub(super) const EXCHANGED: Session = Session {
+    peer: LOCAL,
+    local: PEER,
+    refresh: false,
+};
 
-#[test]
-fn a_failing_reader_is_told_with_its_place(rt: HostRuntime) -> Result<(), Fail> {
-    for (octet, text) in [
-        (0, "capture refused: 9 Device at 0\n"),
-        (11, "capture refused: 9 Device at 0\n"),
-        (35, "capture refused: 9 Device at 0\n"),
-        (36, "@100 change 1 2\ncapture refused: 9 Device at 36\n"),
-        (
-            72,
-            "@100 change 1 2\n@100 change 1 2\ncapture refused: 9 Device at 72\n",
-        ),
-        (
-            90,
-            "@100 change 1 2\n@100 change 1 2\ncapture refused: 9 Device at 72\n",
-        ),
-    ] {
-        let mut capture = changes(rt.alloc(), 3)?;
-        capture.truncate(octet);
-        let reader = Breaking {
-            octets: capture.as_slice(),
-            error: ErrorKind::TimedOut,
-        };
-        let mut sink = FromWrite::new(Vec::new(rt.alloc()));
-        let outcome = decode_opened_capture(rt.alloc(), &SESSION, "a", Ok(reader), &mut sink);
-        let note = Note::Unread {
-            file: "a",
-            octet: octet as u64,
-            error: Some(ErrorKind::TimedOut),
-        };
-        same_outcome(&rt, outcome, 5, Some(note));
-        assert_eq!(rt; sink.into_inner().as_slice(), text.as_bytes(), "{octet}");
-    }
-    Ok(())
-}
-
-#[test]
-fn a_full_disk_is_told_and_a_closed_pipe_is_not(rt: HostRuntime) -> Result<(), Fail> {
-    let capture = changes(rt.alloc(), 3)?;
-    for (error, wanted) in [
-        (
-            ErrorKind::StorageFull,
-            Some(Note::Unwritten {
-                octet: 5,
-                error: Some(ErrorKind::StorageFull),
-            }),
-        ),
-        (ErrorKind::BrokenPipe, None),
-    ] {
-        let mut sink = FromWrite::new(Full { room: 5, error });
-        let octets = Ok(capture.as_slice());
-        let outcome = decode_opened_capture(rt.alloc(), &SESSION, "a", octets, &mut sink);
-        same_outcome(&rt, outcome, 5, wanted);
-
-        // Where the reader failed before, it is the same.
-        let mut sink = FromWrite::new(Full { room: 5, error });
-        let reader = Ok(Breaking {
-            octets: &CHANGE,
-            error: ErrorKind::TimedOut,
-        });
-        let outcome = decode_opened_capture(rt.alloc(), &SESSION, "a", reader, &mut sink);
-        same_outcome(&rt, outcome, 5, wanted);
-    }
-    Ok(())
-}
-
-#[test]
-fn a_capture_that_cannot_be_opened_is_told(rt: HostRuntime) -> Result<(), Fail> {
-    for (error, status) in [(ErrorKind::NotFound, 5), (ErrorKind::OutOfMemory, 4)] {
-        let mut sink = FromWrite::new(Vec::new(rt.alloc()));
-        let opened: io::Result<&[u8]> = Err(io::Error::from(error));
-        let outcome = decode_opened_capture(rt.alloc(), &SESSION, "a", opened, &mut sink);
-        assert_eq!(rt; outcome.status, status);
-        assert!(rt; outcome.note.is_some());
-    }
-    Ok(())
-}
+/// The ends of [`CHANGE`].
+pub(super) const FIRST: Endpoints = Endpoints {
+    peer: PEER,
+    local: LOCAL,
+};

@@ -9,17 +9,16 @@ use bgp_prefix::{Address, Session};
 use bgp_wire::vectors::{MP_REACH_TRANSITIVE, OPEN_A};
 use mrt::Record::{self, Change, In, Out};
 use mrt::{Sink, is_writable, write_record};
-use std::alloc::Allocator;
 
 /// What judges: the slow tracker that is easy to believe, or the one that `bgp judge` runs.
 #[derive(Clone, Copy)]
-pub(super) enum Judge {
+enum Judge {
     Plain,
     Compact,
 }
 
 /// Both of them.
-pub(super) const BOTH: [Judge; 2] = [Judge::Plain, Judge::Compact];
+const BOTH: [Judge; 2] = [Judge::Plain, Judge::Compact];
 
 /// What router A is configured to do.
 pub(super) const PARTS_A: ConfigParts = ConfigParts {
@@ -39,7 +38,7 @@ pub(super) const PARTS_A: ConfigParts = ConfigParts {
 };
 
 /// A session whose last UPDATE may disable IPv6 or not.
-const RECORDS: [Record<'static>; 10] = [
+static RECORDS: [Record<'static>; 10] = [
     Change(100, 1, 2),
     Out(100, &OPEN_A),
     Change(100, 2, 4),
@@ -61,18 +60,43 @@ end Established disabled v6
 route 10.0.0.0/8 via 192.0.2.2 path 65002 origin 0
 ";
 
-/// A capture of these records.
-fn capture_of(alloc: Global, records: &[Record<'_>]) -> Result<Vec<u8>, Fail> {
+/// Writes a record. Answers whether it could be.
+fn put(sink: &mut MemSink, record: &Record<'_>) -> bool {
+    sink.failures() < u64::MAX
+        && is_writable(&PARTS_A.session, record)
+        && write_record(sink, &PARTS_A.session, 65002, 65001, record).is_ok()
+}
+
+/// A capture of these records, if they could be written.
+fn capture_of(alloc: Global, records: &[Record<'_>]) -> Option<Vec<u8>> {
     let mut sink = MemSink::new(alloc);
     for record in records {
-        if sink.failures() == u64::MAX || !is_writable(&PARTS_A.session, record) {
-            return Err(Fail::new("not writable"));
-        }
-        if write_record(&mut sink, &PARTS_A.session, 65002, 65001, record).is_err() {
-            return Err(Fail::new("not written"));
+        if !put(&mut sink, record) {
+            return None;
         }
     }
-    Ok(sink.into_octets())
+    Some(sink.into_octets())
+}
+
+/// What judging a capture with this memory writes and answers.
+fn answer_of<A: Allocator + Copy>(
+    judge: Judge,
+    alloc: Global,
+    memory: A,
+    config: &Config,
+    capture: Vec<u8>,
+) -> (Vec<u8>, u8) {
+    let mut source = MemSource::new(capture);
+    let mut sink = MemSink::new(alloc);
+    let status = match judge {
+        Judge::Plain => {
+            judge_capture::<A, PlainTracker<A>, _, _>(memory, config, &mut source, &mut sink)
+        }
+        Judge::Compact => {
+            judge_capture::<A, CompactTracker<A>, _, _>(memory, config, &mut source, &mut sink)
+        }
+    };
+    (sink.into_octets(), status)
 }
 
 /// What judging [`RECORDS`] with this memory writes and answers.
@@ -81,37 +105,58 @@ fn judged<A: Allocator + Copy>(
     alloc: Global,
     memory: A,
 ) -> Result<(Vec<u8>, u8), Fail> {
-    let config = Config::new(PARTS_A).ok_or("no configuration")?;
-    let mut source = MemSource::new(capture_of(alloc, &RECORDS)?);
-    let mut sink = MemSink::new(alloc);
-    let status = match judge {
-        Judge::Plain => {
-            judge_capture::<A, PlainTracker<A>, _, _>(memory, &config, &mut source, &mut sink)
-        }
-        Judge::Compact => {
-            judge_capture::<A, CompactTracker<A>, _, _>(memory, &config, &mut source, &mut sink)
-        }
-    };
-    Ok((sink.into_octets(), status))
+    match (Config::new(PARTS_A), capture_of(alloc, &RECORDS)) {
+        (Some(config), Some(capture)) => Ok(answer_of(judge, alloc, memory, &config, capture)),
+        _ => Err(Fail::new("no configuration, or no capture")),
+    }
 }
 
 #[test]
 fn ample_memory(rt: HostRuntime) -> Result<(), Fail> {
     for judge in BOTH {
         let (written, answer) = judged(judge, rt.alloc(), rt.alloc())?;
-        same(&rt, written.as_slice(), answer, TEXT.as_bytes(), 0);
+        assert!(rt; same(&written, answer, TEXT.as_bytes(), 0));
     }
     Ok(())
+}
+
+/// The refusal for memory at the octet where these records end.
+fn refusal_at(alloc: Global, records: &[Record<'_>]) -> Result<String, Fail> {
+    let Some(capture) = capture_of(alloc, records) else {
+        return Err(Fail::new("no capture"));
+    };
+    let place = capture.len();
+    Ok(format!(in alloc; "capture refused: 10 Memory at {place}\n")?)
 }
 
 /// The refusals for memory at the octets where a record begins, or the capture ends.
 fn refusals(alloc: Global) -> Result<Vec<String>, Fail> {
     let mut refusals = Vec::new(alloc);
     for count in 0..=RECORDS.len() {
-        let place = capture_of(alloc, &RECORDS[..count])?.len();
-        refusals.push(format!(in alloc; "capture refused: 10 Memory at {place}\n")?)?;
+        refusals.push(refusal_at(alloc, &RECORDS[..count])?)?;
     }
     Ok(refusals)
+}
+
+/// With this memory: the place of the record or end at which it was refused, or `None` where there
+/// is a verdict.
+fn refused_at(
+    rt: &impl Abort,
+    alloc: Global,
+    judge: Judge,
+    heap: &LocalHeap,
+    refusals: &[String],
+) -> Result<Option<usize>, Fail> {
+    let (written, answer) = judged(judge, alloc, heap)?;
+    let place = refusals
+        .iter()
+        .position(|refusal| refusal.as_bytes() == written.as_slice());
+    let is_so = match place {
+        Some(_) => answer == 4,
+        None => same(&written, answer, TEXT.as_bytes(), 0),
+    };
+    assert!(rt; is_so, "refused at {place:?}, with status {answer}");
+    Ok(place)
 }
 
 /// With each size of heap: status 4, and memory was refused at such an octet; until the heap is
@@ -125,21 +170,16 @@ fn is_refused_until_ample(
     let (mut first, mut last) = (None, None);
     for size in (16usize..1 << 15).step_by(16) {
         let heap = LocalHeap::new(alloc, size)?;
-        let (written, answer) = judged(judge, alloc, &heap)?;
-        let place = refusals
-            .iter()
-            .position(|refusal| refusal.as_bytes() == written.as_slice());
-        let Some(place) = place else {
-            same(rt, written.as_slice(), answer, TEXT.as_bytes(), 0);
+        let place = refused_at(rt, alloc, judge, &heap, refusals)?;
+        if place.is_none() {
             assert!(rt;
                 first == Some(0) && last > Some(0),
                 "refused at {first:?} to {last:?}"
             );
             return Ok(());
-        };
-        assert_eq!(rt; answer, 4);
-        first = first.or(Some(place));
-        last = Some(place);
+        }
+        first = first.or(place);
+        last = place;
     }
     Err(Fail::new("no heap was large enough"))
 }

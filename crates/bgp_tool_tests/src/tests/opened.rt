@@ -1,0 +1,341 @@
+//! What decoding and judging what a reader gives do where a device fails or memory is refused, and
+//! what is told then.
+
+use super::captures::{CHANGE, EXCHANGED, FIRST, SESSION, changes};
+use super::devices::{Given, Paper, breaking, giving};
+use super::judging::PARTS_A;
+use super::*;
+use bgp_compact::CompactTracker;
+use bgp_judge::PlainTracker;
+use bgp_open::{Config, ConfigParts};
+use bgp_prefix::Session;
+use mrt::{Endpoints, FromWrite};
+use std::io::{self, ErrorKind};
+
+/// What is done with what a reader gives.
+#[derive(Clone, Copy, Debug)]
+pub(super) enum Task {
+    Decode,
+    DecodeCapture,
+    /// By the slow tracker that is easy to believe.
+    JudgePlain,
+    /// By the one that `bgp judge` runs.
+    JudgeCompact,
+}
+
+/// All of them.
+static TASKS: [Task; 4] = [
+    Task::Decode,
+    Task::DecodeCapture,
+    Task::JudgePlain,
+    Task::JudgeCompact,
+];
+
+/// The two that judge.
+static JUDGES: [Task; 2] = [Task::JudgePlain, Task::JudgeCompact];
+
+/// The name of the file that a task is given.
+pub(super) fn file_of(task: Task) -> &'static str {
+    match task {
+        Task::Decode => "-",
+        Task::DecodeCapture => "a.mrt",
+        Task::JudgePlain | Task::JudgeCompact => "a",
+    }
+}
+
+/// Router A's configuration, in a session.
+pub(super) fn config_of(session: Session) -> Result<Config, Fail> {
+    match Config::new(ConfigParts { session, ..PARTS_A }) {
+        Some(config) => Ok(config),
+        None => Err(Fail::new("no configuration")),
+    }
+}
+
+/// How a task ends with this memory, and what is written: all, or five octets and then this error.
+pub(super) fn done<A: Allocator + Copy>(
+    memory: A,
+    alloc: Global,
+    task: Task,
+    config: &Config,
+    opened: io::Result<Given<'_>>,
+    full: Option<ErrorKind>,
+) -> (Outcome<'static>, Vec<u8>) {
+    let file = file_of(task);
+    let mut sink = FromWrite::new(Paper::new(alloc, full));
+    let outcome = match task {
+        Task::Decode => decode_opened(memory, file, opened, &mut sink),
+        Task::DecodeCapture => {
+            decode_opened_capture(memory, &config.parts.session, file, opened, &mut sink)
+        }
+        Task::JudgePlain => {
+            judge_opened::<A, PlainTracker<A>, _, _>(memory, config, file, opened, &mut sink)
+        }
+        Task::JudgeCompact => {
+            judge_opened::<A, CompactTracker<A>, _, _>(memory, config, file, opened, &mut sink)
+        }
+    };
+    (outcome, sink.into_inner().written)
+}
+
+/// Whether a task with this memory writes this text and ends so.
+pub(super) fn ends<A: Allocator + Copy>(
+    memory: A,
+    alloc: Global,
+    task: Task,
+    config: &Config,
+    opened: io::Result<Given<'_>>,
+    text: &str,
+    ended: Outcome<'_>,
+) -> bool {
+    let (outcome, written) = done(memory, alloc, task, config, opened, None);
+    outcome == ended && written.as_slice() == text.as_bytes()
+}
+
+/// Whether a file that can't be opened for this cause has this status, and this is told of it.
+fn is_unopened(
+    alloc: Global,
+    task: Task,
+    config: &Config,
+    error: ErrorKind,
+    status: u8,
+    note: Note<'_>,
+) -> bool {
+    let ended = Outcome {
+        status,
+        note: Some(note),
+    };
+    let opened = Err(io::Error::from(error));
+    ends(alloc, alloc, task, config, opened, "", ended)
+}
+
+#[test]
+fn a_file_that_cannot_be_opened_is_told(rt: HostRuntime) -> Result<(), Fail> {
+    let config = config_of(SESSION)?;
+    for task in &TASKS {
+        let (task, file) = (*task, file_of(*task));
+        let error = ErrorKind::NotFound;
+        let absent = Note::Unopened { file, error };
+        let refused = Note::OutOfMemory { file, octet: 0 };
+        let is_so = is_unopened(rt.alloc(), task, &config, error, 5, absent)
+            && is_unopened(
+                rt.alloc(),
+                task,
+                &config,
+                ErrorKind::OutOfMemory,
+                4,
+                refused,
+            );
+        assert!(rt; is_so, "{task:?}");
+    }
+    Ok(())
+}
+
+/// Errors of a writer that takes five octets, and what is told of each.
+static FULL: [(ErrorKind, Option<Note<'static>>); 2] = [
+    (
+        ErrorKind::StorageFull,
+        Some(Note::Unwritten {
+            octet: 5,
+            error: Some(ErrorKind::StorageFull),
+        }),
+    ),
+    (ErrorKind::BrokenPipe, None),
+];
+
+/// What is done with what octets: those of a reader that fails behind them, if it is said.
+static TEXTS: [(Task, &[u8], bool); 7] = [
+    (Task::Decode, &KEEPALIVE, false),
+    (Task::DecodeCapture, &CHANGE, false),
+    (Task::DecodeCapture, &CHANGE, true),
+    (Task::JudgePlain, &CHANGE, true),
+    (Task::JudgePlain, &CHANGE_CUT, true),
+    (Task::JudgeCompact, &CHANGE, true),
+    (Task::JudgeCompact, &CHANGE_CUT, true),
+];
+
+#[test]
+fn a_full_disk_is_told_and_a_closed_pipe_is_not(rt: HostRuntime) -> Result<(), Fail> {
+    let config = config_of(SESSION)?;
+    for (error, note) in &FULL {
+        for (task, octets, fails) in &TEXTS {
+            let reader = if *fails {
+                breaking(octets)
+            } else {
+                giving(octets)
+            };
+            let full = Some(*error);
+            let (outcome, _) = done(rt.alloc(), rt.alloc(), *task, &config, Ok(reader), full);
+            let is_so = outcome.status == 5 && outcome.note == *note;
+            assert!(rt; is_so, "{task:?}: {error:?}");
+        }
+    }
+    Ok(())
+}
+
+/// What is done with a message, or with three changes, up to the octet at which a reader fails, and
+/// what is written then.
+static FAILURES: [(Task, usize, &str); 15] = [
+    (Task::Decode, 19, "keepalive\n"),
+    (Task::DecodeCapture, 0, "capture refused: 9 Device at 0\n"),
+    (Task::DecodeCapture, 11, "capture refused: 9 Device at 0\n"),
+    (Task::DecodeCapture, 35, "capture refused: 9 Device at 0\n"),
+    (
+        Task::DecodeCapture,
+        36,
+        "@100 change 1 2\ncapture refused: 9 Device at 36\n",
+    ),
+    (
+        Task::DecodeCapture,
+        72,
+        "@100 change 1 2\n@100 change 1 2\ncapture refused: 9 Device at 72\n",
+    ),
+    (
+        Task::DecodeCapture,
+        90,
+        "@100 change 1 2\n@100 change 1 2\ncapture refused: 9 Device at 72\n",
+    ),
+    (Task::JudgePlain, 0, "capture refused: 9 Device at 0\n"),
+    (Task::JudgePlain, 35, "capture refused: 9 Device at 0\n"),
+    (Task::JudgePlain, 36, "capture refused: 9 Device at 36\n"),
+    (Task::JudgePlain, 50, "capture refused: 9 Device at 36\n"),
+    (Task::JudgeCompact, 0, "capture refused: 9 Device at 0\n"),
+    (Task::JudgeCompact, 35, "capture refused: 9 Device at 0\n"),
+    (Task::JudgeCompact, 36, "capture refused: 9 Device at 36\n"),
+    (Task::JudgeCompact, 50, "capture refused: 9 Device at 36\n"),
+];
+
+#[test]
+fn a_failing_reader_is_told_with_its_place(rt: HostRuntime) -> Result<(), Fail> {
+    let config = config_of(SESSION)?;
+    let capture = changes(rt.alloc(), 3)?;
+    for (task, octet, text) in &FAILURES {
+        let whole = match task {
+            Task::Decode => KEEPALIVE.as_slice(),
+            _ => capture.as_slice(),
+        };
+        let reader = Ok(breaking(whole.get(..*octet).unwrap_or(whole)));
+        let note = Note::Unread {
+            file: file_of(*task),
+            octet: *octet as u64,
+            error: Some(ErrorKind::TimedOut),
+        };
+        let ended = Outcome {
+            status: 5,
+            note: Some(note),
+        };
+        let is_so = ends(rt.alloc(), rt.alloc(), *task, &config, reader, text, ended);
+        assert!(rt; is_so, "{task:?}: at octet {octet}");
+    }
+    Ok(())
+}
+
+/// The verdict on [`CHANGE`] alone.
+const CONNECT: &str = "yes\nend Connect disabled -\n";
+
+/// The verdict on no records.
+const IDLE: &str = "yes\nend Idle disabled -\n";
+
+/// All octets of [`CHANGE`] but its last.
+const CHANGE_CUT: [u8; 35] = [
+    0x00, 0x00, 0x00, 0x64, 0x00, 0x10, 0x00, 0x05, 0x00, 0x00, 0x00, 0x18, 0x00, 0x00, 0xfd, 0xea,
+    0x00, 0x00, 0xfd, 0xe9, 0x00, 0x00, 0x00, 0x01, 0xc0, 0x00, 0x02, 0x02, 0xc0, 0x00, 0x02, 0x01,
+    0x00, 0x01, 0x00,
+];
+
+/// A session and a capture; the text and the status; and whether it is told that none of the
+/// session's records was read, and then the ends of the first record of another one.
+type Told = (
+    Session,
+    &'static [u8],
+    &'static str,
+    u8,
+    Option<Option<Endpoints>>,
+);
+
+/// Captures that are decoded.
+static DECODED: [Told; 3] = [
+    (SESSION, &CHANGE, "@100 change 1 2\n", 0, None),
+    (EXCHANGED, &CHANGE, "", 0, Some(Some(FIRST))),
+    (SESSION, &[], "", 0, Some(None)),
+];
+
+/// Captures that are judged.
+static JUDGED: [Told; 4] = [
+    (SESSION, &CHANGE, CONNECT, 0, None),
+    (EXCHANGED, &CHANGE, IDLE, 0, Some(Some(FIRST))),
+    (SESSION, &[], IDLE, 0, Some(None)),
+    (
+        SESSION,
+        &CHANGE_CUT,
+        "capture refused: 1 Truncated at 0\n",
+        3,
+        Some(None),
+    ),
+];
+
+/// Whether a task ends as it is told.
+fn is_told(alloc: Global, task: Task, told: &Told) -> Result<bool, Fail> {
+    let (session, octets, text, status, other) = *told;
+    let (file, config) = (file_of(task), config_of(session)?);
+    let ended = Outcome {
+        status,
+        note: other.map(|other| Note::NoSession { file, other }),
+    };
+    Ok(ends(alloc, alloc, task, &config, Ok(giving(octets)), text, ended))
+}
+
+#[test]
+fn what_has_no_record_of_the_session_is_told(rt: HostRuntime) -> Result<(), Fail> {
+    for told in &DECODED {
+        let is_so = is_told(rt.alloc(), Task::DecodeCapture, told)?;
+        assert!(rt; is_so, "decoded: {}", told.2);
+    }
+    for told in &JUDGED {
+        for task in &JUDGES {
+            let is_so = is_told(rt.alloc(), *task, told)?;
+            assert!(rt; is_so, "{task:?}: {}", told.2);
+        }
+    }
+    Ok(())
+}
+
+/// Memory was refused at the first record.
+const AT_FIRST: &str = "capture refused: 10 Memory at 0\n";
+
+/// What is done with [`KEEPALIVE`] or [`CHANGE`] on a heap of a size, the text, and the octet at
+/// which memory is refused, if it is.
+static SIZES: [(Task, usize, &str, Option<u64>); 7] = [
+    (Task::Decode, 16, "", Some(19)),
+    (Task::JudgePlain, 64, AT_FIRST, Some(0)),
+    (Task::JudgePlain, 8192, AT_FIRST, Some(0)),
+    (Task::JudgePlain, 65536, CONNECT, None),
+    (Task::JudgeCompact, 64, AT_FIRST, Some(0)),
+    // It takes no memory to begin with: the first refusal is that of the list of ends.
+    (
+        Task::JudgeCompact,
+        8192,
+        "capture refused: 10 Memory at 36\n",
+        Some(36),
+    ),
+    (Task::JudgeCompact, 65536, CONNECT, None),
+];
+
+#[test]
+fn refused_memory_is_told_and_ample_memory_is_not(rt: HostRuntime) -> Result<(), Fail> {
+    let config = config_of(SESSION)?;
+    for (task, size, text, refused) in &SIZES {
+        let heap = LocalHeap::new(rt.alloc(), *size)?;
+        let file = file_of(*task);
+        let octets = match task {
+            Task::Decode => giving(&KEEPALIVE),
+            _ => giving(&CHANGE),
+        };
+        let ended = Outcome {
+            status: if refused.is_some() { 4 } else { 0 },
+            note: refused.map(|octet| Note::OutOfMemory { file, octet }),
+        };
+        let is_so = ends(&heap, rt.alloc(), *task, &config, Ok(octets), text, ended);
+        assert!(rt; is_so, "{task:?}: on a heap of {size}");
+    }
+    Ok(())
+}
