@@ -2,6 +2,7 @@ pub mod Octets
 pub mod AsNumber
 pub mod Header
 pub mod Verdict
+pub mod Least
 pub mod Message
 pub mod Framing
 pub mod Held

@@ -16,7 +16,9 @@ ghost use Rattle.bgp_wire.specs.Header.{least_length, greatest_length};
 ghost use Rattle.bgp_wire.specs.Header.{IsSynchronized, IsBadLength, IsBadType};
 ghost use Rattle.bgp_wire.specs.Verdict.{type_code, Names, IsEmpty, AreEachFault, IsEachFault};
 ghost use Rattle.bgp_wire.specs.Verdict.{IsVerdict};
+ghost use Rattle.bgp_wire.specs.Least.{IsLeastNamed};
 
+use crate::named_fault::{MESSAGE_HEADER_ERROR, NamedFault};
 use crate::octets::{put, put_u8, put_u16};
 use byteorder::{BigEndian, ByteOrder};
 use std::alloc::Allocator;
@@ -121,6 +123,24 @@ impl HeaderFaults {
             _ => false,
         }
     }
+
+    /// The fault of the set with the least subcode: with the field's octets as data for subcodes 2
+    /// and 3, and without data for 1. `None` where the set is empty.
+    pub fn least(&self) -> Option<NamedFault>
+        ensures some { IfSome result (λ fault. IsLeastNamed 1 (Names self.now) fault) }
+        ensures none { IfNone result (IsEmpty self.now) }
+    {
+        if self.marker {
+            return Some(NamedFault::new(MESSAGE_HEADER_ERROR, 1, &[]));
+        }
+        if let Some(length) = self.length {
+            let mut octets = [0; 2];
+            BigEndian::write_u16(&mut octets, length);
+            return Some(NamedFault::new(MESSAGE_HEADER_ERROR, 2, &octets));
+        }
+        let kind = self.kind?;
+        Some(NamedFault::new(MESSAGE_HEADER_ERROR, 3, &[kind]))
+    }
 }
 
 /// Whether the data are these two octets of a Length field.
@@ -165,9 +185,9 @@ pub(crate) fn read_length(header: &[u8; HEADER_LEN]) -> u16
     BigEndian::read_u16(&header[MARKER_LEN..])
 }
 
-/// The Type field.
+/// The Type field of a header, whether it is faulty or not.
 #[tactic(auto, unfolding(crate::specs::Header::type_of))]
-pub(crate) fn read_type(header: &[u8; HEADER_LEN]) -> u8
+pub fn read_type(header: &[u8; HEADER_LEN]) -> u8
     ensures { result ≡ type_of header.now }
 {
     header[18]

@@ -18,6 +18,7 @@ mod frames;
 mod header;
 mod laws;
 mod message;
+mod named_fault;
 mod octets;
 pub mod vectors;
 
@@ -25,11 +26,12 @@ pub use as_number::{AS_TRANS, needs_four_octets, two_octet_as};
 pub use frames::{Frames, Next, is_frame};
 pub use header::{
     HEADER_LEN, HeaderFaults, HeaderVerdict, Limit, MessageType, check_header, header_at,
-    put_header,
+    put_header, read_type,
 };
 pub use laws::{
     each_header_has_one_set_of_faults, each_message_is_its_header_and_body,
     each_stream_has_one_framing, whole_messages_are_frames,
 };
-pub use message::message_body;
+pub use message::{message_body, put_keepalive};
+pub use named_fault::NamedFault;
 pub use octets::{put, put_u8, put_u16, put_u32, put_u64};

@@ -1,11 +1,15 @@
 //! Whole messages (RFC 4271, 4.1): a header and a body.
 
-ghost use Rattle.std.specs.Prelude.{◌≡◌, ◌↔◌, ◌≤◌, IsTrue, IfSome, IfNone, All, length, take, drop};
+ghost use Rattle.std.specs.Prelude.{◌≡◌, ◌↔◌, ◌<◌, ◌≤◌, ◌+◌, ◌++◌, [], IsTrue, IfSome, IfNone};
+ghost use Rattle.std.specs.Prelude.{OnOk, OnErr, All, length, take, drop, vec_len, vec_capacity};
 ghost use Rattle.bgp_wire.specs.Header.{length_of, type_of};
 ghost use Rattle.bgp_wire.specs.Verdict.{type_code};
-ghost use Rattle.bgp_wire.specs.Message.{IsMessage, body_of};
+ghost use Rattle.bgp_wire.specs.Message.{IsMessage, body_of, message_octets};
 
-use crate::header::{HEADER_LEN, MessageType, header_at, is_synchronized, read_length, read_type};
+use crate::header::{
+    HEADER_LEN, MessageType, header_at, is_synchronized, put_header, read_length, read_type,
+};
+use std::alloc::{AllocError, Allocator};
 
 /// Whether the octets are one message of this type.
 fn is_message(kind: MessageType, octets: &[u8]) -> bool
@@ -36,4 +40,17 @@ pub fn message_body(kind: MessageType, octets: &[u8]) -> Option<&[u8]>
     } else {
         None
     }
+}
+
+/// Appends a KEEPALIVE, which is a header alone (RFC 4271, 4.4). Where there is no memory for it the
+/// vector is as before.
+#[tactic(auto, unfolding(crate::specs::Message::message_octets))]
+pub fn put_keepalive<A: Allocator>(out: &mut Vec<u8, A>) -> Result<(), AllocError>
+    ensures ok { OnOk result (out.new.items ≡ out.old.items ++ message_octets 4 []) }
+    ensures err { OnErr result (out.new.items ≡ out.old.items) }
+    ensures memory { OnErr result (vec_capacity out.old < vec_len out.old + 19) }
+{
+    out.reserve(HEADER_LEN)?;
+    put_header(out, MessageType::Keepalive, HEADER_LEN as u16);
+    Ok(())
 }

@@ -48,8 +48,9 @@ fn a_type_that_is_not_known_is_bad_by_itself(rt: HostRuntime) {
             length: None,
             kind: Some(code),
         };
-        let verdict = check_header(&header(19, code), Limit::Plain);
-        assert_eq!(rt; verdict, HeaderVerdict::Faulty(faults));
+        let header = header(19, code);
+        let verdict = check_header(&header, Limit::Plain);
+        assert!(rt; verdict == HeaderVerdict::Faulty(faults) && read_type(&header) == code);
     }
 }
 
@@ -182,6 +183,67 @@ fn a_fault_is_named_by_its_subcode_and_the_field(rt: HostRuntime) {
     assert!(rt; !bad_type.contains(0, &[]));
 }
 
+/// Sets of header faults, and of each the subcode and the data that are named first.
+static LEAST: [(HeaderFaults, Option<(u8, &[u8])>); 5] = [
+    (
+        HeaderFaults {
+            marker: true,
+            length: Some(0),
+            kind: Some(0),
+        },
+        Some((1, &[])),
+    ),
+    (
+        HeaderFaults {
+            marker: false,
+            length: Some(4097),
+            kind: Some(9),
+        },
+        Some((2, &[0x10, 0x01])),
+    ),
+    (
+        HeaderFaults {
+            marker: false,
+            length: None,
+            kind: Some(9),
+        },
+        Some((3, &[9])),
+    ),
+    (
+        HeaderFaults {
+            marker: true,
+            length: None,
+            kind: Some(9),
+        },
+        Some((1, &[])),
+    ),
+    (
+        HeaderFaults {
+            marker: false,
+            length: None,
+            kind: None,
+        },
+        None,
+    ),
+];
+
+/// Whether it is this subcode of Message Header Error with these data that is named first.
+fn names_first(faults: &HeaderFaults, wanted: &Option<(u8, &[u8])>) -> bool {
+    match (faults.least(), wanted) {
+        (Some(fault), Some((subcode, detail))) => {
+            fault.code == 1 && fault.subcode == *subcode && fault.detail.as_slice() == *detail
+        }
+        (fault, wanted) => fault.is_none() && wanted.is_none(),
+    }
+}
+
+#[test]
+fn the_least_fault_is_named_with_the_field(rt: HostRuntime) {
+    for (faults, wanted) in &LEAST {
+        assert!(rt; names_first(faults, wanted), "of {faults:?}");
+    }
+}
+
 #[test]
 fn a_frame_is_just_one_message_without_a_header_fault(rt: HostRuntime) {
     for (_, message) in STREAM {
@@ -250,6 +312,17 @@ fn ample_memory(rt: HostRuntime) -> Result<(), Fail> {
     let mut copy = frames.copy()?;
     let message = Next::Frame(MessageType::Update, &ANNOUNCES_10);
     assert!(rt; copy.next() == message && frames.next() == message);
+    let mut out = Vec::new(rt.alloc());
+    put_keepalive(&mut out)?;
+    assert!(rt; out.as_slice() == KEEPALIVE.as_slice());
+    Ok(())
+}
+
+#[test]
+fn a_keepalive_that_has_no_room_is_not_begun(rt: HostRuntime) -> Result<(), Fail> {
+    let heap = LocalHeap::new(rt.alloc(), 16)?;
+    let mut out = Vec::new(&heap);
+    assert!(rt; put_keepalive(&mut out).is_err() && out.is_empty());
     Ok(())
 }
 
