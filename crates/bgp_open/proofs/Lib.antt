@@ -9,3 +9,4 @@ pub mod OwnOpens
 pub mod EachOpen
 pub mod OneSetOfSubcodes
 pub mod OpenParts
+pub mod LeastSubcode

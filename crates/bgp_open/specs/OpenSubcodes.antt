@@ -1,7 +1,7 @@
 -- The faults of a peer's OPEN, as sets of subcodes of OPEN Message Error with their data (RFC 4271,
 -- 6.2; RFC 6286, 2.2; RFC 5492, 3).
-use Rattle.std.specs.Prelude.{◌≡◌, ◌≢◌, ◌↔◌, ◌⊎◌, ◌||◌, if◌then◌else◌, Bool, ℕ, List, IsTrue}
-use Rattle.std.specs.Prelude.{unwrap_or}
+use Rattle.std.specs.Prelude.{◌≡◌, ◌≢◌, ◌↔◌, ◌⊎◌, ◌||◌, if◌then◌else◌, Bool, ℕ, List, [], IsTrue}
+use Rattle.std.specs.Prelude.{◌==◌, unwrap_or}
 use Rattle.byteorder.specs.Endian.{big_bytes}
 use Rattle.bgp_open.specs.declared.config.Config.{Config}
 use Rattle.bgp_open.specs.declared.subcodes.OpenSubcodes.{OpenSubcodes}
@@ -84,6 +84,10 @@ Names subcodes subcode detail =
     ⊎ ((subcode ≡ 4) × IsTrue subcodes.parameter)
     ⊎ ((subcode ≡ 6) × IsTrue subcodes.hold)
     ⊎ ((subcode ≡ 7) × IsTrue subcodes.capability)
+
+-- the data of a subcode where they are fixed, and else none
+abbrev pub detail_of : ℕ → List ℕ
+detail_of subcode = if subcode == 1 then big_bytes 2 4 else []
 
 -- no fault is in the set
 abbrev pub IsEmpty : OpenSubcodes → Type 0

@@ -12,7 +12,7 @@ use std::marker::Model;
 pub(crate) const CAPABILITIES: u8 = 2;
 
 /// One capability: a code and what it says. One that was read has at most 255 octets of value.
-#[derive(Clone, Copy, Debug, PartialEq, Eq)]
+#[derive(Clone, Copy, Debug, Default, PartialEq, Eq)]
 pub struct Capability<'a> {
     /// The Capability Code.
     pub code: u8,

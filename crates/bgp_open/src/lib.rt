@@ -34,6 +34,6 @@ pub use notification::{
     Notification, NotificationWriteFault, read_notification, write_notification,
 };
 pub use open::{Open, read_open};
-pub use own_open::is_own_open;
+pub use own_open::{is_own_open, write_own_open};
 pub use subcodes::{OpenFaults, OpenSubcodes, open_faults};
 pub use written_open::{OpenWriteFault, write_open};

@@ -21,10 +21,10 @@ use bgp_prefix::Family;
 use byteorder::{BigEndian, ByteOrder};
 
 /// The Capability Code of multiprotocol extensions (RFC 4760, 8).
-const MULTIPROTOCOL: u8 = 1;
+pub(crate) const MULTIPROTOCOL: u8 = 1;
 
 /// The Capability Code of four-octet AS numbers (RFC 6793, 3).
-const FOUR_OCTET_AS: u8 = 65;
+pub(crate) const FOUR_OCTET_AS: u8 = 65;
 
 /// The Subsequent Address Family Identifier of unicast (RFC 4760, 6).
 const UNICAST: u8 = 1;

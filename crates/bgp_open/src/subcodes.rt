@@ -1,17 +1,22 @@
 //! The faults of a peer's OPEN, as sets of subcodes (RFC 4271, 6.2; RFC 6286, 2.2; RFC 5492, 3).
 
-ghost use Rattle.std.specs.Prelude.{◌≡◌, ◌↔◌, ◌||◌, IsTrue, unwrap_or};
+ghost use Rattle.std.specs.Prelude.{◌≡◌, ◌↔◌, ◌||◌, IsTrue, IfSome, IfNone, unwrap_or};
+ghost use Rattle.bgp_wire.specs.Least.{IsLeastNamed};
 ghost use Rattle.bgp_open.specs.Offer.{as_number_of};
 ghost use Rattle.bgp_open.specs.OpenFault.{IsWellFormed};
 ghost use Rattle.bgp_open.specs.OpenSubcodes.{peer_as_of, IsBadPeerAs, IsBadIdentifier};
 ghost use Rattle.bgp_open.specs.OpenSubcodes.{mandatory_faults, permitted_faults};
 ghost use Rattle.bgp_open.specs.OpenSubcodes.{Names, IsEmpty, IsValid, AreSubcodesOf, AreOfFields};
-ghost use Rattle.bgp_open.specs.OpenSubcodes.{union};
+ghost use Rattle.bgp_open.specs.OpenSubcodes.{union, detail_of};
 
 use crate::config::{Config, is_bad_hold};
 use crate::fault::OpenFault;
 use crate::offer::offered_as_number;
 use crate::open::{Open, read_readable};
+use bgp_wire::NamedFault;
+
+/// The Error code of an OPEN Message Error.
+const OPEN_MESSAGE_ERROR: u8 = 2;
 
 /// A set of subcodes of OPEN Message Error.
 #[derive(Clone, Copy, Debug, PartialEq, Eq)]
@@ -87,6 +92,21 @@ impl OpenSubcodes {
         }
     }
 
+    /// The fault of the set with the least subcode: with `00 04` as data for subcode 1, and without
+    /// data for others. `None` where the set is empty.
+    pub fn least(&self) -> Option<NamedFault>
+        ensures some { IfSome result (λ fault. IsLeastNamed 2 (Names self.now) fault) }
+        ensures none { IfNone result (IsEmpty self.now) }
+    {
+        for subcode in 0..8 {
+            let detail = detail_with(subcode);
+            if self.contains(subcode, detail) {
+                return Some(NamedFault::new(OPEN_MESSAGE_ERROR, subcode, detail));
+            }
+        }
+        None
+    }
+
     /// The subcodes of both sets.
     pub fn union(self, others: OpenSubcodes) -> OpenSubcodes
         ensures { result ≡ union self others }
@@ -101,6 +121,13 @@ impl OpenSubcodes {
             capability: either(self.capability, others.capability),
         }
     }
+}
+
+/// The data with which a subcode is named: those of subcode 1, and none for others.
+fn detail_with(subcode: u8) -> &'static [u8]
+    ensures { result.now ≡ detail_of subcode }
+{
+    if subcode == 1 { b"\x00\x04" } else { &[] }
 }
 
 /// Whether one of both holds.

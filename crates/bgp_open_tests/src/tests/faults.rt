@@ -360,6 +360,46 @@ static ONE_EACH: [OpenSubcodes; 7] = [
     },
 ];
 
+/// The subcodes of [`ONE_EACH`], and the data that a NOTIFICATION gives with them: the version that
+/// is spoken, and else none.
+static NAMED: [(u8, &[u8]); 7] = [
+    (0, &[]),
+    (1, &[0x00, 0x04]),
+    (2, &[]),
+    (3, &[]),
+    (4, &[]),
+    (6, &[]),
+    (7, &[]),
+];
+
+/// Whether this subcode of OPEN Message Error is named first, with these data.
+fn names_first(errors: &OpenSubcodes, subcode: u8, detail: &[u8]) -> bool {
+    match errors.least() {
+        Some(fault) => {
+            fault.code == 2 && fault.subcode == subcode && fault.detail.as_slice() == detail
+        }
+        None => false,
+    }
+}
+
+#[test]
+fn the_least_subcode_is_named_with_its_data(rt: HostRuntime) {
+    let with_others = OpenSubcodes {
+        hold: true,
+        capability: true,
+        ..OpenSubcodes::NONE
+    };
+    for (errors, (subcode, detail)) in ONE_EACH.iter().zip(&NAMED) {
+        let least = (*subcode).min(6);
+        assert!(rt;
+            names_first(errors, *subcode, detail)
+                && names_first(&errors.union(with_others), least, detail),
+            "{subcode}"
+        );
+    }
+    assert!(rt; OpenSubcodes::NONE.least().is_none());
+}
+
 /// Whether the faults differ from those with another set of either kind.
 fn differ(faults: OpenFaults, other: OpenSubcodes) -> bool {
     let must = OpenFaults {

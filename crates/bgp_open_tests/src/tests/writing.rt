@@ -4,7 +4,7 @@ use super::reading::{AS_65001, IPV4_UNICAST, IPV6_UNICAST, reads_as};
 use super::*;
 use bgp_open::{
     Capability, Notification, NotificationWriteFault, OpenFault, OpenWriteFault, read_notification,
-    write_notification, write_open,
+    write_notification, write_open, write_own_open,
 };
 use bgp_wire::vectors::{ADMINISTRATIVE_SHUTDOWN, BAD_LENGTH_18, OPEN_A};
 use linked_list_allocator::LocalHeap;
@@ -242,6 +242,86 @@ fn a_message_that_is_refused_memory_leaves_the_vector(rt: HostRuntime) {
         }
         assert_row(&rt, is_right && refused && whole, row.lesson);
     }
+}
+
+/// What a system that is configured so says in its OPEN, octet by octet.
+static OWN: [(&str, ConfigParts, &[u8]); 4] = [
+    ("router A's OPEN", PARTS_A, &OPEN_A),
+    (
+        "IPv6 alone, AS numbers of two octets",
+        ConfigParts {
+            families: V6,
+            ..TWO_OCTETS
+        },
+        message![
+            37, 1, 4, 0xfd, 0xe9, 0x00, 0x5a, 192, 0, 2, 1, // the fixed fields
+            8, 2, 6, 1, 4, 0, 2, 0, 1
+        ],
+    ),
+    (
+        "both families, AS numbers of two octets",
+        TWO_OCTETS,
+        message![
+            43, 1, 4, 0xfd, 0xe9, 0x00, 0x5a, 192, 0, 2, 1, // the fixed fields
+            14, 2, 12, 1, 4, 0, 1, 0, 1, 1, 4, 0, 2, 0, 1
+        ],
+    ),
+    (
+        "AS_TRANS for AS 70000, IPv4 alone",
+        ConfigParts {
+            local_as: 70000,
+            hold: 30,
+            families: Families::V4,
+            ..PARTS_A
+        },
+        message![
+            43, 1, 4, 0x5b, 0xa0, 0x00, 0x1e, 192, 0, 2, 1, // the fixed fields
+            14, 2, 12, 1, 4, 0, 1, 0, 1, 65, 4, 0x00, 0x01, 0x11, 0x70
+        ],
+    ),
+];
+
+/// Whether a system that is configured so appended its OPEN.
+fn appends_own<A: Allocator>(parts: &ConfigParts, out: &mut Vec<u8, A>) -> bool {
+    match Config::new(*parts) {
+        Some(config) => write_own_open(&config, out).is_ok(),
+        None => false,
+    }
+}
+
+/// Whether it appends these octets.
+fn writes_own(alloc: Global, parts: &ConfigParts, wanted: &[u8]) -> bool {
+    let Ok(mut out) = Vec::from_slice(alloc, &[1, 2]) else {
+        return false;
+    };
+    let is_written = appends_own(parts, &mut out);
+    let [1, 2, octets @ ..] = out.as_slice() else {
+        return false;
+    };
+    is_written && octets == wanted
+}
+
+#[test]
+fn what_is_configured_is_written(rt: HostRuntime) {
+    for (lesson, parts, wanted) in &OWN {
+        assert_row(&rt, writes_own(rt.alloc(), parts, wanted), lesson);
+    }
+}
+
+/// Whether a heap that has room for two octets and not for an OPEN leaves the two.
+fn keeps_two_octets(alloc: Global) -> bool {
+    let Ok(heap) = LocalHeap::new(alloc, 64) else {
+        return false;
+    };
+    let Ok(mut out) = Vec::from_slice(&heap, &[1, 2]) else {
+        return false;
+    };
+    !appends_own(&PARTS_A, &mut out) && out.as_slice() == [1, 2].as_slice()
+}
+
+#[test]
+fn an_own_open_that_is_refused_memory_leaves_the_vector(rt: HostRuntime) {
+    assert!(rt; keeps_two_octets(rt.alloc()));
 }
 
 /// Whether the value prints so.
