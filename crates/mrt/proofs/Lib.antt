@@ -13,3 +13,4 @@ pub mod WrittenRecord
 pub mod Parts
 pub mod AllowedRecord
 pub mod Chains
+pub mod WrittenCapture

@@ -1,10 +1,12 @@
 -- Laws of captures: what stands above the definitions.
 use Rattle.std.specs.Prelude.{◌≡◌, ℕ, List, Option}
+use Rattle.std.specs.List.{AllByRecursion}
 use Rattle.bgp_prefix.specs.Shown.{ShownRecord}
 use Rattle.bgp_prefix.specs.declared.session.Session.{Session}
 use Rattle.mrt.specs.Rules.{Judgement}
 use Rattle.mrt.specs.Capture.{Piece, IsCaptureText, IsPiece, Shown, shown_of, Spells, IsFirstFault}
-use Rattle.mrt.specs.Written.{IsWritable, FitsFields, IsAllowed, record_octets}
+use Rattle.mrt.specs.Written.{IsWritable, FitsFields, IsAllowed, record_octets, capture_octets}
+use Rattle.mrt.specs.Written.{CanBeCaptured, AreInOrder}
 use Rattle.mrt.specs.declared.fault.FaultKind.{FaultKind}
 
 -- octets are a capture in one way
@@ -53,6 +55,14 @@ ReadsBack =
     IsWritable session shown → FitsFields session shown → IsAllowed session last shown →
     IsPiece session last (Shown (record_octets session peer_as local_as shown))
     × (shown_of (record_octets session peer_as local_as shown) ≡ shown)
+
+-- records that are written one after another spell just these records: nothing is skipped, and
+-- nothing is left
+abbrev pub CapturesReadBack : Type 0
+CapturesReadBack =
+    (session : Session) (peer_as local_as : ℕ) (records : List ShownRecord) →
+    AllByRecursion (CanBeCaptured session) records → AreInOrder 0 records →
+    Spells session (capture_octets session peer_as local_as records) records
 
 -- a record of the session is one that a capture may have there
 abbrev pub EachAllowed : Type 0

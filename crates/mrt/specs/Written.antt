@@ -1,6 +1,9 @@
 -- The octets of a record as it is written (RFC 6396, 2 and 4.4): of type BGP4MP, of the subtypes
--- STATE_CHANGE_AS4, MESSAGE_AS4 and MESSAGE_AS4_LOCAL, with interface index 0.
-use Rattle.std.specs.Prelude.{◌≡◌, ◌<◌, ◌≤◌, ◌^◌, ◌+◌, ◌++◌, ℕ, List, length, IsTrue, Option}
+-- STATE_CHANGE_AS4, MESSAGE_AS4 and MESSAGE_AS4_LOCAL, with interface index 0. And those of records
+-- one after another.
+use Rattle.std.specs.Prelude.{◌≡◌, ◌<◌, ◌≤◌, ◌^◌, ◌+◌, ◌++◌, ℕ, List, [], ◌∷◌, length, IsTrue}
+use Rattle.std.specs.Prelude.{Option, None}
+use Rattle.std.specs.List.{flat_map}
 use Rattle.byteorder.specs.Endian.{big_bytes}
 use Rattle.bgp_prefix.specs.Shown.{ShownRecord, Received, Sent, Changed, second_of}
 use Rattle.bgp_prefix.specs.Address.{family_of, IsAddress}
@@ -94,3 +97,23 @@ body_len session shown =
 abbrev pub IsWritable : Session → ShownRecord → Type 0
 IsWritable session shown =
     (family_of session.peer ≡ family_of session.local) × (body_len session shown ≤ 8192)
+
+-- ---- records one after another
+
+-- their octets
+abbrev pub capture_octets : Session → ℕ → ℕ → List ShownRecord → List ℕ
+capture_octets session peer_as local_as records =
+    flat_map (record_octets session peer_as local_as) records
+
+-- A capture of the session can hold the record, but for the seconds of those before it: it can be
+-- written, its numbers fit their fields, and a capture may have it as its first.
+pub record CanBeCaptured (session : Session) (shown : ShownRecord) : Type 0 where
+  pub writable : IsWritable session shown
+  pub fits : FitsFields session shown
+  pub allowed : IsAllowed session None shown
+
+-- the seconds begin at this one or after it, and don't go back
+abbrev pub AreInOrder : ℕ → List ShownRecord → Type 0
+AreInOrder least [] = Unit {0}
+AreInOrder least (shown ∷ later) =
+    (least ≤ second_of shown) × AreInOrder (second_of shown) later

@@ -1,7 +1,7 @@
 //! Laws of captures, each on a function that does nothing.
 
 ghost use Rattle.mrt.specs.CaptureLaws.{OneText, OneSpelling, OneFault, NeverBoth, NeverNone};
-ghost use Rattle.mrt.specs.CaptureLaws.{EachAllowed, ReadsBack};
+ghost use Rattle.mrt.specs.CaptureLaws.{CapturesReadBack, EachAllowed, ReadsBack};
 
 /// Octets spell one list of records of a session or have one first fault, never both, and always
 /// one of them.
@@ -17,6 +17,12 @@ pub fn each_capture_has_one_reading()
 /// have it.
 pub fn written_records_are_read()
     ensures { ReadsBack }
+{}
+
+/// What [`write_record`](crate::write_record) writes of records, one after another, is a capture
+/// that spells just these records, in their order, where their seconds don't go back.
+pub fn written_captures_are_read()
+    ensures { CapturesReadBack }
 {}
 
 /// Each record of the session that a capture shows is one that a capture may have there: a change

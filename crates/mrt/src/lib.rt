@@ -31,7 +31,10 @@ mod writer;
 
 pub use failure::Failed;
 pub use fault::{CaptureFault, FaultKind};
-pub use laws::{each_capture_has_one_reading, each_record_is_allowed, written_records_are_read};
+pub use laws::{
+    each_capture_has_one_reading, each_record_is_allowed, written_captures_are_read,
+    written_records_are_read,
+};
 pub use mem_sink::{MemSink, SinkUpset};
 pub use mem_source::{MemSource, SourceUpset};
 pub use reader::Reader;
