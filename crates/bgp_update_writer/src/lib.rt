@@ -16,5 +16,5 @@ mod lengths;
 mod update;
 mod writing;
 
-pub use laws::written_updates_are_applied;
+pub use laws::{one_prefix_can_be_written, written_updates_are_applied};
 pub use update::{Update, UpdateFault, write_update};
