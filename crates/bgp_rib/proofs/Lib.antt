@@ -6,3 +6,4 @@ pub mod RouteLaws
 pub mod SameTables
 pub mod Turns
 pub mod Undoing
+pub mod UpdateLaws

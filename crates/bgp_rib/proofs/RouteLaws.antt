@@ -86,7 +86,7 @@ neither : (a b : Bool) → cond (not a) (not b) false ≡ not (a || b)
 neither true b = refl
 neither false b = refl
 
-outside_union : {V : Type 0} (a b : Families) (es : List (PrefixBits × V)) → entries_outside b (entries_outside a es) ≡ entries_outside (union a b) es
+pub outside_union : {V : Type 0} (a b : Families) (es : List (PrefixBits × V)) → entries_outside b (entries_outside a es) ≡ entries_outside (union a b) es
 outside_union {V} a b es =
     filter_filter (λ e. not (contains b e.0.family)) (λ e. not (contains a e.0.family)) es
     ∙ filter_congr (λ e. cond (not (contains a e.0.family)) (not (contains b e.0.family)) false) (λ e. not (contains (union a b) e.0.family)) es
@@ -113,7 +113,7 @@ union_assoc : (a b c : Families) → union (union a b) c ≡ union a (union b c)
 union_assoc a b c = λ i. record { v4 = assoc a.v4 b.v4 c.v4 i; v6 = assoc a.v6 b.v6 c.v6 i }
 
 -- the families of a change's result
-outside_change : (f : Families) (d : Families) (ps : List PrefixBits) (puts es : List (PrefixBits × PathValue)) → IsStrictlySortedBy prefix_cmp (keys_of es)
+pub outside_change : (f : Families) (d : Families) (ps : List PrefixBits) (puts es : List (PrefixBits × PathValue)) → IsStrictlySortedBy prefix_cmp (keys_of es)
     → entries_outside f (entries_with (entries_outside d puts) (entries_without ps es))
     ≡ entries_with (entries_outside (union d f) puts) (entries_without ps (entries_outside f es))
 outside_change f d ps puts es s =

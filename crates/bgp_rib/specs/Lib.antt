@@ -1,3 +1,4 @@
 pub mod Routes
 pub mod SameRoutes
 pub mod Rooms
+pub mod Updates

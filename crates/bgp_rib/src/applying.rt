@@ -54,7 +54,7 @@ pub fn apply_changes<A: Allocator + Clone>(
 }
 
 /// Removes the routes to some prefixes, whose room stays, and then puts the others.
-fn write_all<A: Allocator + Clone>(
+pub fn write_all<A: Allocator + Clone>(
     table: &mut Table<Path<A>, A>,
     log: &mut Log<Path<A>, A>,
     disabled: Families,

@@ -1,6 +1,17 @@
 //! Laws of incoming routes, with nothing to run.
 
-ghost use Rattle.std.specs.Prelude.{◌≡◌, ◌↔◌, None, IsTrue, map, if◌then◌else◌};
+ghost use Rattle.std.specs.Prelude.{
+  ◌≡◌,
+  ◌↔◌,
+  ◌++◌,
+  ◌∷◌,
+  List,
+  [],
+  None,
+  IsTrue,
+  map,
+  if◌then◌else◌,
+};
 ghost use Rattle.std.specs.Map.{update_all};
 ghost use Rattle.std.specs.Set.{is_member};
 ghost use Rattle.bgp_prefix.specs.Prefix.{PrefixBits};
@@ -20,6 +31,7 @@ ghost use Rattle.bgp_rib.specs.Routes.{
   routes_without,
 };
 ghost use Rattle.bgp_rib.specs.SameRoutes.{same_routes};
+ghost use Rattle.bgp_rib.specs.Updates.{AppliedUpdate, after_updates};
 
 /// Routes are a map. After changes a prefix leads where the last route put to it does, unless its
 /// family is disabled; else nowhere, where it was removed; else where it led before. Where families
@@ -60,6 +72,23 @@ pub fn disabled_families_are_left_out()
         → AreRoutes routes
         → routes_without others (routes_after changes (routes_without families routes))
         ≡ routes_without (union families others) (routes_after changes routes) }
+{}
+
+/// To apply UPDATEs and then others is to apply all of them in a row. None leave the routes as they
+/// are; one leaves what its changes leave, without the families that it disables, and where it
+/// disables none just what its changes leave.
+pub fn updates_join()
+    ensures joined { (updates others : List AppliedUpdate) (routes : Routes)
+        → after_updates (updates ++ others) routes
+        ≡ after_updates others (after_updates updates routes) }
+    ensures none { (routes : Routes) → after_updates [] routes ≡ routes }
+    ensures one { (update : AppliedUpdate) (routes : Routes)
+        → after_updates (update ∷ []) routes
+        ≡ routes_without update.disabled (routes_after update.changes routes) }
+    ensures changes { (changes : RouteChanges) (routes : Routes)
+        → after_updates
+        (record { changes = changes; disabled = no_routes.disabled } ∷ []) routes
+        ≡ routes_after changes routes }
 {}
 
 /// `==` is true exactly of equal routes with equal disabled families.

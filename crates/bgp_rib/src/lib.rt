@@ -11,14 +11,17 @@
 #![tactic(auto)]
 
 mod applying;
+mod families;
 mod laws;
 mod rib_in;
 mod route_iter;
 mod table;
+mod updates;
 
 pub use laws::{
     changes_leave_routes, disabled_families_are_left_out, each_change_is_the_maps,
-    equal_maps_are_one, equality_is_real,
+    equal_maps_are_one, equality_is_real, updates_join,
 };
 pub use rib_in::RibIn;
 pub use route_iter::RouteIter;
+pub use updates::Applied;

@@ -1,6 +1,6 @@
 //! The routes that a peer has announced: its Adj-RIB-In (RFC 4271, 3.2).
 
-ghost use Rattle.std.specs.Prelude.{◌≡◌, length, None, IfOk, IsOk, OnOk, OnErr};
+ghost use Rattle.std.specs.Prelude.{◌≡◌, length, map, None, IfOk, IsOk, OnOk, OnErr};
 ghost use Rattle.bgp_update.specs.Allowed.{changes_value};
 ghost use Rattle.bgp_rib.specs.Routes.{
   AreRoutes,
@@ -8,12 +8,14 @@ ghost use Rattle.bgp_rib.specs.Routes.{
   routes_after,
   routes_without,
   only,
-  union,
 };
+ghost use Rattle.bgp_rib.specs.Updates.{applied_value, after_updates};
 
 use crate::applying::apply_changes;
+use crate::families::{NO_FAMILIES, only, union};
 use crate::route_iter::RouteIter;
 use crate::table::{Log, Table, drop_families, have_same_routes};
+use crate::updates::{Applied, apply_updates};
 use bgp_open::Families;
 use bgp_path::Path;
 use bgp_prefix::Family;
@@ -21,12 +23,6 @@ use bgp_update::Changes;
 use std::alloc::{AllocError, Allocator, Global};
 use std::collections::BTreeMap;
 use std::marker::Model;
-
-/// The set without a family.
-const NO_FAMILIES: Families = Families {
-    v4: false,
-    v6: false,
-};
 
 /// The routes of a peer, at most one to a prefix, and the families that are disabled (RFC 7606, 2):
 /// those have no routes and take none.
@@ -85,6 +81,23 @@ impl<A: Allocator> RibIn<A> {
             → IsOk result }
     {
         apply_changes(&mut self.table, &mut self.log, self.disabled, changes)
+    }
+
+    /// Applies UPDATEs one after another: makes the changes of each as `apply` does, and then
+    /// disables its families.
+    ///
+    /// Refused for memory it leaves everything as it was before the first, and called again it does
+    /// what it would have done. It looks at the prefixes that the changes name, and at all routes
+    /// only where it disables a family that wasn't disabled, or is refused.
+    pub fn apply_each(&mut self, updates: &[Applied<A>]) -> Result<(), AllocError>
+    where
+        A: Copy,
+        ensures ok { OnOk result
+            (self.new ≡ after_updates (map applied_value updates.now) self.old) }
+        ensures err { OnErr result (self.new ≡ self.old) }
+    {
+        self.disabled = apply_updates(&mut self.table, &mut self.log, self.disabled, updates)?;
+        Ok(())
     }
 
     /// Disables a family: its routes go, and it takes none from now on. It takes no memory, and
@@ -171,30 +184,4 @@ impl<A: Allocator> Eq for RibIn<A> {
     ghost use Rattle.bgp_rib.specs.SameRoutes.{same_routes_equiv};
 
     ghost laws = { same_routes_equiv };
-}
-
-/// The family alone.
-fn only(family: Family) -> Families
-    ensures { result ≡ only family }
-{
-    match family {
-        Family::V4 => Families {
-            v4: true,
-            v6: false,
-        },
-        Family::V6 => Families {
-            v4: false,
-            v6: true,
-        },
-    }
-}
-
-/// The families in either set.
-fn union(families: Families, others: Families) -> Families
-    ensures { result ≡ union families others }
-{
-    Families {
-        v4: families.v4 || others.v4,
-        v6: families.v6 || others.v6,
-    }
 }

@@ -1,15 +1,17 @@
-//! What RFC 4271 and RFC 7606 ask of a peer's routes, a long row of changes beside a plain list,
-//! and refused memory.
+//! What RFC 4271 and RFC 7606 ask of a peer's routes, one UPDATE after another and several in one
+//! call, a long row of changes beside a plain list, and refused memory.
 
 mod long_run;
 mod memory;
 mod routes;
+mod updates;
 
 use bgp_open::Families;
 use bgp_path::{AsPath, Items, NextHop, Origin, Path, PathParts, Segment, SegmentKind};
 use bgp_prefix::{Address, Family, Prefix, read_prefix};
 use bgp_rib::*;
 use bgp_update::{Changes, Put};
+use linked_list_allocator::LocalHeap;
 use std::alloc::{AllocError, Allocator, Global};
 use std::process::Abort;
 use std::test::Fail;
@@ -201,4 +203,23 @@ fn are<A: Allocator>(rt: &impl Abort, routes: RouteIter<'_, A>, told: &[(&str, u
         }
     }
     told.next().is_none()
+}
+
+/// Takes all but so many octets of a heap, in small pieces, so that what is left lies together.
+fn ballast<'a>(
+    heap: &'a LocalHeap,
+    ample: &'a LocalHeap,
+    left: usize,
+) -> Result<Vec<Vec<u8, &'a LocalHeap>, &'a LocalHeap>, AllocError> {
+    let mut pieces = Vec::new(ample);
+    for _ in 0..heap.size() / 16 {
+        if heap.free() <= left {
+            break;
+        }
+        let Ok(piece) = Vec::with_capacity(heap, 16) else {
+            break;
+        };
+        pieces.push(piece)?;
+    }
+    Ok(pieces)
 }

@@ -2,7 +2,6 @@
 
 use super::*;
 use Named::{Numbers, Texts};
-use linked_list_allocator::LocalHeap;
 
 /// A table that these changes were made to, one after another.
 fn made_of<A: Allocator + Copy>(
@@ -109,25 +108,6 @@ static BEFORE_AND_THEN: [Told; 2] = [
         ],
     ),
 ];
-
-/// Takes all but so many octets of a heap, in small pieces, so that what is left lies together.
-fn ballast<'a>(
-    heap: &'a LocalHeap,
-    ample: &'a LocalHeap,
-    left: usize,
-) -> Result<Vec<Vec<u8, &'a LocalHeap>, &'a LocalHeap>, AllocError> {
-    let mut pieces = Vec::new(ample);
-    for _ in 0..heap.size() / 16 {
-        if heap.free() <= left {
-            break;
-        }
-        let Ok(piece) = Vec::with_capacity(heap, 16) else {
-            break;
-        };
-        pieces.push(piece)?;
-    }
-    Ok(pieces)
-}
 
 /// Whether the table, of this heap, takes the changes with so many octets left.
 fn takes<'a>(
