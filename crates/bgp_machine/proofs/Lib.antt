@@ -10,3 +10,5 @@ pub mod Moves
 pub mod GivenChanges
 pub mod ShownRows
 pub mod OneStep
+pub mod JoinedRuns
+pub mod LeastFaults

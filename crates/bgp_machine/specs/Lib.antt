@@ -5,6 +5,7 @@ pub mod Heard
 pub mod Step
 pub mod Shows
 pub mod Run
+pub mod Joined
 pub mod Going
 pub mod Owed
 pub mod Listed

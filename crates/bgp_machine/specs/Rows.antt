@@ -1,5 +1,5 @@
--- The steps of single rows, and which rows a state has: what the contracts of private functions
--- say, from which those of public ones follow.
+-- The steps of single rows, and which rows a state has: what the contracts of functions about a row
+-- say, from which those of the lists of steps follow.
 use Rattle.std.specs.Prelude.{if◌then◌else◌, ◌≡◌, ◌⊎◌, ◌++◌, ◌↔◌, ℕ, false, true, List, [], ◌∷◌}
 use Rattle.std.specs.Prelude.{Option, MatchOption}
 use Rattle.bgp_open.specs.declared.config.Config.{Config}

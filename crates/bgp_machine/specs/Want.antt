@@ -1,5 +1,5 @@
 -- What a step sends, and which messages are that (RFC 4271, 6; RFC 6608, 3).
-use Rattle.std.specs.Prelude.{◌≡◌, ◌⊎◌, ℕ, List, [], ◌∷◌, Option, None, Some}
+use Rattle.std.specs.Prelude.{◌≡◌, ◌≤◌, ◌⊎◌, ℕ, List, [], ◌∷◌, Option, None, Some}
 use Rattle.bgp_wire.specs.declared.header.Limit.{Limit}
 use Rattle.bgp_wire.specs.declared.header.Limit.TheVariants.{Plain}
 use Rattle.bgp_wire.specs.Framing.{IsFrame}
@@ -46,6 +46,13 @@ NamesFault (Header faults) code subcode detail = (code ≡ 1) × NamesHeaderFaul
 NamesFault (Open subcodes) code subcode detail =
     (code ≡ 2) × NamesOpenError subcodes subcode detail
 NamesFault (Update subcodes) code subcode detail = (code ≡ 3) × HasSubcode subcodes subcode
+
+-- the least subcode of a set of faults, with data where they are fixed, and else without
+pub record IsLeastFault (faults : FaultSet) (code subcode : ℕ) (detail : List ℕ) : Type 0 where
+  pub names : NamesFault faults code subcode detail
+  pub least : (other_code other : ℕ) (others : List ℕ)
+      → NamesFault faults other_code other others → subcode ≤ other
+  pub without : NamesFault faults code subcode [] → detail ≡ []
 
 -- the octets are a NOTIFICATION which the fact holds of
 abbrev pub Tells : List ℕ → (ℕ → ℕ → List ℕ → Type 0) → Type 0

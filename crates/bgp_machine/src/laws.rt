@@ -1,6 +1,7 @@
-//! Laws of the session machine's rows.
+//! Laws of the session machine's rows and runs.
 
 ghost use Rattle.bgp_machine.specs.Going.{HiddenShape, ReceivedShape};
+ghost use Rattle.bgp_machine.specs.Joined.{NoStepIsARun, RunsAreJoined, StepAndRunAreJoined};
 ghost use Rattle.bgp_machine.specs.Owed.{EachOwedCanBeMet, EachOwedSetHasFault, NoteKeepsState};
 
 use bgp_update::empty_is_clean;
@@ -25,4 +26,13 @@ pub fn each_owed_want_can_be_met()
 /// A note of the state sends nothing, and leaves the state as it was.
 pub fn a_note_keeps_the_state()
     ensures { NoteKeepsState }
+{}
+
+/// Runs are joined: a run, and then another from the state in which it ended, are one run, which
+/// shows the records of both in their order. To take no step is a run without records, and a step
+/// with a run from where it ended is a run.
+pub fn runs_are_joined()
+    ensures joined { RunsAreJoined }
+    ensures none { NoStepIsARun }
+    ensures first { StepAndRunAreJoined }
 {}

@@ -31,13 +31,17 @@ mod want;
 pub use fsm::Fsm;
 pub use hearing::{Heard, hear};
 pub use hidden::{hidden_step, hidden_steps};
-pub use laws::{a_note_keeps_the_state, each_owed_want_can_be_met, each_record_goes_one_way};
+pub use laws::{
+    a_note_keeps_the_state, each_owed_want_can_be_met, each_record_goes_one_way, runs_are_joined,
+};
 pub use listing::MOST_STEPS;
 pub use meeting::meets;
 pub use messages::{MessageSteps, list_message_steps, message_steps};
+pub use received::heard_step;
 pub use rows::{HiddenRow, ReceivedRow};
 pub use sameness::{same_change, same_head, same_link, same_wants};
 pub use silent::silent_steps;
 pub use state::{Head, HoldTimer, State};
 pub use step::{After, Owed, Routes, Step};
+pub use updates::update_step;
 pub use want::{FaultSet, Unexpected, Want, Wants};

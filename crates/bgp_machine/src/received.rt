@@ -309,8 +309,14 @@ fn established_on(
     }
 }
 
-/// What a row about a message makes.
-fn heard_step(head: Head, t: Seconds, message: Heard, row: ReceivedRow) -> Option<Step>
+/// The step that one row of the table makes about a message that is heard so ([`hear`]) at a
+/// second (RFC 4271, 8.2.2 and 6.1 to 6.8): none where the row isn't the state's for that message.
+///
+/// It needs that the message isn't an UPDATE in Established, whose rows are [`update_step`]'s.
+///
+/// [`hear`]: crate::hear
+/// [`update_step`]: crate::update_step
+pub fn heard_step(head: Head, t: Seconds, message: Heard, row: ReceivedRow) -> Option<Step>
     requires { ¬ NeedsOutcomes head message }
     ensures { (octets : List ℕ) → MakesHeard head t octets message row result }
 {

@@ -1,11 +1,14 @@
 //! What a step sends (RFC 4271, 6 and 8.2.2).
 
-ghost use Rattle.std.specs.Prelude.{◌≡◌};
-ghost use Rattle.bgp_machine.specs.Want.{subcode_of};
+ghost use Rattle.std.specs.Prelude.{◌≡◌, ℕ, List, IfSome, IfNone};
+ghost use Rattle.bgp_machine.specs.Want.{subcode_of, NamesFault, IsLeastFault};
 
 use bgp_open::OpenSubcodes;
 use bgp_update::Subcodes;
-use bgp_wire::HeaderFaults;
+use bgp_wire::{HeaderFaults, NamedFault};
+
+/// The Error code of an UPDATE Message Error.
+const UPDATE_MESSAGE_ERROR: u8 = 3;
 
 /// A state in which a message was received that it doesn't expect; its number is the subcode of
 /// Finite State Machine Error that names it (RFC 6608, 3).
@@ -37,6 +40,26 @@ pub enum FaultSet {
     Open(OpenSubcodes),
     /// UPDATE Message Error, code 3.
     Update(Subcodes),
+}
+
+impl FaultSet {
+    /// The fault of the set with the least subcode, with its data where they are fixed, and else
+    /// without data. `None` where the set is empty.
+    pub fn least(&self) -> Option<NamedFault>
+        ensures some { IfSome result
+            (λ fault. IsLeastFault self.now fault.code fault.subcode fault.detail.items) }
+        ensures none { IfNone result
+            ((code subcode : ℕ) (detail : List ℕ) → ¬ NamesFault self.now code subcode detail) }
+    {
+        match self {
+            FaultSet::Header(faults) => faults.least(),
+            FaultSet::Open(subcodes) => subcodes.least(),
+            FaultSet::Update(subcodes) => {
+                let subcode = subcodes.least()?;
+                Some(NamedFault::new(UPDATE_MESSAGE_ERROR, subcode, &[]))
+            }
+        }
+    }
 }
 
 /// A kind of message that a step sends.

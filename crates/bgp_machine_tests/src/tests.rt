@@ -4,6 +4,7 @@
 //! that of events for what a state does by itself, and that of messages for what it does about
 //! them.
 
+mod faults;
 mod hidden;
 mod meeting;
 mod moving;

@@ -3,7 +3,9 @@
 use super::*;
 use Fails::*;
 use ReceivedRow::*;
-use bgp_machine::{FaultSet, ReceivedRow, Unexpected, Want, message_steps};
+use bgp_machine::{
+    FaultSet, Fsm, Heard, ReceivedRow, Unexpected, Want, hear, heard_step, message_steps,
+};
 use bgp_open::OpenSubcodes;
 use bgp_wire::HeaderFaults;
 use bgp_wire::vectors::{
@@ -233,9 +235,25 @@ fn is_listed_so(
     }
 }
 
-/// Whether a row's step is listed where it holds, and isn't where its guard fails.
+/// Whether a row makes a step in a state about a message, or doesn't. The rows about an UPDATE in
+/// Established stand in their own tests.
+fn is_made_so(
+    config: &Config,
+    (head, message): (Head, &[u8]),
+    row: ReceivedRow,
+    step: Step,
+    is_made: bool,
+) -> bool {
+    let heard = hear(config, message);
+    if heard == Heard::Update && head.fsm() == Fsm::Established {
+        return true;
+    }
+    (heard_step(head, 120, heard, row) == Some(step)) == is_made
+}
+
+/// Whether a row's step is made and listed where it holds, and isn't where its guard fails.
 fn is_right(alloc: Global, config: &Config, link: Link, place: Place, row: &Row) -> bool {
-    let (_, message, sends, to, fails) = *row;
+    let (name, message, sends, to, fails) = *row;
     let (here, to) = (head_of(place, link), head_of(to, link));
     let (other, other_message) = match fails {
         In(place) => (head_of(place, link), message),
@@ -243,7 +261,9 @@ fn is_right(alloc: Global, config: &Config, link: Link, place: Place, row: &Row)
     };
     let step = step_from(here, here, sends, to);
     let moved = step_from(other, here, sends, to);
-    is_listed_so(alloc, config, (here, message), step, true)
+    is_made_so(config, (here, message), name, step, true)
+        && is_made_so(config, (other, other_message), name, moved, false)
+        && is_listed_so(alloc, config, (here, message), step, true)
         && is_listed_so(alloc, config, (other, other_message), moved, false)
 }
 
@@ -258,7 +278,7 @@ fn are_right<R: Abort + AllocGlobal>(rt: &R, place: Place, rows: &[Row]) {
 }
 
 #[test]
-fn each_row_is_listed_for_its_message_alone(rt: HostRuntime) {
+fn each_row_is_made_and_listed_for_its_message_alone(rt: HostRuntime) {
     are_right(&rt, IDLE, &ROWS_IN_IDLE);
     are_right(&rt, CONNECT_DELAYED, &ACCEPTS_IN_CONNECT);
     are_right(&rt, ACTIVE_DELAYED, &ACCEPTS_IN_ACTIVE);

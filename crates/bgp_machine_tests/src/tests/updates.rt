@@ -3,8 +3,8 @@
 
 use super::*;
 use ReceivedRow::*;
-use bgp_machine::{FaultSet, ReceivedRow, Want, message_steps};
-use bgp_update::Subcodes;
+use bgp_machine::{FaultSet, ReceivedRow, Want, message_steps, update_step};
+use bgp_update::{Subcodes, read_update};
 use bgp_wire::vectors::{
     ANNOUNCES_10, KEEPALIVE, MP_REACH_TRANSITIVE, MP_UNREACH_TWICE, NEXT_HOP_OF_5, ORIGIN_OF_3,
 };
@@ -138,12 +138,33 @@ fn is_right(alloc: Global, config: &Config, link: Link, case: &Case) -> bool {
     }
 }
 
+/// Whether a row makes its step where it holds for the UPDATE, and none where it doesn't.
+fn is_made_so(alloc: Global, link: Link, case: &Case, row: ReceivedRow) -> bool {
+    let (message, rows, subcodes) = *case;
+    let step = if rows.contains(&row) {
+        Some(step_of(row, link, subcodes))
+    } else {
+        None
+    };
+    match read_update(alloc, &link, message) {
+        Ok(outcomes) => update_step(link, TIMER, 120, &outcomes, row) == step,
+        Err(_) => false,
+    }
+}
+
+/// Whether each row makes its step so, and one of another state none.
+fn are_made(alloc: Global, link: Link, case: &Case) -> bool {
+    ROWS.iter().all(|row| is_made_so(alloc, link, case, *row))
+        && is_made_so(alloc, link, case, Renews)
+}
+
 #[test]
 fn the_rows_about_an_update_hold_as_its_outcomes_say(rt: HostRuntime) {
     let config = router_a(&rt, false);
     let link = link_of_a_and_b(&rt);
     for case in &CASES {
         assert!(rt; is_right(rt.alloc(), &config, link, case), "{:?}", case.1);
+        assert!(rt; are_made(rt.alloc(), link, case), "{:?}", case.1);
     }
 }
 
