@@ -36,7 +36,7 @@ use Rattle.bgp_judge.specs.Next.{Continues, Next, Opens}
 use Rattle.bgp_judge.specs.Openings.{ListsOpenings}
 use Rattle.bgp_judge.specs.Stands.{StandFor}
 use Rattle.bgp_judge.specs.Told.{Told, link_told, told, told_by_change, told_by_message, told_next, told_from}
-use Rattle.bgp_judge.proofs.Joining.{no_steps}
+use Rattle.bgp_machine.proofs.JoinedRuns.{no_steps}
 use Rattle.bgp_judge.proofs.OneRecordMore.{runs_free}
 use Rattle.bgp_judge.proofs.Standing.{silent_end}
 use Rattle.bgp_judge.proofs.Telling.{each_as_told}

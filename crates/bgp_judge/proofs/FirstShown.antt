@@ -11,7 +11,8 @@ use Rattle.bgp_machine.specs.Step.{Event, Hidden, Received as OnMessage, HiddenI
 use Rattle.bgp_judge.specs.Member.{Member, link_for}
 use Rattle.bgp_judge.specs.Next.{Opens, Starts}
 use Rattle.bgp_judge.specs.Stands.{Goes}
-use Rattle.bgp_judge.proofs.Joining.{silent_longer, no_steps}
+use Rattle.bgp_machine.proofs.JoinedRuns.{no_steps}
+use Rattle.bgp_judge.proofs.Joining.{silent_longer}
 use Rattle.bgp_judge.proofs.Paying.{pays_for}
 
 pub heads : (a b : ShownRecord) (xs ys : List ShownRecord) → a ∷ xs ≡ b ∷ ys → a ≡ b

@@ -1,41 +1,10 @@
--- Runs are joined, and a silent run may stand in front of one.
-use Rattle.std.proofs.Common.{◌≡◌, List, [], ◌∷◌, ◌++◌, refl, sym, ap, subst, ◌∙◌, append_assoc}
+-- A step that shows nothing lengthens a silent run.
+use Rattle.std.proofs.Common.{◌≡◌, List, [], ◌∷◌, ◌++◌, refl, ap}
 use Rattle.bgp_prefix.specs.Shown.{ShownRecord}
 use Rattle.bgp_open.specs.declared.config.Config.{Config}
-use Rattle.bgp_machine.specs.Run.{Taken, IsTaken, AreSteps, records_of, Run, Silent}
+use Rattle.bgp_machine.specs.Run.{Taken, IsTaken, Silent}
 use Rattle.bgp_machine.specs.State.{SessionState}
-
-steps_joined : (config : Config) (xs ys : List Taken) (s m e : SessionState) → AreSteps config s xs m → AreSteps config m ys e
-    → AreSteps config s (xs ++ ys) e
-steps_joined config [] ys s m e p q = subst (λ (v : SessionState). AreSteps config v ys e) (sym p) q
-steps_joined config (x ∷ xs) ys s m e p q = (p.0, p.1, steps_joined config xs ys x.after m e p.2 q)
-
-records_joined : (xs ys : List Taken) → records_of (xs ++ ys) ≡ records_of xs ++ records_of ys
-records_joined [] ys = refl
-records_joined (x ∷ xs) ys =
-    ap (λ (v : List ShownRecord). x.shown ++ v) (records_joined xs ys) ∙ sym (append_assoc x.shown (records_of xs) (records_of ys))
-
--- one run, and then another
-pub run_joined : (config : Config) (s m e : SessionState) (xs ys : List ShownRecord) → Run config s xs m → Run config m ys e
-    → Run config s (xs ++ ys) e
-run_joined config s m e xs ys p q = record {
-  steps = p.steps ++ q.steps;
-  are_steps = steps_joined config p.steps q.steps s m e p.are_steps q.are_steps;
-  shows = records_joined p.steps q.steps ∙ (ap (λ (v : List ShownRecord). v ++ records_of q.steps) p.shows ∙ ap (λ (v : List ShownRecord). xs ++ v) q.shows);
-}
-
--- no step
-pub no_steps : (config : Config) (s : SessionState) → Run config s [] s
-no_steps config s = record { steps = []; are_steps = refl; shows = refl }
-
--- one step, and then a run
-pub step_first : (config : Config) (x : Taken) (e : SessionState) (later : List ShownRecord) → IsTaken config x → Run config x.after later e
-    → Run config x.before (x.shown ++ later) e
-step_first config x e later taken run = record {
-  steps = x ∷ run.steps;
-  are_steps = (refl, taken, run.are_steps);
-  shows = ap (λ (v : List ShownRecord). x.shown ++ v) run.shows;
-}
+use Rattle.bgp_machine.proofs.JoinedRuns.{run_joined}
 
 -- silence, and then one more step that shows nothing
 pub silent_longer : (config : Config) (s : SessionState) (x : Taken) → Silent config s x.before → IsTaken config x → x.shown ≡ []

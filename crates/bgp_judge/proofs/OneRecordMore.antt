@@ -16,7 +16,7 @@ use Rattle.bgp_judge.specs.Member.{Member, IsFree, link_for}
 use Rattle.bgp_judge.specs.Next.{Opens, Starts, Next}
 use Rattle.bgp_judge.specs.Stands.{Goes}
 use Rattle.bgp_judge.proofs.FirstShown.{First, first_shown, heads, tails}
-use Rattle.bgp_judge.proofs.Joining.{run_joined, step_first}
+use Rattle.bgp_machine.proofs.JoinedRuns.{run_joined, step_first}
 use Rattle.bgp_judge.proofs.Paying.{pays_on, pays_for, pays_nothing, each_left, each_for}
 
 -- a step that the record opens, and a run behind it

@@ -16,7 +16,7 @@ use Rattle.bgp_machine.specs.Rows.{silent_heads}
 use Rattle.bgp_judge.specs.Image.{IsImage}
 use Rattle.bgp_judge.specs.Member.{Member, IsFree, fresh_member}
 use Rattle.bgp_judge.specs.Stands.{Goes, StandFor}
-use Rattle.bgp_judge.proofs.Joining.{no_steps}
+use Rattle.bgp_machine.proofs.JoinedRuns.{no_steps}
 use Rattle.bgp_judge.proofs.Paying.{can_pay}
 use Rattle.bgp_judge.proofs.OneRecordMore.{goes_to, goes_from, free_runs, runs_free, cover_goes, next_met}
 

@@ -9,7 +9,7 @@ use Rattle.bgp_machine.specs.State.{fresh_state}
 use Rattle.mrt.specs.declared.record.Record.{Record}
 use Rattle.mrt.specs.Reader.{shown_of}
 use Rattle.bgp_judge.specs.Ends.{ListsEnds}
-use Rattle.bgp_judge.proofs.Joining.{no_steps}
+use Rattle.bgp_machine.proofs.JoinedRuns.{no_steps}
 use Rattle.bgp_judge.proofs.EndLists.{map_behind}
 
 pub no_record_begins : (config : Config) → Begins config []
