@@ -1,0 +1,15 @@
+pub mod Core
+pub mod Picks
+pub mod Said
+pub mod Choice
+pub mod Choosing
+pub mod Shown
+pub mod Pending
+pub mod Drafts
+pub mod Answers
+pub mod Hearing
+pub mod Laws
+pub mod Driven
+pub mod Connection
+pub mod Written
+pub mod OneChoice
