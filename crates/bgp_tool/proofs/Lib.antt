@@ -10,3 +10,4 @@ pub mod CaptureJudged
 pub mod ToldCapture
 pub mod OneVerdict
 pub mod Fronts
+pub mod DriveJudged

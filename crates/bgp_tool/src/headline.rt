@@ -3,17 +3,25 @@
 
 ghost use Rattle.std.specs.Prelude.{◌<◌, ◌≤◌, ◌^◌};
 ghost use Rattle.bgp_tool.specs.Decoding.{IsDecoded, IsBegun};
+ghost use Rattle.bgp_tool.specs.Driven.{DrivesAreJudgedYes, DrivesAreNotRefused};
+ghost use Rattle.bgp_tool.specs.Driven.{DrivesSpellTheirRecords};
 ghost use Rattle.bgp_tool.specs.Judging.{JudgesCapture, HasOneVerdict, NeverNone};
 
 use crate::decoding::decode_raw;
 use crate::judging::write_answer;
 use bgp_judge::{Tracker, judge, records_have_just_one_verdict};
 use bgp_open::Config;
-use mrt::{MemSink, MemSource, Sink, Source, each_capture_has_one_reading};
+use bgp_speaker::{each_drive_can_be_written, each_drive_is_a_run};
+use mrt::{
+    MemSink, MemSource, Sink, Source, each_capture_has_one_reading, written_captures_are_read,
+};
 use std::alloc::Allocator;
 
 /// Judges the capture that a source gives: whether its records are those of a run of the session
 /// machine (RFC 4271, 8.2.2), under this configuration and of the session that it names.
+///
+/// And the capture of whatever the speaker's core does is answered `yes`, with the state and the
+/// routes in which the core ended among the ends ([`each_drive_is_judged_yes`]).
 ///
 /// It writes exactly the text of the one verdict on the records that the octets spell, and answers
 /// its exit status:
@@ -50,6 +58,20 @@ pub fn each_capture_has_one_verdict()
 {
     each_capture_has_one_reading();
     records_have_just_one_verdict();
+}
+
+/// Law: what a speaker's core shows is judged yes. Octets that are written of the records of a drive
+/// spell just these records and are never refused, and whatever verdict holds of them is yes, with
+/// the state and the routes in which the core ended among the ends.
+pub fn each_drive_is_judged_yes()
+    ensures spells { DrivesSpellTheirRecords }
+    ensures sound { DrivesAreNotRefused }
+    ensures yes { DrivesAreJudgedYes }
+{
+    each_capture_has_one_reading();
+    written_captures_are_read();
+    each_drive_can_be_written();
+    each_drive_is_a_run();
 }
 
 /// The text of a stream of octets in memory, and the exit status.

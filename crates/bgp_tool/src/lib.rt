@@ -26,7 +26,9 @@ pub use bgp_words::{Command, command_line};
 pub use captures::decode_capture;
 pub use decoding::decode_raw;
 pub use front::Form;
-pub use headline::{each_capture_has_one_verdict, judge_capture, text_and_status};
+pub use headline::{
+    each_capture_has_one_verdict, each_drive_is_judged_yes, judge_capture, text_and_status,
+};
 pub use laws::each_stream_has_one_text;
 pub use note::Note;
 pub use opened::{Outcome, decode_opened};
