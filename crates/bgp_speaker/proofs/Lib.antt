@@ -20,3 +20,4 @@ mod StillToCome
 mod OneRow
 mod OneSaying
 mod OneChoice
+mod KeptInOrder

@@ -1,5 +1,7 @@
 -- Laws of many inputs: their records are those of a run.
 use Rattle.std.specs.Prelude.{◌≡◌, ℕ, List, false}
+use Rattle.std.specs.List.Sorted.{IsStrictlySortedBy}
+use Rattle.bgp_prefix.specs.PrefixOrder.{prefix_cmp}
 use Rattle.bgp_prefix.specs.Shown.{ShownRecord}
 use Rattle.bgp_machine.specs.Run.{IsComplete, Run, end_of, is_delayed}
 use Rattle.bgp_speaker.specs.declared.speaker.Speaker.{Speaker}
@@ -32,3 +34,12 @@ EachDriveIsUndelayed =
     (records : List ShownRecord)
     → Drives (fresh_core speaker) inputs records e
     → is_delayed e.moment.session.head ≡ false
+
+-- the prefixes that the core keeps ascend, whatever it was told: so they stand in one order, and
+-- none twice
+abbrev pub EachKeptListAscends : Type 0
+EachKeptListAscends =
+    (speaker : Speaker) (e : CoreState) (inputs : List (ℕ × InputValue))
+    (records : List ShownRecord)
+    → Drives (fresh_core speaker) inputs records e
+    → IsStrictlySortedBy prefix_cmp e.kept

@@ -9,7 +9,7 @@ use Rattle.bgp_speaker.specs.Choice.{TakesOn, Greets}
 use Rattle.bgp_speaker.specs.Choosing.{HearsBytes, Chooses}
 use Rattle.bgp_speaker.specs.Core.{CoreState, Moment, IsConnected, Bytes}
 
--- a frame stands first, is heard, and then what is behind it
+-- a frame stands first, is heard, and then what comes after it
 abbrev pub FrameFirst : Type 0
 FrameFirst =
     (speaker : Speaker) (kept : List PrefixBits) (t : ℕ) (m between greeted e : Moment)

@@ -27,19 +27,20 @@ use Rattle.bgp_machine.specs.Rows.{HiddenShown, NoStep}
 use Rattle.bgp_machine.specs.Step.{IsRunning, IsExpired}
 use Rattle.bgp_speaker.specs.Core.{InputValue, Start, Passive, Stop, Connected, Failed, Tick}
 
--- a KEEPALIVE is due: a third of the Hold Time has passed since the last message was sent
+-- a KEEPALIVE is due: the HoldTimer runs, and a third of it has passed since the last message was
+-- sent (RFC 4271, 4.4; 8.2.2: what is sent restarts the KeepaliveTimer)
 abbrev pub IsKeepaliveDue : HoldTimer → ℕ → ℕ → Type 0
 IsKeepaliveDue timer sent_at t = IsRunning timer × (sent_at + timer.span / 3 ≤ t)
 
--- the HoldTimer first, and then a KEEPALIVE that is due
+-- the HoldTimer first (RFC 4271, 6.5), and then a KEEPALIVE that is due
 abbrev pub PicksInTime : HoldTimer → ℕ → ℕ → Option HiddenRow → Type 0
 PicksInTime timer sent_at t picked =
     (IsExpired timer t × (picked ≡ Some HoldExpires))
     ⊎ ((¬ IsExpired timer t) × IsKeepaliveDue timer sent_at t × (picked ≡ Some KeepaliveExpires))
     ⊎ ((¬ IsExpired timer t) × (¬ IsKeepaliveDue timer sent_at t) × (picked ≡ None))
 
--- ---- by itself: on an input, at a second, where the last message was sent at another; no row,
--- where nothing is done
+-- ---- by itself (RFC 4271, 8.2.2): on an input, at a second, where the last message was sent at
+-- another; no row, where nothing is done
 abbrev pub Picks : Head → InputValue → ℕ → ℕ → Option HiddenRow → Type 0
 Picks Idle Start sent_at t picked = picked ≡ Some Starts
 Picks Idle Passive sent_at t picked = picked ≡ Some Listens
@@ -67,9 +68,9 @@ abbrev pub CanTake : Config → Head → ℕ → Option HiddenRow → Type 0
 CanTake config head t None = Unit {0}
 CanTake config head t (Some row) = ¬ NoStep (HiddenShown config head t row)
 
--- ---- about a message
+-- ---- about a message (RFC 4271, 8.2.2 and 6)
 
--- an UPDATE may be applied, and no more families are disabled than has to be
+-- an UPDATE may be applied, and no more families are disabled than has to be (RFC 7606, 2)
 pub record IsLeastApply (link : Link) (octets : List ℕ) (families : Families) : Type 0 where
   pub allowed : (changes : RouteChanges) × IsOutcome link octets (Applied changes families)
   pub least : (changes : RouteChanges) (others : Families)

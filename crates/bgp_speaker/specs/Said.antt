@@ -27,13 +27,13 @@ use Rattle.bgp_speaker.specs.declared.speaker.Speaker.{Speaker}
 
 -- ---- UPDATEs
 
--- the next hop of a family
+-- the next hop of a family (RFC 4271, 5.1.3; RFC 4760, 3)
 abbrev pub own_hop : Speaker → Family → NextHop
 own_hop speaker V4 = hops.V4 speaker.next_hop4
 own_hop speaker V6 = hops.V6 speaker.next_hop6
 
--- the path of what the core announces: to an external peer the local AS alone, to an internal one
--- no AS, and LOCAL_PREF 100 (RFC 4271, 5.1.2 and 5.1.5)
+-- the path of what the core announces: ORIGIN IGP; to an external peer the local AS alone, to an
+-- internal one no AS, and LOCAL_PREF 100 (RFC 4271, 5.1.1, 5.1.2 and 5.1.5)
 abbrev pub own_path : Speaker → Link → Family → PathValue
 own_path speaker link family = record {
   origin = Igp;

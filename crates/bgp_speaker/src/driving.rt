@@ -28,7 +28,7 @@ pub struct Run<A: Allocator = Global> {
     pub records: Vec<Shown<A>, A>,
     /// The name of the session's state.
     pub fsm: Fsm,
-    /// The routes that the peer has announced.
+    /// The routes that the peer has announced, and the families that are disabled.
     pub rib: RibIn<A>,
 }
 

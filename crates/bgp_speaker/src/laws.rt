@@ -2,7 +2,7 @@
 
 ghost use Rattle.bgp_speaker.specs.Connection.{EachConnectionIsHeard};
 ghost use Rattle.bgp_speaker.specs.Driven.{EachDriveIsARun, EachDriveIsComplete};
-ghost use Rattle.bgp_speaker.specs.Driven.{EachDriveIsUndelayed};
+ghost use Rattle.bgp_speaker.specs.Driven.{EachDriveIsUndelayed, EachKeptListAscends};
 ghost use Rattle.bgp_speaker.specs.Hearing.{CutDoesntMatter, FrameFirst, PiecesAreJoined};
 ghost use Rattle.bgp_speaker.specs.Laws.{EachOwnStepIsTheMachines, HearingIsARun};
 ghost use Rattle.bgp_speaker.specs.Laws.{EachStepOnAMessageIsTheMachines};
@@ -26,11 +26,13 @@ pub fn however_cut()
     ensures pieces { PiecesAreJoined }
 {}
 
-/// What the core does on many inputs is a run, and the core never delays its OPEN.
+/// What the core does on many inputs is a run. The core never delays its OPEN (RFC 4271, 8.1.1),
+/// and the prefixes that it keeps ascend.
 pub fn each_drive_is_a_run()
     ensures run { EachDriveIsARun }
     ensures complete { EachDriveIsComplete }
     ensures undelayed { EachDriveIsUndelayed }
+    ensures ascend { EachKeptListAscends }
 {}
 
 /// The messages received on a connection are the first of those that stand in the octets which came

@@ -1,4 +1,9 @@
-//! The speaker's core.
+//! The core of a BGP-4 speaker: the session machine (RFC 4271, 8.2.2), where it chooses.
+//!
+//! It has no socket and no clock. A [`Core`] is told one [`Input`] after another, each with its
+//! second, and answers the octets to send and the records of what it did; [`drive`] does so with a
+//! list of them. What it chooses, and why that is one of the standard's choices, is in
+//! docs/SPEAKER.md. Seconds are those of a capture's records: Unix time.
 #![tactic(auto)]
 
 mod choosing;

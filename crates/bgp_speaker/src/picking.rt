@@ -12,7 +12,7 @@ use crate::input::Cue;
 use bgp_machine::{Head, HiddenRow, HoldTimer};
 use bgp_prefix::Seconds;
 
-/// Whether a third of the Hold Time has passed since the last message was sent.
+/// Whether the HoldTimer runs, and a third of it has passed since the last message was sent.
 fn is_keepalive_due(timer: HoldTimer, sent_at: Seconds, t: Seconds) -> bool
     ensures { IsTrue result ↔ IsKeepaliveDue timer sent_at t }
 {

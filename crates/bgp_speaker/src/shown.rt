@@ -15,7 +15,8 @@ pub enum Shown<A: Allocator = Global> {
     In(Seconds, Vec<u8, A>),
     /// A message that was sent, and when.
     Out(Seconds, Vec<u8, A>),
-    /// A change of state, by the states' numbers, and when.
+    /// A change of state, and when: the number of the old state, and of the new one (RFC 6396,
+    /// 4.4.1).
     Change(Seconds, u16, u16),
 }
 

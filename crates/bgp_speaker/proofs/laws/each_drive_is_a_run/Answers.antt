@@ -1,4 +1,5 @@
 use Rattle.bgp_speaker.proofs.DrivesARun.{drives_run, drives_complete}
+use Rattle.bgp_speaker.proofs.KeptInOrder.{kept_ascend}
 use Rattle.bgp_speaker.proofs.Undelayed.{drive_undelayed}
 use Rattle.bgp_speaker.proofs.laws.each_drive_is_a_run.Goals as goal
 
@@ -10,3 +11,6 @@ returns-clause-complete c = drives_complete
 
 pub returns-clause-undelayed : goal.returns-clause-undelayed
 returns-clause-undelayed c = drive_undelayed
+
+pub returns-clause-ascend : goal.returns-clause-ascend
+returns-clause-ascend c = kept_ascend
