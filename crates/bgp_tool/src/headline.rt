@@ -21,7 +21,8 @@ use std::alloc::Allocator;
 /// machine (RFC 4271, 8.2.2), under this configuration and of the session that it names.
 ///
 /// And the capture of whatever the speaker's core does is answered `yes`, with the state and the
-/// routes in which the core ended among the ends ([`each_drive_is_judged_yes`]).
+/// routes in which the core ended among the ends, where both addresses are of one family and no
+/// ROUTE-REFRESH is to be refused ([`each_drive_is_judged_yes`]).
 ///
 /// It writes exactly the text of the one verdict on the records that the octets spell, and answers
 /// its exit status:
@@ -30,7 +31,7 @@ use std::alloc::Allocator;
 /// * 1: `no at record N`: the records before it begin a run, and with it none.
 /// * 2: `unfinished`: the records begin a run, and no run shows just them.
 ///
-/// Where the octets spell none, also behind an impossible record, it writes `capture refused:
+/// Where the octets spell none, also after an impossible record, it writes `capture refused:
 /// NUMBER NAME at OFFSET` of their first fault, and answers 3; where memory was refused 4, and
 /// where the source failed 5. Where the sink failed, a beginning of that text is written, and the
 /// status is 5.
@@ -60,9 +61,11 @@ pub fn each_capture_has_one_verdict()
     records_have_just_one_verdict();
 }
 
-/// Law: what a speaker's core shows is judged yes. Octets that are written of the records of a drive
-/// spell just these records and are never refused, and whatever verdict holds of them is yes, with
-/// the state and the routes in which the core ended among the ends.
+/// Law: what a speaker's core shows is judged yes. Octets that are written of the records of a
+/// drive spell just these records and are never refused, and whatever verdict holds of them is yes,
+/// with the state and the routes in which the core ended among the ends. For each list of inputs
+/// whose seconds have 32 bits, where both addresses are of one family and no ROUTE-REFRESH is to be
+/// refused.
 pub fn each_drive_is_judged_yes()
     ensures spells { DrivesSpellTheirRecords }
     ensures sound { DrivesAreNotRefused }
