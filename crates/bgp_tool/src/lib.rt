@@ -1,7 +1,7 @@
 //! The commands of the program `bgp`, each as one function over sources and sinks.
 //!
-//! What a command prints is stated in bgp_text's specs, but for a verdict's text, which is stated in
-//! `specs/VerdictText.antt`; what it answers is an exit status:
+//! What a command prints is stated in bgp_text's specs, but for a verdict's text, which is stated
+//! in `specs/VerdictText.antt`; what it answers is an exit status:
 //!
 //! ```text
 //! let status = decode_raw(alloc, &mut source, &mut sink);

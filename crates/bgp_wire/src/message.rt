@@ -42,8 +42,8 @@ pub fn message_body(kind: MessageType, octets: &[u8]) -> Option<&[u8]>
     }
 }
 
-/// Appends a KEEPALIVE, which is a header alone (RFC 4271, 4.4). Where there is no memory for it the
-/// vector is as before.
+/// Appends a KEEPALIVE, which is a header alone (RFC 4271, 4.4). Where there is no memory for it
+/// the vector is as before.
 #[tactic(auto, unfolding(crate::specs::Message::message_octets))]
 pub fn put_keepalive<A: Allocator>(out: &mut Vec<u8, A>) -> Result<(), AllocError>
     ensures ok { OnOk result (out.new.items ≡ out.old.items ++ message_octets 4 []) }

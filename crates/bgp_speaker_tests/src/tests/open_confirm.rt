@@ -1,5 +1,5 @@
-//! A core of router A in OpenConfirm: it accepted the OPEN of router B at 101, so its HoldTimer ends
-//! at 191, and it sent a KEEPALIVE then.
+//! A core of router A in OpenConfirm: it accepted the OPEN of router B at 101 and sent a KEEPALIVE
+//! then, so its HoldTimer ends at 191.
 
 use super::messages::*;
 use super::refused::{Refused, is_refused};
