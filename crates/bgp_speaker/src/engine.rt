@@ -111,6 +111,13 @@ impl<A: Allocator + Copy> Core<A> {
         self.state.head.fsm()
     }
 
+    /// The routes that the peer announced, and the families that are disabled.
+    pub fn rib(&self) -> &RibIn<A>
+        ensures { result.now ≡ self.now.moment.session.routes }
+    {
+        &self.state.rib
+    }
+
     /// The routes that the peer announced, and the families that are disabled; the core ends.
     pub fn into_rib(self) -> RibIn<A>
         ensures { result ≡ self.moment.session.routes }
