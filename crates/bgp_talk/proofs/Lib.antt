@@ -1,0 +1,6 @@
+mod MemCalls
+mod Resting
+mod ShortRecords
+mod Accounts
+mod Joining
+mod Entering

@@ -1,0 +1,39 @@
+use Rattle.std.proofs.Common.{rules, ◌≡◌, ℕ, ◌<◌, [], ◌∷◌, ◌++◌, subst, take, length, arith, refl}
+use Rattle.std.proofs.lemmas.List.{take-append-drop, length-take-le}
+use Rattle.bgp_talk.specs.Account.{Wrote}
+use Rattle.bgp_talk.proofs.Accounts.{sent_more}
+use Rattle.bgp_talk.proofs.talking.send.Goals as goal
+
+pub loop-rest-preserved : goal.loop-rest-preserved
+loop-rest-preserved g c =
+    let so_far = c.loop-rest.invariant.told in
+    let n = c.in-Ok.count in
+    let front = take n c.loop-rest.rest.now in
+    let is : c.loop-rest.rest.now ≡ front ++ c.split_at.result.1.now = search (rules, take-append-drop) in
+    let long = length-take-le n c.loop-rest.rest.now c.in-Ok.ensures.bound in
+    let some : 0 < length front = omega (arith, long) in
+    record {
+      told = (
+        so_far.0 ++ Wrote front ∷ [],
+        g.met.W.Wire.joined _ _ _ _ _ so_far.1 c.in-Ok.ensures.ok,
+        sent_more _ _ _ _ _ so_far.2 is some,
+      );
+      stands = search rules;
+      calm = search rules;
+    }
+
+pub returns-in-Ok-eq0-clause-told : goal.returns-in-Ok-eq0-clause-told
+returns-in-Ok-eq0-clause-told g c =
+    let so_far = c.loop-rest.invariant.told in (
+      so_far.0 ++ Wrote [] ∷ [],
+      g.met.W.Wire.joined _ _ _ _ _ so_far.1 (let zero : c.in-Ok-eq0.field-0 ≡ 0 = search rules in subst (λ (n : ℕ). g.W.Wire.tells c.loop-rest.wire c.write.new.self (Wrote (take n c.loop-rest.rest.now) ∷ [])) zero c.in-Ok-eq0.ensures.ok),
+      record { before = so_far.0; rest = _; sent = so_far.2; some = search rules; ended = refl },
+    )
+
+pub returns-in-Err-clause-told : goal.returns-in-Err-clause-told
+returns-in-Err-clause-told g c =
+    let so_far = c.loop-rest.invariant.told in (
+      so_far.0 ++ Wrote [] ∷ [],
+      g.met.W.Wire.joined _ _ _ _ _ so_far.1 c.in-Err.ensures.err,
+      record { before = so_far.0; rest = _; sent = so_far.2; some = search rules; ended = refl },
+    )

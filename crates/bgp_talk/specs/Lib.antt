@@ -1,0 +1,5 @@
+-- In reading order.
+pub mod Account
+pub mod MemWire
+pub mod CoreFacts
+pub mod Talk

@@ -1,0 +1,26 @@
+//! The speaker over a connection.
+//!
+//! [`speak`] runs a speaker's core over a [`Wire`], which carries octets both ways and tells the
+//! time, and writes what the core does to a capture. Its contract speaks of what the wire told, one
+//! call after another, and of the inputs that this makes. [`MemWire`] is a wire in memory, which
+//! can be told to fail; it tells all. [`SocketWire`] is a wire over TCP, and tells nothing,
+//! since nobody knows what its peer will send.
+#![tactic(auto)]
+
+mod fault;
+mod laws;
+mod mem_wire;
+mod socket;
+mod speaking;
+mod talking;
+mod wire;
+
+pub use fault::SpeakFault;
+pub use laws::{
+    a_core_at_rest_is_quiet, a_wire_in_memory_took_what_it_tells, each_record_is_short,
+};
+pub use mem_wire::{MemRead, MemWire, WireUpset};
+pub use socket::SocketWire;
+pub use speaking::{Report, speak};
+pub use talking::{again, write_records};
+pub use wire::{Connection, ReadAnswer, Wire};
