@@ -1,13 +1,13 @@
 -- The values of a command, by what was asked of them.
-use Rattle.std.proofs.Common.{◌≡◌, ◌∙◌, List, Option, Some, None, Result, Ok, Err, sym, ap, subst, option_map}
-use Rattle.std.specs.Prelude.{IsErrAnd, IsOkAnd, IsSomeAnd, is_some, ◌↔◌}
+use Rattle.std.proofs.Common.{◌≡◌, ◌∙◌, List, Option, Some, None, Result, sym, ap, subst, option_map}
+use Rattle.std.specs.Prelude.{IsOkAnd, IsSomeAnd, MatchOption, is_some, ◌↔◌}
 use Rattle.std.specs.Option.{ok_or}
 use Rattle.std.specs.Borrow.{Bor}
 use Rattle.std.proofs.lemmas.Option.{none-some, same_Some}
 use Rattle.clap.specs.declared.parser.matches.Found.{Found}
 use Rattle.clap.specs.Words.{Row, Text, first_of, first_value, rows_of}
 use Rattle.clap.proofs.WalkLemmas.{first_value-rows}
-use Rattle.bgp_words.specs.Values.{IsValue}
+use Rattle.bgp_words.specs.Values.{IsOptional, IsValue}
 
 module _ (f : Found) (name : Text) (o : Option (Bor Text)) (read : option_map (λ (s : Bor Text). s.now) o ≡ first_value f name) where
   pub met : first_of name (rows_of f) ≡ option_map (λ (s : Bor Text). s.now) o
@@ -40,10 +40,38 @@ module _ {T E : Type 0} (spells : Text → T → Type 0) (name : Text) (rows : L
         ((read_is o e v).1 ((reads v).1 (subst (λ (w : Option Text). IsSomeAnd w (λ text. spells text v)) there is))),
   )
 
-  pub value_unread : {F : Type 0} (r : Result T E) (f : F) (P : F → E → Type 0) → IsErrAnd r (P f) → first_of name rows ≡ None
-      → (v : T) → IsOkAnd r (λ it. it ≡ v) ↔ IsValue spells name rows v
-  value_unread (Ok x) f P is none v = absurd is
-  value_unread (Err e) f P is none v = (
-    λ ok. absurd ok,
-    λ has. subst (λ (w : Option Text). IsSomeAnd w (λ text. spells text v)) none has,
-  )
+-- an option that may be left out
+module _ {T : Type 0} (spells : Text → T → Type 0) where
+  abbrev AsIn : Option Text → Option T → Type 0
+  AsIn o value = MatchOption o (value ≡ None) (λ text. IsSomeAnd value (λ it. spells text it))
+
+  one_value : (word : Text) (o : Option T) → ((v : T) → (o ≡ Some v) ↔ spells word v) → (x : T) → o ≡ Some x
+      → (value : Option T) → IsSomeAnd value (λ it. spells word it) → Some x ≡ value
+  one_value word o reads x is None has = absurd has
+  one_value word o reads x is (Some v) has = sym is ∙ (reads v).1 has
+
+  no_value : (word : Text) (o : Option T) → ((v : T) → (o ≡ Some v) ↔ spells word v) → o ≡ None
+      → (value : Option T) → IsSomeAnd value (λ it. spells word it) → ⊥
+  no_value word o reads lacks None has = has
+  no_value word o reads lacks (Some v) has = none-some v (sym lacks ∙ (reads v).1 has)
+
+  module _ (name : Text) (rows : List Row) where
+    pub left_out : first_of name rows ≡ None → (value : Option T) → (None ≡ value) ↔ IsOptional spells name rows value
+    left_out lacks value = (
+      λ same. subst (λ (w : Option Text). AsIn w value) (sym lacks) (sym same),
+      λ has. sym (subst (λ (w : Option Text). AsIn w value) lacks has),
+    )
+
+    module _ (word : Text) (there : first_of name rows ≡ Some word) (o : Option T) (reads : (v : T) → (o ≡ Some v) ↔ spells word v) where
+      pub one_given : (x : T) → o ≡ Some x → (value : Option T) → (Some x ≡ value) ↔ IsOptional spells name rows value
+      one_given x is value = (
+        λ same. subst (λ (v : Option T). IsOptional spells name rows v) same
+            (subst (λ (w : Option Text). AsIn w (Some x)) (sym there) ((reads x).0 is)),
+        λ has. one_value word o reads x is value (subst (λ (w : Option Text). AsIn w value) there has),
+      )
+
+      pub none_given : o ≡ None → (value : Option T) → ⊥ ↔ IsOptional spells name rows value
+      none_given lacks value = (
+        λ bad. absurd bad,
+        λ has. no_value word o reads lacks value (subst (λ (w : Option Text). AsIn w value) there has),
+      )

@@ -6,16 +6,15 @@ use Rattle.clap.specs.Words.{Row, Text, fault_of, first_of, subcommand_of}
 use Rattle.bgp_open.specs.declared.config.Config.{Config}
 use Rattle.bgp_open.specs.declared.config.ConfigParts.{ConfigParts}
 use Rattle.bgp_open.specs.declared.families.Families.{Families}
-use Rattle.bgp_words.specs.Decode.{IsDecoding}
-use Rattle.bgp_words.specs.Judge.{AreParts, IsJudge, IsJudgeLine, IsJudgeOf, IsJudging}
-use Rattle.bgp_words.specs.Spelled.{IsUsed, Names, NamesJudge}
+use Rattle.bgp_words.specs.Judge.{IsJudge, IsJudgeLine, IsJudgeOf}
+use Rattle.bgp_words.specs.Spelled.{IsUsed, Names, NamesBy, NamesJudge}
 use Rattle.bgp_words.specs.Values.{IsFamiliesText, IsHoldText, IsPositiveText}
 use Rattle.bgp_words.specs.Words.{program_words}
 use Rattle.bgp_words.specs.declared.words.Command.{Command}
-use Rattle.bgp_words.specs.declared.words.Command.TheVariants.{Decode, Capture, Judge}
+use Rattle.bgp_words.specs.declared.words.Command.TheVariants.{Decode, Capture, Judge, Speak, Pair}
 use Rattle.bgp_words.proofs.NamedCommand.{two_names}
 use Rattle.bgp_words.proofs.PlainWords.{plain}
-use Rattle.bgp_words.proofs.SpelledJudge.{faultless, file_found, found_rows, named_judge, parts_found, parts_told}
+use Rattle.bgp_words.proofs.SpelledJudge.{AreJudged, faultless, file_found, found_rows, named_judge, parts_found, parts_told}
 
 -- the values of what isn't told
 ninety : IsHoldText (codes "90") 90
@@ -67,7 +66,7 @@ module _ (words : List Text) (parts : ConfigParts) (file : Text) (line : IsJudge
       (plain line.peer_as line.no_flags.1) (plain line.local_id line.no_flags.2) (plain line.local line.no_flags.3)
       (plain line.peer line.no_flags.4) (plain file line.no_flags.5)
 
-  are_parts : AreParts parts rows
+  are_parts : AreJudged parts rows
   are_parts = parts_found line.name line.local_as line.peer_as line.local_id line.local line.peer file
       (plain line.local_as line.no_flags.0) (plain line.peer_as line.no_flags.1) (plain line.local_id line.no_flags.2)
       (plain line.local line.no_flags.3) (plain line.peer line.no_flags.4) (plain file line.no_flags.5) parts
@@ -76,14 +75,16 @@ module _ (words : List Text) (parts : ConfigParts) (file : Text) (line : IsJudge
       (subst (IsPositiveText (codes "240")) (sym line.holds.1) two_hundred_forty)
       (inl (refl, line.families)) line.flags.0 line.flags.1
 
-  of_judging : (command : Command) → IsJudging command rows → IsJudgeOf words command
-  of_judging (Decode f) is = is
-  of_judging (Capture session f) is = is
+  of_judging : (command : Command) → NamesBy (codes "judge") rows command → IsJudgeOf words command
+  of_judging (Decode f) is = two_names (codes "judge") (codes "decode") (λ e. omega (arith, e)) is.0
+  of_judging (Capture session f) is = two_names (codes "judge") (codes "decode") (λ e. omega (arith, e)) is.0
+  of_judging (Speak config speaking f) is = two_names (codes "judge") (codes "speak") (λ e. omega (arith, e)) is.0
+  of_judging (Pair f) is = two_names (codes "judge") (codes "pair") (λ e. omega (arith, e)) is.0
   of_judging (Judge config f) is =
       let tells = parts_told line.name line.local_as line.peer_as line.local_id line.local line.peer file
       (plain line.local_as line.no_flags.0) (plain line.peer_as line.no_flags.1) (plain line.local_id line.no_flags.2)
-      (plain line.local line.no_flags.3) (plain line.peer line.no_flags.4) (plain file line.no_flags.5) config.parts is.0 in
-      subst (IsJudgeLine words config.parts) (same_Some _ _ (sym there ∙ is.1)) (record {
+      (plain line.local line.no_flags.3) (plain line.peer line.no_flags.4) (plain file line.no_flags.5) config.parts is.1.0 in
+      subst (IsJudgeLine words config.parts) (same_Some _ _ (sym there ∙ is.1.1)) (record {
         name = line.name;
         local_as = line.local_as;
         peer_as = line.peer_as;
@@ -102,10 +103,7 @@ module _ (words : List Text) (parts : ConfigParts) (file : Text) (line : IsJudge
       })
 
   pub judge_of_line : (command : Command) → Names (subcommand_of program_words words) command → IsJudgeOf words command
-  judge_of_line command names = elim names [
-    | inl decode ↦ absurd (two_names (sym (subst (IsUsed (codes "decode") (IsDecoding command)) used decode).0))
-    | inr judge ↦ of_judging command (subst (IsUsed (codes "judge") (IsJudging command)) used judge).1
-  ]
+  judge_of_line command names = of_judging command (subst (λ u. Names u command) used names)
 
 -- such a line of a configuration names it
 pub names_judge : (words : List Text) (config : Config) (file : Text) → IsJudgeLine words config.parts file

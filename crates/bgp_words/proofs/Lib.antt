@@ -5,6 +5,7 @@ pub mod NamedCommand
 pub mod SpelledDecode
 pub mod HandedOn
 pub mod FaultRows
+pub mod ValueRows
 pub mod PlainWords
 pub mod SpelledJudge
 pub mod JudgeLine

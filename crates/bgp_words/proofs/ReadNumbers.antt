@@ -5,8 +5,8 @@ use Rattle.std.proofs.lemmas.Option.{none-some, same_Some}
 use Rattle.clap.specs.Words.{Text}
 use Rattle.bgp_words.specs.Values.{IsNumberText}
 
-module _ (text : Text) (o : Option ℕ) (reads : (n : ℕ) → (o ≡ Some n) ↔ (IsNumberText text n × (n < 2 ^ 32)))
-    (bound : ℕ) (low : bound ≤ 2 ^ 32) (Good : ℕ → Type 0) where
+module _ (text : Text) (o : Option ℕ) (reads : (n : ℕ) → (o ≡ Some n) ↔ (IsNumberText text n × (n < 2 ^ 64)))
+    (bound : ℕ) (low : bound ≤ 2 ^ 64) (Good : ℕ → Type 0) where
   found : (n : ℕ) → IsNumberText text n × (n < bound) × Good n → o ≡ Some n
   found n spells = let (number, under, _good) = spells in (reads n).1 (number, omega (arith, under, low))
 
@@ -29,3 +29,11 @@ module _ (text : Text) (o : Option ℕ) (reads : (n : ℕ) → (o ≡ Some n) �
     λ same. absurd (none-some n (sym none ∙ same)),
     λ spells. absurd (none-some n (sym lacks ∙ found n spells)),
   )
+
+-- where no others are dropped
+pub below : (text : Text) (o : Option ℕ) (bound n : ℕ) → (o ≡ Some n) ↔ (IsNumberText text n × (n < bound) × Unit {0})
+    → (o ≡ Some n) ↔ (IsNumberText text n × (n < bound))
+below text o bound n both = (
+  λ same. let (number, under, _good) = both.0 same in (number, under),
+  λ spells. both.1 (spells.0, spells.1, tt),
+)

@@ -1,8 +1,36 @@
--- Two configurations' parts are the same where each field is.
-use Rattle.std.proofs.Common.{rules, ◌≡◌}
+-- Configurations' parts are the same where each field is; so is what `speak` is told.
+use Rattle.std.proofs.Common.{rules, ◌≡◌, ◌∙◌, Bool, List, Option, Some, None, Result, Ok, Err, sym, subst}
+use Rattle.std.specs.Prelude.{◌↔◌, IfNone, IfSome, IsOkAnd}
+use Rattle.std.specs.Option.{ok_or}
+use Rattle.clap.specs.Words.{Row}
+use Rattle.bgp_open.specs.Config.{IsConfig}
+use Rattle.bgp_open.specs.declared.config.Config.{Config}
 use Rattle.bgp_open.specs.declared.config.ConfigParts.{ConfigParts}
+use Rattle.bgp_words.specs.Settings.{AreParts}
+use Rattle.bgp_words.specs.declared.speak.Speaking.{Speaking}
 
 pub same_parts : (p q : ConfigParts) → p.local_as ≡ q.local_as → p.peer_as ≡ q.peer_as → p.local_id ≡ q.local_id
     → p.hold ≡ q.hold → p.families ≡ q.families → p.as4 ≡ q.as4 → p.delay_open ≡ q.delay_open
     → p.large_hold ≡ q.large_hold → p.session ≡ q.session → p ≡ q
 same_parts p q local_as peer_as local_id hold families as4 delay_open large_hold session = search rules
+
+pub same_speaking : (p q : Speaking) → p.start ≡ q.start → p.next_hop4 ≡ q.next_hop4 → p.next_hop6 ≡ q.next_hop6
+    → p.announce ≡ q.announce → p.turns ≡ q.turns → p.quiet ≡ q.quiet → p ≡ q
+same_speaking p q start next_hop4 next_hop6 announce turns quiet = search rules
+
+-- the configuration of parts that were read
+pub config_read : {E : Type 0} (rows : List Row) (refresh : Bool) (parts : ConfigParts)
+    → ((p : ConfigParts) → (parts ≡ p) ↔ AreParts p refresh rows)
+    → (o : Option Config) → IfSome o (λ config. config.parts ≡ parts) → IfNone o (¬ IsConfig parts)
+    → (e : E) (r : Result Config E) → r ≡ ok_or o e
+    → (config : Config) → IsOkAnd r (λ it. it.parts ≡ config.parts) ↔ AreParts config.parts refresh rows
+config_read rows refresh parts reads (Some made) some none e r same config =
+    let there : r ≡ Ok made = same in (
+      λ is. (reads config.parts).0 (sym some ∙ subst (λ (x : Result Config _). IsOkAnd x (λ it. it.parts ≡ config.parts)) there is),
+      λ are. subst (λ (x : Result Config _). IsOkAnd x (λ it. it.parts ≡ config.parts)) (sym there) (some ∙ (reads config.parts).1 are),
+    )
+config_read rows refresh parts reads None some none e r same config =
+    let there : r ≡ Err e = same in (
+      λ is. absurd (subst (λ (x : Result Config _). IsOkAnd x (λ it. it.parts ≡ config.parts)) there is),
+      λ are. absurd (none (subst IsConfig (sym ((reads config.parts).1 are)) config.valid)),
+    )

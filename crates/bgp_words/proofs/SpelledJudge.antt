@@ -1,5 +1,5 @@
 -- The words of `judge FILE` with the options that it has to have spell that command.
-use Rattle.std.proofs.Common.{◌≡◌, ◌∙◌, List, [], ◌∷◌, Some, None, refl, ap, ap₂, true, false, codes}
+use Rattle.std.proofs.Common.{◌≡◌, ◌∙◌, List, [], ◌∷◌, Some, None, refl, ap, ap₂, true, false, not, codes}
 use Rattle.std.specs.Prelude.{fold, slice_get, unwrap_or}
 use Rattle.clap.specs.Words.{Kinds, Row, Rule, Text, fault_of, first_of, subcommand_of}
 use Rattle.clap.specs.Kinds.{or_else}
@@ -10,9 +10,13 @@ use Rattle.clap.proofs.OnLiterals.{clap_on_literals}
 use Rattle.bgp_prefix.specs.Notation.{IsAddressText}
 use Rattle.bgp_open.specs.declared.config.ConfigParts.{ConfigParts}
 use Rattle.bgp_words.specs.Words.{program_words}
-use Rattle.bgp_words.specs.Values.{IsFamiliesText, IsHoldText, IsIdentifierText, IsPositiveText}
-use Rattle.bgp_words.specs.Judge.{AreParts}
+use Rattle.bgp_words.specs.Values.{IsFamiliesText, IsHoldText, IsIdentifierText, IsPositiveText, is_given}
+use Rattle.bgp_words.specs.Settings.{AreParts}
 use Rattle.bgp_words.proofs.PlainWords.{IsPlainWord, Passes, met_plain, none_wrong, pass, pass_none}
+
+-- the parts of a configuration, as `judge` is told of them
+abbrev pub AreJudged : ConfigParts → List Row → Type 0
+AreJudged parts rows = AreParts parts (not (is_given (codes "no-refresh") rows)) rows
 
 -- what `judge` reads, once the program is built
 abbrev judge_shape : Shape
@@ -148,7 +152,7 @@ module _ (name local_as peer_as local_id local peer file : Text) (local_as_plain
   pub parts_found : (parts : ConfigParts) → IsPositiveText local_as parts.local_as → IsPositiveText peer_as parts.peer_as
       → IsIdentifierText local_id parts.local_id → IsAddressText local parts.session.local → IsAddressText peer parts.session.peer
       → parts.session.refresh ≡ true → IsHoldText (codes "90") parts.hold → IsPositiveText (codes "240") parts.large_hold
-      → IsFamiliesText (codes "v4") parts.families → parts.as4 ≡ true → parts.delay_open ≡ false → AreParts parts found_rows
+      → IsFamiliesText (codes "v4") parts.families → parts.as4 ≡ true → parts.delay_open ≡ false → AreJudged parts found_rows
   unfolding clap_on_literals
   parts_found parts own other id here there refresh hold large families as4 delay = record {
     local_as = own;
@@ -162,7 +166,7 @@ module _ (name local_as peer_as local_id local peer file : Text) (local_as_plain
     session = record { peer = there; local = here; refresh = refresh };
   }
 
-  pub parts_told : (parts : ConfigParts) → AreParts parts found_rows → IsPositiveText local_as parts.local_as × IsPositiveText peer_as parts.peer_as
+  pub parts_told : (parts : ConfigParts) → AreJudged parts found_rows → IsPositiveText local_as parts.local_as × IsPositiveText peer_as parts.peer_as
       × IsIdentifierText local_id parts.local_id × IsAddressText local parts.session.local × IsAddressText peer parts.session.peer
       × (parts.session.refresh ≡ true) × IsHoldText (codes "90") parts.hold × IsPositiveText (codes "240") parts.large_hold
       × IsFamiliesText (codes "v4") parts.families × (parts.as4 ≡ true) × (parts.delay_open ≡ false)

@@ -7,6 +7,7 @@ use Rattle.bgp_prefix.specs.declared.session.Session.{Session}
 use Rattle.bgp_words.specs.Values.{IsNoFlag, IsValue, is_given}
 use Rattle.bgp_words.specs.declared.words.Command.{Command}
 use Rattle.bgp_words.specs.declared.words.Command.TheVariants.{Decode, Capture, Judge}
+use Rattle.bgp_words.specs.declared.words.Command.TheVariants.{Speak, Pair}
 
 -- the values of `decode FILE`: no other word is given
 abbrev pub IsStream : Text → List Row → Type 0
@@ -20,12 +21,6 @@ IsCapture session file rows =
     (first_of (codes "FILE") rows ≡ Some file) × (is_given (codes "mrt") rows ≡ true)
     × IsValue IsAddressText (codes "peer") rows session.peer
     × IsValue IsAddressText (codes "local") rows session.local × (session.refresh ≡ false)
-
--- the command that the values of `decode` are
-abbrev pub IsDecoding : Command → List Row → Type 0
-IsDecoding (Decode file) rows = IsStream file.now rows
-IsDecoding (Capture session file) rows = IsCapture session file.now rows
-IsDecoding (Judge config file) rows = ⊥
 
 -- a word that names a file: it is no flag, or a dash alone
 abbrev pub IsFileWord : Text → Type 0
@@ -42,3 +37,5 @@ abbrev pub IsDecodeOf : Text → Command → Type 0
 IsDecodeOf text (Decode file) = file.now ≡ text
 IsDecodeOf text (Capture session file) = ⊥
 IsDecodeOf text (Judge config file) = ⊥
+IsDecodeOf text (Speak config speaking file) = ⊥
+IsDecodeOf text (Pair file) = ⊥

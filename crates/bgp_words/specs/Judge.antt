@@ -2,42 +2,20 @@
 use Rattle.std.specs.Prelude.{◌≡◌, true, false, not, List, [], ◌∷◌, Some, codes}
 use Rattle.clap.specs.Words.{Row, Text, first_of}
 use Rattle.bgp_prefix.specs.Notation.{IsAddressText}
-use Rattle.bgp_prefix.specs.declared.session.Session.{Session}
 use Rattle.bgp_open.specs.declared.config.Config.{Config}
 use Rattle.bgp_open.specs.declared.config.ConfigParts.{ConfigParts}
-use Rattle.bgp_words.specs.Values.{IsValue, IsPositiveText, IsHoldText, IsIdentifierText}
-use Rattle.bgp_words.specs.Values.{IsFamiliesText, IsNoFlag, is_given}
+use Rattle.bgp_words.specs.Values.{IsPositiveText, IsIdentifierText, IsNoFlag, is_given}
+use Rattle.bgp_words.specs.Settings.{AreParts}
 use Rattle.bgp_words.specs.declared.words.Command.{Command}
 use Rattle.bgp_words.specs.declared.words.Command.TheVariants.{Decode, Capture, Judge}
+use Rattle.bgp_words.specs.declared.words.Command.TheVariants.{Speak, Pair}
 
--- the session between two addresses; `--no-refresh`: the local system offers no route refresh
-pub record IsSession (session : Session) (rows : List Row) : Type 0 where
-  pub peer : IsValue IsAddressText (codes "peer") rows session.peer
-  pub local : IsValue IsAddressText (codes "local") rows session.local
-  pub refresh : session.refresh ≡ not (is_given (codes "no-refresh") rows)
-
--- the parts of a configuration; `--as2`: four-octet AS numbers aren't offered
-pub record AreParts (parts : ConfigParts) (rows : List Row) : Type 0 where
-  pub local_as : IsValue IsPositiveText (codes "local-as") rows parts.local_as
-  pub peer_as : IsValue IsPositiveText (codes "peer-as") rows parts.peer_as
-  pub local_id : IsValue IsIdentifierText (codes "local-id") rows parts.local_id
-  pub hold : IsValue IsHoldText (codes "hold") rows parts.hold
-  pub families : IsValue IsFamiliesText (codes "families") rows parts.families
-  pub as4 : parts.as4 ≡ not (is_given (codes "as2") rows)
-  pub delay_open : parts.delay_open ≡ is_given (codes "delay-open") rows
-  pub large_hold : IsValue IsPositiveText (codes "large-hold") rows parts.large_hold
-  pub session : IsSession parts.session rows
-
--- the values of `judge`: a configuration, and a file
+-- the values of `judge`: a configuration, and a file; `--no-refresh`: the local system offers no
+-- route refresh
 abbrev pub IsJudge : Config → Text → List Row → Type 0
 IsJudge config file rows =
-    AreParts config.parts rows × (first_of (codes "FILE") rows ≡ Some file)
-
--- the command that the values of `judge` are
-abbrev pub IsJudging : Command → List Row → Type 0
-IsJudging (Decode file) rows = ⊥
-IsJudging (Capture session file) rows = ⊥
-IsJudging (Judge config file) rows = IsJudge config file.now rows
+    AreParts config.parts (not (is_given (codes "no-refresh") rows)) rows
+    × (first_of (codes "FILE") rows ≡ Some file)
 
 -- The words are `judge FILE` with just the options that it has to have, in this order, behind the
 -- program's name; each value is a word of its own, and no flag. What isn't told has its default.
@@ -66,3 +44,5 @@ abbrev pub IsJudgeOf : List Text → Command → Type 0
 IsJudgeOf words (Decode file) = ⊥
 IsJudgeOf words (Capture session file) = ⊥
 IsJudgeOf words (Judge config file) = IsJudgeLine words config.parts file.now
+IsJudgeOf words (Speak config speaking file) = ⊥
+IsJudgeOf words (Pair file) = ⊥

@@ -1,6 +1,9 @@
 pub mod Words
 pub mod Options
 pub mod Values
+pub mod Settings
 pub mod Decode
 pub mod Judge
+pub mod Speak
+pub mod Pair
 pub mod Spelled

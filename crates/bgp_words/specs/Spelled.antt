@@ -1,29 +1,53 @@
 -- The command that the words of a command line spell, the program's own name first.
-use Rattle.std.specs.Prelude.{◌≡◌, ◌⊎◌, List, [], ◌∷◌, Option, Some, None, Result, MatchResult}
-use Rattle.std.specs.Prelude.{codes}
+use Rattle.std.specs.Prelude.{◌≡◌, ◌⊎◌, List, [], ◌∷◌, ◌++◌, Option, Some, None}
+use Rattle.std.specs.Prelude.{Result, MatchResult, codes}
 use Rattle.clap.specs.Words.{Kinds, Row, Text, fault_of, kind_of, subcommand_of}
 use Rattle.clap.specs.Kinds.{or_else}
 use Rattle.clap.specs.declared.error.Error.{Error}
 use Rattle.clap.specs.declared.error.kind.ErrorKind.{ErrorKind}
+use Rattle.clap.specs.declared.error.kind.ErrorKind.TheVariants.{ArgumentConflict}
 use Rattle.clap.specs.declared.error.kind.ErrorKind.TheVariants.{DisplayHelp, DisplayVersion}
 use Rattle.clap.specs.declared.error.kind.ErrorKind.TheVariants.{MissingRequiredArgument}
 use Rattle.clap.specs.declared.error.kind.ErrorKind.TheVariants.{MissingSubcommand, OutOfMemory}
 use Rattle.clap.specs.declared.error.kind.ErrorKind.TheVariants.{ValueValidation}
 use Rattle.bgp_open.specs.declared.config.Config.{Config}
-use Rattle.bgp_words.specs.Decode.{IsStream, IsDecoding, IsDecodeOf}
-use Rattle.bgp_words.specs.Judge.{IsJudge, IsJudging, IsJudgeOf}
+use Rattle.bgp_words.specs.Decode.{IsStream, IsCapture, IsDecodeOf}
+use Rattle.bgp_words.specs.Judge.{IsJudge, IsJudgeOf}
+use Rattle.bgp_words.specs.Speak.{IsSpeak}
+use Rattle.bgp_words.specs.Pair.{IsPair}
 use Rattle.bgp_words.specs.Words.{program_words}
 use Rattle.bgp_words.specs.declared.words.Command.{Command}
+use Rattle.bgp_words.specs.declared.words.Command.TheVariants.{Decode, Capture, Judge}
+use Rattle.bgp_words.specs.declared.words.Command.TheVariants.{Speak, Pair}
 
 -- a command was named, and its values are such
 abbrev pub IsUsed : Text → (List Row → Type 0) → Option (Text × List Row) → Type 0
 IsUsed name values None = ⊥
 IsUsed name values (Some used) = (used.0 ≡ name) × values used.1
 
--- the command that was named, and its values
+-- the name of a command
+abbrev pub name_of : Command → Text
+name_of (Decode file) = codes "decode"
+name_of (Capture session file) = codes "decode"
+name_of (Judge config file) = codes "judge"
+name_of (Speak config speaking file) = codes "speak"
+name_of (Pair file) = codes "pair"
+
+-- its values
+abbrev pub AreValuesOf : Command → List Row → Type 0
+AreValuesOf (Decode file) = IsStream file.now
+AreValuesOf (Capture session file) = IsCapture session file.now
+AreValuesOf (Judge config file) = IsJudge config file.now
+AreValuesOf (Speak config speaking file) = IsSpeak config speaking file.now
+AreValuesOf (Pair file) = IsPair file.now
+
+-- the command that was named, by its name and its values
 abbrev pub Names : Option (Text × List Row) → Command → Type 0
-Names used command = IsUsed (codes "decode") (IsDecoding command) used
-    ⊎ IsUsed (codes "judge") (IsJudging command) used
+Names used command = IsUsed (name_of command) (AreValuesOf command) used
+
+-- a command of this name, with values in these rows
+abbrev pub NamesBy : Text → List Row → Command → Type 0
+NamesBy name rows = Names (Some (name, rows))
 
 -- `decode` was named, with this file alone
 abbrev pub NamesDecode : Text → Option (Text × List Row) → Type 0
@@ -53,7 +77,30 @@ abbrev pub IsJudgeOrMemory : List Text → Result Command Error → Type 0
 IsJudgeOrMemory words result =
     MatchResult result (IsJudgeOf words) (λ error. kind_of error ≡ OutOfMemory)
 
--- Words behind the program's name that spell no command: what they ask for, or lack.
+-- `speak` with what tells of the session, these options, and a file
+abbrev pub speak_with : List Text → List Text
+speak_with options =
+    codes "speak" ∷ codes "--local-as" ∷ codes "65001" ∷ codes "--peer-as" ∷ codes "65002"
+    ∷ codes "--local-id" ∷ codes "192.0.2.1" ∷ codes "--local" ∷ codes "192.0.2.1"
+    ∷ codes "--peer" ∷ codes "192.0.2.2" ∷ options ++ codes "a.mrt" ∷ []
+
+-- some options of it
+abbrev pub connect : Text → List Text
+connect port = codes "--connect" ∷ port ∷ []
+
+abbrev pub listen : Text → List Text
+listen port = codes "--listen" ∷ port ∷ []
+
+abbrev pub next_hop4 : List Text
+next_hop4 = codes "--next-hop" ∷ codes "192.0.2.1" ∷ []
+
+abbrev pub next_hop6 : List Text
+next_hop6 = codes "--next-hop6" ∷ codes "2001:db8::1" ∷ []
+
+abbrev pub announce : List Text
+announce = codes "--announce" ∷ codes "10.1.0.0/16" ∷ []
+
+-- Words after the program's name that spell no command: what they ask for, or lack.
 abbrev pub fault_rows : List (List Text × ErrorKind)
 fault_rows =
     ([], MissingSubcommand)
@@ -64,7 +111,30 @@ fault_rows =
     ∷ (codes "judge" ∷ [], MissingRequiredArgument)
     ∷ (codes "judge" ∷ codes "--help" ∷ [], DisplayHelp)
     ∷ (codes "judge" ∷ codes "-h" ∷ [], DisplayHelp)
+    ∷ (codes "speak" ∷ [], MissingRequiredArgument)
+    ∷ (codes "speak" ∷ codes "--help" ∷ [], DisplayHelp)
+    ∷ (codes "speak" ∷ codes "-h" ∷ [], DisplayHelp)
+    ∷ (speak_with (connect (codes "1179") ++ next_hop6), MissingRequiredArgument)
+    ∷ (speak_with (connect (codes "1179") ++ next_hop4), MissingRequiredArgument)
+    ∷ (
+      speak_with (connect (codes "1179") ++ next_hop4 ++ next_hop6 ++ announce ++ announce),
+      ArgumentConflict,
+    )
+    ∷ (codes "pair" ∷ [], MissingRequiredArgument)
+    ∷ (codes "pair" ∷ codes "--help" ∷ [], DisplayHelp)
+    ∷ (codes "pair" ∷ codes "-h" ∷ [], DisplayHelp)
     ∷ (codes "--version" ∷ [], DisplayVersion) ∷ (codes "-V" ∷ [], DisplayVersion) ∷ []
+
+-- Words after the program's name in which no word is at fault, and a value or what is given beside
+-- it is: neither way to come to a connection, both, ports 0 and 65536, and 2 to the 63rd turns.
+abbrev pub value_rows : List (List Text)
+value_rows =
+    speak_with (next_hop4 ++ next_hop6)
+    ∷ speak_with (connect (codes "1179") ++ listen (codes "1180") ++ next_hop4 ++ next_hop6)
+    ∷ speak_with (connect (codes "0") ++ next_hop4 ++ next_hop6)
+    ∷ speak_with (connect (codes "65536") ++ next_hop4 ++ next_hop6)
+    ∷ speak_with (connect (codes "1179") ++ next_hop4 ++ next_hop6
+    ++ codes "--turns" ∷ codes "9223372036854775808" ∷ []) ∷ []
 
 -- an error of this kind, or memory was refused
 abbrev pub IsFault : ErrorKind → Result Command Error → Type 0

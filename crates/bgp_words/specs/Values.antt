@@ -1,12 +1,13 @@
--- The values of options, as texts: numbers, a BGP Identifier and families; whether a flag is given.
+-- The values of options, as texts: numbers, a BGP Identifier, next hops and families; whether a
+-- flag is given.
 use Rattle.std.specs.Prelude.{◌≡◌, ◌≢◌, ◌<◌, ◌^◌, ◌⊎◌, ℕ, Bool, true, false, List, codes}
-use Rattle.std.specs.Prelude.{Some, IsSomeAnd, slice_get}
+use Rattle.std.specs.Prelude.{Option, Some, None, IsSomeAnd, MatchOption, slice_get}
 use Rattle.std.specs.Option.{option_map_or}
 use Rattle.std.specs.Str.{bytes_eq}
 use Rattle.std.specs.Str.Parse.{IsNumeral, digits_value}
 use Rattle.clap.specs.Words.{Row, Text, first_of}
 use Rattle.bgp_prefix.specs.Notation.{IsAddressText}
-use Rattle.bgp_prefix.specs.declared.address.Address.TheVariants.{V4}
+use Rattle.bgp_prefix.specs.declared.address.Address.TheVariants.{V4, V6}
 use Rattle.bgp_open.specs.Config.{IsBadHold}
 use Rattle.bgp_open.specs.declared.families.Families.{Families}
 
@@ -22,9 +23,24 @@ IsPositiveText text number = IsNumberText text number × (number < 2 ^ 32) × (n
 abbrev pub IsHoldText : Text → ℕ → Type 0
 IsHoldText text hold = IsNumberText text hold × (hold < 2 ^ 16) × ¬ IsBadHold hold
 
+-- a TCP port: a number of 16 bits that isn't 0
+abbrev pub IsPortText : Text → ℕ → Type 0
+IsPortText text port = IsNumberText text port × (port < 2 ^ 16) × (port ≢ 0)
+
+-- a count of turns: a number below 2 to the 63rd
+abbrev pub IsTurnsText : Text → ℕ → Type 0
+IsTurnsText text turns = IsNumberText text turns × (turns < 2 ^ 63)
+
 -- a BGP Identifier: an IPv4 address that isn't 0.0.0.0 (RFC 6286, 2.1)
 abbrev pub IsIdentifierText : Text → ℕ → Type 0
 IsIdentifierText text id = IsAddressText text (V4 id) × (id ≢ 0)
+
+-- a next hop of each family
+abbrev pub IsNextHop4Text : Text → ℕ → Type 0
+IsNextHop4Text text number = IsAddressText text (V4 number)
+
+abbrev pub IsNextHop6Text : Text → ℕ → Type 0
+IsNextHop6Text text number = IsAddressText text (V6 number)
 
 -- the families that a word names
 abbrev pub IsFamiliesText : Text → Families → Type 0
@@ -36,6 +52,11 @@ IsFamiliesText text families =
 -- an option's word is there and spells the value
 abbrev pub IsValue : {T : Type 0} → (Text → T → Type 0) → Text → List Row → T → Type 0
 IsValue spells name rows value = IsSomeAnd (first_of name rows) (λ text. spells text value)
+
+-- the same of an option that may be left out: then there is no value
+abbrev pub IsOptional : {T : Type 0} → (Text → T → Type 0) → Text → List Row → Option T → Type 0
+IsOptional spells name rows value =
+    MatchOption (first_of name rows) (value ≡ None) (λ text. IsSomeAnd value (λ it. spells text it))
 
 -- a flag is given
 abbrev pub is_given : Text → List Row → Bool

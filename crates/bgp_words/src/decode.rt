@@ -1,20 +1,21 @@
 //! The words of `decode`.
 
-ghost use Rattle.std.specs.Prelude.{◌≡◌, ℕ, List, IfOk, IsErr, false};
+ghost use Rattle.std.specs.Prelude.{◌≡◌, ℕ, List, IfOk, IsErr, false, codes};
 ghost use Rattle.clap.specs.Words.{app_of, found_of, rows_of};
 ghost use Rattle.clap.specs.declared.builder.command.Command.TheViews.{out-Command as fields_of};
 ghost use Rattle.bgp_words.specs.Words.{decode_words};
-ghost use Rattle.bgp_words.specs.Decode.{IsStream, IsCapture, IsDecoding};
+ghost use Rattle.bgp_words.specs.Decode.{IsStream, IsCapture};
+ghost use Rattle.bgp_words.specs.Spelled.{NamesBy};
 
 use crate::misfit::Misfit;
-use crate::options::{Word, with_words};
+use crate::options::{READ, Word, with_words};
 use crate::values::{address_of, has_flag, has_value, value_of};
 use crate::words::Command;
 use bgp_prefix::Session;
 use clap::ArgMatches;
 use std::alloc::{AllocError, Global};
 
-/// What help tells behind the words of `decode`: the statuses, and the lines with an example each.
+/// What help tells after the words of `decode`: the statuses, and the lines with an example each.
 const LINES: &str = "\
 Exit status:
   0   all octets were whole messages, or the capture was read to its end; or help was asked for
@@ -53,9 +54,9 @@ A dash stands for nothing.
 
 The manual is README.md, at the top of the repository.";
 
-/// The words behind `decode`.
+/// The words after `decode`.
 static WORDS: [Word<'static>; 4] = [
-    Word::File,
+    READ,
     Word::Flag(
         "mrt",
         "FILE is a capture of MRT records: prints those of one session",
@@ -80,7 +81,7 @@ pub(crate) fn decode_words<'a>(alloc: Global) -> Result<clap::Command<'a>, Alloc
 
 /// The command that the values of `decode` are. The flag and both addresses are given, or none.
 pub(crate) fn decode_of<'a>(decode: &ArgMatches<'a>) -> Result<Command<'a>, Misfit<'a>>
-    ensures ok { IfOk result (λ command. IsDecoding command (rows_of (found_of decode.now))) }
+    ensures ok { IfOk result (NamesBy (codes "decode") (rows_of (found_of decode.now))) }
     ensures no_stream { IsErr result → (file : List ℕ) →
         IsStream file (rows_of (found_of decode.now)) → ⊥ }
     ensures no_capture { IsErr result → (session : Session) (file : List ℕ) →

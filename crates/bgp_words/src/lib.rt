@@ -11,8 +11,12 @@ mod decode;
 mod judge;
 mod misfit;
 mod options;
+mod pair;
+mod settings;
+mod speak;
 mod texts;
 mod values;
 mod words;
 
+pub use speak::{Speaking, Start};
 pub use words::{Command, command_line};

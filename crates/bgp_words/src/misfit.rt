@@ -16,6 +16,16 @@ pub(crate) enum Wanted {
     HoldTime,
     /// The families that are offered.
     Families,
+    /// A TCP port.
+    Port,
+    /// An IPv4 address.
+    Ipv4,
+    /// An IPv6 address.
+    Ipv6,
+    /// A prefix of either family.
+    Prefix,
+    /// A count of turns.
+    Turns,
 }
 
 impl Display for Wanted {
@@ -26,6 +36,11 @@ impl Display for Wanted {
             Wanted::Positive => "a number from 1 to 4294967295",
             Wanted::HoldTime => "0 or a number of seconds from 3 to 65535",
             Wanted::Families => "v4, v6 or both",
+            Wanted::Port => "a port from 1 to 65535",
+            Wanted::Ipv4 => "an IPv4 address, as 192.0.2.1",
+            Wanted::Ipv6 => "an IPv6 address, as 2001:db8::1",
+            Wanted::Prefix => "a prefix, as 10.1.0.0/16 or 2001:db8:1::/48",
+            Wanted::Turns => "a number from 0 to 9223372036854775807",
         })
     }
 }
@@ -51,6 +66,12 @@ pub(crate) enum Misfit<'a> {
     },
     /// An AS number has more than two octets, and four-octet ones aren't offered.
     FourOctets,
+    /// Neither way is given in which a connection may come to be.
+    NoStart,
+    /// Both are.
+    TwoStarts,
+    /// The two addresses of a session to speak in are of two families.
+    TwoFamilies,
 }
 
 impl Display for Misfit<'_> {
@@ -66,6 +87,17 @@ impl Display for Misfit<'_> {
             }
             Misfit::FourOctets => {
                 f.write_str("with --as2, --local-as and --peer-as want numbers up to 65535")
+            }
+            Misfit::NoStart => f.write_str(
+                "--connect or --listen is missing: speak wants one of both",
+            ),
+            Misfit::TwoStarts => {
+                f.write_str("--connect and --listen are both given: speak wants one of both")
+            }
+            Misfit::TwoFamilies => {
+                f.write_str(
+                    "--local and --peer want addresses of one family: both IPv4 or both IPv6",
+                )
             }
         }
     }

@@ -13,8 +13,8 @@ use std::alloc::{AllocError, Global};
 /// A word that a command may have, with what help tells of it.
 #[derive(Clone, Copy)]
 pub(crate) enum Word<'a> {
-    /// The file that it reads.
-    File,
+    /// Its file: the help.
+    File(&'a str),
     /// A flag: its name and its help.
     Flag(&'a str, &'a str),
     /// An option with a value: its name and its help.
@@ -25,13 +25,17 @@ pub(crate) enum Word<'a> {
     Default(&'a str, &'a str, &'a str),
 }
 
-/// The command with these words behind its own.
+/// The file that a command reads.
+pub(crate) const READ: Word<'static> = Word::File("The file to read; - is standard input");
+
+/// The command with these words after its own.
 pub(crate) fn with_words<'a>(
     alloc: Global,
     command: Command<'a>,
     words: &[Word<'a>],
 ) -> Result<Command<'a>, AllocError>
-    ensures words { IfOk result (λ it. app_of it ≡ fold with_word (app_of command.entry) words.now) }
+    ensures words { IfOk result (λ it.
+        app_of it ≡ fold with_word (app_of command.entry) words.now) }
     ensures local { (fields_of command.entry).has_globals ≡ false →
         IfOk result (λ it. (fields_of it).has_globals ≡ false) }
 {
@@ -42,8 +46,8 @@ pub(crate) fn with_words<'a>(
     Ok(command)
 }
 
-/// The command with this word behind its own.
-fn with_word<'a>(
+/// The command with this word after its own.
+pub(crate) fn with_word<'a>(
     alloc: Global,
     command: Command<'a>,
     word: Word<'a>,
@@ -61,7 +65,7 @@ fn arg_of<'a>(alloc: Global, word: Word<'a>) -> Arg<'a>
     ensures local { result.global ≡ false }
 {
     match word {
-        Word::File => file(alloc),
+        Word::File(help) => file(alloc, help),
         Word::Flag(name, help) => flag(alloc, name, help),
         Word::Option(name, help) => option(alloc, name, help),
         Word::Required(name, help) => required(alloc, name, help),
@@ -69,14 +73,12 @@ fn arg_of<'a>(alloc: Global, word: Word<'a>) -> Arg<'a>
     }
 }
 
-/// The file that a command reads.
-fn file<'a>(alloc: Global) -> Arg<'a>
+/// The file of a command.
+fn file<'a>(alloc: Global, help: &'a str) -> Arg<'a>
     ensures rule { rule_of result ≡ file_word }
     ensures local { result.global ≡ false }
 {
-    Arg::new(alloc, "FILE")
-        .required(true)
-        .help("The file to read; - is standard input")
+    Arg::new(alloc, "FILE").required(true).help(help)
 }
 
 /// A flag by its name.

@@ -1,23 +1,25 @@
-//! Texts of numbers, a BGP Identifier and families.
+//! Texts of numbers, a BGP Identifier, next hops and families.
 
-ghost use Rattle.std.specs.Prelude.{◌≡◌, ◌<◌, ◌^◌, ◌↔◌, ℕ, Some, IsTrue, slice_index};
+ghost use Rattle.std.specs.Prelude.{◌≡◌, ◌≢◌, ◌<◌, ◌^◌, ◌↔◌, ℕ, Some, IsTrue, slice_index};
 ghost use Rattle.bgp_open.specs.Config.{IsBadHold};
 ghost use Rattle.bgp_open.specs.declared.families.Families.{Families as FamilySet};
 ghost use Rattle.bgp_words.specs.Values.{IsNumberText, IsPositiveText, IsHoldText};
+ghost use Rattle.bgp_words.specs.Values.{IsPortText, IsTurnsText};
 ghost use Rattle.bgp_words.specs.Values.{IsIdentifierText, IsFamiliesText};
+ghost use Rattle.bgp_words.specs.Values.{IsNextHop4Text, IsNextHop6Text};
 
 use bgp_open::Families;
 use bgp_prefix::{Address, read_address};
 
-/// Reads a number of 32 bits: decimal digits, with leading zeros or without, and no sign.
-fn read_number(text: &str) -> Option<u32>
+/// Reads a number of 64 bits: decimal digits, with leading zeros or without, and no sign.
+fn read_number(text: &str) -> Option<u64>
     ensures { (number : ℕ) → (result ≡ Some number)
-        ↔ (IsNumberText text.now number × (number < 2 ^ 32)) }
+        ↔ (IsNumberText text.now number × (number < 2 ^ 64)) }
 {
     if has_plus(text) {
         return None;
     }
-    match text.parse::<u32>() {
+    match text.parse::<u64>() {
         Ok(number) => Some(number),
         Err(_) => None,
     }
@@ -38,7 +40,49 @@ pub(crate) fn read_positive(text: &str) -> Option<u32>
     ensures { (number : ℕ) → (result ≡ Some number) ↔ IsPositiveText text.now number }
 {
     let number = read_number(text)?;
-    if number == 0 { None } else { Some(number) }
+    if is_positive(number) {
+        Some(number as u32)
+    } else {
+        None
+    }
+}
+
+/// Whether a number has 32 bits and isn't 0.
+fn is_positive(number: u64) -> bool
+    ensures { IsTrue result ↔ ((number < 2 ^ 32) × (number ≢ 0)) }
+{
+    number <= u32::MAX as u64 && number != 0
+}
+
+/// Reads a TCP port: 1 to 65535.
+pub(crate) fn read_port(text: &str) -> Option<u16>
+    ensures { (port : ℕ) → (result ≡ Some port) ↔ IsPortText text.now port }
+{
+    let number = read_number(text)?;
+    if is_port(number) {
+        Some(number as u16)
+    } else {
+        None
+    }
+}
+
+/// Whether a number is a TCP port.
+fn is_port(number: u64) -> bool
+    ensures { IsTrue result ↔ ((number < 2 ^ 16) × (number ≢ 0)) }
+{
+    number <= u16::MAX as u64 && number != 0
+}
+
+/// Reads a count of turns: fewer than 2 to the 63rd.
+pub(crate) fn read_turns(text: &str) -> Option<u64>
+    ensures { (turns : ℕ) → (result ≡ Some turns) ↔ IsTurnsText text.now turns }
+{
+    let number = read_number(text)?;
+    if number <= i64::MAX as u64 {
+        Some(number)
+    } else {
+        None
+    }
 }
 
 /// Reads a Hold Time: 0, or a number of seconds from 3 to 65535 (RFC 4271, 4.2).
@@ -54,10 +98,10 @@ pub(crate) fn read_hold(text: &str) -> Option<u16>
 }
 
 /// Whether a number is a Hold Time.
-fn is_hold_time(number: u32) -> bool
+fn is_hold_time(number: u64) -> bool
     ensures { IsTrue result ↔ ((number < 2 ^ 16) × ¬ IsBadHold number) }
 {
-    number <= u16::MAX as u32 && number != 1 && number != 2
+    number <= u16::MAX as u64 && number != 1 && number != 2
 }
 
 /// Reads a BGP Identifier: an IPv4 address that isn't 0.0.0.0 (RFC 6286, 2.1).
@@ -67,6 +111,26 @@ pub(crate) fn read_identifier(text: &str) -> Option<u32>
     match read_address(text)? {
         Address::V4(0) | Address::V6(_) => None,
         Address::V4(id) => Some(id),
+    }
+}
+
+/// Reads an IPv4 address.
+pub(crate) fn read_next_hop4(text: &str) -> Option<u32>
+    ensures { (number : ℕ) → (result ≡ Some number) ↔ IsNextHop4Text text.now number }
+{
+    match read_address(text)? {
+        Address::V4(number) => Some(number),
+        Address::V6(_) => None,
+    }
+}
+
+/// Reads an IPv6 address.
+pub(crate) fn read_next_hop6(text: &str) -> Option<u128>
+    ensures { (number : ℕ) → (result ≡ Some number) ↔ IsNextHop6Text text.now number }
+{
+    match read_address(text)? {
+        Address::V6(number) => Some(number),
+        Address::V4(_) => None,
     }
 }
 

@@ -1,18 +1,23 @@
 //! The values of options, read from the words that clap found.
 
 ghost use Rattle.std.specs.Prelude.{◌≡◌, ◌↔◌, ℕ, IfOk, IsErr, IsOkAnd, Some, None};
-ghost use Rattle.std.specs.Prelude.{IsNone, is_some};
+ghost use Rattle.std.specs.Prelude.{Option as Maybe, IsNone, is_some};
 ghost use Rattle.clap.specs.Words.{found_of, rows_of, first_of};
-ghost use Rattle.bgp_prefix.specs.Notation.{IsAddressText};
+ghost use Rattle.bgp_prefix.specs.Notation.{IsAddressText, IsPrefixText};
+ghost use Rattle.bgp_prefix.specs.Prefix.{PrefixBits};
 ghost use Rattle.bgp_prefix.specs.declared.address.Address.{Address as Ip};
 ghost use Rattle.bgp_open.specs.declared.families.Families.{Families as FamilySet};
 ghost use Rattle.bgp_words.specs.Values.{IsValue, is_given, IsPositiveText, IsHoldText};
-ghost use Rattle.bgp_words.specs.Values.{IsIdentifierText, IsFamiliesText};
+ghost use Rattle.bgp_words.specs.Values.{IsIdentifierText, IsFamiliesText, IsOptional};
+ghost use Rattle.bgp_words.specs.Values.{IsNextHop4Text, IsNextHop6Text, IsPortText, IsTurnsText};
 
 use crate::misfit::{Misfit, Wanted};
-use crate::texts::{read_families, read_hold, read_identifier, read_positive};
+use crate::texts::{
+    read_families, read_hold, read_identifier, read_next_hop4, read_next_hop6, read_port,
+    read_positive, read_turns,
+};
 use bgp_open::Families;
-use bgp_prefix::{Address, read_address};
+use bgp_prefix::{Address, Prefix, read_address, read_prefix};
 use clap::ArgMatches;
 
 /// A value by its name.
@@ -95,4 +100,62 @@ pub(crate) fn families_of<'a>(
     let word = value_of(matches, name)?;
     let wanted = Wanted::Families;
     read_families(word).ok_or(Misfit::Value { name, word, wanted })
+}
+
+/// The TCP port that an option names.
+pub(crate) fn port_of<'a>(matches: &ArgMatches<'a>, name: &'a str) -> Result<u16, Misfit<'a>>
+    ensures { (port : ℕ) → IsOkAnd result (λ it. it ≡ port)
+        ↔ IsValue IsPortText name.now (rows_of (found_of matches.now)) port }
+{
+    let word = value_of(matches, name)?;
+    let wanted = Wanted::Port;
+    read_port(word).ok_or(Misfit::Value { name, word, wanted })
+}
+
+/// The count of turns that an option names.
+pub(crate) fn turns_of<'a>(matches: &ArgMatches<'a>, name: &'a str) -> Result<u64, Misfit<'a>>
+    ensures { (turns : ℕ) → IsOkAnd result (λ it. it ≡ turns)
+        ↔ IsValue IsTurnsText name.now (rows_of (found_of matches.now)) turns }
+{
+    let word = value_of(matches, name)?;
+    let wanted = Wanted::Turns;
+    read_turns(word).ok_or(Misfit::Value { name, word, wanted })
+}
+
+/// The IPv4 address that an option names.
+pub(crate) fn next_hop4_of<'a>(matches: &ArgMatches<'a>, name: &'a str) -> Result<u32, Misfit<'a>>
+    ensures { (number : ℕ) → IsOkAnd result (λ it. it ≡ number)
+        ↔ IsValue IsNextHop4Text name.now (rows_of (found_of matches.now)) number }
+{
+    let word = value_of(matches, name)?;
+    let wanted = Wanted::Ipv4;
+    read_next_hop4(word).ok_or(Misfit::Value { name, word, wanted })
+}
+
+/// The IPv6 address that an option names.
+pub(crate) fn next_hop6_of<'a>(matches: &ArgMatches<'a>, name: &'a str) -> Result<u128, Misfit<'a>>
+    ensures { (number : ℕ) → IsOkAnd result (λ it. it ≡ number)
+        ↔ IsValue IsNextHop6Text name.now (rows_of (found_of matches.now)) number }
+{
+    let word = value_of(matches, name)?;
+    let wanted = Wanted::Ipv6;
+    read_next_hop6(word).ok_or(Misfit::Value { name, word, wanted })
+}
+
+/// The prefix that an option names, if it is given.
+pub(crate) fn prefix_of<'a>(
+    matches: &ArgMatches<'a>,
+    name: &'a str,
+) -> Result<Option<Prefix>, Misfit<'a>>
+    ensures { (prefix : Maybe PrefixBits) → IsOkAnd result (λ it. it ≡ prefix)
+        ↔ IsOptional IsPrefixText name.now (rows_of (found_of matches.now)) prefix }
+{
+    let Some(word) = matches.get_str(name) else {
+        return Ok(None);
+    };
+    let wanted = Wanted::Prefix;
+    match read_prefix(word) {
+        Some(prefix) => Ok(Some(prefix)),
+        None => Err(Misfit::Value { name, word, wanted }),
+    }
 }

@@ -6,12 +6,16 @@ ghost use Rattle.bgp_open.specs.declared.config.Config.{Config as Configured};
 ghost use Rattle.bgp_words.specs.Words.{program_words};
 ghost use Rattle.bgp_words.specs.Decode.{IsDecode};
 ghost use Rattle.bgp_words.specs.Judge.{IsJudgeLine};
+ghost use Rattle.bgp_words.specs.Speak.{CanSpeak};
 ghost use Rattle.bgp_words.specs.Spelled.{Names, NamesDecode, NamesJudge, Spells, word_faults};
-ghost use Rattle.bgp_words.specs.Spelled.{IsDecodeOrMemory, IsJudgeOrMemory, fault_rows, IsFault};
+ghost use Rattle.bgp_words.specs.Spelled.{IsDecodeOrMemory, IsJudgeOrMemory, IsFault};
+ghost use Rattle.bgp_words.specs.Spelled.{fault_rows, value_rows};
 
 use crate::decode::{decode_of, decode_words};
 use crate::judge::{judge_of, judge_words};
 use crate::misfit::Misfit;
+use crate::pair::{pair_of, pair_words};
+use crate::speak::{Speaking, speak_of, speak_words};
 use bgp_open::Config;
 use bgp_prefix::Session;
 use clap::error::ErrorKind;
@@ -41,21 +45,38 @@ pub enum Command<'a> {
         /// The file's path, or `-` for standard input.
         file: &'a str,
     },
+    /// Speak with a peer over TCP, and write down the session as a capture.
+    Speak {
+        /// What the local system is configured to do, and the session's ends: their addresses are
+        /// of one family, and the local system has no route refresh.
+        config: Config,
+        /// How the connection comes to be, what is announced, and how long it lasts.
+        speaking: Speaking,
+        /// The path of the capture to write; `-` is a file of that name.
+        file: &'a str,
+    },
+    /// Let two ends speak with one another over loopback, and judge what each did.
+    Pair {
+        /// The path of the left end's capture to write; the right end's has `.right` after it. `-`
+        /// is a file of that name.
+        file: &'a str,
+    },
 }
 
-/// What help tells behind the commands: the statuses.
+/// What help tells after the commands: the statuses.
 const STATUSES: &str = "\
 Exit status:
-  0   all octets were whole messages, or the capture was read to its end, or the verdict is yes;
-      or help or the version was asked for
-  1   the verdict is no
+  0   all octets were whole messages, or the capture was read to its end, or the verdict is yes,
+      or the session was spoken; or help or the version was asked for
+  1   the verdict is no, or the two of a pair don't come to a session
   2   the stream ends inside a message, or the verdict is unfinished
   3   the stream stops being BGP, or the capture is refused
   4   memory was refused
-  5   a file can't be opened or read, or output can't be written
+  5   a file or a port can't be opened, a file can't be read, or output can't be written
   64  the command line is none that the program knows
 
-bgp decode --help and bgp judge --help tell what each prints, with examples.
+bgp decode --help, bgp judge --help, bgp speak --help and bgp pair --help tell what each prints,
+with examples.
 The manual is README.md, at the top of the repository.";
 
 /// What the program's words may be.
@@ -64,13 +85,17 @@ fn program<'a>(alloc: Global) -> Result<clap::Command<'a>, AllocError>
 {
     let decode = decode_words(alloc)?;
     let judge = judge_words(alloc)?;
+    let speak = speak_words(alloc)?;
+    let pair = pair_words(alloc)?;
     clap::Command::new(alloc, "bgp")
         .version("0.1.0")
-        .about("Reads BGP-4 messages and captures, and judges sessions")
+        .about("Reads BGP-4 messages and captures, judges sessions, and speaks in one")
         .after_help(STATUSES)
         .subcommand_required(true)
         .subcommand(decode)?
-        .subcommand(judge)
+        .subcommand(judge)?
+        .subcommand(speak)?
+        .subcommand(pair)
 }
 
 /// The command that the words spell, the program's own name first.
@@ -88,8 +113,11 @@ pub fn command_line<'a, S: AsStr>(alloc: Global, words: &'a [S]) -> Result<Comma
     ensures judge { (config : Configured) (file : List ℕ) →
         IsJudgeLine (map S.text words.entry.now) config.parts file →
         IsJudgeOrMemory (map S.text words.entry.now) result }
+    ensures speakable { IfOk result CanSpeak }
     ensures rows { (name : List ℕ) → All (λ row. map S.text words.entry.now ≡ name ∷ row.0 →
         IsFault row.1 result) fault_rows }
+    ensures values { (name : List ℕ) → All (λ row. map S.text words.entry.now ≡ name ∷ row →
+        IsFault ErrorKind.ValueValidation result) value_rows }
 {
     let matches = program(alloc)?.try_get_matches_from(words)?;
     match named(&matches) {
@@ -111,8 +139,14 @@ fn named<'a>(matches: &ArgMatches<'a>) -> Result<Command<'a>, Misfit<'a>>
     if let Some(decode) = matches.subcommand_matches("decode") {
         return decode_of(decode);
     }
-    match matches.subcommand_matches("judge") {
-        Some(judge) => judge_of(judge),
+    if let Some(judge) = matches.subcommand_matches("judge") {
+        return judge_of(judge);
+    }
+    if let Some(speak) = matches.subcommand_matches("speak") {
+        return speak_of(speak);
+    }
+    match matches.subcommand_matches("pair") {
+        Some(pair) => pair_of(pair),
         None => Err(Misfit::NoCommand),
     }
 }
@@ -131,6 +165,8 @@ fn words_of<'a>(alloc: Global, matches: &ArgMatches<'_>) -> Result<clap::Command
     match matches.subcommand_name() {
         Some("decode") => decode_words(alloc)?.bin_name("bgp decode"),
         Some("judge") => judge_words(alloc)?.bin_name("bgp judge"),
+        Some("speak") => speak_words(alloc)?.bin_name("bgp speak"),
+        Some("pair") => pair_words(alloc)?.bin_name("bgp pair"),
         _ => program(alloc),
     }
 }

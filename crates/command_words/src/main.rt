@@ -4,7 +4,7 @@
 
 use bgp_open::{ConfigParts, Families};
 use bgp_prefix::{Address, Session};
-use bgp_tool::{Command, command_line, words_status};
+use bgp_tool::{Command, Speaking, Start, command_line, words_status};
 use std::alloc::{AllocError, Global};
 use std::process::ExitCode;
 use std::rt::Files;
@@ -71,6 +71,18 @@ fn answer_to(alloc: Global, block: &str) -> io::Result<Answer> {
             let parts = parts_text(alloc, &config.parts)?;
             format!(in alloc; "judge {parts} file {file:?}")?
         }
+        Ok(
+            Command::Speak {
+                config,
+                speaking,
+                file,
+            },
+        ) => {
+            let parts = parts_text(alloc, &config.parts)?;
+            let own = speaking_text(alloc, &speaking)?;
+            format!(in alloc; "speak {parts} {own} file {file:?}")?
+        }
+        Ok(Command::Pair { file }) => format!(in alloc; "pair {file:?}")?,
         Err(error) => {
             told = format!(in alloc; "{error}")?;
             let code = words_status(&error).code();
@@ -80,7 +92,7 @@ fn answer_to(alloc: Global, block: &str) -> io::Result<Answer> {
     Ok(Answer { kind, told })
 }
 
-/// The parts of a configuration, each behind its name.
+/// The parts of a configuration, each after its name.
 fn parts_text(alloc: Global, parts: &ConfigParts) -> Result<String, AllocError> {
     let ConfigParts {
         local_as,
@@ -109,7 +121,30 @@ fn parts_text(alloc: Global, parts: &ConfigParts) -> Result<String, AllocError> 
     format!(in alloc; "{own} {ends} {rest} large-hold {large_hold}")
 }
 
-/// Whether a row's further lines are so: one says what the words are, and each behind `>` a part of
+/// What `speak` is told besides, each part after its name; a dash where nothing is announced.
+fn speaking_text(alloc: Global, speaking: &Speaking) -> Result<String, AllocError> {
+    let Speaking {
+        start,
+        next_hop4,
+        next_hop6,
+        announce,
+        turns,
+        quiet,
+    } = *speaking;
+    let start = match start {
+        Start::Connect(port) => format!(in alloc; "connect {port}")?,
+        Start::Listen(port) => format!(in alloc; "listen {port}")?,
+    };
+    let announce = match announce {
+        Some(prefix) => format!(in alloc; "{prefix}")?,
+        None => format!(in alloc; "-")?,
+    };
+    let (hop4, hop6) = (Address::V4(next_hop4), Address::V6(next_hop6));
+    let own = format!(in alloc; "{start} next-hop {hop4} next-hop6 {hop6} announce {announce}")?;
+    format!(in alloc; "{own} turns {turns} quiet {quiet}")
+}
+
+/// Whether a row's further lines are so: one says what the words are, and each after `>` a part of
 /// what is told.
 fn is_so(block: &str, answer: &Answer) -> bool {
     let mut is_told = false;

@@ -1,13 +1,14 @@
 use Rattle.std.proofs.Common.{◌≡◌, ◌∙◌, [], ◌∷◌, Ok, Err, map, refl, sym, ap, subst, inl}
-use Rattle.clap.specs.Words.{App, Kinds, IsAmong, HasKind, fault_of, is_simple, is_simple_and_free, kind_of, subcommand_of}
+use Rattle.clap.specs.Words.{App, Kinds, IsAmong, HasKind, fault_of, is_simple, is_simple_and_free, kind_of, subcommand_of, subcommand_rows_of}
 use Rattle.clap.specs.Kinds.{or_else}
 use Rattle.clap.specs.declared.error.kind.ErrorKind.TheVariants.{ValueValidation}
 use Rattle.bgp_words.specs.Words.{program_words}
 use Rattle.bgp_words.specs.Spelled.{Names, NamesDecode, NamesJudge}
 use Rattle.bgp_words.proofs.HandedOn.{handed_on, memory_handed_on, known_kind, only_memory, unspelled_handed_on, memory_is_unspelled, judge_memory_handed_on}
 use Rattle.bgp_words.proofs.JudgeLine.{judge_of_line, names_judge, spelled_right}
-use Rattle.bgp_words.proofs.NamedCommand.{one_file}
+use Rattle.bgp_words.proofs.NamedCommand.{can_speak, one_file}
 use Rattle.bgp_words.proofs.SpelledDecode.{spelled_decode}
+use Rattle.bgp_words.proofs.ValueRows.{each_value, memory_handed}
 use Rattle.bgp_words.proofs.FaultRows.{each_row, fault_handed_on, memory_is_fault, no_row}
 use Rattle.bgp_words.proofs.words.command_line.Goals as goal
 
@@ -133,3 +134,38 @@ returns-clause-judge g c config file line =
     let app = c.in_ok-program.ensures in
     let subs = (c.in_ok-matches.ensures.matches (ap is_simple app)).1 ∙ ap (λ (a : App). subcommand_of a words) app in
     absurd (c.in-Err.ensures.no_judge refl config file (subst (NamesJudge config file) (sym subs) (names_judge words config file line)))
+
+pub returns-in-Ok-clause-speakable : goal.returns-in-Ok-clause-speakable
+returns-in-Ok-clause-speakable g c = can_speak (subcommand_rows_of c.in_ok-matches.matches) c.in-Ok.command c.in-Ok.ensures.ok
+
+pub returns-in_err-matches-clause-values : goal.returns-in_err-matches-clause-values
+returns-in_err-matches-clause-values g c name =
+    let words = map g.S.AsStr.text c.args.words.now in
+    let app = c.in_ok-program.ensures in
+    let error = c.in_err-matches.field-0.0 in
+    let has = subst (λ (a : App). HasKind (fault_of a words) error) app (c.in_err-matches.ensures.kinds (ap is_simple_and_free app)) in
+    let r = c.from_residual-in_err-matches.result in
+    each_value words r name ValueValidation (λ none.
+    memory_handed r error ValueValidation c.from_residual-in_err-matches.ensures.1 (only_memory (fault_of program_words words) error has none.passes))
+
+pub returns-in_err-program-clause-values : goal.returns-in_err-program-clause-values
+returns-in_err-program-clause-values g c name =
+    let r = c.from_residual.result in
+    each_value (map g.S.AsStr.text c.args.words.now) r name ValueValidation (λ none. memory_is_fault r ValueValidation c.from_residual.ensures.1)
+
+pub returns-in-Ok-clause-values : goal.returns-in-Ok-clause-values
+returns-in-Ok-clause-values g c name =
+    let words = map g.S.AsStr.text c.args.words.now in
+    let app = c.in_ok-program.ensures in
+    let subs = (c.in_ok-matches.ensures.matches (ap is_simple app)).1 ∙ ap (λ (a : App). subcommand_of a words) app in
+    each_value words (Ok c.in-Ok.command) name ValueValidation (λ none.
+    absurd (none.nothing c.in-Ok.command (subst (λ used. Names used c.in-Ok.command) subs c.in-Ok.ensures.ok)))
+
+pub returns-in_err-usage-in-Err-clause-values : goal.returns-in_err-usage-in-Err-clause-values
+returns-in_err-usage-in-Err-clause-values g c name =
+    let r = c.from_residual-in_err-usage-in-Err.result in
+    each_value (map g.S.AsStr.text c.args.words.now) r name ValueValidation (λ none. memory_is_fault r ValueValidation c.from_residual-in_err-usage-in-Err.ensures.1)
+
+pub returns-clause-values : goal.returns-clause-values
+returns-clause-values g c name =
+    each_value (map g.S.AsStr.text c.args.words.now) (Err c.in_ok-usage-in-Err.field-0) name ValueValidation (λ none. inl c.in_ok-usage-in-Err.ensures)

@@ -12,5 +12,7 @@ returns c =
     ∙ ap (on_top (λ (s : Shape). record s { subcommand_required = true }))
     (ap app_of_fields c.after_help.ensures ∙ ap app_of_fields c.about.ensures ∙ versioned) in
     let first = c.in_ok-subcommand.ensures.shape c.in_ok-decode.ensures.local ∙ ap₂ with_subcommand wanting (ap (λ (a : App). a.top) c.in_ok-decode.ensures.words) in
-    IfOk-weaker c.subcommand-2.result _ _ (λ program adds.
-    adds.shape c.in_ok-judge.ensures.local ∙ ap₂ with_subcommand first (ap (λ (a : App). a.top) c.in_ok-judge.ensures.words)) c.subcommand-2.ensures
+    let second = c.in_ok-subcommand-2.ensures.shape c.in_ok-judge.ensures.local ∙ ap₂ with_subcommand first (ap (λ (a : App). a.top) c.in_ok-judge.ensures.words) in
+    let third = c.in_ok-subcommand-3.ensures.shape c.in_ok-speak.ensures.local ∙ ap₂ with_subcommand second (ap (λ (a : App). a.top) c.in_ok-speak.ensures.words) in
+    IfOk-weaker c.subcommand-4.result _ _ (λ program adds.
+    adds.shape c.in_ok-pair.ensures.local ∙ ap₂ with_subcommand third (ap (λ (a : App). a.top) c.in_ok-pair.ensures.words)) c.subcommand-4.ensures

@@ -1,14 +1,14 @@
 use Rattle.std.proofs.Common.{◌∙◌, refl, sym, ap, subst, not}
 use Rattle.clap.specs.Words.{found_of, rows_of}
 use Rattle.bgp_open.specs.declared.config.ConfigParts.{ConfigParts}
-use Rattle.bgp_words.specs.Judge.{AreParts}
+use Rattle.bgp_words.specs.Settings.{AreParts}
 use Rattle.bgp_words.proofs.SameParts.{same_parts}
-use Rattle.bgp_words.proofs.judge.parts_of.Goals as goal
+use Rattle.bgp_words.proofs.settings.parts_of.Goals as goal
 
 pub returns : goal.returns
 returns c parts =
-    let rows = rows_of (found_of c.args.judge.now) in (
-      λ same. subst (λ (p : ConfigParts). AreParts p rows) same (record {
+    let rows = rows_of (found_of c.args.matches.now) in (
+      λ same. subst (λ (p : ConfigParts). AreParts p c.args.refresh rows) same (record {
         local_as = (c.in_ok-positive_of.ensures c.in_ok-positive_of.field-0).0 refl;
         peer_as = (c.in_ok-positive_of-2.ensures c.in_ok-positive_of-2.field-0).0 refl;
         local_id = (c.in_ok-identifier_of.ensures c.in_ok-identifier_of.field-0).0 refl;

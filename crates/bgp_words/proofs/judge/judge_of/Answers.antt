@@ -1,0 +1,12 @@
+use Rattle.std.proofs.Common.{Bool, not, refl, subst}
+use Rattle.clap.specs.Words.{found_of, rows_of}
+use Rattle.bgp_words.specs.Settings.{AreParts}
+use Rattle.bgp_words.proofs.judge.judge_of.Goals as goal
+
+pub returns-clause-ok : goal.returns-clause-ok
+returns-clause-ok c =
+    let config = c.in_ok-config.config in
+    let rows = rows_of (found_of c.args.judge.now) in (
+      refl,
+      (subst (λ (given : Bool). AreParts config.parts (not given) rows) c.has_flag.ensures ((c.in_ok-config.ensures config).0 refl), c.in_ok-file.ensures.ok),
+    )
