@@ -11,3 +11,5 @@ pub mod ToldCapture
 pub mod OneVerdict
 pub mod Fronts
 pub mod DriveJudged
+pub mod Driving
+pub mod PairJudged

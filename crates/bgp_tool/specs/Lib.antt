@@ -11,3 +11,5 @@ pub mod Answer
 pub mod Judging
 pub mod OpenedJudging
 pub mod Driven
+pub mod Speaking
+pub mod Pairing

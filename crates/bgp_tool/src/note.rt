@@ -1,6 +1,7 @@
 //! What the program tells on standard error.
 
 use crate::front::Form;
+use crate::pair_end::{PairEnd, PairFault};
 use mrt::Endpoints;
 use std::fmt;
 use std::io::ErrorKind;
@@ -52,19 +53,38 @@ pub enum Note<'a> {
         /// What it is.
         form: Form,
     },
+    /// A pair of ends gave up.
+    Pair {
+        /// The name of the left end's capture.
+        file: &'a str,
+        /// Why.
+        fault: PairFault,
+    },
 }
 
-/// A file's name as it is told: quoted where it is empty or has control characters, which could
-/// make a terminal say something else.
+/// What is read as it is told: a file's name, or standard input for `-`.
 #[derive(Clone, Copy)]
 struct Told<'a>(&'a str);
 
 impl fmt::Display for Told<'_> {
     fn fmt<W: fmt::Write>(&self, f: &mut fmt::Formatter<W>) -> fmt::Result {
-        let name = self.0;
-        if name == "-" {
+        if self.0 == "-" {
             f.write_str("standard input")
-        } else if name.is_empty() || name.contains(char::is_control) {
+        } else {
+            write!(f, "{}", Name(self.0))
+        }
+    }
+}
+
+/// A file's name as it is told: quoted where it is empty or has control characters, which could
+/// make a terminal say something else.
+#[derive(Clone, Copy)]
+struct Name<'a>(&'a str);
+
+impl fmt::Display for Name<'_> {
+    fn fmt<W: fmt::Write>(&self, f: &mut fmt::Formatter<W>) -> fmt::Result {
+        let name = self.0;
+        if name.is_empty() || name.contains(char::is_control) {
             write!(f, "{name:?}")
         } else {
             f.write_str(name)
@@ -83,6 +103,7 @@ impl fmt::Display for Note<'_> {
             }
             Note::NoSession { file, other } => put_no_session(f, file, other),
             Note::NoStream { file, form } => write!(f, "{} {form}", Told(file)),
+            Note::Pair { file, fault } => put_pair(f, file, fault),
         }
     }
 }
@@ -127,6 +148,23 @@ fn put_no_session<W: fmt::Write>(
              {peer} and the local address {local}"
         ),
         None => write!(f, "{file}: no record of this session was read"),
+    }
+}
+
+/// The sentence on a pair of ends that gave up.
+fn put_pair<W: fmt::Write>(f: &mut fmt::Formatter<W>, file: &str, fault: PairFault) -> fmt::Result {
+    let (end, error) = match fault {
+        PairFault::Capture(end, error) => (end, error),
+        PairFault::Connection(error) => return write!(f, "the connection on 127.0.0.1: {error}"),
+        PairFault::Memory => return f.write_str("memory was refused"),
+    };
+    write!(f, "{}", Name(file))?;
+    if end == PairEnd::Right {
+        f.write_str(".right")?;
+    }
+    match error {
+        Some(error) => write!(f, ": {error}"),
+        None => f.write_str(": too long"),
     }
 }
 

@@ -53,7 +53,7 @@ fn put_route_line<W: Sink, A: Allocator>(lines: &mut Lines<'_, W>, prefix: Prefi
 }
 
 /// The lines of routes, in the order of their prefixes.
-fn put_routes<W: Sink, A: Allocator>(lines: &mut Lines<'_, W>, rib: &RibIn<A>)
+pub(crate) fn put_routes<W: Sink, A: Allocator>(lines: &mut Lines<'_, W>, rib: &RibIn<A>)
     ensures { Writes lines.old lines.new (flat_map route_line rib.now.entries) }
 {
     for (prefix, path) in rib.routes() {

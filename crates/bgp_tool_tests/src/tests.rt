@@ -6,6 +6,7 @@ mod devices;
 mod great;
 mod judging;
 mod opened;
+mod speaking;
 mod updates;
 
 use bgp_tool::*;

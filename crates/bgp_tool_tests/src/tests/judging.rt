@@ -38,7 +38,7 @@ pub(super) const PARTS_A: ConfigParts = ConfigParts {
 };
 
 /// A session whose last UPDATE may disable IPv6 or not.
-static RECORDS: [Record<'static>; 10] = [
+pub(super) static RECORDS: [Record<'static>; 10] = [
     Change(100, 1, 2),
     Out(100, &OPEN_A),
     Change(100, 2, 4),
@@ -68,7 +68,7 @@ fn put(sink: &mut MemSink, record: &Record<'_>) -> bool {
 }
 
 /// A capture of these records, if they could be written.
-fn capture_of(alloc: Global, records: &[Record<'_>]) -> Option<Vec<u8>> {
+pub(super) fn capture_of(alloc: Global, records: &[Record<'_>]) -> Option<Vec<u8>> {
     let mut sink = MemSink::new(alloc);
     for record in records {
         if !put(&mut sink, record) {
@@ -78,16 +78,18 @@ fn capture_of(alloc: Global, records: &[Record<'_>]) -> Option<Vec<u8>> {
     Some(sink.into_octets())
 }
 
-/// What judging a capture with this memory writes and answers.
+/// What judging a capture with this memory writes and answers, where these calls of the source and
+/// of the sink fail.
 fn answer_of<A: Allocator + Copy>(
     judge: Judge,
     alloc: Global,
     memory: A,
     config: &Config,
     capture: Vec<u8>,
+    (read, write): (u64, u64),
 ) -> (Vec<u8>, u8) {
-    let mut source = MemSource::new(capture);
-    let mut sink = MemSink::new(alloc);
+    let mut source = MemSource::new(capture).upset_at(read, SourceUpset::Fail);
+    let mut sink = MemSink::new(alloc).upset_at(write, SinkUpset::Fail);
     let status = match judge {
         Judge::Plain => {
             judge_capture::<A, PlainTracker<A>, _, _>(memory, config, &mut source, &mut sink)
@@ -106,8 +108,41 @@ fn judged<A: Allocator + Copy>(
     memory: A,
 ) -> Result<(Vec<u8>, u8), Fail> {
     match (Config::new(PARTS_A), capture_of(alloc, &RECORDS)) {
-        (Some(config), Some(capture)) => Ok(answer_of(judge, alloc, memory, &config, capture)),
+        (Some(config), Some(capture)) => {
+            Ok(answer_of(judge, alloc, memory, &config, capture, (NEVER, NEVER)))
+        }
         _ => Err(Fail::new("no configuration, or no capture")),
+    }
+}
+
+/// The number of no call.
+const NEVER: u64 = u64::MAX;
+
+/// Calls of the source and of the sink that fail where the first of [`RECORDS`] is judged, which is
+/// read by two calls, and what is written then.
+static DEVICES: [((u64, u64), &str); 3] = [
+    ((0, NEVER), "capture refused: 9 Device at 0\n"),
+    ((2, NEVER), "capture refused: 9 Device at 36\n"),
+    ((NEVER, 0), ""),
+];
+
+/// Whether judging it ends so, with status 5.
+fn is_broken(alloc: Global, judge: Judge, calls: (u64, u64), text: &str) -> bool {
+    match (Config::new(PARTS_A), capture_of(alloc, &RECORDS[..1])) {
+        (Some(config), Some(capture)) => {
+            let (written, answer) = answer_of(judge, alloc, alloc, &config, capture, calls);
+            same(&written, answer, text.as_bytes(), 5)
+        }
+        _ => false,
+    }
+}
+
+#[test]
+fn a_failing_source_or_sink_is_told(rt: HostRuntime) {
+    for (calls, text) in &DEVICES {
+        for judge in BOTH {
+            assert!(rt; is_broken(rt.alloc(), judge, *calls, text), "{text}");
+        }
     }
 }
 
