@@ -1,11 +1,9 @@
-//! A drive and what comes of it, told by a block of lines: `args` and the words of `bgp judge`,
-//! which name the settings; `next-hops` and two addresses; `input`, a second and an input, with
-//! its octets or its prefix; `sent` and the octets of the sent messages; `capture` and the records;
-//! `state` and its number; `>` and a route.
+//! A case, told by a block of lines: `args` and the words of `bgp judge`, which name the settings;
+//! `next-hops` and two addresses; what is handed in; and what comes of it, with `capture` and the
+//! records, and `>` and a route.
 
 use bgp_open::Config;
-use bgp_prefix::{Address, Prefix, Seconds, read_address, read_prefix};
-use bgp_speaker::Input;
+use bgp_prefix::{Address, read_address};
 use bgp_tool::{Command, command_line};
 use hex::FromHexError;
 use std::alloc::{AllocError, Global};
@@ -68,114 +66,46 @@ pub(crate) fn octets_of(alloc: Global, digits: &str) -> io::Result<Vec<u8>> {
     }
 }
 
-/// What a core is told: how many octets, or which prefix.
-#[derive(Clone, Copy)]
-enum Told {
-    Start,
-    Passive,
-    Stop,
-    Connected,
-    Failed,
-    Bytes(usize),
-    Tick,
-    Announce(Prefix),
-    Withdraw(Prefix),
+/// Whether a line of the block spells these octets.
+pub(crate) fn is_line(alloc: Global, block: &str, word: &str, octets: &[u8]) -> io::Result<bool> {
+    match line_of(block, word) {
+        Some(digits) => Ok(octets_of(alloc, digits)?.as_slice() == octets),
+        None => Err(malformed()),
+    }
 }
 
 /// What stands after the word `input` in a line: the second, the name and the value.
-fn words_in(line: &str) -> Option<(&str, &str, &str)> {
+pub(crate) fn words_in(line: &str) -> Option<(&str, &str, &str)> {
     let (second, input) = line.strip_prefix("input ")?.split_once(' ')?;
     let (name, value) = input.split_once(' ').unwrap_or((input, ""));
     Some((second, name, value))
 }
 
-/// What a core is told by a name and a value.
-fn told_by(name: &str, value: &str) -> Option<Told> {
-    match name {
-        "Start" => Some(Told::Start),
-        "Passive" => Some(Told::Passive),
-        "Stop" => Some(Told::Stop),
-        "Connected" => Some(Told::Connected),
-        "Failed" => Some(Told::Failed),
-        "Bytes" => Some(Told::Bytes(value.len() / 2)),
-        "Tick" => Some(Told::Tick),
-        "Announce" => Some(Told::Announce(read_prefix(value)?)),
-        "Withdraw" => Some(Told::Withdraw(read_prefix(value)?)),
-        _ => None,
+/// The digits of the octets that a line hands in, or that it is read.
+fn digits_in(line: &str) -> Option<&str> {
+    match line.strip_prefix("read ") {
+        Some("Nothing" | "Closed" | "Failed") => None,
+        Some(digits) => Some(digits),
+        None => match words_in(line) {
+            Some((_, "Bytes", digits)) => Some(digits),
+            _ => None,
+        },
     }
-}
-
-/// What a core is told in a line, and when.
-fn told_in(line: &str) -> Option<(Seconds, Told)> {
-    let (second, name, value) = words_in(line)?;
-    Some((second.parse::<u32>().ok()?, told_by(name, value)?))
 }
 
 /// The octets of all pieces, joined.
 pub(crate) fn pieces_of(alloc: Global, block: &str) -> io::Result<Vec<u8>> {
     let mut octets = Vec::new(alloc);
     for line in block.split('\n') {
-        if let Some((_, "Bytes", digits)) = words_in(line) {
+        if let Some(digits) = digits_in(line) {
             octets.extend_from_slice(octets_of(alloc, digits)?.as_slice())?;
         }
     }
     Ok(octets)
 }
 
-/// The input, whose octets are the piece.
-fn input_of<'a>(told: &Told, piece: &'a [u8]) -> Input<'a> {
-    match told {
-        Told::Start => Input::Start,
-        Told::Passive => Input::Passive,
-        Told::Stop => Input::Stop,
-        Told::Connected => Input::Connected,
-        Told::Failed => Input::Failed,
-        Told::Bytes(_) => Input::Bytes(piece),
-        Told::Tick => Input::Tick,
-        Told::Announce(prefix) => Input::Announce(*prefix),
-        Told::Withdraw(prefix) => Input::Withdraw(*prefix),
-    }
-}
-
-/// Appends the input of a line, whose octets stand at the beginning of `octets`, and answers what
-/// stands after them.
-fn put_input<'a>(
-    inputs: &mut Vec<(Seconds, Input<'a>)>,
-    line: &str,
-    octets: &'a [u8],
-) -> io::Result<&'a [u8]> {
-    let Some((second, told)) = told_in(line) else {
-        return Err(malformed());
-    };
-    let count = match told {
-        Told::Bytes(count) => count,
-        _ => 0,
-    };
-    let Some((piece, rest)) = octets.split_at_checked(count) else {
-        return Err(malformed());
-    };
-    inputs.extend_from_slice(&[(second, input_of(&told, piece))])?;
-    Ok(rest)
-}
-
-/// The inputs, whose pieces are those of `octets`.
-pub(crate) fn inputs_of<'a>(
-    alloc: Global,
-    block: &str,
-    octets: &'a [u8],
-) -> io::Result<Vec<(Seconds, Input<'a>)>> {
-    let mut inputs = Vec::new(alloc);
-    let mut rest = octets;
-    for line in block.split('\n') {
-        if line.starts_with("input ") {
-            rest = put_input(&mut inputs, line, rest)?;
-        }
-    }
-    Ok(inputs)
-}
-
 /// The lines of the routes.
-pub(crate) fn routes_of(alloc: Global, block: &str) -> io::Result<String> {
+fn routes_of(alloc: Global, block: &str) -> io::Result<String> {
     let mut text = String::new(alloc);
     for line in block.split('\n') {
         if let Some(route) = line.strip_prefix("> ") {
@@ -184,4 +114,12 @@ pub(crate) fn routes_of(alloc: Global, block: &str) -> io::Result<String> {
         }
     }
     Ok(text)
+}
+
+/// Whether the text of an end has the routes of the block.
+pub(crate) fn are_routes(alloc: Global, end: &str, block: &str) -> io::Result<bool> {
+    match end.split_once('\n') {
+        Some((_, routes)) => Ok(routes == routes_of(alloc, block)?.as_str()),
+        None => Ok(false),
+    }
 }
