@@ -3,22 +3,32 @@
 use super::*;
 use linked_list_allocator::LocalHeap;
 
-/// Whether these octets were written to a vector in this heap for an update, behind an octet. It is
-/// `None` where anything else came of it than that or a refusal that leaves the vector as it was.
-fn writes(heap: &LocalHeap, link: &Link, update: &Update<'_>, octets: &[u8]) -> Option<bool> {
+/// Whether these octets were written to a vector for an update, behind an octet, with so many
+/// octets of this heap left. It is `None` where anything else came of it than that or a refusal
+/// that leaves the vector as it was, so that they are written with memory.
+fn writes(
+    heap: &LocalHeap,
+    left: usize,
+    link: &Link,
+    update: &Update<'_>,
+    octets: &[u8],
+) -> Option<bool> {
     let mut out = Vec::new(heap);
-    if out.push(9u8).is_err() {
-        return Some(false);
-    }
-    let answer = write_update(link, update, &mut out);
-    let wanted = match answer {
-        Ok(()) => Wanted::Octets(octets),
-        Err(_) => Wanted::Fault(UpdateFault::Memory),
+    out.push(9u8).ok()?;
+    let ballast: Result<Vec<u8, _>, _> = Vec::with_capacity(heap, heap.free().saturating_sub(left));
+    let first = write_update(link, update, &mut out);
+    drop(ballast);
+    let is_refused = is_right(first, &out, &[9], &Wanted::Fault(UpdateFault::Memory));
+    let last = if is_refused {
+        write_update(link, update, &mut out)
+    } else {
+        first
     };
-    is_right(answer, &out, &[9], &wanted).then_some(answer.is_ok())
+    is_right(last, &out, &[9], &Wanted::Octets(octets)).then_some(!is_refused)
 }
 
-/// Whether in heaps from 16 octets on an update is first refused and then written, in these octets.
+/// Whether an update is refused and then written, in these octets, as more and more of a heap is
+/// left.
 pub fn is_refused_and_then_written(
     alloc: Global,
     link: &Link,
@@ -26,13 +36,13 @@ pub fn is_refused_and_then_written(
     octets: &[u8],
 ) -> bool {
     let (mut refused, mut done) = (false, false);
-    for size in (16usize..1024).step_by(16) {
-        let Ok(heap) = LocalHeap::new(alloc, size) else {
+    for left in (0usize..1024).step_by(16) {
+        let Ok(heap) = LocalHeap::new(alloc, 1 << 12) else {
             return false;
         };
-        match writes(&heap, link, update, octets) {
+        match writes(&heap, left, link, update, octets) {
             Some(true) => done = true,
-            // No larger heap is too small.
+            // No more is too little.
             Some(false) if !done => refused = true,
             _ => return false,
         }

@@ -52,6 +52,16 @@ const TOO_LONG: [u8; 12] = [
     0x00, 0x00, 0x00, 0x64, 0x00, 0x10, 0x00, 0x04, 0x00, 0x00, 0x20, 0x01,
 ];
 
+/// The header of a message's record whose Length is the greatest number, and of one of another
+/// type, of which no more is there.
+const GREATEST: [u8; 12] = [
+    0x00, 0x00, 0x00, 0x64, 0x00, 0x10, 0x00, 0x04, 0xff, 0xff, 0xff, 0xff,
+];
+
+const OTHER_GREATEST: [u8; 12] = [
+    0x00, 0x00, 0x00, 0x01, 0x00, 0x0d, 0x00, 0x01, 0xff, 0xff, 0xff, 0xff,
+];
+
 /// A capture of these records.
 fn capture_of(alloc: Global, records: &[&[u8]]) -> Result<Vec<u8>, AllocError> {
     let mut capture = Vec::new(alloc);
@@ -130,12 +140,19 @@ fn fault(kind: FaultKind, offset: u64) -> Option<CaptureFault> {
 
 #[test]
 fn a_capture_is_read_to_its_end_or_its_first_fault(rt: HostRuntime) {
-    let rows: [Row<'_>; 5] = [
+    let rows: [Row<'_>; 8] = [
         ([&CHANGE, &[]], 1, None),
         ([&CHANGE[..35], &[]], 0, fault(FaultKind::Truncated, 0)),
         ([&CHANGE, &EARLIER], 1, fault(FaultKind::TimeBack, 36)),
         ([&TOO_LONG, &[]], 0, fault(FaultKind::TooLong, 0)),
         ([&OTHER, &[]], 0, None),
+        ([&CHANGE, &GREATEST], 1, fault(FaultKind::TooLong, 36)),
+        ([&GREATEST, &RECEIVED], 0, fault(FaultKind::TooLong, 0)),
+        (
+            [&OTHER_GREATEST, &CHANGE],
+            0,
+            fault(FaultKind::Truncated, 0),
+        ),
     ];
     for (count, row) in rows.iter().enumerate() {
         assert!(rt; is_capture_read(rt.alloc(), row), "{count}");

@@ -25,8 +25,8 @@ const OVER_IPV6: Session = Session {
 };
 
 /// Whether that is answered to a record that can be written.
-fn answers(
-    sink: &mut MemSink,
+fn answers<A: Allocator>(
+    sink: &mut MemSink<A>,
     session: &Session,
     shown: &Record<'_>,
     wanted: Result<(), WriteFault>,
@@ -78,6 +78,43 @@ fn a_sink_that_fails_has_a_beginning(rt: HostRuntime) {
     for call in 0..51 {
         assert!(rt; is_begun(rt.alloc(), call), "{call}");
     }
+}
+
+/// Whether a record was refused by a sink with so many octets of its heap left: `None` where what
+/// it holds then is wrong. Refused, it has a beginning of the record, and takes the whole one after
+/// it, with memory.
+fn is_refused_beside(heap: &LocalHeap, left: usize) -> Option<bool> {
+    let received = Record::In(101, &KEEPALIVE);
+    let mut sink = MemSink::new(heap);
+    let ballast: Result<Vec<u8, _>, _> = Vec::with_capacity(heap, heap.free().saturating_sub(left));
+    let is_written = answers(&mut sink, &SESSION, &received, Ok(()));
+    drop(ballast);
+    if is_written {
+        return is_joined(sink.octets(), &[&RECEIVED]).then_some(false);
+    }
+    let begun = RECEIVED.get(..sink.octets().len())?;
+    let is_again = sink.failures() == 1
+        && is_joined(sink.octets(), &[begun])
+        && answers(&mut sink, &SESSION, &received, Ok(()));
+    (is_again && is_joined(sink.octets(), &[begun, &RECEIVED])).then_some(true)
+}
+
+/// The same of a heap of its own.
+fn is_refused_with(alloc: Global, left: usize) -> Option<bool> {
+    let heap = LocalHeap::new(alloc, 1 << 10).ok()?;
+    is_refused_beside(&heap, left)
+}
+
+#[test]
+fn a_refused_record_can_be_written_again(rt: HostRuntime) {
+    let (mut refused, mut done) = (false, false);
+    for step in 0..16 {
+        let answer = is_refused_with(rt.alloc(), 16 * step);
+        assert!(rt; answer.is_some(), "{step}");
+        done = answer == Some(false);
+        refused = refused || !done;
+    }
+    assert!(rt; refused && done);
 }
 
 #[test]
