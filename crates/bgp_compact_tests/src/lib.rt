@@ -1,5 +1,6 @@
-//! Tests of `bgp_compact`: up to four ends, refused memory, and what is held. (`real_captures` and
-//! `random_sessions` judge captures with both trackers.)
+//! Tests of `bgp_compact`: up to four ends, refused memory, and what is held. What is asked of each
+//! tracker is asked of the plain one of `bgp_judge`, too. (`real_captures` and `random_sessions`
+//! judge captures with both trackers.)
 //!
 //! They stand in a crate of their own, since a crate with tests is proved twice.
 #![tactic(auto)]

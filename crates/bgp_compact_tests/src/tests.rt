@@ -1,19 +1,17 @@
-//! What the compact tracker has of its own: up to four ends, and its memory. The verdicts of both
-//! trackers on sessions are asked for by `real_captures`. Messages have the names of
-//! `bgp_wire::vectors`.
+//! What both trackers answer where memory is refused, and up to four ends; and what the compact
+//! one holds. The verdicts of both on sessions are asked for by `real_captures`. Messages have the
+//! names of `bgp_wire::vectors`.
 
 mod memory;
 mod sessions;
 
 use bgp_compact::CompactTracker;
-use bgp_judge::{PlainTracker, Verdict, judge_records};
+use bgp_judge::{End, PlainTracker, Tracker, Verdict, judge_records};
 use bgp_machine::Fsm;
 use bgp_open::{Config, ConfigParts, Families};
 use bgp_prefix::{Address, Session, read_prefix};
 use mrt::Record;
 use std::alloc::{AllocError, Allocator, Global};
-use std::process::Abort;
-use std::test::Fail;
 
 /// What router A is configured to do: AS 65001 at 192.0.2.1, with AS 65002 at 192.0.2.2, Hold Time
 /// 90, both families and four-octet AS numbers.
@@ -55,35 +53,48 @@ const V6: Families = Families {
 };
 
 /// Router A.
-fn router_a() -> Result<Config, Fail> {
-    Ok(Config::new(PARTS_A).ok_or("no configuration")?)
+fn router_a() -> Option<Config> {
+    Config::new(PARTS_A)
 }
 
 /// An end: the state, the disabled families and the prefixes of its routes.
 type Expected<'a> = (Fsm, Families, &'a [&'a str]);
 
-/// Whether the verdict is yes with just these ends, in this order.
-fn is_yes<A: Allocator>(verdict: &Verdict<A>, expected: &[Expected<'_>]) -> bool {
-    let Verdict::Yes(ends) = verdict else {
-        return false;
-    };
+/// Whether an end is that.
+fn is_end<A: Allocator>(end: &End<A>, (fsm, disabled, texts): &Expected<'_>) -> bool {
+    let mut texts = texts.iter();
+    for (prefix, _) in end.rib.routes() {
+        match texts.next() {
+            Some(text) if read_prefix(text) == Some(*prefix) => {}
+            _ => return false,
+        }
+    }
+    texts.next().is_none() && end.fsm == *fsm && end.rib.disabled() == *disabled
+}
+
+/// Whether these are just the ends, in this order.
+fn are_ends<A: Allocator>(ends: &[End<A>], expected: &[Expected<'_>]) -> bool {
     if ends.len() != expected.len() {
         return false;
     }
-    for (end, (fsm, disabled, texts)) in ends.as_slice().iter().zip(expected) {
-        let mut count = 0;
-        for (prefix, _) in end.rib.routes() {
-            let is_next = texts
-                .get(count)
-                .is_some_and(|text| { read_prefix(text) == Some(*prefix) });
-            if !is_next {
-                return false;
-            }
-            count = count.saturating_add(1);
-        }
-        if end.fsm != *fsm || end.rib.disabled() != *disabled || count != texts.len() {
+    for (end, wanted) in ends.iter().zip(expected) {
+        if !is_end(end, wanted) {
             return false;
         }
     }
     true
+}
+
+/// Whether records are judged, with enough memory for it, and the verdict is yes with just these
+/// ends: `None` where it is another.
+fn is_judged<A: Allocator + Copy, T: Tracker<A>>(
+    alloc: A,
+    records: &[Record<'_>],
+    expected: &[Expected<'_>],
+) -> Option<bool> {
+    match judge_records::<A, T>(alloc, &router_a()?, records) {
+        Ok(Verdict::Yes(ends)) => are_ends(ends.as_slice(), expected).then_some(true),
+        Ok(_) => None,
+        Err(_) => Some(false),
+    }
 }

@@ -1,13 +1,12 @@
 //! Memory: enough of it, growths that are refused, and what is held.
 
 use super::*;
-use bgp_judge::Tracker;
 use bgp_wire::vectors::{ANNOUNCES_10, KEEPALIVE, MP_REACH_TRANSITIVE, OPEN_A, OPEN_B};
 use linked_list_allocator::LocalHeap;
 use mrt::Record::{Change, In, Out};
 
 /// A session whose last UPDATE may disable IPv6 or not.
-const TWO_ENDS: [Record<'static>; 10] = [
+static TWO_ENDS: [Record<'static>; 10] = [
     Change(100, 1, 2),
     Out(100, &OPEN_A),
     Change(100, 2, 4),
@@ -21,20 +20,48 @@ const TWO_ENDS: [Record<'static>; 10] = [
 ];
 
 /// Its ends.
-const ENDS: [Expected<'static>; 2] = [
+static ENDS: [Expected<'static>; 2] = [
     (Fsm::Established, NONE, &["10.0.0.0/8"]),
     (Fsm::Established, V6, &["10.0.0.0/8"]),
 ];
 
-#[test]
-fn ample_memory(rt: HostRuntime) -> Result<(), Fail> {
-    let config = router_a()?;
-    let mut tracker: CompactTracker<Global> = CompactTracker::start(rt.alloc(), &config)?;
-    for shown in &TWO_ENDS {
-        assert!(rt; tracker.take(shown)?);
+/// A tracker of router A.
+fn started<A: Allocator + Copy, T: Tracker<A>>(alloc: A) -> Option<T> {
+    T::start(alloc, &router_a()?).ok()
+}
+
+/// Whether a tracker takes each of the records.
+fn takes_all<A: Allocator + Copy, T: Tracker<A>>(tracker: &mut T, records: &[Record<'_>]) -> bool {
+    for shown in records {
+        if tracker.take(shown) != Ok(true) {
+            return false;
+        }
     }
-    assert!(rt; is_yes(&Verdict::Yes(tracker.ends()?), &ENDS));
-    Ok(())
+    true
+}
+
+/// Whether a tracker answers these ends.
+fn has_ends<A: Allocator + Copy, T: Tracker<A>>(tracker: &T, expected: &[Expected<'_>]) -> bool {
+    match tracker.ends() {
+        Ok(ends) => are_ends(ends.as_slice(), expected),
+        Err(_) => false,
+    }
+}
+
+/// Whether a tracker takes the session and answers its ends.
+fn is_tracked<A: Allocator + Copy, T: Tracker<A>>(alloc: A) -> bool {
+    match started::<A, T>(alloc) {
+        Some(mut tracker) => {
+            takes_all::<A, T>(&mut tracker, &TWO_ENDS) && has_ends::<A, T>(&tracker, &ENDS)
+        }
+        None => false,
+    }
+}
+
+#[test]
+fn ample_memory(rt: HostRuntime) {
+    assert!(rt; is_tracked::<_, PlainTracker>(rt.alloc()));
+    assert!(rt; is_tracked::<_, CompactTracker>(rt.alloc()));
 }
 
 /// Takes all but so many octets of a heap, in small pieces, so that what is left lies together.
@@ -56,73 +83,124 @@ fn ballast<'a>(
     Ok(pieces)
 }
 
-/// Takes the session with so many octets left at each record. Refused, a record is taken again,
-/// with memory; so are the ends. Answers how often memory was refused.
-fn refusals(rt: &impl Abort, alloc: Global, left: usize) -> Result<usize, Fail> {
-    let ample = LocalHeap::new(alloc, 1 << 16)?;
-    let heap = LocalHeap::new(alloc, 1 << 14)?;
-    let config = router_a()?;
-    let mut refused: usize = 0;
-    let mut tracker: CompactTracker<&LocalHeap> = CompactTracker::start(&heap, &config)?;
-    for shown in &TWO_ENDS {
-        let ballast = ballast(&heap, &ample, left)?;
-        let taken: Result<_, _> = tracker.take(shown);
-        drop(ballast);
-        let alive = match taken {
-            Ok(alive) => alive,
-            Err(_) => {
-                refused = refused.saturating_add(1);
-                tracker.take(shown)?
-            }
-        };
-        assert!(rt; alive);
+/// What comes of a record with so many octets left.
+fn takes_beside<'a, T: Tracker<&'a LocalHeap>>(
+    heap: &'a LocalHeap,
+    ample: &'a LocalHeap,
+    tracker: &mut T,
+    left: usize,
+    shown: &Record<'_>,
+) -> Option<Result<bool, AllocError>> {
+    let ballast = ballast(heap, ample, left).ok()?;
+    let taken = tracker.take(shown);
+    drop(ballast);
+    Some(taken)
+}
+
+/// Whether the ends are refused with so many octets left.
+fn are_ends_refused<'a, T: Tracker<&'a LocalHeap>>(
+    heap: &'a LocalHeap,
+    ample: &'a LocalHeap,
+    tracker: &T,
+    left: usize,
+) -> Option<bool> {
+    let ballast = ballast(heap, ample, left).ok()?;
+    let is_refused = tracker.ends().is_err();
+    drop(ballast);
+    Some(is_refused)
+}
+
+/// Whether a record is refused with so many octets left: `None` where it isn't taken then or, with
+/// memory, again. Before the last one is taken again, the ends are those without it.
+fn is_refused<'a, T: Tracker<&'a LocalHeap>>(
+    heap: &'a LocalHeap,
+    ample: &'a LocalHeap,
+    tracker: &mut T,
+    left: usize,
+    (shown, is_last): (&Record<'_>, bool),
+) -> Option<bool> {
+    if let Ok(alive) = takes_beside(heap, ample, tracker, left, shown)? {
+        return alive.then_some(false);
     }
-    let ballast = ballast(&heap, &ample, left)?;
-    if tracker.ends().is_err() {
+    let is_kept = !is_last || has_ends::<&LocalHeap, T>(tracker, &ENDS[..1]);
+    (is_kept && tracker.take(shown) == Ok(true)).then_some(true)
+}
+
+/// How often memory is refused to a tracker of the session, with so many octets left at each record
+/// and for the ends: `None` where a record isn't taken in the end, or the ends are others.
+fn refusals_of<'a, T: Tracker<&'a LocalHeap>>(
+    heap: &'a LocalHeap,
+    ample: &'a LocalHeap,
+    tracker: &mut T,
+    left: usize,
+) -> Option<usize> {
+    let mut refused: usize = 0;
+    for (place, shown) in TWO_ENDS.iter().enumerate() {
+        if is_refused(heap, ample, tracker, left, (shown, place == 9))? {
+            refused = refused.saturating_add(1);
+        }
+    }
+    if are_ends_refused(heap, ample, tracker, left)? {
         refused = refused.saturating_add(1);
     }
-    drop(ballast);
-    assert!(rt; is_yes(&Verdict::Yes(tracker.ends()?), &ENDS));
-    Ok(refused)
+    has_ends::<&LocalHeap, T>(tracker, &ENDS).then_some(refused)
+}
+
+/// The same of a tracker of its own.
+fn refusals<'a, T: Tracker<&'a LocalHeap>>(
+    heap: &'a LocalHeap,
+    ample: &'a LocalHeap,
+    left: usize,
+) -> Option<usize> {
+    let mut tracker = started::<&LocalHeap, T>(heap)?;
+    refusals_of(heap, ample, &mut tracker, left)
+}
+
+/// How often it is refused to the plain tracker and to the compact one, with heaps of their own.
+fn refusals_with(alloc: Global, left: usize) -> Option<(usize, usize)> {
+    let ample = LocalHeap::new(alloc, 1 << 15).ok()?;
+    let heap = LocalHeap::new(alloc, 1 << 13).ok()?;
+    let plain = refusals::<PlainTracker<&LocalHeap>>(&heap, &ample, left)?;
+    let compact = refusals::<CompactTracker<&LocalHeap>>(&heap, &ample, left)?;
+    Some((plain, compact))
 }
 
 #[test]
-fn a_refused_record_can_be_taken_again(rt: HostRuntime) -> Result<(), Fail> {
-    let mut first = 0;
-    let mut last = 0;
+fn a_refused_record_can_be_taken_again(rt: HostRuntime) {
+    let mut first = (0, 0);
+    let mut last = (0, 0);
     for step in 0..128 {
-        last = refusals(&rt, rt.alloc(), 32 * step)?;
+        last = refusals_with(rt.alloc(), 32 * step).expect(&rt, "a record or the ends differ");
         if step == 0 {
             first = last;
         }
     }
-    // The list of ends, and both UPDATEs with their changes.
-    assert!(rt; first > 2, "{first}");
-    assert!(rt; last == 0, "a growth was refused to the end: {last}");
-    Ok(())
+    // The list of ends, and both UPDATEs with their changes; to the end nothing is refused.
+    let is_refused = first.0 > 2 && first.1 > 2;
+    assert!(rt;
+        is_refused && last == (0, 0),
+        "{first:?} refusals, then {last:?}"
+    );
 }
 
-/// Judges the session with a heap of this size. With less memory there is no verdict.
-fn is_told(rt: &impl Abort, alloc: Global, size: usize) -> Result<bool, Fail> {
-    let heap = LocalHeap::new(alloc, size)?;
-    match judge_records::<_, CompactTracker<&LocalHeap>>(&heap, &router_a()?, &TWO_ENDS) {
-        Ok(verdict) => {
-            assert!(rt; is_yes(&verdict, &ENDS));
-            Ok(true)
-        }
-        Err(_) => Ok(false),
-    }
+/// Whether the plain tracker and the compact one judge the session with a heap of this size: `None`
+/// where a verdict is wrong. With less memory there is no verdict.
+fn are_judged(alloc: Global, size: usize) -> Option<(bool, bool)> {
+    let heap = LocalHeap::new(alloc, size).ok()?;
+    let plain = is_judged::<_, PlainTracker<&LocalHeap>>(&heap, &TWO_ENDS, &ENDS)?;
+    let compact = is_judged::<_, CompactTracker<&LocalHeap>>(&heap, &TWO_ENDS, &ENDS)?;
+    Some((plain, compact))
 }
 
 #[test]
-fn a_refused_growth_gives_no_verdict(rt: HostRuntime) -> Result<(), Fail> {
-    let (mut refused, mut done) = (false, false);
-    for step in 1..512 {
-        done = is_told(&rt, rt.alloc(), 16 * step)?;
-        refused = refused || !done;
+fn a_refused_growth_gives_no_verdict(rt: HostRuntime) {
+    let mut is_refused = (false, false);
+    let mut is_done = (false, false);
+    for step in 1..1024 {
+        is_done = are_judged(rt.alloc(), 16 * step).expect(&rt, "another verdict");
+        is_refused = (is_refused.0 || !is_done.0, is_refused.1 || !is_done.1);
     }
-    assert!(rt; refused && done);
-    Ok(())
+    assert!(rt; is_refused == (true, true) && is_done == (true, true));
 }
 
 /// An UPDATE that announces 10.`high`.`low`.0/24.
@@ -152,66 +230,110 @@ fn withdraws(high: u8, low: u8) -> [u8; 27] {
     ]
 }
 
-/// A tracker behind the records that open the session: they have no routes, so it holds nothing.
-fn opened<'a>(rt: &impl Abort, heap: &'a LocalHeap) -> Result<CompactTracker<&'a LocalHeap>, Fail> {
-    let config = router_a()?;
-    let mut tracker = CompactTracker::start(heap, &config)?;
-    assert!(rt; heap.used() == 0);
+/// Whether a tracker takes the records that open the session and holds nothing, since they have no
+/// routes.
+fn opens<'a>(heap: &'a LocalHeap, tracker: &mut CompactTracker<&'a LocalHeap>) -> bool {
+    let mut holds_nothing = heap.used() == 0;
     for shown in &TWO_ENDS[..8] {
-        assert!(rt; tracker.take(shown)? && heap.used() == 0);
+        holds_nothing = holds_nothing && tracker.take(shown) == Ok(true) && heap.used() == 0;
     }
-    Ok(tracker)
+    holds_nothing
 }
 
-/// How much is held behind so many rounds: a route is announced, it is kept, and it is withdrawn.
-fn held_after(
-    rt: &impl Abort,
-    heap: &LocalHeap,
-    tracker: &mut CompactTracker<&LocalHeap>,
+/// How much is held after so many rounds: a route is announced, it is kept, and it is withdrawn.
+fn held_after<'a>(
+    heap: &'a LocalHeap,
+    tracker: &mut CompactTracker<&'a LocalHeap>,
     rounds: usize,
-) -> Result<usize, Fail> {
+) -> Option<usize> {
+    let (announces, withdraws) = (announces(0, 0), withdraws(0, 0));
+    let round = [
+        In(102, &announces),
+        In(102, &KEEPALIVE),
+        In(102, &withdraws),
+    ];
     for _ in 0..rounds {
-        let announced = tracker.take(&In(102, &announces(0, 0)))?;
-        let kept = tracker.take(&In(102, &KEEPALIVE))?;
-        let withdrawn = tracker.take(&In(102, &withdraws(0, 0)))?;
-        assert!(rt; announced && kept && withdrawn);
-    }
-    Ok(heap.used())
-}
-
-#[test]
-fn what_is_held_does_not_grow(rt: HostRuntime) -> Result<(), Fail> {
-    let heap = LocalHeap::new(rt.alloc(), 1 << 14)?;
-    let mut tracker = opened(&rt, &heap)?;
-    let few = held_after(&rt, &heap, &mut tracker, 2)?;
-    let many = held_after(&rt, &heap, &mut tracker, 200)?;
-    assert!(rt; few == many, "{few} octets are held, then {many}");
-    assert!(rt; tracker.take(&Change(103, 6, 1))? && heap.used() == 0);
-    Ok(())
-}
-
-/// Announces 400 routes.
-fn announce_all(rt: &impl Abort, tracker: &mut CompactTracker<&LocalHeap>) -> Result<(), Fail> {
-    for high in 0..2 {
-        for low in 0..200 {
-            assert!(rt; tracker.take(&In(102, &announces(high, low)))?);
+        if !takes_all::<&LocalHeap, CompactTracker<&LocalHeap>>(tracker, &round) {
+            return None;
         }
     }
-    Ok(())
+    Some(heap.used())
+}
+
+/// Whether many rounds hold no more than few, and the end of the session holds nothing.
+fn holds_no_more<'a>(heap: &'a LocalHeap, tracker: &mut CompactTracker<&'a LocalHeap>) -> bool {
+    let is_open = opens(heap, tracker);
+    let few = held_after(heap, tracker, 2);
+    let many = held_after(heap, tracker, 200);
+    let is_down = tracker.take(&Change(103, 6, 1)) == Ok(true) && heap.used() == 0;
+    is_open && few.is_some() && few == many && is_down
+}
+
+/// The same, of a heap of its own.
+fn does_not_grow(alloc: Global) -> bool {
+    let Ok(heap) = LocalHeap::new(alloc, 1 << 14) else {
+        return false;
+    };
+    match started::<&LocalHeap, CompactTracker<&LocalHeap>>(&heap) {
+        Some(mut tracker) => holds_no_more(&heap, &mut tracker),
+        None => false,
+    }
 }
 
 #[test]
-fn a_record_copies_no_route(rt: HostRuntime) -> Result<(), Fail> {
-    let ample = LocalHeap::new(rt.alloc(), 1 << 20)?;
-    let heap = LocalHeap::new(rt.alloc(), 1 << 18)?;
-    let mut tracker = opened(&rt, &heap)?;
-    announce_all(&rt, &mut tracker)?;
-    let _ballast = ballast(&heap, &ample, 2048)?;
-    assert!(rt;
-        tracker.table().copy().is_err(),
-        "there is memory for a copy"
-    );
-    held_after(&rt, &heap, &mut tracker, 1)?;
-    assert!(rt; tracker.table().len() == 399);
-    Ok(())
+fn what_is_held_does_not_grow(rt: HostRuntime) {
+    assert!(rt; does_not_grow(rt.alloc()));
+}
+
+/// Whether a tracker takes 400 routes.
+fn takes_routes<A: Allocator + Copy>(tracker: &mut CompactTracker<A>) -> bool {
+    for high in 0..2 {
+        for low in 0..200 {
+            if tracker.take(&In(102, &announces(high, low))) != Ok(true) {
+                return false;
+            }
+        }
+    }
+    true
+}
+
+/// Whether a tracker of 400 routes takes a round, and memory isn't enough for a copy of them.
+fn copies_no_route<'a>(heap: &'a LocalHeap, tracker: &mut CompactTracker<&'a LocalHeap>) -> bool {
+    tracker.table().copy().is_err()
+        && held_after(heap, tracker, 1).is_some()
+        && tracker.table().len() == 399
+}
+
+/// The same with 2048 octets left.
+fn copies_none_beside<'a>(
+    heap: &'a LocalHeap,
+    ample: &'a LocalHeap,
+    tracker: &mut CompactTracker<&'a LocalHeap>,
+) -> Option<bool> {
+    let ballast = ballast(heap, ample, 2048).ok()?;
+    let is_right = copies_no_route(heap, tracker);
+    drop(ballast);
+    Some(is_right)
+}
+
+/// The same of a tracker of its own.
+fn is_uncopied(heap: &LocalHeap, ample: &LocalHeap) -> Option<bool> {
+    let mut tracker = started::<&LocalHeap, CompactTracker<&LocalHeap>>(heap)?;
+    if opens(heap, &mut tracker) && takes_routes(&mut tracker) {
+        copies_none_beside(heap, ample, &mut tracker)
+    } else {
+        None
+    }
+}
+
+/// The same of heaps of its own.
+fn is_uncopied_with(alloc: Global) -> Option<bool> {
+    let ample = LocalHeap::new(alloc, 1 << 20).ok()?;
+    let heap = LocalHeap::new(alloc, 1 << 18).ok()?;
+    is_uncopied(&heap, &ample)
+}
+
+#[test]
+fn a_record_copies_no_route(rt: HostRuntime) {
+    assert!(rt; is_uncopied_with(rt.alloc()) == Some(true));
 }

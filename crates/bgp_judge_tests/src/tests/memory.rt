@@ -1,8 +1,9 @@
-//! Memory: enough of it, and growths that are refused.
+//! Memory: enough of it, and growths that are refused. (What a tracker does then is asked by
+//! `bgp_compact_tests`.)
 
 use super::sessions::is_verdict;
 use super::*;
-use bgp_judge::{OpenedSteps, Tracker, judge_with, openings};
+use bgp_judge::{OpenedSteps, judge_with, openings};
 use bgp_machine::{Head, HoldTimer};
 use bgp_open::{negotiate, read_open};
 use bgp_wire::vectors::{ANNOUNCES_10, KEEPALIVE, MP_REACH_TRANSITIVE, OPEN_A, OPEN_B};
@@ -61,37 +62,6 @@ fn opens_two<A: Allocator + Copy>(alloc: A) -> Option<bool> {
     }
 }
 
-/// A tracker of router A.
-fn started<A: Allocator + Copy>(alloc: A) -> Option<PlainTracker<A>> {
-    PlainTracker::start(alloc, &router_a(false)?).ok()
-}
-
-/// Whether the tracker takes each of the records.
-fn takes_all<A: Allocator + Copy>(tracker: &mut PlainTracker<A>, records: &[Record<'_>]) -> bool {
-    for shown in records {
-        if tracker.take(shown) != Ok(true) {
-            return false;
-        }
-    }
-    true
-}
-
-/// Whether a tracker answers these ends.
-fn has_ends<A: Allocator + Copy>(tracker: &PlainTracker<A>, expected: &[Expected<'_>]) -> bool {
-    match tracker.ends() {
-        Ok(ends) => are_ends(ends.as_slice(), expected),
-        Err(_) => false,
-    }
-}
-
-/// Whether a tracker takes the session and answers its ends.
-fn is_tracked<A: Allocator + Copy>(alloc: A) -> bool {
-    match started(alloc) {
-        Some(mut tracker) => takes_all(&mut tracker, &TWO_ENDS) && has_ends(&tracker, &ENDS),
-        None => false,
-    }
-}
-
 /// Whether a capture of the session is judged so, with a reader that is lent.
 fn is_told_with(alloc: Global, config: &Config, capture: Vec<u8>) -> bool {
     let mut source = MemSource::new(capture);
@@ -111,7 +81,7 @@ fn are_all_right(alloc: Global) -> bool {
         Some(capture) => is_told_with(alloc, &config, capture),
         None => false,
     };
-    are_told && is_tracked(alloc) && is_verdict(alloc, false, &TWO_ENDS, &Answer::Yes(&ENDS))
+    are_told && is_verdict(alloc, false, &TWO_ENDS, &Answer::Yes(&ENDS))
 }
 
 #[test]
@@ -133,33 +103,6 @@ fn refused_steps_are_no_steps(rt: HostRuntime) {
         assert!(rt; answer.is_some(), "{step}");
         refused = refused || answer == Some(false);
         done = done || answer == Some(true);
-    }
-    assert!(rt; refused && done);
-}
-
-/// Whether the records are judged with this memory: `None` where the verdict is wrong. With less
-/// there is no verdict.
-fn are_judged<A: Allocator + Copy>(alloc: A) -> Option<bool> {
-    match judge_records::<A, PlainTracker<A>>(alloc, &router_a(false)?, &TWO_ENDS) {
-        Ok(verdict) => is(&verdict, &Answer::Yes(&ENDS)).then_some(true),
-        Err(_) => Some(false),
-    }
-}
-
-/// The same with a heap of this size.
-fn are_judged_with(alloc: Global, size: usize) -> Option<bool> {
-    let heap = LocalHeap::new(alloc, size).ok()?;
-    are_judged(&heap)
-}
-
-#[test]
-fn refused_records_have_no_verdict(rt: HostRuntime) {
-    let (mut refused, mut done) = (false, false);
-    for step in 1..1024 {
-        let answer = are_judged_with(rt.alloc(), 16 * step);
-        assert!(rt; answer.is_some(), "{step}");
-        done = answer == Some(true);
-        refused = refused || !done;
     }
     assert!(rt; refused && done);
 }
@@ -227,79 +170,4 @@ fn a_refused_growth_gives_no_verdict(rt: HostRuntime) {
     }
     // A growth was refused behind the first record, and none to the end.
     assert!(rt; last.is_none() && places > 2, "{places}");
-}
-
-/// Takes all but so many octets of a heap, in small pieces, so that what is left lies together.
-fn ballast<'a>(
-    heap: &'a LocalHeap,
-    ample: &'a LocalHeap,
-    left: usize,
-) -> Result<Vec<Vec<u8, &'a LocalHeap>, &'a LocalHeap>, AllocError> {
-    let mut pieces = Vec::new(ample);
-    for _ in 0..heap.size() / 16 {
-        if heap.free() <= left {
-            break;
-        }
-        let Ok(piece) = Vec::with_capacity(heap, 16) else {
-            break;
-        };
-        pieces.push(piece)?;
-    }
-    Ok(pieces)
-}
-
-/// Whether a record is taken with so many octets left.
-fn takes_beside<'a>(
-    heap: &'a LocalHeap,
-    ample: &'a LocalHeap,
-    tracker: &mut PlainTracker<&'a LocalHeap>,
-    left: usize,
-    shown: &Record<'_>,
-) -> Option<bool> {
-    let ballast = ballast(heap, ample, left).ok()?;
-    let is_taken = tracker.take(shown).is_ok();
-    drop(ballast);
-    Some(is_taken)
-}
-
-/// Whether the last record was taken with so many octets left: `None` where what follows is wrong.
-/// Refused it is taken again, with memory, and the ends are the same.
-fn takes_last<'a>(
-    heap: &'a LocalHeap,
-    ample: &'a LocalHeap,
-    tracker: &mut PlainTracker<&'a LocalHeap>,
-    left: usize,
-) -> Option<bool> {
-    let (last, others) = TWO_ENDS.split_last()?;
-    if !takes_all(tracker, others) {
-        return None;
-    }
-    let is_taken = takes_beside(heap, ample, tracker, left, last)?;
-    let is_kept = is_taken || has_ends(tracker, &ENDS[..1]) && tracker.take(last) == Ok(true);
-    (is_kept && has_ends(tracker, &ENDS)).then_some(is_taken)
-}
-
-/// The same of a tracker of its own.
-fn takes(heap: &LocalHeap, ample: &LocalHeap, left: usize) -> Option<bool> {
-    let mut tracker = started(heap)?;
-    takes_last(heap, ample, &mut tracker, left)
-}
-
-/// The same of heaps of its own.
-fn takes_with(alloc: Global, left: usize) -> Option<bool> {
-    let ample = LocalHeap::new(alloc, 1 << 16).ok()?;
-    let heap = LocalHeap::new(alloc, 1 << 14).ok()?;
-    takes(&heap, &ample, left)
-}
-
-#[test]
-fn a_refused_record_can_be_taken_again(rt: HostRuntime) {
-    let (mut refused, mut done) = (false, false);
-    for step in 0..128 {
-        let answer = takes_with(rt.alloc(), 32 * step);
-        assert!(rt; answer.is_some(), "{step}");
-        refused = refused || answer == Some(false);
-        done = done || answer == Some(true);
-    }
-    assert!(rt; refused && done);
 }

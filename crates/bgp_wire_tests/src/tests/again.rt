@@ -1,0 +1,44 @@
+//! A piece that is refused can be fed again.
+
+use bgp_wire::vectors::*;
+use bgp_wire::*;
+use linked_list_allocator::LocalHeap;
+use std::alloc::Global;
+
+/// Whether a splitter holds these two messages, and no more.
+fn holds_both(frames: &mut Frames<&LocalHeap>) -> bool {
+    frames.next() == Next::Frame(MessageType::Keepalive, &KEEPALIVE)
+        && frames.next() == Next::Frame(MessageType::Update, &ANNOUNCES_2001_DB8)
+        && frames.next() == Next::More
+        && frames.len() == 0
+}
+
+/// Whether an UPDATE is refused to a splitter that holds a KEEPALIVE, with so many octets of its
+/// heap left: `None` where what it holds then is wrong. Refused, it is fed again, with memory.
+fn is_refused(heap: &LocalHeap, left: usize) -> Option<bool> {
+    let mut frames = Frames::new(heap, Limit::Plain);
+    frames.feed(&KEEPALIVE).ok()?;
+    let ballast: Result<Vec<u8, _>, _> = Vec::with_capacity(heap, heap.free().saturating_sub(left));
+    let is_refused = frames.feed(&ANNOUNCES_2001_DB8).is_err();
+    drop(ballast);
+    let is_fed = !is_refused || frames.len() == 19 && frames.feed(&ANNOUNCES_2001_DB8).is_ok();
+    (is_fed && holds_both(&mut frames)).then_some(is_refused)
+}
+
+/// The same of a heap of its own.
+fn is_refused_with(alloc: Global, left: usize) -> Option<bool> {
+    let heap = LocalHeap::new(alloc, 1 << 10).ok()?;
+    is_refused(&heap, left)
+}
+
+#[test]
+fn a_refused_piece_can_be_fed_again(rt: HostRuntime) {
+    let (mut refused, mut done) = (false, false);
+    for step in 0..32 {
+        let answer = is_refused_with(rt.alloc(), 16 * step);
+        assert!(rt; answer.is_some(), "{step}");
+        done = answer == Some(false);
+        refused = refused || !done;
+    }
+    assert!(rt; refused && done);
+}
