@@ -108,7 +108,7 @@ fn open<R: Files>(rt: &R, file: &str) -> io::Result<R::File> {
 }
 
 /// Tells what there is to tell of a command's end, and answers its exit status.
-fn tell<R: Eprint>(rt: &R, outcome: &Outcome<'_>) -> u8 {
+pub fn tell<R: Eprint>(rt: &R, outcome: &Outcome<'_>) -> u8 {
     if let Some(note) = outcome.note {
         let _ = eprintln!(rt; "bgp: {note}");
     }

@@ -3,20 +3,26 @@
 #![tactic(auto)]
 
 mod devices;
+mod speaker;
+mod watched;
 
 use bgp_tool::{Command, Status, command_line, words_status};
 use clap::Error;
+use std::net::Net;
 use std::process::ExitCode;
-use std::rt::{Env, Files};
+use std::rt::{Clock, Env, Files};
 use std::{env, io};
 
 fn main(rt: HostRuntime) -> ExitCode {
-    ExitCode::from(run(&rt))
+    ExitCode::from(run(&rt, &rt.stderr()))
 }
 
 /// Answers the exit status on every path: an `Err` out of `main` would be status 1, which is the
 /// answer no of a judgement.
-fn run<R: Files + Env + Input + Print + Eprint + AllocGlobal>(rt: &R) -> u8 {
+fn run<R: Files + Net + Clock + Env + Input + Print + Eprint + AllocGlobal, E: Print>(
+    rt: &R,
+    errors: &E,
+) -> u8 {
     let words = match words(rt) {
         Ok(words) => words,
         Err(error) => return unread(rt, &error).code(),
@@ -25,6 +31,14 @@ fn run<R: Files + Env + Input + Print + Eprint + AllocGlobal>(rt: &R) -> u8 {
         Ok(Command::Decode { file }) => devices::decode(rt, file),
         Ok(Command::Capture { session, file }) => devices::decode_capture(rt, &session, file),
         Ok(Command::Judge { config, file }) => devices::judge(rt, &config, file),
+        Ok(
+            Command::Speak {
+                config,
+                speaking,
+                file,
+            },
+        ) => speaker::speak(rt, errors, &config, &speaking, file),
+        Ok(Command::Pair { file }) => speaker::pair(rt, file),
         Err(error) => told(rt, &error).code(),
     }
 }
