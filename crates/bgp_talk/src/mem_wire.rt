@@ -106,7 +106,8 @@ impl<'a, A: Allocator> MemWire<'a, A> {
 
     /// The same wire, which takes at most so many octets in each write.
     pub fn in_pieces_of(mut self, most: NonZeroUsize) -> MemWire<'a, A>
-        ensures { wire_state result ≡ record (wire_state self.entry) { most = non_zero_usize_get most } }
+        ensures { wire_state result
+            ≡ record (wire_state self.entry) { most = non_zero_usize_get most } }
     {
         self.most = most;
         self

@@ -4,7 +4,8 @@ ghost use Rattle.std.specs.Prelude.{◌≡◌, ℕ, ◌<◌, ◌≤◌, List, []
 ghost use Rattle.std.specs.Prelude.{OnErr, is_ok};
 ghost use Rattle.mrt.specs.Failures.{failures_after};
 ghost use Rattle.bgp_talk.specs.Account.{Telling, Asked, Read, Clock, Wrote};
-ghost use Rattle.bgp_talk.specs.Account.{connection_after, read_told, failures_after_read, IsWithin};
+ghost use Rattle.bgp_talk.specs.Account.{connection_after, failures_after_read};
+ghost use Rattle.bgp_talk.specs.Account.{read_told, IsWithin};
 ghost use Rattle.bgp_talk.specs.declared.wire.Connection.TheVariants.{NotAsked, Stands};
 
 use bgp_prefix::Seconds;
