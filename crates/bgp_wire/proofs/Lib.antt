@@ -6,6 +6,7 @@ pub mod OneFraming
 pub mod EachFraming
 pub mod WholeFrame
 pub mod WrittenMessage
+pub mod GreatestLength
 pub mod WholeMessages
 pub mod EachOctet
 pub mod HeaderAndBody

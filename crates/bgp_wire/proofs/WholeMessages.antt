@@ -4,13 +4,13 @@ use Rattle.std.proofs.lemmas.List.{length-drop}
 use Rattle.std.proofs.lemmas.Bool.{cases_lt}
 use Rattle.byteorder.specs.Endian.{big_bytes}
 use Rattle.bgp_wire.specs.declared.header.Limit.{Limit}
-use Rattle.bgp_wire.specs.declared.header.Limit.TheVariants.{Plain}
 use Rattle.bgp_wire.specs.declared.header.MessageType.{MessageType}
 use Rattle.bgp_wire.specs.declared.header.MessageType.TheVariants.{Open, Update, Notification, Keepalive}
-use Rattle.bgp_wire.specs.Header.{IsBadLength, IsBadType, header_of, length_of, type_of}
+use Rattle.bgp_wire.specs.Header.{IsBadLength, IsBadType, greatest_length, header_of, length_of, type_of}
 use Rattle.bgp_wire.specs.Message.{IsMessage, IsKeepalive, body_of, message_octets}
 use Rattle.bgp_wire.specs.Verdict.{type_code}
 use Rattle.bgp_wire.specs.Framing.{IsFrame}
+use Rattle.bgp_wire.proofs.GreatestLength.{allows_4096, fits_two_octets}
 use Rattle.bgp_wire.proofs.WholeFrame.{frame_is_message, type_of_frame}
 use Rattle.bgp_wire.proofs.WrittenMessage.{written_message, body_of-message_octets, length-message_octets}
 
@@ -38,21 +38,24 @@ known_type Notification bad = bad.2 refl
 known_type Keepalive bad = bad.3 refl
 
 pub keepalive_is_frame : (limit : Limit) (octets : List ℕ) → IsKeepalive octets → IsFrame limit octets
-keepalive_is_frame Plain octets keepalive =
+keepalive_is_frame limit octets keepalive =
     let header = keepalive.0.header in
     let body : length (body_of octets) ≡ 0 = rw keepalive.1 refl in
     let exact : length octets ≡ 19 = omega (arith, length-drop 19 octets) in
-    message_is_frame Plain 4 octets keepalive.0 (λ bad. bad.3 refl) (λ bad. elim bad [
+    let room = allows_4096 limit 4 in
+    message_is_frame limit 4 octets keepalive.0 (λ bad. bad.3 refl) (λ bad. elim bad [
       | inl few ↦ absurd (omega arith)
       | inr more ↦ elim more [ inl many ↦ absurd (omega arith) | inr other ↦ other.1 exact ]
     ])
 
 -- a Length that isn't bad is one of two octets
 fits_field : (limit : Limit) (kind count : ℕ) → (IsBadLength limit kind count → ⊥) → count < 2 ^ 16
-fits_field Plain kind count fits = elim (cases_lt 4096 count) [
-  | inl many ↦ absurd (fits (inr (inl many)))
-  | inr few ↦ omega arith
-]
+fits_field limit kind count fits =
+    let short = fits_two_octets limit kind in
+    elim (cases_lt (greatest_length limit kind) count) [
+      | inl many ↦ absurd (fits (inr (inl many)))
+      | inr few ↦ omega arith
+    ]
 
 pub written_is_frame : (limit : Limit) (kind : MessageType) (body : List ℕ)
     → (IsBadLength limit (type_code kind) (19 + length body) → ⊥)

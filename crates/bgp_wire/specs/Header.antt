@@ -1,9 +1,10 @@
 -- The message header (RFC 4271, 4.1), and what can be wrong with it (6.1).
-use Rattle.std.specs.Prelude.{◌≡◌, ◌≢◌, ◌<◌, ◌==◌, ◌⊎◌, if◌then◌else◌, ℕ, List, [], ◌∷◌, ◌++◌}
+use Rattle.std.specs.Prelude.{◌≡◌, ◌≢◌, ◌<◌, ◌==◌, ◌||◌, ◌⊎◌, if◌then◌else◌, ℕ, List, [], ◌∷◌}
+use Rattle.std.specs.Prelude.{Bool, ◌++◌}
 use Rattle.std.specs.Prelude.{All, take, drop, replicate, slice_index}
 use Rattle.byteorder.specs.Endian.{big_number, big_bytes}
 use Rattle.bgp_wire.specs.declared.header.Limit.{Limit}
-use Rattle.bgp_wire.specs.declared.header.Limit.TheVariants.{Plain}
+use Rattle.bgp_wire.specs.declared.header.Limit.TheVariants.{Plain, Extended}
 
 -- the header at the front of a message's octets
 abbrev pub header_of : List ℕ → List ℕ
@@ -28,9 +29,16 @@ abbrev pub least_length : ℕ → ℕ
 least_length kind =
     if kind == 1 then 29 else if kind == 2 then 23 else if kind == 3 then 21 else 19
 
--- the greatest Length of a message of a type
+-- The greatest Length of a message of a type (4.1). As extended messages UPDATE and NOTIFICATION may
+-- have all that the field can say; OPEN, KEEPALIVE and types that are unknown have the same as
+-- before (RFC 8654, 4; of the unknown ones it says nothing: profile).
 abbrev pub greatest_length : Limit → ℕ → ℕ
 greatest_length Plain kind = 4096
+greatest_length Extended kind = if (kind == 2) || (kind == 3) then 65535 else 4096
+
+-- the limit where extended messages may be used, and where they may not
+abbrev pub limit_with : Bool → Limit
+limit_with extended = if extended then Extended else Plain
 
 -- the marker is what it has to be, all 255
 abbrev pub IsSynchronized : List ℕ → Type 0

@@ -12,7 +12,7 @@ ghost use Rattle.std.specs.Prelude.{IfSome, IfNone};
 ghost use Rattle.std.specs.Prelude.{length, vec_len, vec_capacity};
 ghost use Rattle.byteorder.specs.Endian.{big_bytes};
 ghost use Rattle.bgp_wire.specs.Header.{header_of, header_octets, length_of, type_of};
-ghost use Rattle.bgp_wire.specs.Header.{least_length, greatest_length};
+ghost use Rattle.bgp_wire.specs.Header.{least_length, greatest_length, limit_with};
 ghost use Rattle.bgp_wire.specs.Header.{IsSynchronized, IsBadLength, IsBadType};
 ghost use Rattle.bgp_wire.specs.Verdict.{type_code, Names, IsEmpty, AreEachFault, IsEachFault};
 ghost use Rattle.bgp_wire.specs.Verdict.{IsVerdict};
@@ -37,15 +37,34 @@ const MARKER_OCTET: u8 = 255;
 pub enum Limit {
     /// At most 4096 octets, of every type (RFC 4271, 4.1).
     Plain,
+    /// At most 65535 octets of an UPDATE or a NOTIFICATION, and 4096 of every other type, also of
+    /// an unknown one (RFC 8654, 4).
+    Extended,
 }
 
 impl Limit {
+    /// The limit of messages that may be extended ones (RFC 8654, 4), or may not. Those that are
+    /// received may where the local system offers that, those that are sent where the peer does.
+    pub fn with_extended(extended: bool) -> Limit
+        ensures { result ≡ limit_with extended }
+    {
+        if extended {
+            Limit::Extended
+        } else {
+            Limit::Plain
+        }
+    }
+
     /// The greatest Length of a message of this type.
     pub fn greatest_length(self, kind: u8) -> u16
         ensures { result ≡ greatest_length self kind }
     {
         match self {
             Limit::Plain => 4096,
+            Limit::Extended => match kind {
+                2 | 3 => 65535, // UPDATE and NOTIFICATION
+                _ => 4096,
+            },
         }
     }
 }

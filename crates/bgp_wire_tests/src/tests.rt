@@ -1,6 +1,8 @@
-//! Outside vectors: the limits of RFC 4271, 4 and 6.1, and streams of the shared messages.
+//! Outside vectors: the limits of RFC 4271, 4 and 6.1, and of RFC 8654, 4, and streams of the
+//! shared messages.
 
 mod again;
+mod extended;
 mod frames;
 mod headers;
 mod memory;

@@ -2,36 +2,85 @@
 
 use super::*;
 
-/// Types, Lengths that they can have, and some that they can't.
-static LENGTHS: [(MessageType, &[u16], &[u16]); 4] = [
-    (MessageType::Open, &[29, 4096], &[0, 28, 4097, u16::MAX]),
-    (MessageType::Update, &[23, 4096], &[0, 22, 4097, u16::MAX]),
+/// A limit and a type, Lengths that such a message can have, and some that it can't (RFC 4271, 4.1
+/// to 4.5; RFC 8654, 4: all but OPEN and KEEPALIVE may be extended).
+type LengthsRow = (Limit, MessageType, &'static [u16], &'static [u16]);
+
+static LENGTHS: [LengthsRow; 8] = [
     (
+        Limit::Plain,
+        MessageType::Open,
+        &[29, 4096],
+        &[0, 28, 4097, u16::MAX],
+    ),
+    (
+        Limit::Plain,
+        MessageType::Update,
+        &[23, 4096],
+        &[0, 22, 4097, u16::MAX],
+    ),
+    (
+        Limit::Plain,
         MessageType::Notification,
         &[21, 4096],
         &[0, 20, 4097, u16::MAX],
     ),
-    (MessageType::Keepalive, &[19], &[0, 18, 20, u16::MAX]),
+    (
+        Limit::Plain,
+        MessageType::Keepalive,
+        &[19],
+        &[0, 18, 20, u16::MAX],
+    ),
+    (
+        Limit::Extended,
+        MessageType::Open,
+        &[29, 4096],
+        &[0, 28, 4097, u16::MAX],
+    ),
+    (
+        Limit::Extended,
+        MessageType::Update,
+        &[23, 4096, 4097, u16::MAX],
+        &[0, 22],
+    ),
+    (
+        Limit::Extended,
+        MessageType::Notification,
+        &[21, 4096, 4097, u16::MAX],
+        &[0, 20],
+    ),
+    (
+        Limit::Extended,
+        MessageType::Keepalive,
+        &[19],
+        &[0, 18, 20, 4096, 4097, u16::MAX],
+    ),
 ];
 
 /// Whether a header of this type and Length is judged as whole, or its Length as bad.
-fn is_judged(kind: MessageType, length: u16, is_whole: bool) -> bool {
+fn is_judged(limit: Limit, kind: MessageType, length: u16, is_whole: bool) -> bool {
     let wanted = if is_whole {
         HeaderVerdict::Whole(length, kind)
     } else {
         HeaderVerdict::Faulty(bad_length(length))
     };
-    check_header(&header(length, kind.code()), Limit::Plain) == wanted
+    check_header(&header(length, kind.code()), limit) == wanted
 }
 
 #[test]
 fn each_type_has_its_least_and_its_greatest_length(rt: HostRuntime) {
-    for (kind, good, bad) in &LENGTHS {
+    for (limit, kind, good, bad) in &LENGTHS {
         for length in *good {
-            assert!(rt; is_judged(*kind, *length, true), "{length} is a Length");
+            assert!(rt;
+                is_judged(*limit, *kind, *length, true),
+                "{length} is a Length"
+            );
         }
         for length in *bad {
-            assert!(rt; is_judged(*kind, *length, false), "{length} is no Length");
+            assert!(rt;
+                is_judged(*limit, *kind, *length, false),
+                "{length} is no Length"
+            );
         }
     }
 }

@@ -1,0 +1,89 @@
+//! Extended messages (RFC 8654, 4): UPDATE and NOTIFICATION may have 65535 octets, no other type.
+
+use super::*;
+use std::test::Fail;
+
+#[test]
+fn messages_may_be_extended_or_not(rt: HostRuntime) {
+    let (may, may_not) = (Limit::with_extended(true), Limit::with_extended(false));
+    assert!(rt; may == Limit::Extended && may_not == Limit::Plain);
+}
+
+/// A limit, a Length, and whether it is a bad one of a message of a type that isn't known.
+static UNKNOWN: [(Limit, u16, bool); 6] = [
+    (Limit::Plain, 4096, false),
+    (Limit::Plain, 4097, true),
+    (Limit::Plain, 65535, true),
+    (Limit::Extended, 4096, false),
+    (Limit::Extended, 4097, true),
+    (Limit::Extended, 65535, true),
+];
+
+/// Whether a header of a type that isn't known has the faults of the row.
+fn has_faults(code: u8, (limit, length, is_bad): &(Limit, u16, bool)) -> bool {
+    let faults = HeaderFaults {
+        marker: false,
+        length: is_bad.then_some(*length),
+        kind: Some(code),
+    };
+    check_header(&header(*length, code), *limit) == HeaderVerdict::Faulty(faults)
+}
+
+#[test]
+fn a_type_that_is_not_known_is_never_extended(rt: HostRuntime) {
+    for row in &UNKNOWN {
+        for code in &[0u8, 5, 6, 255] {
+            assert!(rt; has_faults(*code, row), "type {code}: {row:?}");
+        }
+    }
+}
+
+/// A limit, a type, a Length, and whether that many octets are a frame.
+static LONG: [(Limit, MessageType, u16, bool); 12] = [
+    (Limit::Plain, MessageType::Update, 4096, true),
+    (Limit::Plain, MessageType::Update, 4097, false),
+    (Limit::Plain, MessageType::Update, 65535, false),
+    (Limit::Plain, MessageType::Notification, 4097, false),
+    (Limit::Extended, MessageType::Update, 4096, true),
+    (Limit::Extended, MessageType::Update, 4097, true),
+    (Limit::Extended, MessageType::Update, 65535, true),
+    (Limit::Extended, MessageType::Notification, 4097, true),
+    (Limit::Extended, MessageType::Notification, 65535, true),
+    (Limit::Extended, MessageType::Open, 4096, true),
+    (Limit::Extended, MessageType::Open, 4097, false),
+    (Limit::Extended, MessageType::Keepalive, 4097, false),
+];
+
+/// A header of this type and Length, and zeros until there are so many octets.
+fn message(alloc: Global, kind: MessageType, length: u16) -> Result<Vec<u8>, AllocError> {
+    let mut octets = Vec::new(alloc);
+    octets.extend_from_slice(&header(length, kind.code()))?;
+    octets.resize(usize::from(length), 0)?;
+    Ok(octets)
+}
+
+/// Whether the octets of the row are a frame and come as one, or else their header as a fault.
+fn is_framed(
+    frames: &mut Frames,
+    octets: &[u8],
+    (limit, kind, length, is_whole): &(Limit, MessageType, u16, bool),
+) -> Result<bool, AllocError> {
+    frames.feed(octets)?;
+    let wanted = if *is_whole {
+        Next::Frame(*kind, octets)
+    } else {
+        Next::Fault(bad_length(*length), &header(*length, kind.code()))
+    };
+    Ok(frames.next() == wanted && is_frame(*limit, octets) == *is_whole)
+}
+
+#[test]
+fn an_extended_message_is_one_frame(rt: HostRuntime) -> Result<(), Fail> {
+    for row in &LONG {
+        let octets = message(rt.alloc(), row.1, row.2)?;
+        let mut frames = Frames::new(rt.alloc(), row.0);
+        let answer = is_framed(&mut frames, &octets, row);
+        assert!(rt; matches!(answer, Ok(true)), "{row:?}");
+    }
+    Ok(())
+}
