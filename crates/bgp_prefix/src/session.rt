@@ -17,4 +17,7 @@ pub struct Session {
     pub local: Address,
     /// Whether the local system may have offered route refresh (RFC 2918).
     pub refresh: bool,
+    /// Whether the local system offers extended messages (RFC 8654): then those that it receives
+    /// may be longer, in every state (profile).
+    pub extended: bool,
 }

@@ -86,6 +86,7 @@ fn config_of(local_as: u32, local: u32, peer_as: u32, peer: u32) -> Config
             peer: Address::V4(peer),
             local: Address::V4(local),
             refresh: false,
+            extended: false,
         },
     };
     Config { parts }

@@ -39,6 +39,7 @@ fn link_of(rt: &impl Abort, families: Families, as4: bool, internal: bool) -> Li
         peer: Address::V4(0xc000_0202),
         local: Address::V4(0xc000_0201),
         refresh: false,
+        extended: false,
     };
     let parts = ConfigParts {
         local_as: if internal { 65002 } else { 65001 },

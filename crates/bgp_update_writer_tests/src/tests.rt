@@ -29,6 +29,7 @@ const PARTS_A: ConfigParts = ConfigParts {
         peer: Address::V4(0xc000_0202),
         local: Address::V4(0xc000_0201),
         refresh: false,
+        extended: false,
     },
 };
 

@@ -95,6 +95,7 @@ pub(crate) fn decode_of<'a>(decode: &ArgMatches<'a>) -> Result<Command<'a>, Misf
             peer,
             local,
             refresh: false,
+            extended: false,
         };
         return Ok(Command::Capture { session, file });
     }

@@ -117,5 +117,6 @@ fn session_of<'a>(matches: &ArgMatches<'a>, refresh: bool) -> Result<Session, Mi
         peer: address_of(matches, "peer")?,
         local: address_of(matches, "local")?,
         refresh,
+        extended: false,
     })
 }

@@ -113,6 +113,7 @@ fn parts_text(alloc: Global, parts: &ConfigParts) -> Result<String, AllocError> 
         peer,
         local,
         refresh,
+        ..
     } = session;
     let (id, Families { v4, v6 }) = (Address::V4(local_id), families);
     let own = format!(in alloc; "local-as {local_as} peer-as {peer_as} local-id {id}")?;

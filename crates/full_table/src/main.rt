@@ -134,6 +134,7 @@ fn link() -> io::Result<Link> {
             peer: Address::V4(0xc000_0202),
             local: Address::V4(0xc000_0201),
             refresh: false,
+            extended: false,
         },
     });
     let (Some(config), Ok(open)) = (config, read_open(&OPEN_B)) else {

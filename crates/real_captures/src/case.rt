@@ -29,6 +29,7 @@ pub(crate) fn read_case(alloc: Global, block: &str) -> io::Result<Case> {
             peer: Address::V4(0),
             local: Address::V4(0),
             refresh: false,
+            extended: false,
         },
         pieces: Vec::new(alloc),
         status: 0,

@@ -63,6 +63,7 @@ fn session_of(name: &str) -> Session {
         peer,
         local,
         refresh: false,
+        extended: false,
     }
 }
 

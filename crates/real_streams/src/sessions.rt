@@ -78,6 +78,7 @@ fn config_of(local_as: u32, peer_as: u32, as4: bool) -> Option<Config> {
             peer: Address::V4(0xc000_0202),
             local: Address::V4(0xc000_0201),
             refresh: false,
+            extended: false,
         },
     })
 }

@@ -19,6 +19,7 @@ pub(crate) const SESSION: Session = Session {
     peer: Address::V4(PEER_ADDRESS),
     local: Address::V4(0xc000_0201),
     refresh: false,
+    extended: false,
 };
 
 /// A system's configuration: its AS number and BGP Identifier, and its peer's AS number.

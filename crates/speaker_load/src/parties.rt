@@ -41,6 +41,7 @@ pub(crate) fn config_of(local_as: u32) -> io::Result<Config> {
             peer: Address::V4(PEER_ADDRESS),
             local: Address::V4(HOP_4),
             refresh: false,
+            extended: false,
         },
     });
     match config {

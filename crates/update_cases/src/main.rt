@@ -123,6 +123,7 @@ fn link_of(line: &str) -> Option<Link> {
             peer: Address::V4(0xc000_0202),
             local: Address::V4(0xc000_0201),
             refresh: false,
+            extended: false,
         },
     };
     let mut open = OPEN;

@@ -103,6 +103,7 @@ fn link() -> Option<Link> {
             peer: Address::V4(0xc000_0202),
             local: Address::V4(0xc000_0201),
             refresh: false,
+            extended: false,
         },
     })?;
     let open = read_open(&OPEN_B).ok()?;

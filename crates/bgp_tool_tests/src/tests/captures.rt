@@ -15,6 +15,7 @@ pub(super) const SESSION: Session = Session {
     peer: PEER,
     local: LOCAL,
     refresh: false,
+    extended: false,
 };
 
 /// A change from Idle to Connect at second 100.
@@ -121,6 +122,7 @@ pub(super) const EXCHANGED: Session = Session {
     peer: LOCAL,
     local: PEER,
     refresh: false,
+    extended: false,
 };
 
 /// The ends of [`CHANGE`].

@@ -10,6 +10,7 @@ pub(crate) const SESSION: Session = Session {
     peer: Address::V4(0xc000_0202),
     local: Address::V4(0xc000_0201),
     refresh: true,
+    extended: false,
 };
 
 /// A change from Idle to Connect at second 100.
@@ -195,6 +196,7 @@ fn keeps_the_first_other(reader: &mut Reader, source: &mut MemSource) -> bool {
         peer: SESSION.local,
         local: SESSION.peer,
         refresh: false,
+        extended: false,
     };
     let ends = Endpoints {
         peer: SESSION.peer,

@@ -22,6 +22,7 @@ const OVER_IPV6: Session = Session {
     peer: Address::V6(0x2001_0db8_0000_0000_0000_0000_0000_0002),
     local: Address::V6(0x2001_0db8_0000_0000_0000_0000_0000_0001),
     refresh: false,
+    extended: false,
 };
 
 /// Whether that is answered to a record that can be written.
