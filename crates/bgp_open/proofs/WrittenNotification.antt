@@ -1,12 +1,12 @@
 -- A NOTIFICATION that is written is a whole one of what it was given, and a frame.
 use Rattle.std.proofs.Common.{◌≡◌, ℕ, ◌+◌, ◌<◌, ◌≤◌, List, [], ◌∷◌, ◌++◌, length, drop, arith, append_assoc, inl, inr}
 use Rattle.bgp_wire.specs.declared.header.Limit.{Limit}
-use Rattle.bgp_wire.specs.declared.header.Limit.TheVariants.{Plain}
 use Rattle.bgp_wire.specs.declared.header.MessageType.TheVariants.{Notification}
 use Rattle.bgp_wire.specs.Header.{header_octets}
 use Rattle.bgp_wire.specs.Message.{message_octets}
 use Rattle.bgp_wire.specs.Framing.{IsFrame}
 use Rattle.bgp_wire.proofs.WrittenMessage.{appended, written_message, body_of-message_octets}
+use Rattle.bgp_wire.proofs.GreatestLength.{allows_4096}
 use Rattle.bgp_wire.proofs.WholeMessages.{written_is_frame}
 use Rattle.bgp_open.specs.Notification.{IsNotification}
 use Rattle.bgp_open.specs.Written.{notification_octets}
@@ -32,8 +32,9 @@ appended_reads_back old new code subcode detail is fits = rw (appended old new _
 
 pub notification_frame : (code subcode : ℕ) (detail : List ℕ) → length detail ≤ 4075
     → (limit : Limit) → IsFrame limit (notification_octets code subcode detail)
-notification_frame code subcode detail fits Plain =
-    (written_is_frame Plain Notification (code ∷ subcode ∷ detail) (λ bad. elim bad [
+notification_frame code subcode detail fits limit =
+    let room = allows_4096 limit 3 in
+    (written_is_frame limit Notification (code ∷ subcode ∷ detail) (λ bad. elim bad [
       | inl few ↦ absurd (omega arith)
       | inr more ↦ elim more [ inl many ↦ absurd (omega arith) | inr keepalive ↦ absurd (omega arith) ]
     ])).0

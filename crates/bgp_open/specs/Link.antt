@@ -5,16 +5,18 @@ use Rattle.bgp_open.specs.declared.config.Config.{Config}
 use Rattle.bgp_open.specs.declared.link.Link.{Link}
 use Rattle.bgp_open.specs.Config.{is_internal}
 use Rattle.bgp_open.specs.Families.{intersection}
-use Rattle.bgp_open.specs.Offer.{families_of, as_number_of}
+use Rattle.bgp_open.specs.Offer.{families_of, as_number_of, offers_extended}
 use Rattle.bgp_open.specs.Open.{OpenFields}
 
 -- The smaller Hold Time of both (RFC 4271, 4.2); four-octet AS numbers where both sides send that
 -- capability, the peer with a length of 4 (RFC 6793, 4.1); the families that both offer (RFC 4760,
--- 8); whether the peer is internal
+-- 8); whether the peer is internal; whether the peer offers extended messages, whatever the local
+-- system offers (RFC 8654, 4: who offers that can receive them)
 abbrev pub link_of : Config → OpenFields → Link
 link_of config message = record {
   hold = min config.parts.hold message.hold;
   as4 = config.parts.as4 && is_some (as_number_of message.capabilities);
   families = intersection config.parts.families (families_of message.capabilities);
   internal = is_internal config.parts;
+  extended = offers_extended message.capabilities;
 }

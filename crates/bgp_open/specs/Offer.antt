@@ -1,5 +1,6 @@
--- What the capabilities of an OPEN offer: address families (RFC 4760, 8) and a four-octet AS number
--- (RFC 6793, 3). One whose code is known and whose length isn't 4 is passed over (profile).
+-- What the capabilities of an OPEN offer: address families (RFC 4760, 8), a four-octet AS number
+-- (RFC 6793, 3) and extended messages (RFC 8654, 3). One whose code is known and whose length is
+-- another is passed over (profile).
 use Rattle.std.specs.Prelude.{Bool, true, false, ◌&&◌, ◌==◌, if◌then◌else◌, ℕ, List, [], ◌∷◌}
 use Rattle.std.specs.Prelude.{Option, Some, None, length, slice_index}
 use Rattle.std.specs.List.{list_any}
@@ -44,3 +45,11 @@ abbrev pub as_number_of : List Triplet → Option ℕ
 as_number_of [] = None
 as_number_of (capability ∷ capabilities) =
     if is_as4 capability then Some (big_number 4 capability.value) else as_number_of capabilities
+
+-- the capability of extended messages, which has no value
+abbrev pub is_extended : Triplet → Bool
+is_extended capability = (capability.code == 6) && (length capability.value == 0)
+
+-- extended messages are offered
+abbrev pub offers_extended : List Triplet → Bool
+offers_extended capabilities = list_any is_extended capabilities

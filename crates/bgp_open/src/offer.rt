@@ -1,4 +1,4 @@
-//! What the capabilities of an OPEN offer (RFC 4760, 8; RFC 6793, 3).
+//! What the capabilities of an OPEN offer (RFC 4760, 8; RFC 6793, 3; RFC 8654, 3).
 //!
 //! ```text
 //!  code 1, multiprotocol extensions       code 65, four-octet AS numbers
@@ -7,12 +7,14 @@
 //! | AFI | Reserved | SAFI |              | AS number |
 //! +-----+----------+------+              +-----------+
 //! ```
+//!
+//! That of extended messages, code 6, has no value.
 
 ghost use Rattle.std.specs.Prelude.{◌≡◌};
 ghost use Rattle.std.specs.List.{list_any};
 ghost use Rattle.bgp_open.specs.Capability.{capability_of};
 ghost use Rattle.bgp_open.specs.Offer.{afi_of, is_multiprotocol, names_family, families_of};
-ghost use Rattle.bgp_open.specs.Offer.{is_as4, as_number_of};
+ghost use Rattle.bgp_open.specs.Offer.{is_as4, as_number_of, is_extended, offers_extended};
 
 use crate::capability::Capability;
 use crate::families::Families;
@@ -22,6 +24,9 @@ use byteorder::{BigEndian, ByteOrder};
 
 /// The Capability Code of multiprotocol extensions (RFC 4760, 8).
 pub(crate) const MULTIPROTOCOL: u8 = 1;
+
+/// The Capability Code of extended messages (RFC 8654, 3).
+pub(crate) const EXTENDED_MESSAGE: u8 = 6;
 
 /// The Capability Code of four-octet AS numbers (RFC 6793, 3).
 pub(crate) const FOUR_OCTET_AS: u8 = 65;
@@ -100,4 +105,17 @@ pub(crate) fn offered_as_number(message: &Open<'_>) -> Option<u32>
         }
     }
     None
+}
+
+fn is_extended(capability: Capability<'_>) -> bool
+    ensures { result ≡ is_extended (capability_of capability.entry) }
+{
+    capability.code == EXTENDED_MESSAGE && capability.value.is_empty()
+}
+
+/// Whether an OPEN offers extended messages: that its speaker can receive them (RFC 8654, 4).
+pub(crate) fn offers_extended(message: &Open<'_>) -> bool
+    ensures { result ≡ offers_extended message.now.capabilities }
+{
+    message.caps().any(is_extended)
 }

@@ -1,4 +1,4 @@
-//! The local system's own OPEN (RFC 4271, 4.2; RFC 4760, 8; RFC 6793, 4.1).
+//! The local system's own OPEN (RFC 4271, 4.2; RFC 4760, 8; RFC 6793, 4.1; RFC 8654, 4).
 
 ghost use Rattle.std.specs.Prelude.{◌≡◌, ◌<◌, ◌+◌, ◌++◌, ◌↔◌, if◌then◌else◌, IsTrue, Some, None};
 ghost use Rattle.std.specs.Prelude.{OnOk, OnErr, length, map, vec_len, vec_capacity};
@@ -9,7 +9,10 @@ ghost use Rattle.bgp_open.specs.Written.{open_octets};
 
 use crate::capability::Capability;
 use crate::config::Config;
-use crate::offer::{FOUR_OCTET_AS, MULTIPROTOCOL, offered_as_number, offered_families};
+use crate::offer::{
+    EXTENDED_MESSAGE, FOUR_OCTET_AS, MULTIPROTOCOL, offered_as_number, offered_families,
+    offers_extended,
+};
 use crate::open::read_open;
 use crate::written_open::{OpenWriteFault, write_open};
 use arrayvec::ArrayVec;
@@ -31,8 +34,9 @@ fn own_as_number(config: &Config) -> Option<u32>
 }
 
 /// Whether the octets are an OPEN that the local system may send: well-formed, with the AS number
-/// (or 23456), Hold Time, BGP Identifier and families that are configured, and with the four-octet
-/// AS number exactly where that is. Its other capabilities are free.
+/// (or 23456), Hold Time, BGP Identifier and families that are configured, with the four-octet AS
+/// number exactly where that is, and extended messages offered exactly where they are. Its other
+/// capabilities are free.
 pub fn is_own_open(config: &Config, octets: &[u8]) -> bool
     ensures { IsTrue result ↔ IsOwnOpen config.now octets.now }
 {
@@ -44,6 +48,7 @@ pub fn is_own_open(config: &Config, octets: &[u8]) -> bool
         && message.id() == config.parts.local_id
         && offered_families(&message) == config.parts.families
         && offered_as_number(&message) == own_as_number(config)
+        && offers_extended(&message) == config.parts.session.extended
 }
 
 /// The capabilities that say what is configured and no more; `as_number` is the local AS number in
@@ -51,7 +56,7 @@ pub fn is_own_open(config: &Config, octets: &[u8]) -> bool
 fn configured_capabilities<'a>(
     config: &Config,
     as_number: &'a [u8; 4],
-) -> ArrayVec<Capability<'a>, 3>
+) -> ArrayVec<Capability<'a>, 4>
     requires { as_number.now ≡ big_bytes 4 config.now.parts.local_as }
     ensures { map capability_of result.items ≡ own_capabilities config.now }
 {
@@ -74,6 +79,12 @@ fn configured_capabilities<'a>(
             value: as_number,
         });
     }
+    if config.parts.session.extended {
+        capabilities.push(Capability {
+            code: EXTENDED_MESSAGE,
+            value: &[],
+        });
+    }
     capabilities
 }
 
@@ -94,7 +105,7 @@ pub fn write_own_open<A: Allocator>(config: &Config, out: &mut Vec<u8, A>) -> Re
     match write_open(my_as, parts.hold, parts.local_id, &capabilities, out) {
         Ok(()) => Ok(()),
         Err(OpenWriteFault::Memory) => Err(AllocError),
-        // Three capabilities of four octets fit.
+        // Three capabilities of four octets and one without a value fit.
         Err(OpenWriteFault::TooMany) => unreachable!(),
     }
 }

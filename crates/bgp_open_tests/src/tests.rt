@@ -28,6 +28,7 @@ const SESSION_A: Session = Session {
     peer: Address::V4(0xc000_0202),
     local: Address::V4(0xc000_0201),
     refresh: true,
+    extended: false,
 };
 
 /// What router A is configured to do: AS 65001 at 192.0.2.1, with AS 65002 at 192.0.2.2, Hold Time
@@ -58,7 +59,17 @@ const PARTS_B: ConfigParts = ConfigParts {
         peer: Address::V4(0xc000_0201),
         local: Address::V4(0xc000_0202),
         refresh: true,
+        extended: false,
     },
+};
+
+/// Router A where it offers extended messages.
+const EXTENDED_A: ConfigParts = ConfigParts {
+    session: Session {
+        extended: true,
+        ..SESSION_A
+    },
+    ..PARTS_A
 };
 
 /// Router A with AS numbers of two octets alone.
@@ -120,11 +131,13 @@ fn is_own(parts: &ConfigParts, open: &[u8]) -> bool {
 }
 
 /// What is settled.
+#[derive(Clone, Copy)]
 struct Settled {
     hold: u16,
     as4: bool,
     families: Families,
     internal: bool,
+    extended: bool,
 }
 
 /// Whether a system that is configured so and a peer's OPEN settle just that.
@@ -137,4 +150,5 @@ fn settle(parts: &ConfigParts, open: &[u8], settled: &Settled) -> bool {
         && link.as4 == settled.as4
         && link.families == settled.families
         && link.internal == settled.internal
+        && link.extended == settled.extended
 }

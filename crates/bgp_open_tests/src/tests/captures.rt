@@ -254,9 +254,12 @@ struct End {
     open: &'static [u8],
     /// The subcodes of the mandatory faults that it finds in the other's.
     must: u16,
+    /// Whether its OPEN offers extended messages.
+    is_extended: bool,
 }
 
-/// The beginning of a session, and what both OPENs settle.
+/// The beginning of a session, and what both OPENs settle but for extended messages, which each end
+/// may send where the other offers them.
 struct Opening {
     name: &'static str,
     a: End,
@@ -270,6 +273,7 @@ const WIDE: Settled = Settled {
     as4: true,
     families: BOTH,
     internal: false,
+    extended: false,
 };
 
 /// The session of router A where route refresh isn't agreed on.
@@ -291,11 +295,13 @@ static OPENINGS: [Opening; 6] = [
             parts: PARTS_A,
             open: &BIRD,
             must: 0,
+            is_extended: false,
         },
         b: End {
             parts: PARTS_B,
             open: &FRR,
             must: 0,
+            is_extended: true,
         },
         settled: WIDE,
     },
@@ -305,11 +311,13 @@ static OPENINGS: [Opening; 6] = [
             parts: PARTS_A,
             open: &OPENBGPD,
             must: 0,
+            is_extended: false,
         },
         b: End {
             parts: PARTS_B,
             open: &GOBGP,
             must: 0,
+            is_extended: false,
         },
         settled: WIDE,
     },
@@ -323,11 +331,13 @@ static OPENINGS: [Opening; 6] = [
             },
             open: &BIRD_HOLD_0,
             must: 0,
+            is_extended: false,
         },
         b: End {
             parts: ConfigParts { hold: 0, ..PARTS_B },
             open: &FRR_HOLD_0,
             must: 0,
+            is_extended: true,
         },
         settled: Settled { hold: 0, ..WIDE },
     },
@@ -340,11 +350,13 @@ static OPENINGS: [Opening; 6] = [
             },
             open: &OPENBGPD_TWO_OCTETS,
             must: 0,
+            is_extended: false,
         },
         b: End {
             parts: PARTS_B,
             open: &FRR_AS_TRANS,
             must: 0,
+            is_extended: true,
         },
         settled: Settled { as4: false, ..WIDE },
     },
@@ -357,11 +369,13 @@ static OPENINGS: [Opening; 6] = [
             },
             open: &FRR_BAD_AS,
             must: 1 << 2,
+            is_extended: true,
         },
         b: End {
             parts: PARTS_B,
             open: &OPENBGPD_B,
             must: 0,
+            is_extended: false,
         },
         settled: WIDE,
     },
@@ -373,11 +387,13 @@ static OPENINGS: [Opening; 6] = [
                     peer: IPV6_B,
                     local: IPV6_A,
                     refresh: false,
+                    extended: false,
                 },
                 ..PARTS_A
             },
             open: &OPENBGPD_OVER_IPV6,
             must: 0,
+            is_extended: false,
         },
         b: End {
             parts: ConfigParts {
@@ -385,29 +401,49 @@ static OPENINGS: [Opening; 6] = [
                     peer: IPV6_A,
                     local: IPV6_B,
                     refresh: false,
+                    extended: false,
                 },
                 ..PARTS_B
             },
             open: &BIRD_OVER_IPV6,
             must: 0,
+            is_extended: false,
         },
         settled: WIDE,
     },
 ];
 
+/// What an end is configured to do that offers extended messages, or doesn't.
+fn parts_with(end: &End, extended: bool) -> ConfigParts {
+    let session = Session {
+        extended,
+        ..end.parts.session
+    };
+    ConfigParts {
+        session,
+        ..end.parts
+    }
+}
+
 /// Whether an end's OPEN is its own and the other's isn't, and both settle what they are to.
-fn opens(own: &End, other: &[u8], settled: &Settled) -> bool {
-    is_own(&own.parts, own.open)
-        && !is_own(&own.parts, other)
-        && finds(&own.parts, other, own.must, PERMITTED)
-        && settle(&own.parts, other, settled)
+fn opens(own: &End, other: &End, settled: &Settled) -> bool {
+    let parts = parts_with(own, own.is_extended);
+    let settled = Settled {
+        extended: other.is_extended,
+        ..*settled
+    };
+    is_own(&parts, own.open)
+        && !is_own(&parts_with(own, !own.is_extended), own.open)
+        && !is_own(&parts, other.open)
+        && finds(&parts, other.open, own.must, PERMITTED)
+        && settle(&parts, other.open, &settled)
 }
 
 #[test]
 fn real_routers_open_sessions(rt: HostRuntime) {
     for row in &OPENINGS {
-        let is_open_at_a = opens(&row.a, row.b.open, &row.settled);
-        let is_open_at_b = opens(&row.b, row.a.open, &row.settled);
+        let is_open_at_a = opens(&row.a, &row.b, &row.settled);
+        let is_open_at_b = opens(&row.b, &row.a, &row.settled);
         assert_row(&rt, is_open_at_a && is_open_at_b, row.name);
     }
 }

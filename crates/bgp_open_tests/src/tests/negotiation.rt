@@ -113,7 +113,13 @@ struct Row {
     settled: Settled,
 }
 
-static LINKS: [Row; 7] = [
+/// [`OPEN_B`] with a capability 6 of length 0 added.
+const EXTENDED_B: &[u8] = message![
+    51, 1, 4, 0xfd, 0xea, 0x00, 0x5a, 192, 0, 2, 2, // the fixed fields
+    22, 2, 20, 1, 4, 0, 1, 0, 1, 1, 4, 0, 2, 0, 1, 65, 4, 0, 0, 0xfd, 0xea, 6, 0
+];
+
+static LINKS: [Row; 12] = [
     Row {
         lesson: "what both sides offer",
         parts: PARTS_A,
@@ -123,6 +129,7 @@ static LINKS: [Row; 7] = [
             as4: true,
             families: BOTH,
             internal: false,
+            extended: false,
         },
     },
     Row {
@@ -134,6 +141,7 @@ static LINKS: [Row; 7] = [
             as4: false,
             families: Families::V4,
             internal: false,
+            extended: false,
         },
     },
     Row {
@@ -151,6 +159,7 @@ static LINKS: [Row; 7] = [
             as4: false,
             families: V6,
             internal: true,
+            extended: false,
         },
     },
     Row {
@@ -164,6 +173,7 @@ static LINKS: [Row; 7] = [
             as4: false,
             families: Families::V4,
             internal: false,
+            extended: false,
         },
     },
     Row {
@@ -177,6 +187,7 @@ static LINKS: [Row; 7] = [
             as4: false,
             families: NO_FAMILY,
             internal: false,
+            extended: false,
         },
     },
     Row {
@@ -190,6 +201,7 @@ static LINKS: [Row; 7] = [
             as4: false,
             families: NO_FAMILY,
             internal: false,
+            extended: false,
         },
     },
     Row {
@@ -204,6 +216,73 @@ static LINKS: [Row; 7] = [
             as4: true,
             families: Families::V4,
             internal: false,
+            extended: false,
+        },
+    },
+    Row {
+        lesson: "extended messages, which the peer alone offers",
+        parts: PARTS_A,
+        open: EXTENDED_B,
+        settled: Settled {
+            hold: 90,
+            as4: true,
+            families: BOTH,
+            internal: false,
+            extended: true,
+        },
+    },
+    Row {
+        lesson: "extended messages, which the local system alone offers",
+        parts: EXTENDED_A,
+        open: &OPEN_B,
+        settled: Settled {
+            hold: 90,
+            as4: true,
+            families: BOTH,
+            internal: false,
+            extended: false,
+        },
+    },
+    Row {
+        lesson: "a capability 6 of length 1",
+        parts: EXTENDED_A,
+        open: message![
+            34, 1, 4, 0xfd, 0xea, 0x00, 0x5a, 192, 0, 2, 2, 5, 2, 3, 6, 1, 0
+        ],
+        settled: Settled {
+            hold: 90,
+            as4: false,
+            families: Families::V4,
+            internal: false,
+            extended: false,
+        },
+    },
+    Row {
+        lesson: "a capability 6 of length 1, and then one of length 0 in another parameter",
+        parts: PARTS_A,
+        open: message![
+            38, 1, 4, 0xfd, 0xea, 0x00, 0x5a, 192, 0, 2, 2, 9, 2, 3, 6, 1, 0, 2, 2, 6, 0
+        ],
+        settled: Settled {
+            hold: 90,
+            as4: false,
+            families: Families::V4,
+            internal: false,
+            extended: true,
+        },
+    },
+    Row {
+        lesson: "a capability 6 of length 0 twice",
+        parts: PARTS_A,
+        open: message![
+            35, 1, 4, 0xfd, 0xea, 0x00, 0x5a, 192, 0, 2, 2, 6, 2, 4, 6, 0, 6, 0
+        ],
+        settled: Settled {
+            hold: 90,
+            as4: false,
+            families: Families::V4,
+            internal: false,
+            extended: true,
         },
     },
 ];
@@ -235,8 +314,26 @@ const TWO_OCTETS_V4: ConfigParts = ConfigParts {
     ..TWO_OCTETS
 };
 
+/// [`OPEN_A`] with a capability 6 of length 0 added.
+const EXTENDED: &[u8] = message![
+    51, 1, 4, 0xfd, 0xe9, 0x00, 0x5a, 192, 0, 2, 1, // the fixed fields
+    22, 2, 20, 1, 4, 0, 1, 0, 1, 1, 4, 0, 2, 0, 1, 65, 4, 0, 0, 0xfd, 0xe9, 6, 0
+];
+
+/// With one of length 1.
+const EXTENDED_BY_AN_OCTET: &[u8] = message![
+    52, 1, 4, 0xfd, 0xe9, 0x00, 0x5a, 192, 0, 2, 1, // the fixed fields
+    23, 2, 21, 1, 4, 0, 1, 0, 1, 1, 4, 0, 2, 0, 1, 65, 4, 0, 0, 0xfd, 0xe9, 6, 1, 0
+];
+
+/// With two of length 0.
+const EXTENDED_TWICE: &[u8] = message![
+    53, 1, 4, 0xfd, 0xe9, 0x00, 0x5a, 192, 0, 2, 1, // the fixed fields
+    24, 2, 22, 1, 4, 0, 1, 0, 1, 1, 4, 0, 2, 0, 1, 65, 4, 0, 0, 0xfd, 0xe9, 6, 0, 6, 0
+];
+
 /// A configuration, octets, and whether they are an OPEN that it may send.
-static OWN: [(&str, ConfigParts, &[u8], bool); 13] = [
+static OWN: [(&str, ConfigParts, &[u8], bool); 19] = [
     ("its own", PARTS_A, &OPEN_A, true),
     ("the peer's", PARTS_A, &OPEN_B, false),
     ("its own cut short", PARTS_A, A_CUT_SHORT, false),
@@ -312,6 +409,33 @@ static OWN: [(&str, ConfigParts, &[u8], bool); 13] = [
         ],
         false,
     ),
+    // Extended messages are offered by a capability 6 of length 0; of another length it is free.
+    ("with extended messages", EXTENDED_A, EXTENDED, true),
+    (
+        "with extended messages twice",
+        EXTENDED_A,
+        EXTENDED_TWICE,
+        true,
+    ),
+    ("without extended messages", EXTENDED_A, &OPEN_A, false),
+    (
+        "extended messages that aren't configured",
+        PARTS_A,
+        EXTENDED,
+        false,
+    ),
+    (
+        "a capability 6 of length 1",
+        PARTS_A,
+        EXTENDED_BY_AN_OCTET,
+        true,
+    ),
+    (
+        "a capability 6 of length 1 for extended messages",
+        EXTENDED_A,
+        EXTENDED_BY_AN_OCTET,
+        false,
+    ),
 ];
 
 #[test]
@@ -329,12 +453,14 @@ fn twice<T: Copy>(value: T) -> (T, T) {
 
 /// Whether a link differs from those with another value in one field.
 fn differs(link: Link) -> bool {
-    let (mut hold, mut as4, mut families, mut internal) = (link, link, link, link);
+    let (mut hold, mut as4, mut families) = (link, link, link);
+    let (mut internal, mut extended) = (link, link);
     hold.hold = 30;
     as4.as4 = false;
     families.families = Families::V4;
     internal.internal = true;
-    link != hold && link != as4 && link != families && link != internal
+    extended.extended = true;
+    link != hold && link != as4 && link != families && link != internal && link != extended
 }
 
 #[test]
@@ -343,7 +469,7 @@ fn links_and_faults_are_small_copied_and_compared(rt: HostRuntime) {
     let message = read_open(&OPEN_B).ok().expect(&rt, "no OPEN");
     let (link, other) = twice(negotiate(&config, &message));
     let again = negotiate(&config, &message);
-    assert!(rt; link == other && link == again && differs(link) && size_of::<Link>() == 6);
+    assert!(rt; link == other && link == again && differs(link) && size_of::<Link>() == 8);
     let (faults, other) = twice(open_faults(&config, &OPEN_B));
     assert!(rt; faults == other && size_of::<OpenFaults>() == 14);
 }

@@ -245,7 +245,7 @@ fn a_message_that_is_refused_memory_leaves_the_vector(rt: HostRuntime) {
 }
 
 /// What a system that is configured so says in its OPEN, octet by octet.
-static OWN: [(&str, ConfigParts, &[u8]); 4] = [
+static OWN: [(&str, ConfigParts, &[u8]); 6] = [
     ("router A's OPEN", PARTS_A, &OPEN_A),
     (
         "IPv6 alone, AS numbers of two octets",
@@ -277,6 +277,26 @@ static OWN: [(&str, ConfigParts, &[u8]); 4] = [
         message![
             43, 1, 4, 0x5b, 0xa0, 0x00, 0x1e, 192, 0, 2, 1, // the fixed fields
             14, 2, 12, 1, 4, 0, 1, 0, 1, 65, 4, 0x00, 0x01, 0x11, 0x70
+        ],
+    ),
+    (
+        "router A's OPEN with extended messages, which come last",
+        EXTENDED_A,
+        message![
+            51, 1, 4, 0xfd, 0xe9, 0x00, 0x5a, 192, 0, 2, 1, // the fixed fields
+            22, 2, 20, 1, 4, 0, 1, 0, 1, 1, 4, 0, 2, 0, 1, 65, 4, 0, 0, 0xfd, 0xe9, 6, 0
+        ],
+    ),
+    (
+        "IPv6 alone, extended messages, AS numbers of two octets",
+        ConfigParts {
+            families: V6,
+            as4: false,
+            ..EXTENDED_A
+        },
+        message![
+            39, 1, 4, 0xfd, 0xe9, 0x00, 0x5a, 192, 0, 2, 1, // the fixed fields
+            10, 2, 8, 1, 4, 0, 2, 0, 1, 6, 0
         ],
     ),
 ];
