@@ -211,7 +211,7 @@ module _ {S : Type 0} (gives : S → S → List ℕ → Type 0) (has_ended : S �
   }
 
   pub fails_there : (now next : S) (state after : ReaderState) (rest : List ℕ) (kind : FaultKind) → Passes now state → gives now next rest
-      → (IsRefused session state.last rest (has_ended next) kind ⊎ ((kind ≡ kinds.Device) × IsBegun rest) ⊎ ((kind ≡ kinds.Memory) × (next ≡ source) × (from ≡ fresh_reader)))
+      → (IsRefused session state.last rest (has_ended next) kind ⊎ ((kind ≡ kinds.Device) × IsBegun session rest) ⊎ ((kind ≡ kinds.Memory) × (next ≡ source) × (from ≡ fresh_reader)))
       → after ≡ at_fault state (fault_at state kind) → Fails gives has_ended session source next from after (fault_at state kind)
   fails_there now next state after rest kind so_far given why is = record {
     skipped = so_far.skipped;

@@ -3,6 +3,7 @@ use Rattle.std.proofs.Common.{◌≡◌, ◌≢◌, ℕ, Bool, true, false, ◌<
 use Rattle.std.proofs.lemmas.Bool.{cases_lt, cases_eq}
 use Rattle.bgp_prefix.specs.Shown.{Received, Sent, Changed}
 use Rattle.bgp_prefix.specs.declared.session.Session.{Session}
+use Rattle.bgp_wire.specs.Header.{limit_with}
 use Rattle.mrt.specs.declared.fault.FaultKind.{FaultKind}
 use Rattle.mrt.specs.declared.layout.Form.{Form}
 use Rattle.mrt.specs.declared.layout.Form.TheVariants as forms
@@ -86,7 +87,7 @@ allowed_by : (session : Session) (last : Option ℕ) (second : ℕ) (content : L
     → ((form_by a b c d ≡ Some forms.Change) × (length content ≢ 4) → ⊥) → ((form_by a b c d ≡ Some forms.Change) × HasBadState content → ⊥)
     → (((form_by a b c d ≡ Some forms.Received) ⊎ (form_by a b c d ≡ Some forms.Sent)) × (length content < 19) → ⊥)
     → (((form_by a b c d ≡ Some forms.Received) ⊎ (form_by a b c d ≡ Some forms.Sent)) × IsRouteRefresh content × IsTrue session.refresh → ⊥)
-    → (((form_by a b c d ≡ Some forms.Received) ⊎ (form_by a b c d ≡ Some forms.Sent)) × HasOtherLength content → ⊥)
+    → (((form_by a b c d ≡ Some forms.Received) ⊎ (form_by a b c d ≡ Some forms.Sent)) × HasOtherLength (limit_with session.extended) content → ⊥)
     → (IsBefore second last → ⊥)
     → IsAllowed session last
     (if a then Changed second (old_state_in content) (new_state_in content) else (if b then Received second content else Sent second content))

@@ -3,12 +3,12 @@ use Rattle.std.proofs.Common.{◌≡◌, ℕ, ◌≤◌, List, ◌++◌, length,
 use Rattle.std.proofs.lemmas.Grind.{common_steps}
 use Rattle.mrt.specs.Reader.{ReaderState, HasRoom}
 
-length_kept : (len : ℕ) (front items : List ℕ) → length front ≡ 8192 → length items ≡ 8192 → len ≡ length items
-    → length (take len (front ++ drop (length front) items)) ≡ 8192
+length_kept : (len : ℕ) (front items : List ℕ) → length front ≡ 65583 → length items ≡ 65583 → len ≡ length items
+    → length (take len (front ++ drop (length front) items)) ≡ 65583
 length_kept len front items whole all counted = grind (arith, common_steps)
 
-pub room_kept : (len : ℕ) (front items : List ℕ) (state : ReaderState) → length front ≡ 8192 → length items ≡ 8192 → len ≡ length items
-    → (length (take len (front ++ drop (length front) items)) ≤ 8192) × HasRoom (length (take len (front ++ drop (length front) items))) state
+pub room_kept : (len : ℕ) (front items : List ℕ) (state : ReaderState) → length front ≡ 65583 → length items ≡ 65583 → len ≡ length items
+    → (length (take len (front ++ drop (length front) items)) ≤ 65583) × HasRoom (length (take len (front ++ drop (length front) items))) state
 room_kept len front items state whole all counted =
     let kept = length_kept len front items whole all counted in
     (omega arith, inl kept)

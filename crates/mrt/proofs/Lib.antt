@@ -3,6 +3,7 @@ pub mod Kept
 pub mod GaveFront
 pub mod Taken
 pub mod Exits
+pub mod BodyLimit
 pub mod Places
 pub mod Advancing
 pub mod Refusing

@@ -5,7 +5,7 @@ use Rattle.bgp_prefix.specs.declared.session.Session.{Session}
 use Rattle.mrt.specs.declared.fault.FaultKind.TheVariants as kinds
 use Rattle.mrt.specs.declared.judging.Found.{Found}
 use Rattle.mrt.specs.Layout.{Header, header_in, header_of, body_of, content_in, IsRecord, IsBgp4mp}
-use Rattle.mrt.specs.Rules.{Judgement, Holds, FirstSays, rules, IsJudged, Skipped, Refused}
+use Rattle.mrt.specs.Rules.{Judgement, Holds, FirstSays, rules, IsJudged, Skipped, Refused, body_limit}
 use Rattle.mrt.specs.Capture.{IsBegun}
 use Rattle.mrt.specs.Found.{IsJudgedBy, IsFound, shown_as}
 use Rattle.mrt.specs.Reading.{IsFoundIn, IsRefused}
@@ -46,7 +46,7 @@ with_header session last judgement front rest len judged =
 
 -- a whole record of type BGP4MP, with whatever stands behind it
 pub judged_record : (session : Session) (last : Option ℕ) (judgement : Judgement) (front body more : List ℕ)
-    → length front ≡ 12 → IsBgp4mp (header_in front).kind → (header_in front).count ≤ 8192
+    → length front ≡ 12 → IsBgp4mp (header_in front).kind → (header_in front).count ≤ body_limit session
     → length body ≡ (header_in front).count → IsJudgedBy session last (header_in front) body judgement
     → IsJudged session last ((front ++ body) ++ more) judgement
 judged_record session last judgement front body more len kind count whole judged =
@@ -73,7 +73,7 @@ judged_record session last judgement front body more len kind count whole judged
     ))))
 
 pub judged_piece : (session : Session) (last : Option ℕ) (judgement : Judgement) (front body : List ℕ)
-    → length front ≡ 12 → IsBgp4mp (header_in front).kind → (header_in front).count ≤ 8192
+    → length front ≡ 12 → IsBgp4mp (header_in front).kind → (header_in front).count ≤ body_limit session
     → length body ≡ (header_in front).count → IsJudgedBy session last (header_in front) body judgement
     → IsJudged session last (front ++ body) judgement
 judged_piece session last judgement front body len kind count whole judged =
@@ -101,7 +101,7 @@ cut_other session last front body len kind cut =
     (inr (λ none. absurd (omega arith), inr (λ short. absurd (omega arith), inl ((kind, omega arith), refl))))
 
 pub cut_body : (session : Session) (last : Option ℕ) (front body : List ℕ) → length front ≡ 12 → IsBgp4mp (header_in front).kind
-    → (header_in front).count ≤ 8192 → length body < (header_in front).count → IsJudged session last (front ++ body) (Refused kinds.Truncated)
+    → (header_in front).count ≤ body_limit session → length body < (header_in front).count → IsJudged session last (front ++ body) (Refused kinds.Truncated)
 cut_body session last front body len kind count cut =
     let many = length-append front body in
     with_header session last (Refused kinds.Truncated) front body len
@@ -120,7 +120,7 @@ cut_body session last front body len kind count cut =
     ))
 
 pub long_body : (session : Session) (last : Option ℕ) (front more : List ℕ) → length front ≡ 12 → IsBgp4mp (header_in front).kind
-    → 8192 < (header_in front).count → IsJudged session last (front ++ more) (Refused kinds.TooLong)
+    → body_limit session < (header_in front).count → IsJudged session last (front ++ more) (Refused kinds.TooLong)
 long_body session last front more len kind long =
     let many = length-append front more in
     with_header session last (Refused kinds.TooLong) front more len
@@ -131,17 +131,17 @@ pub cut_header : (session : Session) (last : Option ℕ) (front : List ℕ) → 
 cut_header session last front some short = inr (λ none. absurd (omega arith), inl (short, refl))
 
 -- a record that has begun: of another type, and of a body that isn't too long
-pub begun_other : (front body : List ℕ) → length front ≡ 12 → (¬ IsBgp4mp (header_in front).kind) → length body < (header_in front).count
-    → IsBegun (front ++ body)
-begun_other front body len kind cut =
+pub begun_other : (session : Session) (front body : List ℕ) → length front ≡ 12 → (¬ IsBgp4mp (header_in front).kind) → length body < (header_in front).count
+    → IsBegun session (front ++ body)
+begun_other session front body len kind cut =
     let same = header_front front body len in
     let count = ap (λ (h : Header). h.count) same in
     let many = length-append front body in
     inr (omega arith, λ long. kind (subst (λ (h : Header). IsBgp4mp h.kind) same long.0))
 
-pub begun_body : (front body : List ℕ) → length front ≡ 12 → (header_in front).count ≤ 8192 → length body < (header_in front).count
-    → IsBegun (front ++ body)
-begun_body front body len fits cut =
+pub begun_body : (session : Session) (front body : List ℕ) → length front ≡ 12 → (header_in front).count ≤ body_limit session
+    → length body < (header_in front).count → IsBegun session (front ++ body)
+begun_body session front body len fits cut =
     let same = header_front front body len in
     let count = ap (λ (h : Header). h.count) same in
     let many = length-append front body in

@@ -21,7 +21,7 @@ no_pieces from =
     λ i. record { passed = passed i; last = from.last; place = from.place; is_ended = from.is_ended; fault = from.fault; other = other i }
 
 -- one that lacks room, and has found no fault, has read nothing
-pub first_call : (len : ℕ) (state : ReaderState) → HasRoom len state → len < 8192 → state.fault ≡ None → state ≡ fresh_reader
+pub first_call : (len : ℕ) (state : ReaderState) → HasRoom len state → len < 65583 → state.fault ≡ None → state ≡ fresh_reader
 first_call len state room short none = elim room [
   | inl full ↦ absurd (omega (arith, full, short))
   | inr others ↦ elim others [

@@ -11,11 +11,12 @@ use Rattle.bgp_prefix.specs.declared.session.Session.{Session}
 use Rattle.mrt.specs.declared.layout.Form.{Form}
 use Rattle.mrt.specs.declared.layout.Form.TheVariants as forms
 use Rattle.mrt.specs.Layout.{Header, header_in, body_of, address_len, second_in, kind_in, subtype_in, count_in, form_of, afi_at, afi_in, local_at, content_at, address_in, peer_in, local_in, content_in, LacksFields, old_state_in, new_state_in, shown_in, IsState}
-use Rattle.mrt.specs.Rules.{Holds, FirstSays, content_rules, OfSession, HasBadState}
+use Rattle.mrt.specs.Rules.{Holds, FirstSays, content_rules, OfSession, HasBadState, body_limit}
 use Rattle.mrt.specs.Found.{place_with, IsJudgedBy}
 use Rattle.mrt.specs.Written.{subtype_for, afi_for, address_octets, content_for, header_octets, number_octets, body_octets, IsAllowed, AreStates}
 use Rattle.mrt.specs.CaptureLaws.{ReadsBack}
 use Rattle.mrt.proofs.WrittenBody.{length-body}
+use Rattle.mrt.proofs.BodyLimit.{is_bounded}
 use Rattle.mrt.proofs.Places.{header_front, body_front, whole_record, judged_piece}
 
 -- ---- the header
@@ -256,9 +257,9 @@ reads_back session pa la shown last writable fits ok =
     let body = body_octets session pa la shown in
     let count = length body in
     let front = header_octets (second_of shown) (subtype_for shown) count in
-    let short : count ≤ 8192 = (let counted = length-body session pa la shown in omega (arith, writable.1)) in
+    let short : count ≤ body_limit session = (let counted = length-body session pa la shown in omega (arith, writable.1)) in
     let len = length-header (second_of shown) (subtype_for shown) count in
-    let header : header_in front ≡ header_for shown count = header_written (second_of shown) (subtype_for shown) count fits.second (small shown) (omega arith) in
+    let header : header_in front ≡ header_for shown count = header_written (second_of shown) (subtype_for shown) count fits.second (small shown) (let bounded = is_bounded session in omega arith) in
     let reads = reads_addresses (header_for shown count) pa la session.peer session.local (content_for shown) (wide shown count) writable.0 fits.peer fits.local in
     let judged = judged_body session last shown (header_for shown count) body reads (known_form shown) (allowed session last shown body count fits.states ok) in
     let counted : length body ≡ (header_in front).count = ap (λ (h : Header). h.count) (sym header) in
@@ -266,7 +267,7 @@ reads_back session pa la shown last writable fits ok =
     let rest = body_front front body len counted in (
       record {
         whole = whole_record front body len counted;
-        judged = judged_piece session last OfSession front body len (inl (ap (λ (h : Header). h.kind) header)) (subst (λ (h : Header). h.count ≤ 8192) (sym header) short) counted
+        judged = judged_piece session last OfSession front body len (inl (ap (λ (h : Header). h.kind) header)) (subst (λ (h : Header). h.count ≤ body_limit session) (sym header) short) counted
             (subst (λ (h : Header). IsJudgedBy session last h body OfSession) (sym header) judged);
       },
       ap (λ (h : Header). shown_in h (content_in h (body_of (front ++ body)))) (head ∙ header)

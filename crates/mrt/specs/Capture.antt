@@ -55,9 +55,9 @@ last_of last (piece ∷ pieces) = last_of (last_after last piece) pieces
 
 -- A record has begun of which octets are wanted still: of its header, or of a body that isn't too
 -- long to be read.
-abbrev pub IsBegun : List ℕ → Type 0
-IsBegun octets =
-    (length octets < 12) ⊎ (IsCut (place_of octets) × ¬ HasLongBody (place_of octets))
+abbrev pub IsBegun : Session → List ℕ → Type 0
+IsBegun session octets =
+    (length octets < 12) ⊎ (IsCut (place_of octets) × ¬ HasLongBody session (place_of octets))
 
 -- pieces one after another
 abbrev pub ArePieces : Session → Option ℕ → List Piece → Type 0

@@ -39,10 +39,10 @@ abbrev pub fresh_reader : ReaderState
 fresh_reader =
     record { passed = 0; last = None; place = 0; is_ended = false; fault = None; other = None }
 
--- A reader's buffer, of this length, has room for each body that is read, unless the reader has
--- read nothing or found a fault.
+-- A reader's buffer, of this length, has room for each body that is read of any session, unless the
+-- reader has read nothing or found a fault.
 abbrev pub HasRoom : ℕ → ReaderState → Type 0
-HasRoom len state = (len ≡ 8192) ⊎ (state ≡ fresh_reader) ⊎ IsTrue (is_some state.fault)
+HasRoom len state = (len ≡ 65583) ⊎ (state ≡ fresh_reader) ⊎ IsTrue (is_some state.fault)
 
 -- one that has passed these pieces
 abbrev pub after_pieces : ReaderState → List Piece → ReaderState
@@ -97,7 +97,7 @@ module _ {S : Type 0} (gives : S → S → List ℕ → Type 0) (has_ended : S �
     pub pieces : ArePieces session from.last skipped
     pub taken : gives old new (joined skipped ++ rest)
     pub why : IsRefused session (last_of from.last skipped) rest (has_ended new) fault.kind
-        ⊎ ((fault.kind ≡ kinds.Device) × IsBegun rest)
+        ⊎ ((fault.kind ≡ kinds.Device) × IsBegun session rest)
         ⊎ ((fault.kind ≡ kinds.Memory) × (new ≡ old) × (from ≡ fresh_reader))
     pub offset : fault.offset ≡ (after_pieces from skipped).passed
     pub stands : after ≡ at_fault (after_pieces from skipped) fault

@@ -2,10 +2,10 @@
 -- the first that holds decides (RFC 6396, 2 and 4.4; the order and the limit are this project's
 -- profile).
 use Rattle.std.specs.Prelude.{◌≡◌, ◌≢◌, ◌<◌, ◌≤◌, ◌+◌, ◌⊎◌, ℕ, List, [], ◌∷◌, length}
-use Rattle.std.specs.Prelude.{Option, None, Some, IsTrue}
+use Rattle.std.specs.Prelude.{Option, None, Some, IsTrue, if◌then◌else◌}
 use Rattle.bgp_prefix.specs.declared.session.Session.{Session}
-use Rattle.bgp_wire.specs.declared.header.Limit.TheVariants.{Plain}
-use Rattle.bgp_wire.specs.Header.{IsSound}
+use Rattle.bgp_wire.specs.declared.header.Limit.{Limit}
+use Rattle.bgp_wire.specs.Header.{IsSound, limit_with}
 use Rattle.bgp_wire.specs.Header as wire
 use Rattle.mrt.specs.Layout.{Header, header_of, body_of, IsBgp4mp, form_of, LacksFields}
 use Rattle.mrt.specs.Layout.{peer_in, local_in, content_in, old_state_in, new_state_in, IsState}
@@ -37,9 +37,15 @@ place_of octets = record {
 abbrev pub IsCut : Place → Type 0
 IsCut place = place.left < 12 + place.header.count
 
+-- The most octets of a body that is read: 48 before a message of 65535 where the local system offers
+-- extended messages (RFC 8654), which it may then receive, and else 8192.
+unfoldable pub body_limit : Session → ℕ
+body_limit session = if session.extended then 65583 else 8192
+
 -- a record of type BGP4MP or BGP4MP_ET has a longer body than is read
-abbrev pub HasLongBody : Place → Type 0
-HasLongBody place = IsBgp4mp place.header.kind × (8192 < place.header.count)
+abbrev pub HasLongBody : Session → Place → Type 0
+HasLongBody session place =
+    IsBgp4mp place.header.kind × (body_limit session < place.header.count)
 
 -- the addresses are not both the session's
 abbrev pub IsOfOtherSession : Session → Place → Type 0
@@ -63,10 +69,10 @@ HasBadState content =
 abbrev pub IsRouteRefresh : List ℕ → Type 0
 IsRouteRefresh content = (19 ≤ length content) × (wire.type_of (wire.header_of content) ≡ 5)
 
--- a message's header is sound, and its Length isn't the count of the octets
-abbrev pub HasOtherLength : List ℕ → Type 0
-HasOtherLength content =
-    (19 ≤ length content) × IsSound Plain (wire.header_of content)
+-- a message's header is sound by this limit, and its Length isn't the count of the octets
+abbrev pub HasOtherLength : Limit → List ℕ → Type 0
+HasOtherLength limit content =
+    (19 ≤ length content) × IsSound limit (wire.header_of content)
     × (wire.length_of (wire.header_of content) ≢ length content)
 
 -- the second is below that of the session's record before
@@ -101,7 +107,7 @@ Holds session last place Nothing = place.left ≡ 0
 Holds session last place CutHeader = place.left < 12
 Holds session last place OtherTypeCut = (¬ IsBgp4mp place.header.kind) × IsCut place
 Holds session last place OtherType = ¬ IsBgp4mp place.header.kind
-Holds session last place LongBody = 8192 < place.header.count
+Holds session last place LongBody = body_limit session < place.header.count
 Holds session last place CutBody = IsCut place
 Holds session last place OtherSubtype = form_of place.header.subtype ≡ None
 Holds session last place NoFields = LacksFields place.header place.body
@@ -112,7 +118,9 @@ Holds session last place BadStates = IsOfForm forms.Change place × HasBadState 
 Holds session last place CutMessage = IsMessage place × (length place.content < 19)
 Holds session last place Refresh =
     IsMessage place × IsRouteRefresh place.content × IsTrue session.refresh
-Holds session last place OtherLength = IsMessage place × HasOtherLength place.content
+-- The limit is that of messages which the local system receives, also for those that it sends.
+Holds session last place OtherLength =
+    IsMessage place × HasOtherLength (limit_with session.extended) place.content
 Holds session last place Back = IsBefore place.header.second last
 Holds session last place Allowed = Unit {0}
 

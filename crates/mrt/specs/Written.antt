@@ -11,7 +11,8 @@ use Rattle.bgp_prefix.specs.declared.address.Address.{Address}
 use Rattle.bgp_prefix.specs.declared.address.Address.TheVariants.{V4, V6}
 use Rattle.bgp_prefix.specs.declared.session.Session.{Session}
 use Rattle.mrt.specs.Layout.{IsState}
-use Rattle.mrt.specs.Rules.{IsRouteRefresh, HasOtherLength, IsBefore}
+use Rattle.bgp_wire.specs.Header.{limit_with}
+use Rattle.mrt.specs.Rules.{IsRouteRefresh, HasOtherLength, IsBefore, body_limit}
 
 -- its subtype
 abbrev pub subtype_for : ShownRecord → ℕ
@@ -64,7 +65,7 @@ record_octets session peer_as local_as shown =
 abbrev pub IsMessageAllowed : Session → List ℕ → Type 0
 IsMessageAllowed session octets =
     (19 ≤ length octets) × (IsTrue session.refresh → ¬ IsRouteRefresh octets)
-    × (¬ HasOtherLength octets)
+    × (¬ HasOtherLength (limit_with session.extended) octets)
 
 abbrev pub IsAllowed : Session → Option ℕ → ShownRecord → Type 0
 IsAllowed session last (Changed second old new) =
@@ -93,10 +94,12 @@ body_len session shown =
     12 + (length (address_octets session.peer)
     + (length (address_octets session.local) + length (content_for shown)))
 
--- What can be written: both addresses are of one family, and the body has at most 8192 octets.
+-- What can be written: both addresses are of one family, and the body has no more octets than are
+-- read.
 abbrev pub IsWritable : Session → ShownRecord → Type 0
 IsWritable session shown =
-    (family_of session.peer ≡ family_of session.local) × (body_len session shown ≤ 8192)
+    (family_of session.peer ≡ family_of session.local)
+    × (body_len session shown ≤ body_limit session)
 
 -- ---- records one after another
 

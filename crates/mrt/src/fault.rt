@@ -11,7 +11,8 @@ pub enum FaultKind {
     /// The capture ends inside a record.
     #[error("the capture ends inside a record")]
     Truncated = 1,
-    /// A record's Length is above 8192.
+    /// A record's Length is above 8192, or above 65583 where the session's messages may be extended
+    /// ones (RFC 8654).
     #[error("a record is longer than any that is read")]
     TooLong = 2,
     /// A record's fields run over its body, its addresses are of no known family, or a change of

@@ -2,8 +2,7 @@
 
 ghost use Rattle.std.specs.Prelude.{◌≡◌, ◌≢◌, ◌↔◌, ◌⊎◌, ℕ, List, Some, IsTrue};
 ghost use Rattle.std.specs.Prelude.{IfSome, IfNone, IfOk};
-ghost use Rattle.bgp_wire.specs.Header.{IsSound, length_of};
-ghost use Rattle.bgp_wire.specs.declared.header.Limit.TheVariants.{Plain};
+ghost use Rattle.bgp_wire.specs.Header.{IsSound, length_of, limit_with};
 ghost use Rattle.mrt.specs.Layout.{IsState, form_of, shown_in};
 ghost use Rattle.mrt.specs.Rules.{HasBadState, IsRouteRefresh, HasOtherLength, IsBefore};
 ghost use Rattle.mrt.specs.Rules.{Holds, FirstSays, content_rules};
@@ -75,29 +74,37 @@ fn is_route_refresh(content: &[u8]) -> bool
     }
 }
 
-/// The Length of a header, if the header is sound.
-fn sound_length(header: &[u8; HEADER_LEN]) -> Option<usize>
+/// The Length of a header, if the header is sound by the limit.
+fn sound_length(header: &[u8; HEADER_LEN], limit: Limit) -> Option<usize>
     ensures some { IfSome result (λ count.
-        IsSound Plain header.now × (count ≡ length_of header.now)) }
-    ensures none { IfNone result (¬ IsSound Plain header.now) }
+        IsSound limit header.now × (count ≡ length_of header.now)) }
+    ensures none { IfNone result (¬ IsSound limit header.now) }
 {
-    match check_header(header, Limit::Plain) {
+    match check_header(header, limit) {
         HeaderVerdict::Whole(length, _) => Some(usize::from(length)),
         HeaderVerdict::Faulty(_) => None,
     }
 }
 
-/// Whether the message has a sound header whose Length isn't the count of its octets.
-fn has_other_length(content: &[u8]) -> bool
-    ensures { IsTrue result ↔ HasOtherLength content.now }
+/// Whether the message has a header that is sound by the limit, whose Length isn't the count of its
+/// octets.
+fn has_other_length(content: &[u8], limit: Limit) -> bool
+    ensures { IsTrue result ↔ HasOtherLength limit content.now }
 {
     let Some(header) = header_at(content) else {
         return false;
     };
-    let Some(length) = sound_length(header) else {
+    let Some(length) = sound_length(header, limit) else {
         return false;
     };
     length != content.len()
+}
+
+/// The same by the limit of the messages that the session may receive.
+fn is_no_whole_message(content: &[u8], session: &Session) -> bool
+    ensures { IsTrue result ↔ HasOtherLength (limit_with session.now.extended) content.now }
+{
+    has_other_length(content, Limit::with_extended(session.extended))
 }
 
 /// Whether the second is below that of the session's record before, if there was one.
@@ -154,7 +161,7 @@ fn check_message(
     if session.refresh && is_route_refresh(content) {
         return Err(FaultKind::RouteRefresh);
     }
-    if has_other_length(content) {
+    if is_no_whole_message(content, session) {
         return Err(FaultKind::NotAMessage);
     }
     if is_before(header.second, last) {

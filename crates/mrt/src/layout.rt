@@ -8,13 +8,28 @@ ghost use Rattle.mrt.specs.Layout.{IsBgp4mp, form_of, as_width, afi_at, afi_in};
 ghost use Rattle.mrt.specs.Layout.{address_len, address_in, LacksFields};
 ghost use Rattle.mrt.specs.Layout.{old_state_in, new_state_in};
 ghost use Rattle.mrt.specs.Found.{header_value, afi_number, AreFields};
+ghost use Rattle.mrt.specs.Rules.{body_limit};
 
 use crate::record::Endpoints;
-use bgp_prefix::{Address, Family, Seconds};
+use bgp_prefix::{Address, Family, Seconds, Session};
 use byteorder::{BigEndian, ByteOrder};
 
 /// The octets of a record's header.
 pub(crate) const HEADER: usize = 12;
+
+/// The most octets of a body that is read, of any session: 48 before a message of 65535.
+pub(crate) const LONGEST_BODY: usize = 65583;
+
+/// The most octets of a body that is read of this session: more than 8192 only where its messages
+/// may be extended ones (RFC 8654).
+#[tactic(auto, unfolding(crate::specs::Rules::body_limit))]
+pub(crate) fn body_limit(session: &Session) -> usize
+    ensures limit { result ≡ body_limit session.now }
+    ensures least { 8192 ≤ result }
+    ensures most { result ≤ LONGEST_BODY }
+{
+    if session.extended { LONGEST_BODY } else { 8192 }
+}
 
 /// The header of a record (RFC 6396, 2).
 #[derive(Clone, Copy)]

@@ -9,9 +9,9 @@ ghost use Rattle.mrt.specs.contracts.reader.Reader.{the_row};
 
 use crate::fault::{CaptureFault, FaultKind};
 use crate::judging::{Found, Shows};
-use crate::layout::HEADER;
+use crate::layout::{HEADER, LONGEST_BODY};
 use crate::progress::Progress;
-use crate::reading::{BODY, Read, read_record};
+use crate::reading::{Read, read_record};
 use crate::record::{Endpoints, Record};
 use crate::source::Source;
 use bgp_prefix::Session;
@@ -25,10 +25,10 @@ fn advance<S: Source>(
     progress: &mut Progress,
     session: &Session,
 ) -> Result<Option<Found>, CaptureFault>
-    requires room { length buffer.old ≡ BODY }
+    requires room { length buffer.old ≡ LONGEST_BODY }
     requires failures { S.failures source.old < u64.MAX }
     requires one_source { progress.old.passed ≤ S.given_count source.old }
-    ensures room { length buffer.new ≡ BODY }
+    ensures room { length buffer.new ≡ LONGEST_BODY }
     ensures next { Advances S.gives S.has_ended session.now source.old source.new
         (state_of progress.old) (state_of progress.new) buffer.new result }
     ensures one_source { progress.new.passed ≤ S.given_count source.new }
@@ -66,9 +66,9 @@ fn record_of(found: Found, buffer: &[u8]) -> Record<'_>
     }
 }
 
-/// Reads the records of one session from a capture. It holds the body of one record at the most,
-/// takes no octets beyond the record that it answers, and asks for no more than that record lacks:
-/// who reads from a file puts a buffer between.
+/// Reads the records of one session from a capture. It holds the body of one record at the most, in
+/// a buffer of 65583 octets, takes no octets beyond the record that it answers, and asks for no more
+/// than that record lacks: who reads from a file puts a buffer between.
 ///
 /// After a fault it answers that fault for good, and after the end the end.
 #[derive(Drop)]
@@ -86,19 +86,19 @@ impl<A: Allocator> Model for Reader<A> {
 
     ghost view = { λ r. state_of r.progress };
 
-    ghost invariant = { λ r. (length r.buffer.items ≤ 8192)
+    ghost invariant = { λ r. (length r.buffer.items ≤ 65583)
         × HasRoom (length r.buffer.items) (state_of r.progress) };
 }
 
 /// A buffer for the body of one record, made of an empty or an old one.
 fn make_room<A: Allocator>(buffer: &mut Vec<u8, A>) -> Result<(), AllocError>
-    requires { length buffer.old.items ≤ BODY }
-    ensures ok { OnOk result (length buffer.new.items ≡ BODY) }
-    ensures err { OnErr result (length buffer.old.items < BODY) }
-    ensures bound { length buffer.new.items ≤ BODY }
+    requires { length buffer.old.items ≤ LONGEST_BODY }
+    ensures ok { OnOk result (length buffer.new.items ≡ LONGEST_BODY) }
+    ensures err { OnErr result (length buffer.old.items < LONGEST_BODY) }
+    ensures bound { length buffer.new.items ≤ LONGEST_BODY }
 {
-    if buffer.len() < BODY {
-        buffer.resize(BODY, 0)?;
+    if buffer.len() < LONGEST_BODY {
+        buffer.resize(LONGEST_BODY, 0)?;
     }
     Ok(())
 }

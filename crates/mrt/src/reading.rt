@@ -7,18 +7,16 @@ ghost use Rattle.mrt.specs.Layout.{header_in, IsBgp4mp};
 ghost use Rattle.mrt.specs.Capture.{IsBegun};
 ghost use Rattle.mrt.specs.Found.{header_value};
 ghost use Rattle.mrt.specs.Reading.{IsRead};
+ghost use Rattle.mrt.specs.Rules.{body_limit};
 
 use crate::failure::Failed;
 use crate::fault::FaultKind;
 use crate::filling::{fill, pass_over};
 use crate::judging::{Found, Judged, judge};
-use crate::layout::{HEADER, RecordHeader, is_bgp4mp, read_header};
+use crate::layout::{HEADER, LONGEST_BODY, RecordHeader, body_limit, is_bgp4mp, read_header};
 use crate::record::Endpoints;
 use crate::source::Source;
 use bgp_prefix::{Seconds, Session};
-
-/// The most octets of a record's body that is read.
-pub(crate) const BODY: usize = 8192;
 
 /// What was read, and of a skipped record how many octets it has.
 #[derive(Clone, Copy)]
@@ -48,7 +46,7 @@ fn skip_body<S: Source>(
     buffer: &mut [u8],
     header: &RecordHeader,
 ) -> Result<Read, Failed>
-    requires room { length buffer.old ≡ BODY }
+    requires room { length buffer.old ≡ LONGEST_BODY }
     requires failures { S.failures source.old < u64.MAX }
     requires other { ¬ IsBgp4mp header.now.kind }
     ensures room { length buffer.new ≡ length buffer.old }
@@ -75,10 +73,11 @@ fn read_body<S: Source>(
     session: &Session,
     last: Option<Seconds>,
 ) -> Result<Read, Failed>
-    requires room { length buffer.old ≡ BODY }
+    requires room { length buffer.old ≡ LONGEST_BODY }
     requires failures { S.failures source.old < u64.MAX }
     requires kind { IsBgp4mp header.now.kind }
-    requires count { header.now.count ≤ BODY }
+    requires count { header.now.count ≤ body_limit session.now }
+    requires fits { header.now.count ≤ LONGEST_BODY }
     ensures room { length buffer.new ≡ length buffer.old }
     ensures ok { IfOk result (λ read. (body : List ℕ) × S.gives source.old source.new body
         × ((front : List ℕ) → length front ≡ 12 → header_value header.now ≡ header_in front
@@ -108,13 +107,13 @@ pub(crate) fn read_record<S: Source>(
     session: &Session,
     last: Option<Seconds>,
 ) -> Result<Read, Failed>
-    requires room { length buffer.old ≡ BODY }
+    requires room { length buffer.old ≡ LONGEST_BODY }
     requires failures { S.failures source.old < u64.MAX }
     ensures room { length buffer.new ≡ length buffer.old }
     ensures ok { IfOk result (λ read. (octets : List ℕ) × S.gives source.old source.new octets
         × IsRead session.now last octets (S.has_ended source.new) buffer.new read) }
     ensures err { OnErr result ((taken : List ℕ) × S.gives source.old source.new taken
-        × IsBegun taken) }
+        × IsBegun session.now taken) }
     ensures failures { S.failures source.new ≡ failures_after (S.failures source.old) result }
 {
     let mut octets = [0; HEADER];
@@ -129,7 +128,7 @@ pub(crate) fn read_record<S: Source>(
     if !is_bgp4mp(header.kind) {
         return skip_body(source, buffer, &header);
     }
-    if header.count > BODY as u32 {
+    if header.count as usize > body_limit(session) {
         return Ok(Read::Refused(FaultKind::TooLong));
     }
     read_body(source, buffer, &header, session, last)

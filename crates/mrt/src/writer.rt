@@ -11,8 +11,10 @@ ghost use Rattle.mrt.specs.Reader.{shown_of};
 ghost use Rattle.mrt.specs.Written.{header_octets, number_octets, address_octets, afi_for};
 ghost use Rattle.mrt.specs.Written.{content_for, subtype_for, behind_numbers, body_len};
 ghost use Rattle.mrt.specs.Written.{record_octets, IsWritable};
+ghost use Rattle.mrt.specs.Rules.{body_limit};
 
 use crate::failure::Failed;
+use crate::layout::body_limit;
 use crate::record::Record;
 use crate::sink::{Sink, write_all};
 use bgp_prefix::{Address, Seconds, Session};
@@ -21,9 +23,6 @@ use thiserror::Error;
 
 /// The octets of a body before the addresses.
 const NUMBERS: usize = 12;
-
-/// The most octets of a body.
-const LONGEST_BODY: usize = 8192;
 
 /// Why a record isn't written.
 #[derive(Clone, Copy, Debug, PartialEq, Eq, Error)]
@@ -156,7 +155,7 @@ fn write_behind_numbers<W: Sink>(
 
 /// How many octets a body has, whose content has so many.
 fn count_of(session: &Session, content: usize) -> u32
-    requires { content ≤ 8192 }
+    requires { content ≤ 65583 }
     ensures { result ≡ 12 + (length (address_octets session.now.peer)
         + (length (address_octets session.now.local) + content)) }
 {
@@ -172,7 +171,7 @@ fn write_parts<W: Sink>(
     shown: &Record<'_>,
 ) -> Result<(), Failed>
     requires failures { W.failures sink.old < u64.MAX }
-    requires short { body_len session.now (shown_of shown.now) ≤ 8192 }
+    requires short { body_len session.now (shown_of shown.now) ≤ body_limit session.now }
     ensures ok { OnOk result (W.takes sink.old sink.new
         (record_octets session.now peer_as local_as (shown_of shown.now))) }
     ensures err { OnErr result (TakesBeginning W.takes sink.old sink.new
@@ -187,7 +186,7 @@ fn write_parts<W: Sink>(
 }
 
 /// Whether a record can be written: both addresses are of one family, and the record's body has at
-/// most 8192 octets.
+/// most 8192 octets, or 65583 where the session's messages may be extended ones (RFC 8654).
 pub fn is_writable(session: &Session, shown: &Record<'_>) -> bool
     ensures { IsTrue result ↔ IsWritable session.now (shown_of shown.now) }
 {
@@ -195,7 +194,8 @@ pub fn is_writable(session: &Session, shown: &Record<'_>) -> bool
         return false;
     }
     let content = parts_of(shown).2;
-    content <= LONGEST_BODY - NUMBERS - address_len(session.peer) - address_len(session.local)
+    let room = body_limit(session) - NUMBERS;
+    content <= room - address_len(session.peer) - address_len(session.local)
 }
 
 /// Writes one record of a session between these AS numbers, of type BGP4MP, with four-octet AS

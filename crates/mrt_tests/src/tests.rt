@@ -1,6 +1,7 @@
 //! What no clause says: devices that fail in mid-stream, each upset once, refused memory.
 
 mod captures;
+mod extended;
 mod written;
 
 use linked_list_allocator::LocalHeap;

@@ -152,12 +152,15 @@ fn is_a_place(alloc: Global, offset: u64) -> bool {
     is_found
 }
 
+/// A heap of so many octets has no room for the reader's buffer of 65583.
+const LEAST: usize = 57_392;
+
 #[test]
 fn a_refused_growth_gives_no_verdict(rt: HostRuntime) {
     let mut last = Some(0);
     let mut places = 0;
     for step in 1..2048 {
-        let (is_right, refused) = match outcome_with(rt.alloc(), 16 * step) {
+        let (is_right, refused) = match outcome_with(rt.alloc(), LEAST + 16 * step) {
             Some(Outcome::Verdict) => (true, None),
             Some(Outcome::Refused(offset)) => (is_a_place(rt.alloc(), offset), Some(offset)),
             _ => (false, None),

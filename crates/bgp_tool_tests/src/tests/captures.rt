@@ -102,8 +102,8 @@ fn a_failing_sink_ends_the_reading(rt: HostRuntime) -> Result<(), Fail> {
 /// Sizes of heaps, and the status and the text of a change that is decoded with one.
 static SIZES: [(usize, u8, &str); 3] = [
     (64, 4, "capture refused: 10 Memory at 0\n"),
-    (8000, 4, "capture refused: 10 Memory at 0\n"),
-    (16384, 0, "@100 change 1 2\n"),
+    (65536, 4, "capture refused: 10 Memory at 0\n"),
+    (1 << 17, 0, "@100 change 1 2\n"),
 ];
 
 #[test]

@@ -195,8 +195,8 @@ fn refused_at(
     Ok(place)
 }
 
-/// With each size of heap: status 4, and memory was refused at such an octet; until the heap is
-/// large enough for the verdict.
+/// With each size of heap, from one that has no room for the reader's buffer of 65583 octets: status
+/// 4, and memory was refused at such an octet; until the heap is large enough for the verdict.
 fn is_refused_until_ample(
     rt: &impl Abort,
     alloc: Global,
@@ -204,7 +204,7 @@ fn is_refused_until_ample(
     refusals: &[String],
 ) -> Result<(), Fail> {
     let (mut first, mut last) = (None, None);
-    for size in (16usize..1 << 15).step_by(16) {
+    for size in (57_392usize..1 << 17).step_by(16) {
         let heap = LocalHeap::new(alloc, size)?;
         let place = refused_at(rt, alloc, judge, &heap, refusals)?;
         if place.is_none() {

@@ -307,17 +307,17 @@ const AT_FIRST: &str = "capture refused: 10 Memory at 0\n";
 static SIZES: [(Task, usize, &str, Option<u64>); 7] = [
     (Task::Decode, 16, "", Some(19)),
     (Task::JudgePlain, 64, AT_FIRST, Some(0)),
-    (Task::JudgePlain, 8192, AT_FIRST, Some(0)),
-    (Task::JudgePlain, 65536, CONNECT, None),
+    (Task::JudgePlain, 65584, AT_FIRST, Some(0)),
+    (Task::JudgePlain, 1 << 17, CONNECT, None),
     (Task::JudgeCompact, 64, AT_FIRST, Some(0)),
     // It takes no memory to begin with: the first refusal is that of the list of ends.
     (
         Task::JudgeCompact,
-        8192,
+        65584,
         "capture refused: 10 Memory at 36\n",
         Some(36),
     ),
-    (Task::JudgeCompact, 65536, CONNECT, None),
+    (Task::JudgeCompact, 1 << 17, CONNECT, None),
 ];
 
 #[test]

@@ -73,13 +73,13 @@ fn capture_of(alloc: Global, records: &[&[u8]]) -> Result<Vec<u8>, AllocError> {
 }
 
 /// What a reader answers.
-type Next<'a> = Result<Option<Record<'a>>, CaptureFault>;
+pub(crate) type Next<'a> = Result<Option<Record<'a>>, CaptureFault>;
 
 /// The record of [`CHANGE`].
 const CHANGED: Next<'static> = Ok(Some(Record::Change(100, 1, 2)));
 
 /// Whether that is the next answer, of a reader and a source that belong together.
-fn is_next<A: Allocator + Copy>(
+pub(crate) fn is_next<A: Allocator + Copy>(
     reader: &mut Reader<A>,
     source: &mut MemSource,
     session: &Session,
@@ -293,7 +293,7 @@ fn a_buffer_that_is_refused_is_told_for_good(rt: HostRuntime) {
         kind: FaultKind::Memory,
         offset: 0,
     });
-    for size in &[64, 4096, 8000] {
+    for size in &[64, 8192, 65536] {
         assert!(rt;
             are_answered_with(rt.alloc(), *size, 3, &refused, 0),
             "{size}"
@@ -303,7 +303,7 @@ fn a_buffer_that_is_refused_is_told_for_good(rt: HostRuntime) {
 
 #[test]
 fn ample_memory(rt: HostRuntime) {
-    assert!(rt; are_answered_with(rt.alloc(), 16384, 1, &CHANGED, 36));
+    assert!(rt; are_answered_with(rt.alloc(), 1 << 17, 1, &CHANGED, 36));
 }
 
 #[test]

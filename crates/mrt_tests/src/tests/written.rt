@@ -18,7 +18,7 @@ const SENT: [u8; 56] = [
     0x00, 0x00, 0x00, 0x00, 0x00, 0x00, 0x00, 0x01, // local address
 ];
 
-const OVER_IPV6: Session = Session {
+pub(crate) const OVER_IPV6: Session = Session {
     peer: Address::V6(0x2001_0db8_0000_0000_0000_0000_0000_0002),
     local: Address::V6(0x2001_0db8_0000_0000_0000_0000_0000_0001),
     refresh: false,
@@ -26,7 +26,7 @@ const OVER_IPV6: Session = Session {
 };
 
 /// Whether that is answered to a record that can be written.
-fn answers<A: Allocator>(
+pub(crate) fn answers<A: Allocator>(
     sink: &mut MemSink<A>,
     session: &Session,
     shown: &Record<'_>,

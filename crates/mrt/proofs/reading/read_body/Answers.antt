@@ -3,7 +3,7 @@ use Rattle.std.proofs.lemmas.List.{length-take-le}
 use Rattle.bgp_prefix.specs.declared.session.Session.{Session}
 use Rattle.mrt.specs.declared.record.Endpoints.{Endpoints}
 use Rattle.mrt.specs.Layout.{Header, IsBgp4mp, header_in, peer_in, local_in}
-use Rattle.mrt.specs.Rules.{Judgement, Refused, Skipped, SkippedSession, OfSession}
+use Rattle.mrt.specs.Rules.{Judgement, Refused, Skipped, SkippedSession, OfSession, body_limit}
 use Rattle.mrt.specs.Found.{IsJudgedBy}
 use Rattle.mrt.proofs.Taken.{held}
 use Rattle.mrt.proofs.Places.{whole_record, cut_body, refused_at_end, judged_piece, judged_record, found_as, found_in, header_front, body_front}
@@ -21,7 +21,7 @@ returns-then-filled-count-clause-ok g c =
           (c.in_ok-filled.ensures.ended (omega (arith, c.fill.ensures.room)))
           (cut_body c.args.session.now c.args.last front body header
           (subst (λ (h : Header). IsBgp4mp h.kind) same c.requires.kind)
-          (subst (λ (h : Header). h.count ≤ 8192) same c.requires.count)
+          (subst (λ (h : Header). h.count ≤ body_limit c.args.session.now) same c.requires.count)
           (let count = ap (λ (h : Header). h.count) same in omega arith)),
     )
 
@@ -58,7 +58,7 @@ returns-in-Skipped-clause-ok g c =
               whole = whole_record front body header count;
               judged = judged_piece c.args.session.now c.args.last Skipped front body header
                   (subst (λ (h : Header). IsBgp4mp h.kind) same c.requires.kind)
-                  (subst (λ (h : Header). h.count ≤ 8192) same c.requires.count) count
+                  (subst (λ (h : Header). h.count ≤ body_limit c.args.session.now) same c.requires.count) count
                   (judged_as _ _ _ _ _ _ _ same there c.in-Skipped.ensures);
             },
             (let e = ap (λ (h : Header). h.count) same in omega (arith, c.record_len.ensures)),
@@ -81,7 +81,7 @@ returns-in-SkippedSession-clause-ok g c =
               whole = whole_record front body header count;
               judged = judged_piece c.args.session.now c.args.last SkippedSession front body header
                   (subst (λ (h : Header). IsBgp4mp h.kind) same c.requires.kind)
-                  (subst (λ (h : Header). h.count ≤ 8192) same c.requires.count) count
+                  (subst (λ (h : Header). h.count ≤ body_limit c.args.session.now) same c.requires.count) count
                   (judged_as _ _ _ _ _ _ _ same there c.in-SkippedSession.ensures.0);
             },
             ends_as _ _ _ _ _ _ c.in-SkippedSession.ends (header_front front body header) (body_front front body header count) same there
@@ -103,7 +103,7 @@ returns-in-Refused-clause-ok g c =
           let count : length body ≡ (header_in front).count = (let e = ap (λ (h : Header). h.count) same in omega (arith, c.fill.ensures.room, c.in_ok-filled.ensures.bound)) in
           judged_record c.args.session.now c.args.last (Refused c.in-Refused.kind) front body more header
           (subst (λ (h : Header). IsBgp4mp h.kind) same c.requires.kind)
-          (subst (λ (h : Header). h.count ≤ 8192) same c.requires.count) count
+          (subst (λ (h : Header). h.count ≤ body_limit c.args.session.now) same c.requires.count) count
           (judged_as _ _ _ _ _ _ _ same there c.in-Refused.ensures),
     )
 
@@ -124,7 +124,7 @@ returns-in-OfSession-clause-ok g c =
               whole = whole_record front body header count;
               judged = judged_piece c.args.session.now c.args.last OfSession front body header
                   (subst (λ (h : Header). IsBgp4mp h.kind) same c.requires.kind)
-                  (subst (λ (h : Header). h.count ≤ 8192) same c.requires.count) count
+                  (subst (λ (h : Header). h.count ≤ body_limit c.args.session.now) same c.requires.count) count
                   (judged_as _ _ _ _ _ _ _ same there c.in-OfSession.ensures.0);
             },
             found_in front body (c.fill.new.buffer ++ drop c.args.header.now.count c.args.buffer.now) c.in-OfSession.found header count

@@ -25,19 +25,19 @@ returns-then-not-is_bgp4mp-clause-err g c =
     let count = ap (λ (h : Header). h.count) c.read_header-header.ensures in (
       front ++ body,
       g.met.S.Source.joined _ _ _ _ _ gave given,
-      begun_other front body (omega (arith, c.fill.ensures.room))
+      begun_other c.args.session.now front body (omega (arith, c.fill.ensures.room))
           (subst (λ (h : Header). ¬ IsBgp4mp h.kind) c.read_header-header.ensures (search rules)) (omega arith),
     ))
     c.skip_body.ensures.err
 
-pub returns-then-header-clause-ok : goal.returns-then-header-clause-ok
-returns-then-header-clause-ok g c =
+pub returns-then-header-body_limit-clause-ok : goal.returns-then-header-body_limit-clause-ok
+returns-then-header-body_limit-clause-ok g c =
     let front = c.fill.new.buffer in
     let all : take c.in_ok-filled.filled front ≡ front = take_all _ _ (omega (arith, c.fill.ensures.room)) in
     let gave = subst (λ (o : List ℕ). g.S.Source.gives c.args.source.now c.fill.new.source o) all c.in_ok-filled.ensures.ok in
     let count = ap (λ (h : Header). h.count) c.read_header-header.ensures in
     let judged = λ (more : List ℕ). long_body c.args.session.now c.args.last front more (omega (arith, c.fill.ensures.room))
-    (subst (λ (h : Header). IsBgp4mp h.kind) c.read_header-header.ensures (c.is_bgp4mp.ensures.0 c.if-not-is_bgp4mp.false)) (omega arith) in
+    (subst (λ (h : Header). IsBgp4mp h.kind) c.read_header-header.ensures (c.is_bgp4mp.ensures.0 c.if-not-is_bgp4mp.false)) (omega (arith, c.body_limit.ensures.limit)) in
     (front, gave, λ more none. search (judged))
 
 pub returns-clause-ok : goal.returns-clause-ok
@@ -58,5 +58,5 @@ returns-clause-err g c =
     err_then c.read_body.result _ _ (λ made.
     let (body, given, fewer) = made in
     let count = ap (λ (h : Header). h.count) c.read_header-header.ensures in
-    (front ++ body, g.met.S.Source.joined _ _ _ _ _ gave given, begun_body front body (omega (arith, c.fill.ensures.room)) (omega arith) (omega arith)))
+    (front ++ body, g.met.S.Source.joined _ _ _ _ _ gave given, begun_body c.args.session.now front body (omega (arith, c.fill.ensures.room)) (omega (arith, c.body_limit.ensures.limit)) (omega arith)))
     c.read_body.ensures.err

@@ -7,6 +7,7 @@ use Rattle.mrt.specs.Reader.{shown_of}
 use Rattle.mrt.specs.Written.{header_octets, number_octets, address_octets, content_for, subtype_for, body_octets}
 use Rattle.mrt.proofs.Exits.{err_then, done_then}
 use Rattle.mrt.proofs.Parts.{begins_first, begins_behind}
+use Rattle.mrt.proofs.BodyLimit.{is_bounded}
 use Rattle.mrt.proofs.WrittenBody.{body_is, length-body}
 use Rattle.mrt.proofs.writer.write_parts.Goals as goal
 
@@ -19,6 +20,9 @@ header_is session pa la shown header second subtype content count is s t n count
     is
     ∙ ap (λ (x : ℕ). header_octets x subtype count) s ∙ ap (λ (x : ℕ). header_octets (second_of shown) x count) t
     ∙ ap (λ (x : ℕ). header_octets (second_of shown) (subtype_for shown) x) (let same : count ≡ length (body_octets session pa la shown) = omega arith in same)
+
+pub count_of-count-requires : goal.count_of-count-requires
+count_of-count-requires g c = omega (arith, is_bounded c.args.session.now, c.requires.short, c.parts_of-second.ensures.count)
 
 pub returns-in_err-write_all-clause-err : goal.returns-in_err-write_all-clause-err
 returns-in_err-write_all-clause-err g c =
