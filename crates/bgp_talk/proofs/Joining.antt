@@ -174,6 +174,7 @@ module _ {W C : Type 0}
           records = entered.records ++ cut.records;
           handed = (entered.second, input) ∷ cut.handed;
           more = cut.more;
+          few = cut.few;
           told = told_joined w w' v (Clock entered.second ∷ []) (account ++ cut.account) entered.told (told_joined w' w'' v account cut.account told cut.told);
           in_turn = (
             tt,
@@ -263,6 +264,7 @@ module _ {W C : Type 0}
     records = first.records ++ cut.records;
     handed = inputs_of owed first.account ++ cut.handed;
     more = cut.more;
+    few = cut.few;
     told = told_joined w w' w'' first.account cut.account first.told cut.told;
     in_turn = in_turn_joined owed first.account cut.account first.ran.in_turn
         (subst (λ (o : List InputValue). IsInTurn o cut.account) (sym first.ran.owes) cut.in_turn);
@@ -448,6 +450,7 @@ module _ {W C : Type 0}
     records = cut.records;
     handed = cut.handed;
     more = cut.more;
+    few = cut.few;
     told = told_joined w w' w'' (Asked answer ∷ []) cut.account told cut.told;
     in_turn = (refl, subst (λ (q : List InputValue). IsInTurn q cut.account) (sym is) cut.in_turn);
     begins = ap (λ (q : List InputValue). inputs_of q cut.account) is ∙ cut.begins;
@@ -641,6 +644,7 @@ module _ {W C : Type 0}
         records = cut.records;
         handed = cut.handed;
         more = cut.more;
+        few = cut.few;
         told = cut.told;
         in_turn = stop_in_turn [] cut.account cut.in_turn;
         begins = sym (stop_is_last [] cut.account) ∙ cut.begins;
@@ -665,6 +669,7 @@ module _ {W C : Type 0}
     records = first.records;
     handed = inputs_of owed first.account;
     more = [];
+    few = omega arith;
     told = first.told;
     in_turn = first.ran.in_turn;
     begins = sym (append-nil (inputs_of owed first.account));

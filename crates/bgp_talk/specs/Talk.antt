@@ -174,9 +174,9 @@ pub record Spoken {W C : Type 0}
   pub asks : account ≡ before ++ Asked answer ∷ after
   pub reports : Reports owed limit turns routes a account records b
 
--- A fault cut it short: the inputs that were handed in begin those that the wire made, and a
--- beginning of the text was written. What the wire took is a beginning of what was sent in the
--- records that were written in whole.
+-- A fault cut it short: the inputs that were handed in are those that the wire made, or all but the
+-- last of these, and a beginning of the text was written. What the wire took is a beginning of what
+-- was sent in the records that were written in whole.
 pub record Cut {W C : Type 0}
     (tells : W → W → List Telling → Type 0) (takes : C → C → List ℕ → Type 0)
     (text : List ShownRecord → List ℕ)
@@ -189,6 +189,7 @@ pub record Cut {W C : Type 0}
   pub told : tells wire wire' account
   pub in_turn : IsInTurn owed account
   pub begins : inputs_of owed account ≡ handed ++ more
+  pub few : length more ≤ 1
   pub runs : Drives a handed records b
   pub wrote : TakesBeginning takes sink sink' (text records)
   -- those that were written in whole, and the others

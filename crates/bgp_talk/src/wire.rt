@@ -68,9 +68,10 @@ pub trait Wire {
         ensures connection { connection self.new ≡ connection self.old }
         ensures failures { failures self.new ≡ failures_after_read (failures self.old) result };
 
-    /// Takes octets at the front of `octets`, maybe none, and answers how many. At `Failed` it took
-    /// none.
+    /// Takes octets at the front of `octets`, maybe none of them, and answers how many. At `Failed`
+    /// it took none. There are octets to take: so one that takes none takes fewer than it could.
     fn write(&mut self, octets: &[u8]) -> Result<usize, Failed>
+        requires some { 0 < length octets.now }
         requires stands { connection self.old ≡ Stands }
         requires failures { failures self.old < u64.MAX }
         ensures bound { IfOk result (λ count. count ≤ length octets.now) }

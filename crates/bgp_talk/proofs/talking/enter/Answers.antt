@@ -1,4 +1,4 @@
-use Rattle.std.proofs.Common.{rules, ◌≡◌, [], ◌∷◌, sym, refl, map, subst}
+use Rattle.std.proofs.Common.{arith, rules, ◌≡◌, [], ◌∷◌, sym, refl, map, subst}
 use Rattle.std.specs.List.{AllByRecursion}
 use Rattle.mrt.specs.Sink.{TakesBeginning}
 use Rattle.bgp_speaker.specs.Shown.{input_value, shown_value}
@@ -23,6 +23,7 @@ returns-in_default-clause-err g c =
         records = [];
         handed = [];
         more = (c.now-second.result, input_value c.args.input.now) ∷ [];
+        few = omega arith;
         told = c.now-second.ensures.told;
         in_turn = (tt, tt);
         begins = refl;
@@ -46,6 +47,7 @@ returns-then-is_err-clause-err g c =
         records = map shown_value c.in-Ok.output.records.items;
         handed = (c.now-second.result, input_value c.args.input.now) ∷ [];
         more = [];
+        few = omega arith;
         told = c.now-second.ensures.told;
         in_turn = (tt, tt);
         begins = refl;
