@@ -1,18 +1,19 @@
 -- An UPDATE whose fields are empty is clean on every link.
-use Rattle.std.proofs.Common.{◌≡◌, ℕ, ◌+◌, ◌<◌, ◌^◌, ◌⊎◌, length, [], Some, None, true, false, refl, subst, inl, inr, arith}
+use Rattle.std.proofs.Common.{◌≡◌, ℕ, ◌+◌, ◌<◌, ◌≤◌, ◌^◌, ◌⊎◌, length, [], Some, None, true, false, refl, subst, inl, inr, arith}
 use Rattle.bgp_prefix.specs.declared.family.Family.{Family}
 use Rattle.bgp_open.specs.declared.link.Link.{Link}
 use Rattle.bgp_attr.specs.Split.{attributes_of, rest_of, tail_at}
-use Rattle.bgp_wire.specs.declared.header.Limit.TheVariants.{Plain}
+use Rattle.bgp_wire.specs.declared.header.Limit.{Limit}
 use Rattle.bgp_wire.specs.declared.header.MessageType.TheVariants.{Update}
 use Rattle.bgp_wire.specs.Framing.{IsFrame}
-use Rattle.bgp_wire.specs.Header.{IsBadLength}
+use Rattle.bgp_wire.specs.Header.{IsBadLength, limit_with}
 use Rattle.bgp_wire.specs.Message.{message_octets}
 use Rattle.bgp_wire.specs.Verdict.{type_code}
+use Rattle.bgp_wire.proofs.GreatestLength.{allows_4096}
 use Rattle.bgp_wire.proofs.WholeMessages.{written_is_frame}
-use Rattle.bgp_wire.proofs.WrittenMessage.{written_message, body_of-message_octets}
+use Rattle.bgp_wire.proofs.WrittenMessage.{written_message, body_of-message_octets, length-message_octets}
 use Rattle.bgp_update.specs.Laws.{HasCleanUpdate}
-use Rattle.bgp_update.specs.Clean.{IsCleanBy}
+use Rattle.bgp_update.specs.Clean.{IsCleanBy, most_octets}
 use Rattle.bgp_update.specs.Disabled.{IsCertain, IsOptional}
 use Rattle.bgp_update.specs.Found.{Found, MpFound, found}
 use Rattle.bgp_update.specs.Mp.{Absent, Unused}
@@ -108,13 +109,16 @@ four : length (section_octets empty) ≡ 4
 unfolding empty
 four = refl
 
-fits : IsBadLength Plain (type_code Update) (19 + length (section_octets empty)) → ⊥
-fits (inl short) = absurd (omega (arith, four))
-fits (inr (inl long)) = absurd (omega (arith, four))
-fits (inr (inr (is, other))) = absurd (omega arith)
+fits : (limit : Limit) → IsBadLength limit (type_code Update) (19 + length (section_octets empty)) → ⊥
+fits limit (inl short) = absurd (omega (arith, four))
+fits limit (inr (inl long)) = absurd (omega (arith, four, allows_4096 limit 2))
+fits limit (inr (inr (is, other))) = absurd (omega arith)
 
-framed : IsFrame Plain (message_octets 2 (section_octets empty))
-framed = (written_is_frame Plain Update (section_octets empty) fits).0
+framed : (limit : Limit) → IsFrame limit (message_octets 2 (section_octets empty))
+framed limit = (written_is_frame limit Update (section_octets empty) (fits limit)).0
+
+few : (link : Link) → length (message_octets 2 (section_octets empty)) ≤ most_octets link
+few link = omega (arith, four, allows_4096 (limit_with link.extended) 2, length-message_octets 2 (section_octets empty))
 
 small : 19 + length (section_octets empty) < 2 ^ 16
 small = omega (arith, four)
@@ -130,4 +134,4 @@ is_update = record {
 
 pub has_clean_update : HasCleanUpdate
 unfolding empty
-has_clean_update = record { clean = λ link. (empty, is_update, clean_empty link); frame = framed }
+has_clean_update = record { clean = λ link. (few link, empty, is_update, clean_empty link); frame = framed }

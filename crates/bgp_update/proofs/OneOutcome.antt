@@ -64,12 +64,12 @@ alone_outcome link x attributes h = ((λ r. h.no_reset r.0 (inl r.1)), inr (h.no
 
 pub one_outcome : CleanHasOneOutcome
 one_outcome link octets clean =
-    let s = clean.0 in
+    let s = clean.1 in
     let x = found link s in
     let attributes = attributes_of s.attributes in (
       record { remove = withdrawals link x; put = announcements link x attributes },
       λ outcome. (
-        λ is. only link x attributes clean.2.alone outcome (under link octets s outcome clean.1 is),
-        λ same. subst (IsOutcome link octets) (sym same) (inr (s, clean.1, alone_outcome link x attributes clean.2.alone)),
+        λ is. only link x attributes clean.3.alone outcome (under link octets s outcome clean.2 is),
+        λ same. subst (IsOutcome link octets) (sym same) (inr (s, clean.2, alone_outcome link x attributes clean.3.alone)),
       ),
     )

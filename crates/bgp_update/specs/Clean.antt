@@ -1,6 +1,7 @@
 -- A clean UPDATE: one that a speaker may send, since it leaves a peer nothing to forgive (RFC 4271,
 -- 4.3 and 5; RFC 7606, 3).
-use Rattle.std.specs.Prelude.{◌≡◌, ◌≢◌, ◌⊎◌, ℕ, List, [], Some, false, IsTrue}
+use Rattle.std.specs.Prelude.{◌≡◌, ◌≢◌, ◌≤◌, ◌⊎◌, ℕ, List, [], Some, false, IsTrue, length}
+use Rattle.bgp_wire.specs.Header.{greatest_length, limit_with}
 use Rattle.bgp_prefix.specs.declared.family.Family.{Family}
 use Rattle.bgp_prefix.specs.declared.family.Family.TheVariants.{V4}
 use Rattle.bgp_open.specs.declared.link.Link.{Link}
@@ -38,6 +39,13 @@ pub record IsCleanBy (link : Link) (x : Found) : Type 0 where
   pub whole : WastesNoAttribute x
   pub used : IsOfFamiliesInUse link x
 
--- the octets are a whole UPDATE, and it is clean
+-- an UPDATE that is sent on the link may have so many octets: those of an extended message exactly
+-- where the peer offers to receive them (RFC 8654, 4)
+abbrev pub most_octets : Link → ℕ
+most_octets link = greatest_length (limit_with link.extended) 2
+
+-- the octets are a whole UPDATE, no more of them than the link allows, and it is clean
 abbrev pub IsClean : Link → List ℕ → Type 0
-IsClean link octets = (s : Sections) × IsUpdate octets s × IsCleanBy link (found link s)
+IsClean link octets =
+    (length octets ≤ most_octets link)
+    × (s : Sections) × IsUpdate octets s × IsCleanBy link (found link s)

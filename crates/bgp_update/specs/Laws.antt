@@ -3,7 +3,7 @@ use Rattle.std.specs.Prelude.{◌≡◌, ◌↔◌, ℕ, List, [], false}
 use Rattle.bgp_open.specs.declared.families.Families.{Families}
 use Rattle.bgp_open.specs.declared.link.Link.{Link}
 use Rattle.bgp_wire.specs.Message.{message_octets}
-use Rattle.bgp_wire.specs.declared.header.Limit.TheVariants.{Plain}
+use Rattle.bgp_wire.specs.declared.header.Limit.{Limit}
 use Rattle.bgp_wire.specs.Framing.{IsFrame}
 use Rattle.bgp_update.specs.Changes.{RouteChanges}
 use Rattle.bgp_update.specs.Clean.{IsClean}
@@ -43,7 +43,7 @@ abbrev pub empty_update : List ℕ
 empty_update =
     message_octets 2 (section_octets (record { withdrawn = []; attributes = []; nlri = [] }))
 
--- there is a clean UPDATE on every link, and it is a whole frame
+-- there is a clean UPDATE on every link, and it is a whole frame, whichever limit there is
 pub record HasCleanUpdate : Type 0 where
   pub clean : (link : Link) → IsClean link empty_update
-  pub frame : IsFrame Plain empty_update
+  pub frame : (limit : Limit) → IsFrame limit empty_update

@@ -10,6 +10,7 @@ ghost use Rattle.bgp_update.specs.Clean.{
   IsAppliedAlone,
   WastesNoAttribute,
   IsOfFamiliesInUse,
+  most_octets,
 };
 ghost use Rattle.bgp_update.specs.Disabled.{IsCertain, IsOptional};
 ghost use Rattle.bgp_update.specs.Mp.{Unused};
@@ -23,12 +24,24 @@ use crate::survey::{Survey, survey_of};
 use bgp_attr::FirstAttrs;
 use bgp_open::Link;
 use bgp_prefix::Family;
+use bgp_wire::{Limit, MessageType};
 
-/// Whether the octets are a whole UPDATE that is clean: it leaves a peer nothing to forgive. It
-/// takes no memory.
+/// The most octets that an UPDATE may have which is sent on the link: 65535 where the peer offers
+/// extended messages (RFC 8654, 4), else 4096 (RFC 4271, 4.1).
+pub fn most_octets(link: &Link) -> u16
+    ensures { result ≡ most_octets link.now }
+{
+    Limit::with_extended(link.extended).greatest_length(MessageType::Update.code())
+}
+
+/// Whether the octets are a whole UPDATE that is clean: no longer than the link allows, it leaves a
+/// peer nothing to forgive. It takes no memory.
 pub fn is_clean(link: &Link, octets: &[u8]) -> bool
     ensures clean { IsTrue result ↔ IsClean link.now octets.now }
 {
+    if octets.len() > usize::from(most_octets(link)) {
+        return false;
+    }
     let Some(fields) = split_update(octets) else {
         return false;
     };

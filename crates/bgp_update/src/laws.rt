@@ -53,7 +53,7 @@ pub fn clean_is_applied()
     ensures outcome { CleanHasOneOutcome }
 {}
 
-/// An UPDATE whose fields are all empty is clean on every link, and a whole frame.
+/// An UPDATE whose fields are all empty is clean on every link, and a whole frame of every limit.
 pub fn empty_is_clean()
     ensures empty { HasCleanUpdate }
 {}

@@ -29,7 +29,7 @@ mod subcodes;
 mod survey;
 mod withdraw_faults;
 
-pub use clean::is_clean;
+pub use clean::{is_clean, most_octets};
 pub use fields::{Fields, split_update};
 pub use laws::{
     clean_is_applied, empty_is_clean, fields_are_read, one_change, one_split, some_outcome,

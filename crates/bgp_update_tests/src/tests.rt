@@ -1,5 +1,6 @@
 //! UPDATEs whose outcomes were worked out by hand from the standards.
 
+mod extended;
 mod memory;
 mod messages;
 mod rules;
@@ -7,7 +8,7 @@ mod rules;
 use bgp_open::{Config, ConfigParts, Families, Link, negotiate, read_open};
 use bgp_path::{NextHop, Origin};
 use bgp_prefix::{Address, Prefix, Session, read_prefix};
-use bgp_update::{Changes, Outcomes, Put, Subcodes, is_clean, read_update};
+use bgp_update::{Changes, Outcomes, Put, Subcodes, is_clean, most_octets, read_update};
 use bgp_wire::vectors::OPEN_B;
 use std::alloc::{AllocError, Allocator, Global};
 use std::process::Abort;
