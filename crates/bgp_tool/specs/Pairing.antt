@@ -1,16 +1,50 @@
 -- Both ends of a connection in one process: what their captures took, and what is printed of them
 -- and the exit status.
-use Rattle.std.specs.Prelude.{◌≡◌, ◌++◌, ◌⊎◌, ℕ, Bool, List, Option, codes, max}
+use Rattle.std.specs.Prelude.{◌≡◌, ◌++◌, ◌⊎◌, ◌+◌, ◌*◌, ◌^◌, ℕ, Bool, true, false, List, Option}
+use Rattle.std.specs.Prelude.{codes, max}
 use Rattle.bgp_prefix.specs.Shown.{ShownRecord}
+use Rattle.bgp_prefix.specs.declared.address.Address.TheVariants.{V4}
 use Rattle.bgp_machine.specs.State.{fsm_of}
 use Rattle.bgp_machine.specs.declared.fsm.Fsm.TheVariants.{Established}
 use Rattle.bgp_open.specs.declared.config.Config.{Config}
+use Rattle.bgp_open.specs.declared.config.ConfigParts.{ConfigParts}
 use Rattle.mrt.specs.FromWrite.{WriterState, Takes}
 use Rattle.bgp_speaker.specs.Choosing.{Drives}
 use Rattle.bgp_speaker.specs.Core.{CoreState, InputValue}
 use Rattle.bgp_talk.specs.Talk.{capture_of}
 use Rattle.bgp_tool.specs.Answer.{IsWritten}
 use Rattle.bgp_tool.specs.Judging.{TellsVerdict, TellsFault}
+
+-- the left end's address and the right end's, 192.0.2.1 and 192.0.2.2
+abbrev pub left_address : ℕ
+left_address = 192 * 2 ^ 24 + 2 * 2 ^ 8 + 1
+
+abbrev pub right_address : ℕ
+right_address = 192 * 2 ^ 24 + 2 * 2 ^ 8 + 2
+
+-- their next hops for IPv6, 2001:db8::1 and 2001:db8::2
+abbrev pub left_next_hop6 : ℕ
+left_next_hop6 = 8193 * 2 ^ 112 + 3512 * 2 ^ 96 + 1
+
+abbrev pub right_next_hop6 : ℕ
+right_next_hop6 = 8193 * 2 ^ 112 + 3512 * 2 ^ 96 + 2
+
+-- An end of this AS and address, the latter being its BGP Identifier, too, for a peer of that AS
+-- and address: it proposes 90 seconds, both families and AS numbers of four octets, delays no OPEN,
+-- waits four minutes for the peer's, and offers neither route refresh nor extended messages.
+pub record IsEnd (parts : ConfigParts) (own_as own other_as other : ℕ) : Type 0 where
+  pub local_as : parts.local_as ≡ own_as
+  pub peer_as : parts.peer_as ≡ other_as
+  pub local_id : parts.local_id ≡ own
+  pub hold : parts.hold ≡ 90
+  pub families : parts.families ≡ record { v4 = true; v6 = true }
+  pub as4 : parts.as4 ≡ true
+  pub delay_open : parts.delay_open ≡ false
+  pub large_hold : parts.large_hold ≡ 240
+  pub peer : parts.session.peer ≡ V4 other
+  pub local : parts.session.local ≡ V4 own
+  pub refresh : parts.session.refresh ≡ false
+  pub extended : parts.session.extended ≡ false
 
 -- From one state of an end to another its core was told some inputs, one after another, and what
 -- its capture is written to took just the text of what the core showed, as far as it tells.

@@ -1,10 +1,12 @@
 //! The two ends of a connection in one process: what each is set to, and how they take turns.
 
-ghost use Rattle.std.specs.Prelude.{◌≡◌, ◌<◌, ◌≤◌, ◌+◌, ◌^◌, IfOk, OnOk, IsTrue, length};
+ghost use Rattle.std.specs.Prelude.{◌≡◌, ◌<◌, ◌≤◌, ◌+◌, ◌^◌, IfOk, OnOk, IsTrue, IsFalse, length};
 ghost use Rattle.bgp_prefix.specs.Address.{family_of};
 ghost use Rattle.bgp_speaker.specs.Core.{fresh_core};
 ghost use Rattle.mrt.specs.FromWrite.{fresh_writer, writer_state};
-ghost use Rattle.bgp_tool.specs.Pairing.{Drove, IsEstablished};
+ghost use Rattle.bgp_tool.specs.Pairing.{Drove, IsEnd, IsEstablished};
+ghost use Rattle.bgp_tool.specs.Pairing.{left_address, left_next_hop6};
+ghost use Rattle.bgp_tool.specs.Pairing.{right_address, right_next_hop6};
 
 use bgp_machine::Fsm;
 use bgp_open::{Config, ConfigParts, Families};
@@ -71,7 +73,9 @@ fn config_of(local_as: u32, local: u32, peer_as: u32, peer: u32) -> Config
     requires local_as { 0 < local_as }
     requires peer_as { 0 < peer_as }
     requires local { 0 < local }
-    ensures { family_of result.parts.session.peer ≡ family_of result.parts.session.local }
+    ensures families { family_of result.parts.session.peer
+        ≡ family_of result.parts.session.local }
+    ensures parts { IsEnd result.parts local_as local peer_as peer }
 {
     let parts = ConfigParts {
         local_as,
@@ -102,8 +106,12 @@ fn prefix_of_16(address: u32) -> Prefix {
 
 /// The left end: AS 65001 at 192.0.2.1, which connects and announces 10.1.0.0/16.
 pub(crate) fn left_settings() -> Settings
-    ensures { family_of result.config.parts.session.peer
+    ensures families { family_of result.config.parts.session.peer
         ≡ family_of result.config.parts.session.local }
+    ensures config { IsEnd result.config.parts 65001 left_address 65002 right_address }
+    ensures next_hop4 { result.next_hop4 ≡ left_address }
+    ensures next_hop6 { result.next_hop6 ≡ left_next_hop6 }
+    ensures passive { IsFalse result.passive }
 {
     Settings {
         config: config_of(65001, LEFT, 65002, RIGHT),
@@ -116,8 +124,12 @@ pub(crate) fn left_settings() -> Settings
 
 /// The right end: AS 65002 at 192.0.2.2, which listens and announces 10.2.0.0/16.
 pub(crate) fn right_settings() -> Settings
-    ensures { family_of result.config.parts.session.peer
+    ensures families { family_of result.config.parts.session.peer
         ≡ family_of result.config.parts.session.local }
+    ensures config { IsEnd result.config.parts 65002 right_address 65001 left_address }
+    ensures next_hop4 { result.next_hop4 ≡ right_address }
+    ensures next_hop6 { result.next_hop6 ≡ right_next_hop6 }
+    ensures passive { IsTrue result.passive }
 {
     Settings {
         config: config_of(65002, RIGHT, 65001, LEFT),
