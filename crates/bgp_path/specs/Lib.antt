@@ -1,4 +1,5 @@
 pub mod AsPath
+pub mod LargeCommunities
 pub mod Path
 pub mod Fit
 pub mod Same

@@ -1,9 +1,11 @@
--- The value of a route: what its path attributes say (RFC 4271, 5; 1997; 4360; 4456; 4760).
+-- The value of a route: what its path attributes say (RFC 4271, 5; 1997; 4360; 4456; 4760;
+-- 8092).
 use Rattle.std.specs.Prelude.{ℕ, Bool, List, Option}
 use Rattle.bgp_path.specs.declared.path.Origin.{Origin}
 use Rattle.bgp_path.specs.declared.path.NextHop.{NextHop}
 use Rattle.bgp_path.specs.declared.path.Aggregator.{Aggregator}
 use Rattle.bgp_path.specs.declared.path.PathParts.{PathParts}
+use Rattle.bgp_path.specs.declared.large_community.LargeCommunity.{LargeCommunity}
 use Rattle.bgp_path.specs.AsPath.{PathSegment}
 
 -- what a `Path` is to a contract: its parts, wherever they lie in memory
@@ -19,6 +21,7 @@ pub record PathValue : Type 0 where
   pub originator_id : Option ℕ
   pub cluster_list : List ℕ
   pub extended_communities : List ℕ
+  pub large_communities : List LargeCommunity
 
 -- the value of these parts
 abbrev pub value_of : {X : Type 0} → PathParts X → PathValue
@@ -34,4 +37,5 @@ value_of parts = record {
   originator_id = parts.originator_id;
   cluster_list = parts.cluster_list;
   extended_communities = parts.extended_communities;
+  large_communities = parts.large_communities;
 }

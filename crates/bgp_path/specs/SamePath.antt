@@ -8,7 +8,9 @@ use Rattle.bgp_path.specs.declared.path.Origin.TheVariants.{Igp, Egp, Incomplete
 use Rattle.bgp_path.specs.declared.path.NextHop.{NextHop}
 use Rattle.bgp_path.specs.declared.path.NextHop.TheVariants.{V4, V6, V6WithLinkLocal}
 use Rattle.bgp_path.specs.declared.path.Aggregator.{Aggregator}
+use Rattle.bgp_path.specs.declared.large_community.LargeCommunity.{LargeCommunity}
 use Rattle.bgp_path.specs.AsPath.{PathSegment}
+use Rattle.bgp_path.specs.LargeCommunities.{same_large_community}
 use Rattle.bgp_path.specs.Path.{PathValue}
 use Rattle.bgp_path.specs.Same.{same_segment, same_path}
 
@@ -47,15 +49,19 @@ same_lists a b =
     pointwise nat_eq a.communities b.communities
     && pointwise nat_eq a.cluster_list b.cluster_list
     && pointwise nat_eq a.extended_communities b.extended_communities
+    && pointwise same_large_community a.large_communities b.large_communities
 
 -- two path values
 abbrev pub same_value : PathValue → PathValue → Bool
 same_value a b = same_mandatory a b && same_optional a b && same_lists a b
 
--- `==` is true exactly of equal values: of segments, AS paths, lists of numbers and paths
+-- `==` is true exactly of equal values: of segments, AS paths, lists of numbers and of
+-- large communities, and paths
 abbrev pub EqualityIsReal : Type 0
 EqualityIsReal =
     ((s t : PathSegment) → IsTrue (same_segment s t) ↔ (s ≡ t))
     × ((p q : List PathSegment) → IsTrue (same_path p q) ↔ (p ≡ q))
     × ((xs ys : List ℕ) → IsTrue (pointwise nat_eq xs ys) ↔ (xs ≡ ys))
+    × ((xs ys : List LargeCommunity)
+    → IsTrue (pointwise same_large_community xs ys) ↔ (xs ≡ ys))
     × ((a b : PathValue) → IsTrue (same_value a b) ↔ (a ≡ b))

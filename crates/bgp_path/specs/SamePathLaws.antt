@@ -1,17 +1,19 @@
 -- The test of two paths is true exactly of equal values, which the laws of their `==` cite. Nothing
 -- here has to be believed: it stands in specs/ since `ghost laws` may cite no proofs.
-use Rattle.std.specs.Prelude.{◌≡◌, Bool, ◌==◌, nat_eq, Option, None, Some, Decides, refl}
+use Rattle.std.specs.Prelude.{◌≡◌, Bool, ◌==◌, nat_eq, List, Option, None, Some, Decides, refl}
 use Rattle.std.proofs.Common.{ap}
 use Rattle.std.specs.Option.{option_eq}
 use Rattle.std.specs.Cmp.{IsEquivalence, IsPartialEquivalence, partial_equiv_from_equiv, decided}
 use Rattle.std.specs.Cmp.{unsigned_Decides, booleans_Decides}
-use Rattle.std.specs.Cmp.Lexicographic.{bytes_decides}
+use Rattle.std.specs.Cmp.Lexicographic.{pointwise, bytes_decides, pointwise_decides}
 use Rattle.std.proofs.lemmas.Bool.Decides.{Decides-and}
 use Rattle.bgp_path.specs.declared.path.Origin.{Origin}
 use Rattle.bgp_path.specs.declared.path.Origin.TheVariants.{Igp, Egp, Incomplete}
 use Rattle.bgp_path.specs.declared.path.NextHop.{NextHop}
 use Rattle.bgp_path.specs.declared.path.NextHop.TheVariants.{V4, V6, V6WithLinkLocal}
 use Rattle.bgp_path.specs.declared.path.Aggregator.{Aggregator}
+use Rattle.bgp_path.specs.declared.large_community.LargeCommunity.{LargeCommunity}
+use Rattle.bgp_path.specs.LargeCommunities.{same_large_community}
 use Rattle.bgp_path.specs.Path.{PathValue}
 use Rattle.bgp_path.specs.SameLaws.{same_path_decides}
 use Rattle.bgp_path.specs.SamePath.{same_origin, same_next_hop, same_aggregator}
@@ -53,6 +55,23 @@ same_aggregator_decides x y =
     let parted = λ (e : x ≡ y). both.1 (λ i. (e i).as_number, λ i. (e i).address) in
     (λ e. let p = both.0 e in rw (p.0, p.1) refl, parted)
 
+pub same_large_community_decides :
+    (c d : LargeCommunity) → Decides (same_large_community c d) (c ≡ d)
+same_large_community_decides c d =
+    let globals = unsigned_Decides c.global_administrator d.global_administrator in
+    let firsts = unsigned_Decides c.local_data_part_1 d.local_data_part_1 in
+    let seconds = unsigned_Decides c.local_data_part_2 d.local_data_part_2 in
+    let all = Decides-and _ _ globals (Decides-and _ _ firsts seconds) in
+    let parted = λ (e : c ≡ d). all.1 (
+      λ i. (e i).global_administrator,
+      (λ i. (e i).local_data_part_1, λ i. (e i).local_data_part_2),
+    ) in
+    (λ e. let p = all.0 e in rw (p.0, p.1.0, p.1.1) refl, parted)
+
+pub same_large_communities_decides :
+    (cs ds : List LargeCommunity) → Decides (pointwise same_large_community cs ds) (cs ≡ ds)
+same_large_communities_decides = pointwise_decides same_large_community_decides
+
 option_decides : {T : Type 0} (test : T → T → Bool) → ((x y : T) → Decides (test x y) (x ≡ y))
     → (x y : Option T) → Decides (option_eq test x y) (x ≡ y)
 option_decides test each None None = (λ _. refl, λ _. refl)
@@ -72,8 +91,9 @@ SameOptional a b =
 
 abbrev SameLists : PathValue → PathValue → Type 0
 SameLists a b =
-    ((a.communities ≡ b.communities) × (a.cluster_list ≡ b.cluster_list))
-    × (a.extended_communities ≡ b.extended_communities)
+    (((a.communities ≡ b.communities) × (a.cluster_list ≡ b.cluster_list))
+    × (a.extended_communities ≡ b.extended_communities))
+    × (a.large_communities ≡ b.large_communities)
 
 abbrev SameParts : PathValue → PathValue → Type 0
 SameParts a b = (SameMandatory a b × SameOptional a b) × SameLists a b
@@ -99,7 +119,8 @@ lists_decide a b =
     let communities = bytes_decides a.communities b.communities in
     let clusters = bytes_decides a.cluster_list b.cluster_list in
     let extended = bytes_decides a.extended_communities b.extended_communities in
-    Decides-and _ _ (Decides-and _ _ communities clusters) extended
+    let large = same_large_communities_decides a.large_communities b.large_communities in
+    Decides-and _ _ (Decides-and _ _ (Decides-and _ _ communities clusters) extended) large
 
 same_parts : (a b : PathValue) → Decides (same_value a b) (SameParts a b)
 same_parts a b =
@@ -115,10 +136,11 @@ joined a b p = λ i. record {
   local_pref = p.0.1.0.0.0.1 i;
   atomic_aggregate = p.0.1.0.0.1 i;
   aggregator = p.0.1.0.1 i;
-  communities = p.1.0.0 i;
+  communities = p.1.0.0.0 i;
   originator_id = p.0.1.1 i;
-  cluster_list = p.1.0.1 i;
-  extended_communities = p.1.1 i;
+  cluster_list = p.1.0.0.1 i;
+  extended_communities = p.1.0.1 i;
+  large_communities = p.1.1 i;
 }
 
 parted : (a b : PathValue) → a ≡ b → SameParts a b
@@ -135,8 +157,13 @@ parted a b e =
       ),
       λ i. (e i).originator_id,
     ) in
-    let lists : SameLists a b =
-    ((λ i. (e i).communities, λ i. (e i).cluster_list), λ i. (e i).extended_communities) in
+    let lists : SameLists a b = (
+      (
+        (λ i. (e i).communities, λ i. (e i).cluster_list),
+        λ i. (e i).extended_communities,
+      ),
+      λ i. (e i).large_communities,
+    ) in
     ((mandatory, optional), lists)
 
 pub same_value_decides : (a b : PathValue) → Decides (same_value a b) (a ≡ b)

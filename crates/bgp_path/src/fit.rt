@@ -3,8 +3,9 @@
 
 ghost use Rattle.std.specs.Prelude.{◌<◌, ◌^◌, IfSome, All};
 ghost use Rattle.bgp_path.specs.Path.{value_of};
-ghost use Rattle.bgp_path.specs.Fit.{IsFit, IsFitHop};
+ghost use Rattle.bgp_path.specs.Fit.{IsFit, IsFitCommunity, IsFitHop};
 
+use crate::large_community::LargeCommunity;
 use crate::path::{Aggregator, NextHop, Path, PathParts};
 use std::alloc::Allocator;
 
@@ -23,6 +24,7 @@ fn parts_are_fit<A: Allocator>(parts: &PathParts<A>)
     let communities = parts.communities.as_slice();
     let clusters = parts.cluster_list.as_slice();
     let extended = parts.extended_communities.as_slice();
+    let large = parts.large_communities.as_slice();
     hop_is_fit(parts.next_hop);
     number_is_fit(parts.multi_exit_disc);
     number_is_fit(parts.local_pref);
@@ -31,6 +33,7 @@ fn parts_are_fit<A: Allocator>(parts: &PathParts<A>)
     numbers_are_fit(communities);
     numbers_are_fit(clusters);
     long_numbers_are_fit(extended);
+    large_communities_are_fit(large);
 }
 
 /// The same of a next hop.
@@ -70,3 +73,21 @@ pub(crate) fn numbers_are_fit(numbers: &[u32])
 fn long_numbers_are_fit(numbers: &[u64])
     ensures { All (λ n. n < 2 ^ 64) numbers.now }
 {}
+
+/// The same of a list of large communities.
+fn large_communities_are_fit(communities: &[LargeCommunity])
+    ensures { All IsFitCommunity communities.now }
+{
+    for community in communities {
+        community_is_fit(*community);
+    }
+}
+
+/// The same of a large community.
+fn community_is_fit(community: LargeCommunity)
+    ensures { IsFitCommunity community }
+{
+    let _global_administrator = community.global_administrator;
+    let _local_data_part_1 = community.local_data_part_1;
+    let _local_data_part_2 = community.local_data_part_2;
+}

@@ -12,11 +12,13 @@
 mod as_path;
 mod fit;
 mod items;
+mod large_community;
 mod laws;
 mod path;
 
 pub use as_path::{AsPath, Segment, SegmentKind, merge};
 pub use fit::path_is_fit;
 pub use items::Items;
-pub use laws::{equality_is_real, merge_keeps_the_count, one_leading_part};
+pub use large_community::{LargeCommunity, are_distinct};
+pub use laws::{equality_is_real, keeps_the_first, merge_keeps_the_count, one_leading_part};
 pub use path::{Aggregator, NextHop, Origin, Path, PathParts};

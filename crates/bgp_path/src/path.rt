@@ -4,6 +4,7 @@ ghost use Rattle.std.specs.Prelude.{◌≡◌, IfOk};
 
 use crate::as_path::AsPath;
 use crate::items::Items;
+use crate::large_community::LargeCommunity;
 use std::alloc::{AllocError, Allocator, Global};
 use std::marker::Model;
 use std::rc::Rc;
@@ -65,6 +66,8 @@ pub struct PathParts<A: Allocator = Global> {
     pub cluster_list: Items<u32, A>,
     /// EXTENDED COMMUNITIES (RFC 4360), each as the number that its eight octets spell.
     pub extended_communities: Items<u64, A>,
+    /// LARGE_COMMUNITY (RFC 8092).
+    pub large_communities: Items<LargeCommunity, A>,
 }
 
 impl<A: Allocator> PathParts<A> {
@@ -98,6 +101,7 @@ impl<A: Allocator> PathParts<A> {
         self.communities == other.communities
             && self.cluster_list == other.cluster_list
             && self.extended_communities == other.extended_communities
+            && self.large_communities == other.large_communities
     }
 }
 
@@ -112,7 +116,7 @@ pub struct Path<A: Allocator = Global> {
 // What a route's entry holds of its path, and what all routes with that path share.
 const _: () = prove!(size_of::<Path>() == 8);
 
-const _: () = prove!(size_of::<PathParts>() == 192);
+const _: () = prove!(size_of::<PathParts>() == 224);
 
 impl<A: Allocator> Model for Path<A> {
     ghost use Rattle.bgp_path.specs.Path.{PathValue};

@@ -2,6 +2,7 @@
 
 mod as_paths;
 mod equality;
+mod large_communities;
 mod memory;
 
 use bgp_path::SegmentKind::{Sequence, Set};

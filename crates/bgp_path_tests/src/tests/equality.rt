@@ -1,6 +1,6 @@
 //! Equality of paths.
 
-use super::memory::{Row, SMALL, SMALL_ROW, path_of};
+use super::memory::{LARGE, Row, SMALL, SMALL_ROW, path_of};
 use super::*;
 
 /// Whether two paths are equal, if that is wanted.
@@ -21,6 +21,7 @@ fn are_compared(heap: &LocalHeap) -> bool {
         Ok(path) => {
             are_equal(&path, path_of(heap, &ROOMY), true)
                 && are_equal(&path, path_of(heap, &OTHER), false)
+                && are_equal(&path, path_of(heap, &OTHER_LARGE), false)
         }
         Err(_) => false,
     }
@@ -35,6 +36,15 @@ static ROOMY: Row<'static> = Row {
 /// Another MULTI_EXIT_DISC does.
 static OTHER: Row<'static> = Row {
     multi_exit_disc: 8,
+    ..SMALL_ROW
+};
+
+/// And so does another large community.
+static OTHER_LARGE: Row<'static> = Row {
+    large_communities: &[LargeCommunity {
+        local_data_part_2: 3,
+        ..LARGE
+    }],
     ..SMALL_ROW
 };
 

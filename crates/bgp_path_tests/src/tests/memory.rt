@@ -12,8 +12,16 @@ pub(super) struct Row<'a> {
     pub(super) room: usize,
     pub(super) cluster_list: &'a [u32],
     pub(super) extended_communities: &'a [u64],
+    pub(super) large_communities: &'a [LargeCommunity],
     pub(super) multi_exit_disc: u32,
 }
+
+/// 65002:1:2
+pub(super) const LARGE: LargeCommunity = LargeCommunity {
+    global_administrator: 65002,
+    local_data_part_1: 1,
+    local_data_part_2: 2,
+};
 
 /// A path that takes memory for each of its parts.
 pub(super) const SMALL_ROW: Row<'static> = Row {
@@ -22,6 +30,7 @@ pub(super) const SMALL_ROW: Row<'static> = Row {
     room: 2,
     cluster_list: &[3],
     extended_communities: &[4],
+    large_communities: &[LARGE],
     multi_exit_disc: 7,
 };
 
@@ -43,6 +52,7 @@ fn parts<'h>(heap: &'h LocalHeap, row: &Row<'_>) -> Result<PathParts<&'h LocalHe
     let communities = with_room(heap, row.communities, row.room)?;
     let cluster_list = Vec::from_slice(heap, row.cluster_list)?;
     let extended_communities = Vec::from_slice(heap, row.extended_communities)?;
+    let large_communities = Vec::from_slice(heap, row.large_communities)?;
     let as_path = as_path(heap, row.segments)?;
     Ok(PathParts {
         origin: Origin::Egp,
@@ -59,6 +69,7 @@ fn parts<'h>(heap: &'h LocalHeap, row: &Row<'_>) -> Result<PathParts<&'h LocalHe
         originator_id: None,
         cluster_list: Items::from(cluster_list),
         extended_communities: Items::from(extended_communities),
+        large_communities: Items::from(large_communities),
     })
 }
 
@@ -231,6 +242,7 @@ fn is_long_path_copied(heap: &LocalHeap, numbers: &[u32], wide: &[u64]) -> bool 
         room: numbers.len(),
         cluster_list: numbers,
         extended_communities: wide,
+        large_communities: &[],
         multi_exit_disc: 7,
     };
     is_copied_or_shared(heap, &row)
