@@ -1,5 +1,5 @@
 -- Noting attributes one at a time, the first of each type.
-use Rattle.std.proofs.Common.{◌≡◌, ℕ, ◌<◌, ◌==◌, false, List, [], ◌∷◌, length, get_or, slice_set, Option, None, Some, is_some, refl, sym, ap, ◌∙◌, inl, inr, get_or-set_same, get_or-set_other}
+use Rattle.std.proofs.Common.{◌≡◌, ℕ, zero, suc, ◌<◌, ◌==◌, false, List, [], ◌∷◌, length, get_or, slice_set, Option, None, Some, IfSome, is_some, replicate, refl, sym, ap, ◌∙◌, inl, inr, get_or-set_same, get_or-set_other}
 use Rattle.std.specs.Option.{option_or}
 use Rattle.std.proofs.lemmas.Bool.{cases_Bool, eqb-true, eqb-false}
 use Rattle.bgp_attr.specs.declared.field.Attr.{Attr}
@@ -11,6 +11,15 @@ use Rattle.bgp_attr.specs.Types.{type_number}
 none_from : (x : Option Attr) → is_some x ≡ false → x ≡ None
 none_from None e = refl
 none_from (Some a) e = absurd cc
+
+nones : (n k : ℕ) → get_or (replicate {A = Option Attr} n None) k None ≡ None
+nones zero k = refl
+nones (suc n) zero = refl
+nones (suc n) (suc k) = nones n k
+
+-- where there is nothing, no attribute stands at a wrong place
+pub none_at : (n k : ℕ) → IfSome (get_or (replicate {A = Option Attr} n None) k None) (λ a. a.kind ≡ k)
+none_at n k = rw (nones n k) tt
 
 pub placed : (places : List (Option Attr)) (a : Attr) (i : ℕ) (t : AttrType) → i ≡ a.kind → i < length places → is_some (get_or places i None) ≡ false
     → first_at (slice_set places i (Some a)) t ≡ with_next (first_at places) (attribute_of a) t

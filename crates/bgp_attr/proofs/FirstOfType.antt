@@ -82,6 +82,7 @@ first_is value types.MpUnreachNlri = first_split value (take 11 all_types) types
 first_is value types.ExtendedCommunities = first_split value (take 12 all_types) types.ExtendedCommunities (drop 13 all_types) refl refl refl
 first_is value types.As4Path = first_split value (take 13 all_types) types.As4Path (drop 14 all_types) refl refl refl
 first_is value types.As4Aggregator = first_split value (take 14 all_types) types.As4Aggregator (drop 15 all_types) refl refl refl
+first_is value types.LargeCommunities = first_split value (take 15 all_types) types.LargeCommunities (drop 16 all_types) refl refl refl
 
 -- ---- each type stands once
 
@@ -153,6 +154,7 @@ is_good_of side p fits peer types.ClusterList = good_of_by side types.ClusterLis
 is_good_of side p fits peer types.ExtendedCommunities = good_of_by side types.ExtendedCommunities (value_in side p types.ExtendedCommunities) refl (good.good_value side p fits peer types.ExtendedCommunities)
 is_good_of side p fits peer types.As4Path = good_of_by side types.As4Path (value_in side p types.As4Path) refl (good.good_value side p fits peer types.As4Path)
 is_good_of side p fits peer types.As4Aggregator = good_of_by side types.As4Aggregator (value_in side p types.As4Aggregator) refl (good.good_value side p fits peer types.As4Aggregator)
+is_good_of side p fits peer types.LargeCommunities = good_of_by side types.LargeCommunities (value_in side p types.LargeCommunities) refl (good.good_value side p fits peer types.LargeCommunities)
 
 each_by : (side : Side) (p : PathValue) (t : AttrType) (ts : List AttrType) (v : Option (List ℕ)) → value_in side p t ≡ v → IfSome v (IsGoodOf side t)
     → All (λ a. class_of side a ≡ Some Good) (filter_map (attribute_in side p) ts) → All (λ a. class_of side a ≡ Some Good) (filter_map (attribute_in side p) (t ∷ ts))
@@ -175,7 +177,7 @@ read_back side p fits peer = (
   each_good side p fits peer all_types,
   no_repeats (value_in side p),
   first_is (value_in side p),
-  ap (λ (value : AttrType → Option (List ℕ)). path_from side value p.next_hop) (λ i t. value_counts side p fits peer t i) ∙ path_back side p fits,
+  ap (λ (value : AttrType → Option (List ℕ)). path_from side value p.next_hop) (λ i t. value_counts side p fits peer t i) ∙ path_back side p fits peer.1,
 )
 
 -- what fits into a length fits into each attribute's

@@ -20,6 +20,8 @@ use Rattle.bgp_attr.specs.declared.types.AttrType.TheVariants as types
 use Rattle.bgp_path.specs.AsPath.{PathSegment, IsPathSegment}
 use Rattle.bgp_attr.specs.Class.{class_by, class_of, strongest, value_rows, are_items}
 use Rattle.bgp_path.specs.Path.{PathValue}
+use Rattle.bgp_path.specs.declared.large_community.LargeCommunity.{LargeCommunity}
+use Rattle.bgp_attr.specs.LargeCommunities.{large_community_octets, large_communities_octets}
 use Rattle.bgp_attr.specs.Segments.{IsSegment, segment_octets, are_segments}
 use Rattle.bgp_attr.specs.Types.{type_bits, has_bits_of, is_multiprotocol}
 use Rattle.bgp_wire.specs.AsNumber.{needs_four_octets}
@@ -53,6 +55,7 @@ own_bits types.MpUnreachNlri = (refl, refl)
 own_bits types.ExtendedCommunities = (refl, refl)
 own_bits types.As4Path = (refl, refl)
 own_bits types.As4Aggregator = (refl, refl)
+own_bits types.LargeCommunities = (refl, refl)
 
 bits_good : (t : AttrType) (n : ℕ) → has_bits_of (flags_for t n) t ≡ true
 bits_good t n = elim (cases_Bool (nat_lt 255 n)) [
@@ -157,6 +160,21 @@ items_good size P (n ∷ items) some divides each =
     rw (ne_eqb (length (n ∷ items)) 0 (λ e. absurd (omega arith)))
     (each (flat_map (big_bytes size) (n ∷ items)) (items_are size n items some divides))
 
+twelve : (k : ℕ) → 12 * k % 12 ≡ 0
+twelve k = omega arith
+
+twelve_each : (c : LargeCommunity) → length (large_community_octets c) ≡ 12
+twelve_each c = refl
+
+large_good : (side : Side) (cs : List LargeCommunity) → IfSome (large_communities_octets cs) (IsGoodValue side types.LargeCommunities)
+large_good side [] = tt
+large_good side (c ∷ cs) =
+    let octets = flat_map large_community_octets (c ∷ cs) in
+    let long = flat_len large_community_octets 12 twelve_each (c ∷ cs) in
+    let many : 0 < length octets = omega (arith, long) in
+    let whole : length octets % 12 ≡ 0 = ap (λ (k : ℕ). k % 12) long ∙ twelve (length (c ∷ cs)) in
+    rw (ne_eqb (length (c ∷ cs)) 0 (λ e. absurd (omega arith)), lt-ltb 0 (length octets) many, eq-eqb (length octets % 12) 0 whole) refl
+
 communities_good : (side : Side) (octets : List ℕ) → are_items 4 octets ≡ true → IsGoodValue side types.Communities octets
 communities_good side octets e = rw e refl
 
@@ -181,17 +199,18 @@ good_value side p fits peer types.Origin = origin_good side p.origin
 good_value side p fits peer types.AsPath = as_path_good_by side.as4 side.internal p.as_path fits.segments
 good_value side p fits peer types.NextHop = next_hop_good side p.next_hop
 good_value side p fits peer types.MultiExitDisc = on_option (IsGoodValue side types.MultiExitDisc) (big_bytes 4) p.multi_exit_disc (λ n. refl)
-good_value side p fits (inl inside) types.LocalPref = on_option (IsGoodValue side types.LocalPref) (big_bytes 4) p.local_pref (λ n. rw inside refl)
-good_value side p fits (inr none) types.LocalPref = rw none.0 tt
+good_value side p fits (inl inside, distinct) types.LocalPref = on_option (IsGoodValue side types.LocalPref) (big_bytes 4) p.local_pref (λ n. rw inside refl)
+good_value side p fits (inr none, distinct) types.LocalPref = rw none.0 tt
 good_value side p fits peer types.AtomicAggregate = flag_good side p.atomic_aggregate
 good_value side p fits peer types.Aggregator = on_option (IsGoodValue side types.Aggregator) (aggregator_octets side.as4) p.aggregator (aggregator_good side.as4 side.internal)
 good_value side p fits peer types.Communities = items_good 4 (IsGoodValue side types.Communities) p.communities (omega arith) four (communities_good side)
-good_value side p fits (inl inside) types.OriginatorId = on_option (IsGoodValue side types.OriginatorId) (big_bytes 4) p.originator_id (λ n. rw inside refl)
-good_value side p fits (inr none) types.OriginatorId = rw none.1 tt
-good_value side p fits (inl inside) types.ClusterList = items_good 4 (IsGoodValue side types.ClusterList) p.cluster_list (omega arith) four (cluster_good side inside)
-good_value side p fits (inr none) types.ClusterList = rw none.2 tt
+good_value side p fits (inl inside, distinct) types.OriginatorId = on_option (IsGoodValue side types.OriginatorId) (big_bytes 4) p.originator_id (λ n. rw inside refl)
+good_value side p fits (inr none, distinct) types.OriginatorId = rw none.1 tt
+good_value side p fits (inl inside, distinct) types.ClusterList = items_good 4 (IsGoodValue side types.ClusterList) p.cluster_list (omega arith) four (cluster_good side inside)
+good_value side p fits (inr none, distinct) types.ClusterList = rw none.2 tt
 good_value side p fits peer types.MpReachNlri = tt
 good_value side p fits peer types.MpUnreachNlri = tt
 good_value side p fits peer types.ExtendedCommunities = items_good 8 (IsGoodValue side types.ExtendedCommunities) p.extended_communities (omega arith) eight (extended_good side)
 good_value side p fits peer types.As4Path = as4_path_good side.as4 side.internal p.as_path fits.segments
 good_value side p fits peer types.As4Aggregator = as4_aggregator_good side.as4 side.internal p.aggregator
+good_value side p fits peer types.LargeCommunities = large_good side p.large_communities

@@ -27,6 +27,7 @@ type_back types.MpUnreachNlri = refl
 type_back types.ExtendedCommunities = refl
 type_back types.As4Path = refl
 type_back types.As4Aggregator = refl
+type_back types.LargeCommunities = refl
 
 not_good : (x : AttrVerdict) → stronger Withdraw x ≡ Good → x ≡ Good
 not_good Good e = refl

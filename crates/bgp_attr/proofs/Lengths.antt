@@ -7,9 +7,9 @@ use Rattle.byteorder.specs.Endian.{big_bytes}
 use Rattle.byteorder.specs.Numbers.{length-bytes_high_first}
 use Rattle.bgp_attr.specs.Values.{items_octets}
 
-pub flat_len : (f : ℕ → List ℕ) (k : ℕ) → ((n : ℕ) → length (f n) ≡ k) → (numbers : List ℕ) → length (flat_map f numbers) ≡ k * length numbers
+pub flat_len : {X : Type 0} (f : X → List ℕ) (k : ℕ) → ((x : X) → length (f x) ≡ k) → (xs : List X) → length (flat_map f xs) ≡ k * length xs
 flat_len f k each [] = omega arith
-flat_len f k each (n ∷ numbers) = omega (arith, length-append (f n) (flat_map f numbers), each n, flat_len f k each numbers)
+flat_len f k each (x ∷ xs) = omega (arith, length-append (f x) (flat_map f xs), each x, flat_len f k each xs)
 
 -- a list of numbers, which is none where it is empty
 pub items_len : (size : ℕ) (items : List ℕ) → then_some (not (length items == 0)) (size * length items) ≡ option_map length (items_octets size items)

@@ -3,6 +3,7 @@ pub mod OneField
 pub mod WholeSegments
 pub mod Filled
 pub mod Lengths
+pub mod LargeCommunities
 pub mod Written
 pub mod WrittenField
 pub mod GoodRows

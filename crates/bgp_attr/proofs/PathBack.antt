@@ -1,6 +1,6 @@
 -- What is written for a path is read back as it.
 use Rattle.std.proofs.Common.{◌≡◌, ℕ, zero, suc, ◌+◌, ◌-◌, ◌*◌, ◌/◌, ◌^◌, ◌<◌, ◌≤◌, Bool, true, false, not, ◌&&◌, ◌||◌, if◌then◌else◌, List, [], ◌∷◌, ◌++◌, length, take, drop, map, All, Option, None, Some, IfSome, option_map, is_some, refl, sym, ap, ◌∙◌, append_assoc, arith, inl, inr}
-use Rattle.std.specs.List.{flat_map, filter_map, list_any}
+use Rattle.std.specs.List.{flat_map, filter_map, list_any, IsDistinct}
 use Rattle.std.proofs.lemmas.Bool.{cases_Bool, le-ltb, ne_eqb, ltb-false}
 use Rattle.std.proofs.lemmas.List.{append-nil, length-append, drop-drop}
 use Rattle.std.proofs.lemmas.List.Elements.{All-nil, All-cons, All-head, All-tail}
@@ -15,6 +15,7 @@ use Rattle.bgp_path.specs.declared.path.Origin.{Origin}
 use Rattle.bgp_path.specs.declared.path.Origin.TheVariants.{Igp, Egp, Incomplete}
 use Rattle.bgp_attr.specs.declared.classes.Side.{Side}
 use Rattle.bgp_path.specs.AsPath.{PathSegment, IsPathSegment, weight_of, weight, count_of, leading_part, merge_of}
+use Rattle.bgp_path.specs.LargeCommunities.{same_large_community}
 use Rattle.bgp_path.specs.Path.{PathValue}
 use Rattle.bgp_attr.specs.Segments.{WireSegment, IsSegment, segment_octets}
 use Rattle.bgp_wire.specs.AsNumber.{needs_four_octets}
@@ -24,6 +25,7 @@ use Rattle.bgp_attr.specs.Numbers.{numbers_in, items_from}
 use Rattle.bgp_attr.specs.PathIn.{segments_in, ReadsSegments, path_segment, path_in}
 use Rattle.bgp_attr.specs.PathFrom.{aggregator_in, is_as4_old, merged_aggregator, merged_path, origin_from, path_from}
 use Rattle.bgp_path.specs.Fit.{IsFit}
+use Rattle.bgp_attr.proofs.LargeCommunities.{large_back}
 use Rattle.bgp_attr.proofs.Lengths.{flat_len}
 
 -- ---- numbers
@@ -263,8 +265,8 @@ flag_back : (b : Bool) → is_some (flag_value b) ≡ b
 flag_back true = refl
 flag_back false = refl
 
-pub path_back : (side : Side) (p : PathValue) → IsFit p → path_from side (value_in side p) p.next_hop ≡ p
-path_back side p fits i =
+pub path_back : (side : Side) (p : PathValue) → IsFit p → IsDistinct same_large_community p.large_communities → path_from side (value_in side p) p.next_hop ≡ p
+path_back side p fits distinct i =
     let aggregator = aggregator_back side.as4 p.aggregator fits.aggregator in
     record {
       origin = origin_back p.origin i;
@@ -279,4 +281,5 @@ path_back side p fits i =
       originator_id = number_back p.originator_id fits.originator_id i;
       cluster_list = items_back 4 p.cluster_list four fits.cluster_list i;
       extended_communities = items_back 8 p.extended_communities eight fits.extended_communities i;
+      large_communities = large_back p.large_communities fits.large_communities distinct i;
     }

@@ -47,7 +47,7 @@ all_short side p writable [] = omega arith
 all_short side p writable (t ∷ ts) =
     omega (arith, one_short side p t (value_in side p t) refl (writable t), all_short side p writable ts, length-append (type_octets side p t) (flat_map (type_octets side p) ts))
 
-pub longest : (side : Side) (p : PathValue) → IsWritable side p → length (path_octets side p) ≤ 983085
+pub longest : (side : Side) (p : PathValue) → IsWritable side p → length (path_octets side p) ≤ 1048624
 longest side p writable = omega (arith, all_short side p writable all_types, ap length (types_are side p all_types))
 
 -- a header and then a value are an attribute
@@ -75,3 +75,4 @@ every P each types.MpUnreachNlri = each 11 types.MpUnreachNlri (omega arith)
 every P each types.ExtendedCommunities = each 12 types.ExtendedCommunities (omega arith)
 every P each types.As4Path = each 13 types.As4Path (omega arith)
 every P each types.As4Aggregator = each 14 types.As4Aggregator (omega arith)
+every P each types.LargeCommunities = each 15 types.LargeCommunities (omega arith)

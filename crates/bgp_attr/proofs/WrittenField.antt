@@ -34,6 +34,7 @@ has_room types.MpUnreachNlri = (refl, refl)
 has_room types.ExtendedCommunities = (refl, refl)
 has_room types.As4Path = (refl, refl)
 has_room types.As4Aggregator = (refl, refl)
+has_room types.LargeCommunities = (refl, refl)
 
 pub is_attribute : (t : AttrType) (value : List ℕ) → length value ≤ 65535 → IsAttribute (attribute_with t value)
 is_attribute t value short = elim (cases_lt 255 (length value)) [

@@ -89,6 +89,8 @@ value_rows side types.As4Aggregator value =
     (side.as4, Discard)
     ∷ (not (length value == 8), Discard)
     ∷ []
+-- RFC 8092, 6
+value_rows side types.LargeCommunities value = (not (are_items 12 value), Withdraw) ∷ []
 
 -- the row on the bits: they are in conflict with the type (RFC 7606, 3 c; profile for types that
 -- other rows have discarded)

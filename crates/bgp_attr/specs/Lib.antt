@@ -3,6 +3,7 @@ pub mod Split
 pub mod Types
 pub mod Segments
 pub mod Class
+pub mod LargeCommunities
 pub mod Values
 pub mod Writing
 pub mod First

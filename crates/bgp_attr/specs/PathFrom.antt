@@ -1,5 +1,6 @@
 -- The value of a route whose attributes have these values: of each type what the first attribute
--- says, if it is of class Good (RFC 4271, 5; RFC 6793, 4.2.3).
+-- says, if it is of class Good (RFC 4271, 5; RFC 6793, 4.2.3;
+-- RFC 8092, 5).
 use Rattle.std.specs.Prelude.{ℕ, ◌==◌, Bool, true, false, not, if◌then◌else◌, List, [], drop}
 use Rattle.std.specs.Prelude.{slice_index, Option, None, Some, is_some}
 use Rattle.std.specs.Option.{option_map, option_map_or}
@@ -15,6 +16,7 @@ use Rattle.bgp_attr.specs.declared.types.AttrType.TheVariants as types
 use Rattle.bgp_path.specs.AsPath.{PathSegment, merge_of}
 use Rattle.bgp_path.specs.Path.{PathValue}
 use Rattle.bgp_attr.specs.Class.{as_width}
+use Rattle.bgp_attr.specs.LargeCommunities.{large_communities_from}
 use Rattle.bgp_attr.specs.Numbers.{items_from}
 use Rattle.bgp_attr.specs.PathIn.{path_in}
 
@@ -72,4 +74,5 @@ path_from side value next_hop =
       originator_id = option_map (big_number 4) (value types.OriginatorId);
       cluster_list = items_from 4 (value types.ClusterList);
       extended_communities = items_from 8 (value types.ExtendedCommunities);
+      large_communities = large_communities_from (value types.LargeCommunities);
     }

@@ -10,6 +10,7 @@ use Rattle.bgp_attr.specs.declared.types.AttrType.TheVariants.{Communities, Orig
 use Rattle.bgp_attr.specs.declared.types.AttrType.TheVariants.{ClusterList, MpReachNlri}
 use Rattle.bgp_attr.specs.declared.types.AttrType.TheVariants.{MpUnreachNlri, ExtendedCommunities}
 use Rattle.bgp_attr.specs.declared.types.AttrType.TheVariants.{As4Path, As4Aggregator}
+use Rattle.bgp_attr.specs.declared.types.AttrType.TheVariants.{LargeCommunities}
 
 -- the table: each known type's number and bits
 abbrev pub type_row : AttrType → ℕ × ℕ
@@ -28,6 +29,7 @@ type_row MpUnreachNlri = (15, 128)  -- RFC 4760, 4
 type_row ExtendedCommunities = (16, 192)  -- RFC 4360, 2
 type_row As4Path = (17, 192)  -- RFC 6793, 3
 type_row As4Aggregator = (18, 192)  -- RFC 6793, 3
+type_row LargeCommunities = (32, 192)  -- RFC 8092, 3
 
 -- the names by which the standards call the types
 abbrev pub type_name : AttrType → List ℕ
@@ -46,13 +48,14 @@ type_name MpUnreachNlri = codes "MP_UNREACH_NLRI"
 type_name ExtendedCommunities = codes "EXTENDED COMMUNITIES"
 type_name As4Path = codes "AS4_PATH"
 type_name As4Aggregator = codes "AS4_AGGREGATOR"
+type_name LargeCommunities = codes "LARGE_COMMUNITY"
 
 -- every type, in ascending order of the numbers
 abbrev pub all_types : List AttrType
 all_types =
     Origin ∷ AsPath ∷ NextHop ∷ MultiExitDisc ∷ LocalPref ∷ AtomicAggregate ∷ Aggregator
     ∷ Communities ∷ OriginatorId ∷ ClusterList ∷ MpReachNlri ∷ MpUnreachNlri
-    ∷ ExtendedCommunities ∷ As4Path ∷ As4Aggregator ∷ []
+    ∷ ExtendedCommunities ∷ As4Path ∷ As4Aggregator ∷ LargeCommunities ∷ []
 
 -- the number of a type
 abbrev pub type_number : AttrType → ℕ

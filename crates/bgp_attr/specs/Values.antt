@@ -1,4 +1,4 @@
--- The values of attributes as octets (RFC 4271, 4.3; RFC 6793, 4.2.2).
+-- The values of attributes as octets (RFC 4271, 4.3; RFC 6793, 4.2.2; RFC 8092, 3).
 use Rattle.std.specs.Prelude.{ℕ, Bool, true, false, ◌==◌, if◌then◌else◌, List, [], ◌∷◌, ◌++◌}
 use Rattle.std.specs.Prelude.{length, Option, None, Some}
 use Rattle.std.specs.List.{flat_map}
@@ -10,6 +10,7 @@ use Rattle.bgp_path.specs.declared.path.Aggregator.{Aggregator}
 use Rattle.bgp_path.specs.AsPath.{PathSegment}
 use Rattle.bgp_attr.specs.declared.values.AttrValue.{AttrValue}
 use Rattle.bgp_attr.specs.declared.values.AttrValue.TheVariants as values
+use Rattle.bgp_attr.specs.LargeCommunities.{large_community_octets}
 use Rattle.bgp_attr.specs.Segments.{WireSegment, segment_octets}
 
 -- an AS number in four octets, or in two: there AS_TRANS stands for one that needs four
@@ -44,6 +45,8 @@ value_octets (values.Octet octet) = octet ∷ []
 value_octets (values.Number number) = big_bytes 4 number
 value_octets (values.Numbers numbers) = flat_map (big_bytes 4) numbers.now
 value_octets (values.LongNumbers numbers) = flat_map (big_bytes 8) numbers.now
+value_octets (values.LargeCommunities communities) =
+    flat_map large_community_octets communities.now
 value_octets (values.Segments as4 segments) = as_path_octets as4 segments.now
 value_octets (values.Aggregator as4 a) = aggregator_octets as4 a
 

@@ -17,6 +17,7 @@ use Rattle.bgp_attr.specs.declared.classes.Side.{Side}
 use Rattle.bgp_attr.specs.declared.types.AttrType.{AttrType}
 use Rattle.bgp_attr.specs.declared.types.AttrType.TheVariants as types
 use Rattle.bgp_attr.specs.Field.{Attribute, IsAttributeField, attribute_octets, length_octets}
+use Rattle.bgp_attr.specs.LargeCommunities.{large_communities_octets}
 use Rattle.bgp_attr.specs.Types.{all_types, type_number, type_bits}
 use Rattle.bgp_attr.specs.Values.{aggregator_octets, as_path_octets, items_octets}
 
@@ -63,6 +64,7 @@ value_in side p types.MpUnreachNlri = None
 value_in side p types.ExtendedCommunities = items_octets 8 p.extended_communities
 value_in side p types.As4Path = as4_path_octets side.as4 p.as_path
 value_in side p types.As4Aggregator = as4_aggregator_octets side.as4 p.aggregator
+value_in side p types.LargeCommunities = large_communities_octets p.large_communities
 
 -- the flags of an attribute of a type whose value has n octets: the type's bits, and Extended
 -- Length, 16, only where there are more than 255

@@ -117,6 +117,8 @@ fn value_class(side: Side, attr_type: AttrType, value: &[u8]) -> AttrVerdict
         // RFC 6793, 4.1 and 6
         AttrType::As4Path => good_if(!side.as4 && is_as4_path(value), Discard),
         AttrType::As4Aggregator => good_if(!side.as4 && value.len() == 8, Discard),
+        // RFC 8092, 6
+        AttrType::LargeCommunities => good_if(are_items(12, value), Withdraw),
         // These have no class of their own.
         AttrType::MpReachNlri | AttrType::MpUnreachNlri => Good,
     }

@@ -24,7 +24,7 @@ pub fn first_of(field: &[u8], kind: u8) -> Option<Attr<'_>>
 }
 
 /// One more than the greatest number of a type of the table.
-const PLACES: usize = 19;
+const PLACES: usize = 33;
 
 /// The first attribute of each type of the table, borrowed from a field and found by one walk over
 /// it. Several paths can be read from it.
@@ -42,7 +42,7 @@ impl<'a> Model for FirstAttrs<'a> {
 
     ghost view = { λ f. f.places };
 
-    ghost invariant = { λ f. (length f.places ≡ 19)
+    ghost invariant = { λ f. (length f.places ≡ 33)
         × ((k : ℕ) → IfSome (get_or f.places k None) (λ a. a.kind ≡ k)) };
 }
 

@@ -17,6 +17,7 @@ mod classes;
 mod field;
 mod first;
 mod flags;
+mod large_communities;
 mod laws;
 mod numbers;
 mod peer;

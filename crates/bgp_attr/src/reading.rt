@@ -9,6 +9,7 @@ ghost use Rattle.bgp_attr.specs.Class.{as_width, strongest, value_rows};
 ghost use Rattle.bgp_attr.specs.declared.classes.AttrVerdict.TheVariants.{Good};
 ghost use Rattle.bgp_attr.specs.declared.types.AttrType.TheVariants as types;
 ghost use Rattle.bgp_attr.specs.First.{first_at, value_by_type};
+ghost use Rattle.bgp_attr.specs.LargeCommunities.{large_communities_from};
 ghost use Rattle.bgp_attr.specs.Numbers.{items_from};
 ghost use Rattle.bgp_attr.specs.PathFrom.{aggregator_in, is_as4_old, merged_aggregator};
 ghost use Rattle.bgp_attr.specs.PathFrom.{merged_path, origin_from, path_from};
@@ -17,10 +18,13 @@ ghost use Rattle.bgp_attr.specs.Segments.{are_segments, number_width};
 
 use crate::classes::Side;
 use crate::first::FirstAttrs;
+use crate::large_communities::read_large_communities;
 use crate::numbers::{read_u32s, read_u64s};
 use crate::segments::{number_len, read_as_path};
 use crate::types::AttrType;
-use bgp_path::{Aggregator, AsPath, Items, NextHop, Origin, Path, PathParts, merge};
+use bgp_path::{
+    Aggregator, AsPath, Items, LargeCommunity, NextHop, Origin, Path, PathParts, merge,
+};
 use bgp_wire::AS_TRANS;
 use byteorder::{BigEndian, ByteOrder};
 use std::alloc::{AllocError, Allocator};
@@ -58,6 +62,7 @@ fn read_parts<A: Allocator + Copy>(
         communities,
         cluster_list,
         extended_communities,
+        large_communities,
     } = read_lists(alloc, side, first, is_as4_old(plain, as4))?;
     Ok(PathParts {
         origin: origin(side, first),
@@ -71,6 +76,7 @@ fn read_parts<A: Allocator + Copy>(
         originator_id: number(side, first, AttrType::OriginatorId),
         cluster_list,
         extended_communities,
+        large_communities,
     })
 }
 
@@ -80,6 +86,7 @@ struct Lists<A: Allocator> {
     communities: Items<u32, A>,
     cluster_list: Items<u32, A>,
     extended_communities: Items<u64, A>,
+    large_communities: Items<LargeCommunity, A>,
 }
 
 /// The lists of that path, whose AS4_PATH is old or isn't.
@@ -98,13 +105,16 @@ fn read_lists<A: Allocator + Copy>(
         × (lists.cluster_list
         ≡ items_from 4 (value_by_type side (first_at first.now) types.ClusterList))
         × (lists.extended_communities
-        ≡ items_from 8 (value_by_type side (first_at first.now) types.ExtendedCommunities))) }
+        ≡ items_from 8 (value_by_type side (first_at first.now) types.ExtendedCommunities))
+        × (lists.large_communities ≡ large_communities_from
+        (value_by_type side (first_at first.now) types.LargeCommunities))) }
 {
     Ok(Lists {
         as_path: read_merged_path(alloc, side, first, is_old)?,
         communities: read_items(alloc, side, first, AttrType::Communities)?,
         cluster_list: read_items(alloc, side, first, AttrType::ClusterList)?,
         extended_communities: read_long_items(alloc, side, first)?,
+        large_communities: read_large_items(alloc, side, first)?,
     })
 }
 
@@ -271,6 +281,21 @@ fn read_long_items<A: Allocator>(
 {
     match first.good(side, AttrType::ExtendedCommunities) {
         Some(attr) => Ok(Items::from(read_u64s(alloc, attr.value)?)),
+        None => Ok(Items::new(alloc)),
+    }
+}
+
+/// LARGE_COMMUNITY: of equal large communities the first alone (RFC 8092, 5).
+fn read_large_items<A: Allocator>(
+    alloc: A,
+    side: Side,
+    first: &FirstAttrs<'_>,
+) -> Result<Items<LargeCommunity, A>, AllocError>
+    ensures { IfOk result (λ items. items ≡ large_communities_from
+        (value_by_type side (first_at first.now) types.LargeCommunities)) }
+{
+    match first.good(side, AttrType::LargeCommunities) {
+        Some(attr) => Ok(Items::from(read_large_communities(alloc, attr.value)?)),
         None => Ok(Items::new(alloc)),
     }
 }

@@ -39,6 +39,8 @@ pub enum AttrType {
     As4Path,
     /// AS4_AGGREGATOR (RFC 6793, 3).
     As4Aggregator,
+    /// LARGE_COMMUNITY (RFC 8092, 3).
+    LargeCommunities,
 }
 
 /// One row of the attribute table.
@@ -63,7 +65,7 @@ fn row(number: u8, name: &'static str, bits: u8) -> TypeRow
 
 impl AttrType {
     /// Every type of the table, in ascending order of the numbers.
-    pub const ALL: [AttrType; 15] = [
+    pub const ALL: [AttrType; 16] = [
         Self::Origin,
         Self::AsPath,
         Self::NextHop,
@@ -79,6 +81,7 @@ impl AttrType {
         Self::ExtendedCommunities,
         Self::As4Path,
         Self::As4Aggregator,
+        Self::LargeCommunities,
     ];
 
     /// The table: the row of this type.
@@ -103,6 +106,7 @@ impl AttrType {
             Self::ExtendedCommunities => row(16, "EXTENDED COMMUNITIES", OPTIONAL_TRANSITIVE),
             Self::As4Path => row(17, "AS4_PATH", OPTIONAL_TRANSITIVE),
             Self::As4Aggregator => row(18, "AS4_AGGREGATOR", OPTIONAL_TRANSITIVE),
+            Self::LargeCommunities => row(32, "LARGE_COMMUNITY", OPTIONAL_TRANSITIVE),
         }
     }
 
@@ -126,6 +130,7 @@ impl AttrType {
             16 => Self::ExtendedCommunities,
             17 => Self::As4Path,
             18 => Self::As4Aggregator,
+            32 => Self::LargeCommunities,
             _ => return None,
         })
     }

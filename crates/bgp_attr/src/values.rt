@@ -5,8 +5,9 @@ ghost use Rattle.std.specs.List.{flat_map};
 ghost use Rattle.byteorder.specs.Endian.{big_bytes};
 ghost use Rattle.bgp_attr.specs.Values.{aggregator_octets, value_octets};
 
+use crate::large_communities::{large_communities_len, put_large_communities};
 use crate::segments::{as_path_len, number_len, put_as_number, put_as_path};
-use bgp_path::{Aggregator, Segment};
+use bgp_path::{Aggregator, LargeCommunity, Segment};
 use bgp_wire::{put_u8, put_u32, put_u64};
 use std::alloc::Allocator;
 
@@ -23,6 +24,8 @@ pub(crate) enum AttrValue<'a, A: Allocator> {
     Numbers(&'a [u32]),
     /// Numbers of eight octets each.
     LongNumbers(&'a [u64]),
+    /// Large communities.
+    LargeCommunities(&'a [LargeCommunity]),
     /// Path segments; whether their AS numbers have four octets.
     Segments(bool, &'a [Segment<A>]),
     /// An AS number and an address; whether the number has four octets.
@@ -41,6 +44,7 @@ impl<'a, A: Allocator> AttrValue<'a, A> {
             AttrValue::Number(_) => 4,
             AttrValue::Numbers(numbers) => numbers_len(numbers),
             AttrValue::LongNumbers(numbers) => long_numbers_len(numbers),
+            AttrValue::LargeCommunities(communities) => large_communities_len(communities),
             AttrValue::Segments(as4, segments) => as_path_len(as4, segments),
             AttrValue::Aggregator(as4, _) => number_len(as4) as u128 + 4,
         }
@@ -59,6 +63,7 @@ impl<'a, A: Allocator> AttrValue<'a, A> {
             AttrValue::Number(number) => put_u32(out, number),
             AttrValue::Numbers(numbers) => put_u32s(out, numbers),
             AttrValue::LongNumbers(numbers) => put_u64s(out, numbers),
+            AttrValue::LargeCommunities(communities) => put_large_communities(out, communities),
             AttrValue::Segments(as4, segments) => put_as_path(out, as4, segments),
             AttrValue::Aggregator(as4, aggregator) => put_aggregator(out, as4, aggregator),
         }

@@ -8,6 +8,7 @@ ghost use Rattle.std.specs.List.{flat_map};
 ghost use Rattle.bgp_path.specs.Path.{value_of};
 ghost use Rattle.bgp_attr.specs.Values.{aggregator_octets, items_octets, value_octets};
 ghost use Rattle.byteorder.specs.Endian.{big_bytes};
+ghost use Rattle.bgp_attr.specs.LargeCommunities.{large_communities_octets};
 ghost use Rattle.bgp_attr.specs.Writing.{as4_aggregator_octets, as4_path_octets, attribute_header};
 ghost use Rattle.bgp_attr.specs.Writing.{next_hop_octets, path_octets, type_octets, value_in};
 ghost use Rattle.bgp_attr.specs.Writing.{HasShortValue, IsWritable};
@@ -17,7 +18,7 @@ use crate::flags::EXTENDED_LENGTH;
 use crate::segments::has_large;
 use crate::types::AttrType;
 use crate::values::AttrValue;
-use bgp_path::{Aggregator, NextHop, Path, PathParts, Segment};
+use bgp_path::{Aggregator, LargeCommunity, NextHop, Path, PathParts, Segment};
 use bgp_wire::{needs_four_octets, put_u8, put_u16};
 use std::alloc::{AllocError, Allocator};
 
@@ -106,7 +107,7 @@ fn has_short_value<A: Allocator>(side: Side, path: &PathParts<A>, attr_type: Att
 
 /// How many octets the attributes of these types have.
 fn attributes_len<A: Allocator>(side: Side, path: &PathParts<A>, types: &[AttrType]) -> u128
-    requires few { length types.now ≤ 15 }
+    requires few { length types.now ≤ 16 }
     ensures len { result ≡ length (flat_map (type_octets side (value_of path.now)) types.now) }
 {
     let mut len = 0;
@@ -223,6 +224,9 @@ fn value_of_type<A: Allocator>(
         }
         AttrType::As4Path => return as4_path_value(side, path.as_path.segments()),
         AttrType::As4Aggregator => return as4_aggregator_value(side, path.aggregator),
+        AttrType::LargeCommunities => {
+            return large_communities_value(path.large_communities.as_slice());
+        }
         // These carry prefixes too, and are written with them.
         AttrType::MpReachNlri | AttrType::MpUnreachNlri => return None,
     }
@@ -274,6 +278,17 @@ fn long_items_value<A: Allocator>(numbers: &[u64]) -> Option<AttrValue<'_, A>>
         return None;
     }
     Some(AttrValue::LongNumbers(numbers))
+}
+
+/// The value of LARGE_COMMUNITY: none where the list is empty.
+fn large_communities_value<A: Allocator>(communities: &[LargeCommunity]) -> Option<AttrValue<'_, A>>
+    ensures value { option_map value_octets result
+        ≡ large_communities_octets communities.now }
+{
+    if communities.is_empty() {
+        return None;
+    }
+    Some(AttrValue::LargeCommunities(communities))
 }
 
 /// The value of AS4_PATH: it is written where AS numbers have two octets and one of the path's

@@ -8,7 +8,10 @@ mod reading;
 mod writing;
 
 use bgp_attr::*;
-use bgp_path::{Aggregator, AsPath, Items, NextHop, Origin, Path, PathParts, Segment, SegmentKind};
+use bgp_path::{
+    Aggregator, AsPath, Items, LargeCommunity, NextHop, Origin, Path, PathParts, Segment,
+    SegmentKind,
+};
 use std::alloc::{AllocError, Global};
 use std::process::Abort;
 use std::test::Fail;
@@ -40,7 +43,7 @@ const TWO_OCTET_FIELD: &[u8] = &[
     0x40, 6, 0, // ATOMIC_AGGREGATE
     0xc0, 7, 6, 0x5b, 0xa0, 192, 0, 2, 2, // AGGREGATOR: 23456, 192.0.2.2
     0xc0, 8, 8, 0xfd, 0xea, 0, 100, 0xff, 0xff, 0xff, 1, // COMMUNITIES: 65002:100, no-export
-    0xc0, 32, 12, 0, 0, 0xfd, 0xea, 0, 0, 0, 1, 0, 0, 0, 2, // not in the table (RFC 8092)
+    0xc0, 32, 12, 0, 0, 0xfd, 0xea, 0, 0, 0, 1, 0, 0, 0, 2, // LARGE_COMMUNITY: 65002:1:2
     0xd0, 17, 0, 14, 2, 3, 0, 0, 0xfd, 0xea, 0, 1, 0x11, 0x70, 0, 1, 0x11, 0x71, // AS4_PATH
     0xc0, 18, 8, 0, 1, 0x11, 0x70, 192, 0, 2, 2, // AS4_AGGREGATOR: 70000, 192.0.2.2
 ];
@@ -54,7 +57,7 @@ const FOUR_OCTET_FIELD: &[u8] = &[
     0xc0, 7, 8, 0, 0, 0xfd, 0xea, 192, 0, 2, 2, // AGGREGATOR: 65002, 192.0.2.2
     0xc0, 8, 8, 0xfd, 0xea, 0, 100, 0xff, 0xff, 0xff, 1, // COMMUNITIES: 65002:100, no-export
     0xc0, 16, 8, 0, 2, 0xfd, 0xea, 0, 0, 0, 5, // EXTENDED COMMUNITIES: target 65002:5
-    0xc0, 32, 12, 0, 0, 0xfd, 0xea, 0, 0, 0, 1, 0, 0, 0, 2, // not in the table (RFC 8092)
+    0xc0, 32, 12, 0, 0, 0xfd, 0xea, 0, 0, 0, 1, 0, 0, 0, 2, // LARGE_COMMUNITY: 65002:1:2
 ];
 
 /// From a session of FRR with AS numbers of four octets: an IPv6 prefix.
@@ -84,7 +87,15 @@ struct Parts<'a> {
     originator_id: Option<u32>,
     cluster_list: &'a [u32],
     extended_communities: &'a [u64],
+    large_communities: &'a [LargeCommunity],
 }
+
+/// 65002:1:2
+const OF_LARGE: LargeCommunity = LargeCommunity {
+    global_administrator: 65002,
+    local_data_part_1: 1,
+    local_data_part_2: 2,
+};
 
 /// The least path: IGP, no segments, a next hop of four octets.
 const LEAST: Parts<'static> = Parts {
@@ -99,6 +110,7 @@ const LEAST: Parts<'static> = Parts {
     originator_id: None,
     cluster_list: &[],
     extended_communities: &[],
+    large_communities: &[],
 };
 
 /// Of AS 65002 alone.
@@ -117,6 +129,7 @@ const MERGED: Parts<'static> = Parts {
         address: 0xc000_0202,
     }),
     communities: &[0xfdea_0064, 0xffff_ff01],
+    large_communities: &[OF_LARGE],
     ..LEAST
 };
 
@@ -139,6 +152,7 @@ const ANNOUNCED: Parts<'static> = Parts {
     }),
     communities: &[0xfdea_0064, 0xffff_ff01],
     extended_communities: &[0x0002_fdea_0000_0005],
+    large_communities: &[OF_LARGE],
     ..OF_65002
 };
 
@@ -162,6 +176,7 @@ fn path_with(alloc: Global, parts: &Parts<'_>, communities: &[u32]) -> Result<Pa
     let communities = Vec::from_slice(alloc, communities)?;
     let cluster_list = Vec::from_slice(alloc, parts.cluster_list)?;
     let extended_communities = Vec::from_slice(alloc, parts.extended_communities)?;
+    let large_communities = Vec::from_slice(alloc, parts.large_communities)?;
     let as_path = as_path_of(alloc, parts.as_path)?;
     Path::new(
         alloc,
@@ -177,6 +192,7 @@ fn path_with(alloc: Global, parts: &Parts<'_>, communities: &[u32]) -> Result<Pa
             originator_id: parts.originator_id,
             cluster_list: Items::from(cluster_list),
             extended_communities: Items::from(extended_communities),
+            large_communities: Items::from(large_communities),
         },
     )
 }

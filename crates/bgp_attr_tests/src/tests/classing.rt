@@ -1,4 +1,5 @@
-//! The attribute table and the class of an attribute (RFC 7606, 3 and 7; RFC 6793, 4.1 and 6).
+//! The attribute table and the class of an attribute (RFC 7606, 3 and 7; RFC 6793, 4.1 and 6;
+//! RFC 8092, 6).
 
 use super::*;
 
@@ -11,7 +12,7 @@ const WITHDRAW: Option<AttrVerdict> = Some(AttrVerdict::Withdraw);
 const RESET: Option<AttrVerdict> = Some(AttrVerdict::Reset);
 
 /// The types, as the standards number and name them, with their bits.
-static TYPES: [(u8, &str, u8, AttrType); 15] = [
+static TYPES: [(u8, &str, u8, AttrType); 16] = [
     (1, "ORIGIN", 64, AttrType::Origin),
     (2, "AS_PATH", 64, AttrType::AsPath),
     (3, "NEXT_HOP", 64, AttrType::NextHop),
@@ -32,6 +33,7 @@ static TYPES: [(u8, &str, u8, AttrType); 15] = [
     ),
     (17, "AS4_PATH", 192, AttrType::As4Path),
     (18, "AS4_AGGREGATOR", 192, AttrType::As4Aggregator),
+    (32, "LARGE_COMMUNITY", 192, AttrType::LargeCommunities),
 ];
 
 /// Whether the type has this number, name and bits.
@@ -51,19 +53,27 @@ fn the_table_is_the_standards(rt: HostRuntime) {
             "{name}"
         );
     }
-    for number in &[0, 11, 12, 13, 19, 32, 255] {
+    for number in &[0, 11, 12, 13, 19, 31, 33, 255] {
         assert!(rt; AttrType::of(*number).is_none(), "{number}");
     }
 }
 
+/// LARGE_COMMUNITY: 65002:1:2.
+const LARGE: &[u8] = &[0xc0, 32, 12, 0, 0, 0xfd, 0xea, 0, 0, 0, 1, 0, 0, 0, 2];
+
+/// LARGE_COMMUNITY: 1:1:1 twice, which is no fault.
+const LARGE_TWICE: &[u8] = &[
+    0xc0, 32, 24, 0, 0, 0, 1, 0, 0, 0, 1, 0, 0, 0, 1, 0, 0, 0, 1, 0, 0, 0, 1, 0, 0, 0, 1,
+];
+
 /// The octets of attributes, and their class on a session.
-static CLASSES: [(Side, &[u8], Option<AttrVerdict>); 101] = [
+static CLASSES: [(Side, &[u8], Option<AttrVerdict>); 110] = [
     // An unknown type must be optional.
     (WIDE, &[0x80, 99, 0], GOOD),
     (WIDE, &[0xc0, 99, 1, 7], GOOD),
-    (WIDE, &[0xe0, 32, 0], GOOD),
+    (WIDE, &[0xe0, 33, 0], GOOD),
     (WIDE, &[0x40, 99, 0], RESET),
-    (WIDE, &[0x00, 32, 0], RESET),
+    (WIDE, &[0x00, 33, 0], RESET),
     // The bits are those of the type.
     (WIDE, &[0xc0, 1, 1, 0], WITHDRAW),
     (WIDE, &[0x80, 1, 1, 0], WITHDRAW),
@@ -145,6 +155,32 @@ static CLASSES: [(Side, &[u8], Option<AttrVerdict>); 101] = [
     (WIDE, &[0xc0, 8, 5, 0, 0, 0, 1, 0], WITHDRAW),
     (WIDE, &[0xc0, 16, 0], WITHDRAW),
     (WIDE, &[0xc0, 16, 4, 0, 2, 0xfd, 0xea], WITHDRAW),
+    // So are large ones.
+    (WIDE, LARGE, GOOD),
+    (
+        NARROW,
+        &[0xe0, 32, 12, 0, 0, 0, 0, 0, 0, 0, 0, 0, 0, 0, 0],
+        GOOD,
+    ),
+    (WIDE, LARGE_TWICE, GOOD),
+    (WIDE, &[0xc0, 32, 0], WITHDRAW),
+    (INTERNAL, &[0xc0, 32, 8, 0, 0, 0, 0, 0, 0, 0, 0], WITHDRAW),
+    (
+        WIDE,
+        &[0xc0, 32, 13, 0, 0, 0, 0, 0, 0, 0, 0, 0, 0, 0, 0, 0],
+        WITHDRAW,
+    ),
+    (
+        WIDE,
+        &[0x80, 32, 12, 0, 0, 0, 0, 0, 0, 0, 0, 0, 0, 0, 0],
+        WITHDRAW,
+    ),
+    (
+        WIDE,
+        &[0x40, 32, 12, 0, 0, 0, 0, 0, 0, 0, 0, 0, 0, 0, 0],
+        WITHDRAW,
+    ),
+    (WIDE, &[0x00, 32, 0], WITHDRAW),
     // An internal peer alone may say local preference and reflection.
     (INTERNAL, &[0x40, 5, 4, 0, 0, 0, 100], GOOD),
     (INTERNAL, &[0x80, 9, 4, 192, 0, 2, 1], GOOD),

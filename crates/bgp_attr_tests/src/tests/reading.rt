@@ -29,7 +29,66 @@ const FIRST_FIELD: &[u8] = &[
     0x80, 4, 4, 0, 0, 0, 7, // MULTI_EXIT_DISC: 7
 ];
 
-static ROWS: [Row; 13] = [
+/// 2:1:1, 1:9:9, 2:1:1, 1:9:8, 1:9:9, 2:2:1 and 3:1:1, of which two repeat one before them.
+const REPEATS_FIELD: &[u8] = &[
+    0xc0, 32, 84, // LARGE_COMMUNITY
+    0, 0, 0, 2, 0, 0, 0, 1, 0, 0, 0, 1, // 2:1:1
+    0, 0, 0, 1, 0, 0, 0, 9, 0, 0, 0, 9, // 1:9:9
+    0, 0, 0, 2, 0, 0, 0, 1, 0, 0, 0, 1, // 2:1:1 again
+    0, 0, 0, 1, 0, 0, 0, 9, 0, 0, 0, 8, // 1:9:8
+    0, 0, 0, 1, 0, 0, 0, 9, 0, 0, 0, 9, // 1:9:9 again
+    0, 0, 0, 2, 0, 0, 0, 2, 0, 0, 0, 1, // 2:2:1
+    0, 0, 0, 3, 0, 0, 0, 1, 0, 0, 0, 1, // 3:1:1
+];
+
+/// 1:9:9
+const OF_1: LargeCommunity = LargeCommunity {
+    global_administrator: 1,
+    local_data_part_1: 9,
+    local_data_part_2: 9,
+};
+
+/// 2:1:1
+const OF_2: LargeCommunity = LargeCommunity {
+    global_administrator: 2,
+    local_data_part_1: 1,
+    local_data_part_2: 1,
+};
+
+static ROWS: [Row; 15] = [
+    // Of equal large communities the first is kept.
+    Row {
+        side: WIDE,
+        field: REPEATS_FIELD,
+        path: Parts {
+            large_communities: &[
+                OF_2,
+                OF_1,
+                LargeCommunity {
+                    local_data_part_2: 8,
+                    ..OF_1
+                },
+                LargeCommunity {
+                    local_data_part_1: 2,
+                    ..OF_2
+                },
+                LargeCommunity {
+                    global_administrator: 3,
+                    ..OF_2
+                },
+            ],
+            ..LEAST
+        },
+    },
+    // One attribute alone counts, and it has to be Good.
+    Row {
+        side: WIDE,
+        field: &[
+            0xc0, 32, 0, // LARGE_COMMUNITY without a value
+            0xc0, 32, 12, 0, 0, 0, 1, 0, 0, 0, 1, 0, 0, 0, 1, // 1:1:1
+        ],
+        path: LEAST,
+    },
     // A real announcement
     Row {
         side: WIDE,
@@ -239,6 +298,7 @@ fn the_bits_of_a_type_are_told(rt: HostRuntime) {
 fn is_like(path: &PathParts<&LocalHeap>, parts: &Parts<'_>) -> bool {
     path.as_path.segments().len() == parts.as_path.len()
         && path.communities.as_slice() == parts.communities
+        && path.large_communities.as_slice() == parts.large_communities
 }
 
 /// What FRR said in two octets.

@@ -17,6 +17,7 @@ pub(super) const OF_ALL_PARTS: Parts<'static> = Parts {
     communities: &[1, 2],
     cluster_list: &[3],
     extended_communities: &[4],
+    large_communities: &[OF_LARGE],
     ..LEAST
 };
 
@@ -34,6 +35,7 @@ pub(super) const ALL_PARTS: &[u8] = &[
     0xc0, 17, 20, 2, 2, 0, 0, 0xfd, 0xe9, 0, 1, 0x11, 0x70, // AS4_PATH: 65001 70000
     1, 2, 0, 0, 0, 1, 0, 0, 0, 2, // {1,2}
     0xc0, 18, 8, 0, 1, 0x11, 0x70, 0, 0, 0, 1, // AS4_AGGREGATOR: 70000, 0.0.0.1
+    0xc0, 32, 12, 0, 0, 0xfd, 0xea, 0, 0, 0, 1, 0, 0, 0, 2, // LARGE_COMMUNITY: 65002:1:2
 ];
 
 /// A path, and the octets that it is written as on a session.
@@ -41,8 +43,6 @@ struct Row {
     side: Side,
     path: Parts<'static>,
     octets: &'static [u8],
-    /// How many octets at the end are of a type that a path doesn't keep.
-    left: usize,
 }
 
 static ROWS: [Row; 8] = [
@@ -55,7 +55,6 @@ static ROWS: [Row; 8] = [
             0x40, 2, 6, 2, 1, 0, 0, 0xfd, 0xea, // AS_PATH: 65002
             0x40, 3, 4, 192, 0, 2, 2, // NEXT_HOP: 192.0.2.2
         ],
-        left: 0,
     },
     // A large number is said twice in two octets.
     Row {
@@ -70,7 +69,6 @@ static ROWS: [Row; 8] = [
             0x40, 3, 4, 192, 0, 2, 2, // NEXT_HOP: 192.0.2.2
             0xc0, 17, 6, 2, 1, 0, 1, 0x11, 0x70, // AS4_PATH: 70000
         ],
-        left: 0,
     },
     // A path without segments has an AS_PATH too, and a next hop of IPv6 stands in MP_REACH_NLRI
     // alone.
@@ -81,7 +79,6 @@ static ROWS: [Row; 8] = [
             ..LEAST
         },
         octets: &[0x40, 1, 1, 0, 0x40, 2, 0], // ORIGIN: IGP, AS_PATH
-        left: 0,
     },
     Row {
         side: WIDE,
@@ -90,10 +87,9 @@ static ROWS: [Row; 8] = [
             ..LEAST
         },
         octets: &[0x40, 1, 1, 0, 0x40, 2, 0], // ORIGIN: IGP, AS_PATH
-        left: 0,
     },
-    // Two octets say what a real router says: it used Extended Length for its two paths, and added
-    // a type that a path doesn't keep.
+    // Two octets say what a real router says: it used Extended Length for its two paths, and had
+    // LARGE_COMMUNITY before AS4_PATH.
     Row {
         side: NARROW,
         path: MERGED,
@@ -107,8 +103,8 @@ static ROWS: [Row; 8] = [
             0xc0, 8, 8, 0xfd, 0xea, 0, 100, 0xff, 0xff, 0xff, 1, // COMMUNITIES
             0xc0, 17, 14, 2, 3, 0, 0, 0xfd, 0xea, 0, 1, 0x11, 0x70, 0, 1, 0x11, 0x71, // AS4_PATH
             0xc0, 18, 8, 0, 1, 0x11, 0x70, 192, 0, 2, 2, // AS4_AGGREGATOR
+            0xc0, 32, 12, 0, 0, 0xfd, 0xea, 0, 0, 0, 1, 0, 0, 0, 2, // LARGE_COMMUNITY
         ],
-        left: 0,
     },
     // To an external peer, though it may not say them.
     Row {
@@ -122,20 +118,17 @@ static ROWS: [Row; 8] = [
             0x80, 9, 4, 192, 0, 2, 1, // ORIGINATOR_ID: 192.0.2.1
             0x80, 10, 8, 0, 0, 0, 1, 0, 0, 0, 2, // CLUSTER_LIST: 0.0.0.1 0.0.0.2
         ],
-        left: 0,
     },
     Row {
         side: NARROW,
         path: OF_ALL_PARTS,
         octets: ALL_PARTS,
-        left: 0,
     },
     // A real announcement is written as it came.
     Row {
         side: WIDE,
         path: ANNOUNCED,
         octets: FOUR_OCTET_FIELD,
-        left: 15,
     },
 ];
 
@@ -144,15 +137,9 @@ pub(super) fn is_written<A: Allocator>(side: Side, path: &Path, out: &mut Vec<u8
     is_writable(side, path) && write_path(side, path, out).is_ok()
 }
 
-/// Whether behind an octet of 9 stand the row's octets, but for those that are left.
+/// Whether the row's octets stand after an octet of 9.
 fn stands_in(out: &[u8], row: &Row) -> bool {
-    let Some((9, written)) = out.split_first() else {
-        return false;
-    };
-    match row.octets.strip_prefix(written) {
-        Some(left) => left.len() == row.left,
-        None => false,
-    }
+    out.split_first() == Some((&9, row.octets))
 }
 
 /// Whether the octets are written for the path behind an octet of 9.
@@ -222,14 +209,15 @@ fn extended_length_is_for_more_than_255_octets(rt: HostRuntime) {
     }
 }
 
-/// A path, and whether an external peer may say it.
-static FOR_PEERS: [(Parts<'static>, bool); 4] = [
+/// A path, and whether an external peer and an internal one may be sent it.
+static FOR_PEERS: [(Parts<'static>, bool, bool); 6] = [
     (
         Parts {
             cluster_list: &[1],
             ..LEAST
         },
         false,
+        true,
     ),
     (
         Parts {
@@ -237,6 +225,7 @@ static FOR_PEERS: [(Parts<'static>, bool); 4] = [
             ..LEAST
         },
         false,
+        true,
     ),
     (
         Parts {
@@ -244,23 +233,49 @@ static FOR_PEERS: [(Parts<'static>, bool); 4] = [
             ..LEAST
         },
         false,
+        true,
     ),
-    (ANNOUNCED, true),
+    (ANNOUNCED, true, true),
+    // A large community is sent once.
+    (
+        Parts {
+            large_communities: &[OF_LARGE, OF_LATER, OF_LARGE],
+            ..LEAST
+        },
+        false,
+        false,
+    ),
+    (
+        Parts {
+            large_communities: &[OF_LARGE, OF_LATER],
+            ..LEAST
+        },
+        true,
+        true,
+    ),
 ];
 
-/// Whether an internal peer may say the path, and an external one if that is wanted.
-fn is_for(alloc: Global, parts: &Parts<'_>, is_external: bool) -> bool {
+/// 65002:1:3
+const OF_LATER: LargeCommunity = LargeCommunity {
+    local_data_part_2: 3,
+    ..OF_LARGE
+};
+
+/// Whether an external peer and an internal one may be sent the path just where that is wanted.
+fn is_for(alloc: Global, parts: &Parts<'_>, is_external: bool, is_internal: bool) -> bool {
     match path_of(alloc, parts) {
-        Ok(path) => is_for_peer(WIDE, &path) == is_external && is_for_peer(INTERNAL, &path),
+        Ok(path) => {
+            is_for_peer(WIDE, &path) == is_external && is_for_peer(INTERNAL, &path) == is_internal
+        }
         Err(_) => false,
     }
 }
 
 #[test]
 fn preference_and_reflection_are_for_an_internal_peer(rt: HostRuntime) {
-    for (parts, is_external) in &FOR_PEERS {
+    for (parts, is_external, is_internal) in &FOR_PEERS {
         assert!(rt;
-            is_for(rt.alloc(), parts, *is_external),
+            is_for(rt.alloc(), parts, *is_external, *is_internal),
             "{:?}",
             parts.local_pref
         );
