@@ -137,6 +137,7 @@ fn path_by<A: Allocator + Copy>(
         originator_id: None,
         cluster_list: Items::new(alloc),
         extended_communities: Items::new(alloc),
+        large_communities: Items::new(alloc),
     };
     Path::new(alloc, parts)
 }

@@ -25,6 +25,7 @@ own_path_is_short speaker link family = record {
   communities = refl;
   cluster_list = refl;
   extended_communities = refl;
+  large_communities = refl;
 }
 
 pub short : (speaker : Speaker) (link : Link) (family : Family) (path : PathValue) → path ≡ own_path speaker link family → IsShortPath path

@@ -48,6 +48,7 @@ own_path speaker link family = record {
   originator_id = None;
   cluster_list = [];
   extended_communities = [];
+  large_communities = [];
 }
 
 -- the prefix is reachable by that path

@@ -227,6 +227,7 @@ fn announced_path<A: Allocator + Copy>(
         originator_id: None,
         cluster_list: Items::new(alloc),
         extended_communities: Items::new(alloc),
+        large_communities: Items::new(alloc),
     };
     Path::new(alloc, parts)
 }

@@ -10,6 +10,7 @@ use Rattle.bgp_attr.specs.declared.classes.Side.{Side}
 use Rattle.bgp_attr.specs.declared.types.AttrType.{AttrType}
 use Rattle.bgp_attr.specs.declared.types.AttrType.TheVariants as types
 use Rattle.bgp_attr.specs.Field.{attribute_octets, is_extended, length_octets}
+use Rattle.bgp_attr.specs.LargeCommunities.{large_communities_octets}
 use Rattle.bgp_attr.specs.Types.{all_types}
 use Rattle.bgp_attr.specs.Values.{aggregator_octets, as_octets, as_path_octets, items_octets}
 use Rattle.bgp_attr.specs.Writing.{as4_aggregator_octets, as4_path_octets, attribute_with, flags_for, has_large, next_hop_octets, path_attributes, type_octets, value_in}
@@ -17,6 +18,7 @@ use Rattle.bgp_attr.proofs.Written.{types_are}
 use Rattle.bgp_open.specs.declared.link.Link.{Link}
 use Rattle.bgp_path.specs.AsPath.{PathSegment}
 use Rattle.bgp_path.specs.Path.{PathValue}
+use Rattle.bgp_path.specs.declared.large_community.LargeCommunity.{LargeCommunity}
 use Rattle.bgp_path.specs.declared.path.Aggregator.{Aggregator}
 use Rattle.bgp_path.specs.declared.path.NextHop.{NextHop}
 use Rattle.bgp_path.specs.declared.path.NextHop.TheVariants as hops
@@ -77,6 +79,9 @@ few_number (Some n) = omega arith
 few_items : (size : ℕ) (items : List ℕ) → items ≡ [] → IsFew (items_octets size items)
 few_items size items none = rw none tt
 
+few_large : (cs : List LargeCommunity) → cs ≡ [] → IsFew (large_communities_octets cs)
+few_large cs none = rw none tt
+
 few_mark : (mark : Bool) → IsFew (if mark then Some [] else None)
 few_mark true = omega arith
 few_mark false = tt
@@ -101,8 +106,9 @@ few_value side p short types.MpUnreachNlri = tt
 few_value side p short types.ExtendedCommunities = few_items 8 p.extended_communities short.extended_communities
 few_value side p short types.As4Path = few_as4 side.as4 p.as_path short.as_path
 few_value side p short types.As4Aggregator = few_as4_aggregator side.as4 p.aggregator
+few_value side p short types.LargeCommunities = few_large p.large_communities short.large_communities
 
--- ---- so its attributes have at most 180 octets
+-- ---- so its attributes have at most 192 octets
 
 few_length_octets : (flags : ℕ) → length_octets flags ≤ 2
 few_length_octets flags = elim (cases_Bool (is_extended flags)) [
@@ -125,7 +131,7 @@ each_few side p short [] = omega arith
 each_few side p short (t ∷ ts) =
     omega (arith, few_octets side p t (value_in side p t) refl (few_value side p short t), each_few side p short ts, length-append (type_octets side p t) (flat_map (type_octets side p) ts))
 
-few_attributes : (side : Side) (p : PathValue) → IsShortPath p → length (flat_map attribute_octets (path_attributes side p)) ≤ 180
+few_attributes : (side : Side) (p : PathValue) → IsShortPath p → length (flat_map attribute_octets (path_attributes side p)) ≤ 192
 few_attributes side p short = omega (arith, each_few side p short all_types, ap length (types_are side p all_types))
 
 -- ---- one prefix and its next hop

@@ -29,7 +29,8 @@ IsHopOf families.V6 (hops.V4 address) = ⊥
 IsHopOf families.V6 (hops.V6 address) = Unit {0}
 IsHopOf families.V6 (hops.V6WithLinkLocal address link_local) = Unit {0}
 
--- each prefix is of the family, and so is the next hop, and the peer would discard no attribute
+-- each prefix is of the family, and so is the next hop, and the path may be sent to this peer: it
+-- would discard no attribute, and no large community stands twice
 abbrev pub IsSendable : Link → UpdateValue → Type 0
 IsSendable link (Announces family prefixes path) =
     All (λ prefix. prefix.family ≡ family) prefixes

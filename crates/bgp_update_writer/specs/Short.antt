@@ -22,6 +22,7 @@ pub record IsShortPath (path : PathValue) : Type 0 where
   pub communities : path.communities ≡ []
   pub cluster_list : path.cluster_list ≡ []
   pub extended_communities : path.extended_communities ≡ []
+  pub large_communities : path.large_communities ≡ []
 
 -- one prefix by such a path, or one that is reachable no more, is never too large
 abbrev pub OnePrefixCanBeWritten : Type 0

@@ -7,7 +7,9 @@ mod rows;
 mod sizes;
 
 use bgp_open::{Config, ConfigParts, Families, Link, negotiate, read_open};
-use bgp_path::{AsPath, Items, NextHop, Origin, Path, PathParts, Segment, SegmentKind};
+use bgp_path::{
+    AsPath, Items, LargeCommunity, NextHop, Origin, Path, PathParts, Segment, SegmentKind,
+};
 use bgp_prefix::{Address, Family, Prefix, Session, read_prefix};
 use bgp_update_writer::{Update, UpdateFault, write_update};
 use bgp_wire::vectors::OPEN_B;
@@ -61,6 +63,7 @@ struct Said<'a> {
     originator_id: Option<u32>,
     cluster_list: &'a [u32],
     communities: usize,
+    large_communities: &'a [LargeCommunity],
 }
 
 /// An update over a link, and what is to come of it.
@@ -89,6 +92,14 @@ const BY_V4: Said<'static> = Said {
     originator_id: None,
     cluster_list: &[],
     communities: 0,
+    large_communities: &[],
+};
+
+/// 65002:1:2
+const LARGE: LargeCommunity = LargeCommunity {
+    global_administrator: 65002,
+    local_data_part_1: 1,
+    local_data_part_2: 2,
 };
 
 /// The path by AS 65002 and 2001:db8::2.
@@ -157,6 +168,7 @@ fn path_of(alloc: Global, said: &Said<'_>) -> Result<Path, AllocError> {
     let as_path = as_path(alloc, said.number)?;
     let cluster_list = Vec::from_slice(alloc, said.cluster_list)?;
     let communities = vec![in alloc; 0xffff_ff01u32; said.communities]?;
+    let large_communities = Vec::from_slice(alloc, said.large_communities)?;
     let parts = PathParts {
         origin: Origin::Igp,
         as_path,
@@ -169,6 +181,7 @@ fn path_of(alloc: Global, said: &Said<'_>) -> Result<Path, AllocError> {
         originator_id: said.originator_id,
         cluster_list: Items::from(cluster_list),
         extended_communities: Items::new(alloc),
+        large_communities: Items::from(large_communities),
     };
     Path::new(alloc, parts)
 }

@@ -259,6 +259,7 @@ pub fn path(alloc: Global, group: u32) -> Result<Path, AllocError> {
             originator_id: None,
             cluster_list: Items::new(alloc),
             extended_communities: Items::new(alloc),
+            large_communities: Items::new(alloc),
         },
     )
 }

@@ -55,6 +55,7 @@ pub(crate) fn made_path(alloc: Global, random: &mut Pcg32) -> Result<Path, Alloc
             originator_id: None,
             cluster_list: Items::new(alloc),
             extended_communities: Items::new(alloc),
+            large_communities: Items::new(alloc),
         },
     )
 }

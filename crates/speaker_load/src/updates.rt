@@ -47,6 +47,7 @@ pub(crate) fn path_of(alloc: Global, number: u32, next_hop: u32) -> Result<Path,
             originator_id: None,
             cluster_list: Items::new(alloc),
             extended_communities: Items::new(alloc),
+            large_communities: Items::new(alloc),
         },
     )
 }

@@ -44,7 +44,18 @@ const IN_CLUSTER: Said<'static> = Said {
     ..BY_V4
 };
 
-static ROWS: [Row<'static>; 17] = [
+const WITH_A_REPEAT: Said<'static> = Said {
+    large_communities: &[LARGE, LATER, LARGE],
+    ..BY_V4
+};
+
+/// 65002:1:3
+const LATER: LargeCommunity = LargeCommunity {
+    local_data_part_2: 3,
+    ..LARGE
+};
+
+static ROWS: [Row<'static>; 19] = [
     // A family that isn't in use.
     Row {
         lesson: "the family is told before a prefix and a next hop that aren't of it",
@@ -133,6 +144,18 @@ static ROWS: [Row<'static>; 17] = [
         lesson: "CLUSTER_LIST to an internal peer",
         path: Some(IN_CLUSTER),
         ..INTERNAL
+    },
+    // No peer is sent a large community twice.
+    Row {
+        lesson: "a large community twice to an external peer",
+        path: Some(WITH_A_REPEAT),
+        ..NOT_CLEAN
+    },
+    Row {
+        lesson: "a large community twice to an internal peer",
+        path: Some(WITH_A_REPEAT),
+        internal: true,
+        ..NOT_CLEAN
     },
     // What is not clean is told before what is too large.
     Row {

@@ -48,6 +48,19 @@ const ANNOUNCES_10_BY_70000: [u8; 52] = [
     8, 10, // 10.0.0.0/8
 ];
 
+/// The announcement of 10.0.0.0/8 by AS 65002, with a large community.
+const ANNOUNCES_10_WITH_LARGE: [u8; 60] = [
+    255, 255, 255, 255, 255, 255, 255, 255, 255, 255, 255, 255, 255, 255, 255, 255, // marker
+    0x00, 0x3c, 2, // Length 60, UPDATE
+    0x00, 0x00, // no withdrawn routes
+    0x00, 0x23, // 35 octets of attributes
+    0x40, 1, 1, 0, // ORIGIN: IGP
+    0x40, 2, 6, 2, 1, 0, 0, 0xfd, 0xea, // AS_PATH: 65002
+    0x40, 3, 4, 192, 0, 2, 2, // NEXT_HOP: 192.0.2.2
+    0xc0, 32, 12, 0, 0, 0xfd, 0xea, 0, 0, 0, 1, 0, 0, 0, 2, // LARGE_COMMUNITY: 65002:1:2
+    8, 10, // 10.0.0.0/8
+];
+
 /// An UPDATE of empty fields (RFC 4724, 2: the End-of-RIB marker of IPv4).
 const SAYS_NOTHING: [u8; 23] = [
     255, 255, 255, 255, 255, 255, 255, 255, 255, 255, 255, 255, 255, 255, 255, 255, // marker
@@ -81,7 +94,7 @@ const ANNOUNCES_NOTHING: [u8; 43] = [
     0x40, 3, 4, 192, 0, 2, 2, // NEXT_HOP: 192.0.2.2
 ];
 
-static ROWS: [Row<'static>; 8] = [
+static ROWS: [Row<'static>; 9] = [
     Row {
         lesson: "10.0.0.0/8 is announced in the base fields",
         wanted: Wanted::Octets(&ANNOUNCES_10),
@@ -127,6 +140,15 @@ static ROWS: [Row<'static>; 8] = [
             ..BY_V4
         }),
         wanted: Wanted::Octets(&ANNOUNCES_10_BY_70000),
+        ..ANNOUNCE
+    },
+    Row {
+        lesson: "large communities come last",
+        path: Some(Said {
+            large_communities: &[LARGE],
+            ..BY_V4
+        }),
+        wanted: Wanted::Octets(&ANNOUNCES_10_WITH_LARGE),
         ..ANNOUNCE
     },
     Row {
