@@ -1,5 +1,5 @@
 -- The text of a route: its prefix, and then what its path attributes say (RFC 4271, 5; 1997; 4360;
--- 4456), each behind a word.
+-- 4456; 8092), each behind a word.
 use Rattle.std.specs.Prelude.{◌++◌, ℕ, ◌/◌, ◌%◌, List, [], ◌∷◌, if◌then◌else◌, map, codes, Option}
 use Rattle.std.specs.Prelude.{None, Some}
 use Rattle.std.specs.Fmt.{decimal}
@@ -10,6 +10,7 @@ use Rattle.bgp_prefix.specs.Prefix.{PrefixBits}
 use Rattle.bgp_prefix.specs.Text.{address_text, prefix_text}
 use Rattle.bgp_prefix.specs.declared.address.Address.TheVariants.{V4, V6}
 use Rattle.bgp_path.specs.AsPath.{PathSegment}
+use Rattle.bgp_path.specs.LargeCommunities.{large_community_text}
 use Rattle.bgp_path.specs.Path.{PathValue}
 use Rattle.bgp_path.specs.declared.as_path.SegmentKind.{SegmentKind}
 use Rattle.bgp_path.specs.declared.as_path.SegmentKind.TheVariants.{Set, Sequence}
@@ -66,7 +67,7 @@ aggregator_text (Some a) =
     codes " aggregator " ++ (decimal a.as_number ++ (codes " " ++ address_text (V4 a.address)))
 
 -- a word and values, each behind a blank, where there are some
-unfoldable pub list_text : List ℕ → (ℕ → List ℕ) → List ℕ → List ℕ
+unfoldable pub list_text : {X : Type 0} → List ℕ → (X → List ℕ) → List X → List ℕ
 list_text word text [] = []
 list_text word text (value ∷ values) = word ++ flat_map (λ v. 32 ∷ text v) (value ∷ values)
 
@@ -91,8 +92,9 @@ optional_text p =
     ++ (aggregator_text p.aggregator
     ++ (list_text (codes " communities") community_text p.communities
     ++ (list_text (codes " extended") extended_text p.extended_communities
+    ++ (list_text (codes " large") large_community_text p.large_communities
     ++ (router_text (codes " originator ") p.originator_id
-    ++ list_text (codes " clusters") cluster_text p.cluster_list))))))
+    ++ list_text (codes " clusters") cluster_text p.cluster_list)))))))
 
 -- a route: prefix, next hop, AS path, origin, and then what else it has
 unfoldable pub route_text : PrefixBits → PathValue → List ℕ

@@ -8,10 +8,11 @@ ghost use Rattle.bgp_text.specs.RouteText.{next_hop_text, numbers_text, segment_
 ghost use Rattle.bgp_text.specs.RouteText.{origin_number, number_text, router_text};
 ghost use Rattle.bgp_text.specs.RouteText.{aggregator_text, list_text, community_text};
 ghost use Rattle.bgp_text.specs.RouteText.{extended_text, cluster_text, optional_text, route_text};
+ghost use Rattle.bgp_path.specs.LargeCommunities.{large_community_text};
 
 use crate::addresses::{put_address, put_prefix};
 use crate::lines::Lines;
-use bgp_path::{Aggregator, NextHop, Origin, Path, Segment, SegmentKind};
+use bgp_path::{Aggregator, LargeCommunity, NextHop, Origin, Path, Segment, SegmentKind};
 use bgp_prefix::{Address, Prefix};
 use mrt::{Failed, Sink};
 use std::alloc::Allocator;
@@ -142,6 +143,32 @@ fn put_extended<W: Sink>(lines: &mut Lines<'_, W>, values: &[u64])
     }
 }
 
+/// LARGE_COMMUNITY, where there are some: the three numbers of each (RFC 8092, 4).
+fn put_large<W: Sink>(lines: &mut Lines<'_, W>, values: &[LargeCommunity])
+    ensures { Writes lines.old lines.new
+        (list_text (codes " large") large_community_text values.now) }
+{
+    if values.is_empty() {
+        return;
+    }
+    lines.put(b" large");
+    for value in values {
+        lines.put(b" ");
+        put_large_community(lines, *value);
+    }
+}
+
+/// A large community: its three numbers with colons between them.
+fn put_large_community<W: Sink>(lines: &mut Lines<'_, W>, value: LargeCommunity)
+    ensures { Writes lines.old lines.new (large_community_text value) }
+{
+    lines.put_decimal(value.global_administrator);
+    lines.put(b":");
+    lines.put_decimal(value.local_data_part_1);
+    lines.put(b":");
+    lines.put_decimal(value.local_data_part_2);
+}
+
 /// CLUSTER_LIST, where it has clusters.
 fn put_clusters<W: Sink>(lines: &mut Lines<'_, W>, values: &[u32])
     ensures { Writes lines.old lines.new
@@ -177,6 +204,7 @@ fn put_optional<W: Sink, A: Allocator>(lines: &mut Lines<'_, W>, path: &Path<A>)
     put_aggregator(lines, parts.aggregator);
     put_communities(lines, parts.communities.as_slice());
     put_extended(lines, parts.extended_communities.as_slice());
+    put_large(lines, parts.large_communities.as_slice());
     put_router(lines, b" originator ", parts.originator_id);
     put_clusters(lines, parts.cluster_list.as_slice());
 }

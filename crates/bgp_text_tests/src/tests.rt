@@ -1,6 +1,9 @@
 //! Texts of routes, as a program that was written apart from this one prints them.
 
-use bgp_path::{Aggregator, AsPath, Items, NextHop, Origin, Path, PathParts, Segment, SegmentKind};
+use bgp_path::{
+    Aggregator, AsPath, Items, LargeCommunity, NextHop, Origin, Path, PathParts, Segment,
+    SegmentKind,
+};
 use bgp_prefix::{Address, Prefix, read_address, read_prefix};
 use bgp_text::write_route;
 use mrt::{MemSink, Sink, SinkUpset};
@@ -22,6 +25,7 @@ struct Route<'a> {
     originator_id: Option<u32>,
     cluster_list: &'a [u32],
     extended_communities: &'a [u64],
+    large_communities: &'a [LargeCommunity],
 }
 
 /// A route of an empty path, with the next hop 192.0.2.2 and nothing else.
@@ -39,11 +43,12 @@ const PLAIN: Route<'static> = Route {
     originator_id: None,
     cluster_list: &[],
     extended_communities: &[],
+    large_communities: &[],
 };
 
 /// Routes that have each of what a path can have. Sequences and sets stand behind one another with
 /// blanks, and `pref` behind `med`.
-const ROUTES: [Route<'static>; 6] = [
+const ROUTES: [Route<'static>; 7] = [
     Route {
         as_path: &[(SegmentKind::Sequence, &[65002])],
         text: "10.0.0.0/8 via 192.0.2.2 path 65002 origin 0",
@@ -121,6 +126,34 @@ const ROUTES: [Route<'static>; 6] = [
         text: "2001:db8::/32 via 2001:db8::2 path 1 2 {65002,46807,23456} origin 0 med 7 pref 100",
         ..PLAIN
     },
+    Route {
+        prefix: "41.0.0.0/8",
+        as_path: &[(SegmentKind::Sequence, &[23456, 65002, 23456])],
+        next_hop: NextHop::V4(0x7c36_8bdc), // 124.54.139.220
+        multi_exit_disc: Some(1824612437),
+        atomic_aggregate: true,
+        extended_communities: &[0x967cf88424fc21ac, 0x7cec43c0c864001d],
+        large_communities: &[
+            LargeCommunity {
+                global_administrator: 491081211,
+                local_data_part_1: 450680588,
+                local_data_part_2: 357101263,
+            },
+            LargeCommunity {
+                global_administrator: 165127495,
+                local_data_part_1: 3766355545,
+                local_data_part_2: 1985577310,
+            },
+        ],
+        originator_id: Some(0x7969_be94), // 121.105.190.148
+        // 130.69.206.3, 65.103.195.20 and 65.246.115.224
+        cluster_list: &[0x8245_ce03, 0x4167_c314, 0x41f6_73e0],
+        text: "41.0.0.0/8 via 124.54.139.220 path 23456 65002 23456 origin 0 med 1824612437 atomic \
+               extended 967cf88424fc21ac 7cec43c0c864001d \
+               large 491081211:450680588:357101263 165127495:3766355545:1985577310 \
+               originator 121.105.190.148 clusters 130.69.206.3 65.103.195.20 65.246.115.224",
+        ..PLAIN
+    },
 ];
 
 /// The AS path of these segments.
@@ -147,6 +180,7 @@ fn path_by(alloc: Global, route: &Route<'_>, next_hop: NextHop) -> Result<Path, 
         originator_id: route.originator_id,
         cluster_list: Items::from(Vec::from_slice(alloc, route.cluster_list)?),
         extended_communities: Items::from(Vec::from_slice(alloc, route.extended_communities)?),
+        large_communities: Items::from(Vec::from_slice(alloc, route.large_communities)?),
     };
     Path::new(alloc, parts)
 }
