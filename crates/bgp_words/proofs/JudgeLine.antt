@@ -70,13 +70,13 @@ module _ (words : List Text) (parts : ConfigParts) (file : Text) (line : IsJudge
   are_parts = parts_found line.name line.local_as line.peer_as line.local_id line.local line.peer file
       (plain line.local_as line.no_flags.0) (plain line.peer_as line.no_flags.1) (plain line.local_id line.no_flags.2)
       (plain line.local line.no_flags.3) (plain line.peer line.no_flags.4) (plain file line.no_flags.5) parts
-      line.as_numbers.0 line.as_numbers.1 line.identifier line.ends.0 line.ends.1 line.refresh
+      line.as_numbers.0 line.as_numbers.1 line.identifier line.ends.0 line.ends.1 line.refresh line.extended
       (subst (IsHoldText (codes "90")) (sym line.holds.0) ninety)
       (subst (IsPositiveText (codes "240")) (sym line.holds.1) two_hundred_forty)
       (inl (refl, line.families)) line.flags.0 line.flags.1
 
   of_judging : (command : Command) → NamesBy (codes "judge") rows command → IsJudgeOf words command
-  of_judging (Decode f) is = two_names (codes "judge") (codes "decode") (λ e. omega (arith, e)) is.0
+  of_judging (Decode extended f) is = two_names (codes "judge") (codes "decode") (λ e. omega (arith, e)) is.0
   of_judging (Capture session f) is = two_names (codes "judge") (codes "decode") (λ e. omega (arith, e)) is.0
   of_judging (Speak config speaking f) is = two_names (codes "judge") (codes "speak") (λ e. omega (arith, e)) is.0
   of_judging (Pair f) is = two_names (codes "judge") (codes "pair") (λ e. omega (arith, e)) is.0
@@ -97,9 +97,10 @@ module _ (words : List Text) (parts : ConfigParts) (file : Text) (line : IsJudge
         identifier = tells.2;
         ends = (tells.3, tells.4);
         refresh = tells.5;
-        holds = (sym tells.6.0.1, sym tells.7.0.1);
-        families = only_v4 config.parts.families tells.8;
-        flags = (tells.9, tells.10);
+        extended = tells.6;
+        holds = (sym tells.7.0.1, sym tells.8.0.1);
+        families = only_v4 config.parts.families tells.9;
+        flags = (tells.10, tells.11);
       })
 
   pub judge_of_line : (command : Command) → Names (subcommand_of program_words words) command → IsJudgeOf words command

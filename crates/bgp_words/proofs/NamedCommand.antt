@@ -1,11 +1,13 @@
 -- The command that a parse met, by its name and its values.
-use Rattle.std.proofs.Common.{◌≡◌, ◌∙◌, ℕ, ◌<◌, ◌^◌, List, arith, Option, Some, None, sym, ap, subst, true, false, codes}
+use Rattle.std.proofs.Common.{◌≡◌, ◌∙◌, ℕ, ◌<◌, ◌^◌, List, arith, Option, Some, None, option_map, sym, ap, subst, true, false, codes}
 use Rattle.std.specs.Prelude.{IsSomeAnd, slice_get, unwrap_or}
-use Rattle.std.proofs.lemmas.Option.{same_Some}
+use Rattle.std.proofs.lemmas.Option.{none-some, same_Some}
 use Rattle.clap.specs.Words.{Row, Text, first_of}
 use Rattle.bgp_words.specs.Decode.{IsStream, IsDecodeOf}
 use Rattle.bgp_words.specs.Values.{IsTurnsText}
-use Rattle.bgp_words.specs.Speak.{CanSpeak}
+use Rattle.bgp_words.specs.Speak.{CanSpeak, IsSpeak}
+use Rattle.bgp_words.specs.declared.speak.Speaking.{Speaking}
+use Rattle.bgp_open.specs.declared.config.Config.{Config}
 use Rattle.bgp_words.specs.Spelled.{Names, NamesBy, NamesDecode}
 use Rattle.bgp_words.specs.declared.words.Command.{Command}
 use Rattle.bgp_words.specs.declared.words.Command.TheVariants.{Decode, Capture, Judge, Speak, Pair}
@@ -18,24 +20,41 @@ pub two_names : (a b : Text) → (first a ≡ first b → ⊥) → a ≡ b → �
 two_names a b other same = other (ap first same)
 
 -- one file is read
-of_decode : (rows : List Row) (file : Text) (command : Command) → IsStream file rows → NamesBy (codes "decode") rows command
+of_decode : (rows : List Row) (file : Text) (command : Command) → IsStream false file rows → NamesBy (codes "decode") rows command
     → IsDecodeOf file command
-of_decode rows file (Decode name) is also =
-    let (here, _mrt, _peer, _local) = is in
-    let (there, _mrt, _peer, _local) = also.1 in same_Some _ _ (sym there ∙ here)
+of_decode rows file (Decode extended name) is also =
+    let (here, _mrt, _peer, _local, plain) = is in
+    let (there, _mrt, _peer, _local, long) = also.1 in (long ∙ sym plain, same_Some _ _ (sym there ∙ here))
 of_decode rows file (Capture session name) is also =
-    let (_file, not_mrt, _peer, _local) = is in
-    let (_file, mrt, _peer, _local, _refresh) = also.1 in
+    let (_file, not_mrt, _peer, _local, _plain) = is in
+    let (_file, mrt, _peer, _local, _refresh, _long) = also.1 in
     let bad : false ≡ true = sym not_mrt ∙ mrt in absurd (cc)
 of_decode rows file (Judge config name) is also = absurd (two_names (codes "decode") (codes "judge") (λ e. omega (arith, e)) also.0)
 of_decode rows file (Speak config speaking name) is also = absurd (two_names (codes "decode") (codes "speak") (λ e. omega (arith, e)) also.0)
 of_decode rows file (Pair name) is also = absurd (two_names (codes "decode") (codes "pair") (λ e. omega (arith, e)) also.0)
 
 pub one_file : (used : Option (Text × List Row)) (file : Text) (command : Command)
-    → NamesDecode file used → Names used command → IsDecodeOf file command
+    → NamesDecode false file used → Names used command → IsDecodeOf file command
 one_file None file command first second = absurd first
 one_file (Some p) file command first second =
     of_decode p.1 file command first.1 (subst (λ (name : Text). NamesBy name p.1 command) first.0 second)
+
+-- where the values of `speak` are none, no command is spelled
+pub none_spoken : (rows : List Row) → ((config : Config) (speaking : Speaking) (file : Text) → IsSpeak config speaking file rows → ⊥)
+    → (command : Command) → NamesBy (codes "speak") rows command → ⊥
+none_spoken rows none (Decode extended file) is = two_names (codes "speak") (codes "decode") (λ e. omega (arith, e)) is.0
+none_spoken rows none (Capture session file) is = two_names (codes "speak") (codes "decode") (λ e. omega (arith, e)) is.0
+none_spoken rows none (Judge config file) is = two_names (codes "speak") (codes "judge") (λ e. omega (arith, e)) is.0
+none_spoken rows none (Speak config speaking file) is = none config speaking file.now is.1
+none_spoken rows none (Pair file) is = two_names (codes "speak") (codes "pair") (λ e. omega (arith, e)) is.0
+
+-- the command that was met, by its name and its rows
+pub met_command : {X : Type 0} (name_in : X → Text) (rows_in : X → List Row) (o : Option X) (name : Text) (rows : List Row)
+    → option_map {T = X} {U = Text} name_in o ≡ Some name
+    → option_map {T = Text × List Row} {U = List Row} (λ p. p.1) (option_map {T = X} {U = Text × List Row} (λ x. (name_in x, rows_in x)) o) ≡ Some rows
+    → option_map {T = X} {U = Text × List Row} (λ x. (name_in x, rows_in x)) o ≡ Some (name, rows)
+met_command name_in rows_in None name rows named values = absurd (none-some _ named)
+met_command name_in rows_in (Some x) name rows named values = λ i. Some (same_Some _ _ named i, same_Some _ _ values i)
 
 -- what speaks can do so
 few_turns : (o : Option Text) (turns : ℕ) → IsSomeAnd o (λ text. IsTurnsText text turns) → turns < 2 ^ 63
@@ -43,7 +62,7 @@ few_turns None turns is = absurd is
 few_turns (Some word) turns is = is.1
 
 can_by : (p : Text × List Row) (command : Command) → Names (Some p) command → CanSpeak command
-can_by p (Decode file) is = tt
+can_by p (Decode extended file) is = tt
 can_by p (Capture session file) is = tt
 can_by p (Judge config file) is = tt
 can_by p (Speak config speaking file) is = (is.1.1, few_turns (first_of (codes "turns") p.1) speaking.turns is.1.2.turns)

@@ -20,19 +20,19 @@ no_dash x xs other = search rules
 
 abbrev pub IsSpelled : List Text → Text → Type 0
 IsSpelled words file =
-    (fault_of program_words words ≡ []) × NamesDecode file (subcommand_of program_words words)
+    (fault_of program_words words ≡ []) × NamesDecode false file (subcommand_of program_words words)
 
 pub behind_dashes : (name file : Text) → IsSpelled (name ∷ codes "decode" ∷ codes "--" ∷ file ∷ []) file
 unfolding clap_on_literals
-behind_dashes name file = (refl, (refl, (refl, refl, refl, refl)))
+behind_dashes name file = (refl, (refl, (refl, refl, refl, refl, refl)))
 
 pub a_dash : (name : Text) → IsSpelled (name ∷ codes "decode" ∷ codes "-" ∷ []) (codes "-")
 unfolding clap_on_literals
-a_dash name = (refl, (refl, (refl, refl, refl, refl)))
+a_dash name = (refl, (refl, (refl, refl, refl, refl, refl)))
 
 pub no_word : (name : Text) → IsSpelled (name ∷ codes "decode" ∷ [] ∷ []) []
 unfolding clap_on_literals
-no_word name = (refl, (refl, (refl, refl, refl, refl)))
+no_word name = (refl, (refl, (refl, refl, refl, refl, refl)))
 
 -- what `decode` reads, once the program is built
 abbrev decode_shape : Shape
@@ -60,7 +60,7 @@ module _ (w : Text) where
       (check_fault decode_shape (finished decode_shape.rules (held_after m)) false))))
 
   abbrev stream_by : Held × Step → Type 0
-  stream_by m = IsStream w (finished decode_shape.rules (held_after m))
+  stream_by m = IsStream false w (finished decode_shape.rules (held_after m))
 
   -- the fault of the whole, by that of `decode`
   abbrev whole_by : Kinds → Kinds
@@ -91,7 +91,7 @@ module _ (w : Text) where
 
     stream_is : stream_by (nothing_held, value)
     unfolding clap_on_literals
-    stream_is = (refl, refl, refl, refl)
+    stream_is = (refl, refl, refl, refl, refl)
 
     whole_passes : (name : Text) → fault_of program_words (name ∷ codes "decode" ∷ w ∷ [])
         ≡ whole_by (level_fault decode_shape [] nothing_held (w ∷ []) false [])
@@ -103,7 +103,7 @@ module _ (w : Text) where
     none_above = refl
 
     named_so : (name : Text) → stream_by word_is
-        → NamesDecode w (subcommand_of program_words (name ∷ codes "decode" ∷ w ∷ []))
+        → NamesDecode false w (subcommand_of program_words (name ∷ codes "decode" ∷ w ∷ []))
     unfolding clap_on_literals
     named_so name is = (refl, is)
 

@@ -151,10 +151,10 @@ module _ (name local_as peer_as local_id local peer file : Text) (local_as_plain
 
   pub parts_found : (parts : ConfigParts) → IsPositiveText local_as parts.local_as → IsPositiveText peer_as parts.peer_as
       → IsIdentifierText local_id parts.local_id → IsAddressText local parts.session.local → IsAddressText peer parts.session.peer
-      → parts.session.refresh ≡ true → IsHoldText (codes "90") parts.hold → IsPositiveText (codes "240") parts.large_hold
+      → parts.session.refresh ≡ true → parts.session.extended ≡ false → IsHoldText (codes "90") parts.hold → IsPositiveText (codes "240") parts.large_hold
       → IsFamiliesText (codes "v4") parts.families → parts.as4 ≡ true → parts.delay_open ≡ false → AreJudged parts found_rows
   unfolding clap_on_literals
-  parts_found parts own other id here there refresh hold large families as4 delay = record {
+  parts_found parts own other id here there refresh extended hold large families as4 delay = record {
     local_as = own;
     peer_as = other;
     local_id = id;
@@ -163,12 +163,12 @@ module _ (name local_as peer_as local_id local peer file : Text) (local_as_plain
     as4 = as4;
     delay_open = delay;
     large_hold = large;
-    session = record { peer = there; local = here; refresh = refresh };
+    session = record { peer = there; local = here; refresh = refresh; extended = extended };
   }
 
   pub parts_told : (parts : ConfigParts) → AreJudged parts found_rows → IsPositiveText local_as parts.local_as × IsPositiveText peer_as parts.peer_as
       × IsIdentifierText local_id parts.local_id × IsAddressText local parts.session.local × IsAddressText peer parts.session.peer
-      × (parts.session.refresh ≡ true) × IsHoldText (codes "90") parts.hold × IsPositiveText (codes "240") parts.large_hold
+      × (parts.session.refresh ≡ true) × (parts.session.extended ≡ false) × IsHoldText (codes "90") parts.hold × IsPositiveText (codes "240") parts.large_hold
       × IsFamiliesText (codes "v4") parts.families × (parts.as4 ≡ true) × (parts.delay_open ≡ false)
   unfolding clap_on_literals
   parts_told parts are = (
@@ -178,6 +178,7 @@ module _ (name local_as peer_as local_id local peer file : Text) (local_as_plain
     are.session.local,
     are.session.peer,
     are.session.refresh,
+    are.session.extended,
     are.hold,
     are.large_hold,
     are.families,

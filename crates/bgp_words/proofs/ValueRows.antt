@@ -28,7 +28,7 @@ LacksOptions rows = (speaking : Speaking) → AreOptions speaking rows → ⊥
 
 -- nothing is named where `speak` is and its options are none
 no_speak : (rows : List Row) → LacksOptions rows → (command : Command) → NamesBy (codes "speak") rows command → ⊥
-no_speak rows none (Decode file) is = two_names (codes "speak") (codes "decode") (λ e. omega (arith, e)) is.0
+no_speak rows none (Decode extended file) is = two_names (codes "speak") (codes "decode") (λ e. omega (arith, e)) is.0
 no_speak rows none (Capture session file) is = two_names (codes "speak") (codes "decode") (λ e. omega (arith, e)) is.0
 no_speak rows none (Judge config file) is = two_names (codes "speak") (codes "judge") (λ e. omega (arith, e)) is.0
 no_speak rows none (Speak config speaking file) is = none speaking is.1.2

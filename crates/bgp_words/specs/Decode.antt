@@ -1,5 +1,5 @@
 -- The values of `decode`: a file, and for a capture the session.
-use Rattle.std.specs.Prelude.{◌≡◌, ◌⊎◌, true, false, List, [], ◌∷◌, Some, None}
+use Rattle.std.specs.Prelude.{◌≡◌, ◌⊎◌, Bool, true, false, List, [], ◌∷◌, Some, None}
 use Rattle.std.specs.Prelude.{codes}
 use Rattle.clap.specs.Words.{Row, Text, first_of}
 use Rattle.bgp_prefix.specs.Notation.{IsAddressText}
@@ -9,18 +9,21 @@ use Rattle.bgp_words.specs.declared.words.Command.{Command}
 use Rattle.bgp_words.specs.declared.words.Command.TheVariants.{Decode, Capture, Judge}
 use Rattle.bgp_words.specs.declared.words.Command.TheVariants.{Speak, Pair}
 
--- the values of `decode FILE`: no other word is given
-abbrev pub IsStream : Text → List Row → Type 0
-IsStream file rows =
+-- the values of `decode FILE` or `decode --extended FILE`: no other word is given
+abbrev pub IsStream : Bool → Text → List Row → Type 0
+IsStream extended file rows =
     (first_of (codes "FILE") rows ≡ Some file) × (is_given (codes "mrt") rows ≡ false)
     × (first_of (codes "peer") rows ≡ None) × (first_of (codes "local") rows ≡ None)
+    × (extended ≡ is_given (codes "extended") rows)
 
--- the values of `decode --mrt --peer A --local A FILE`, of a session without route refresh
+-- The values of `decode --mrt --peer A --local A FILE`, of a session without route refresh;
+-- `--extended`: the local system offers extended messages
 abbrev pub IsCapture : Session → Text → List Row → Type 0
 IsCapture session file rows =
     (first_of (codes "FILE") rows ≡ Some file) × (is_given (codes "mrt") rows ≡ true)
     × IsValue IsAddressText (codes "peer") rows session.peer
     × IsValue IsAddressText (codes "local") rows session.local × (session.refresh ≡ false)
+    × (session.extended ≡ is_given (codes "extended") rows)
 
 -- a word that names a file: it is no flag, or a dash alone
 abbrev pub IsFileWord : Text → Type 0
@@ -32,9 +35,9 @@ IsDecode words file = (name : Text)
     × (((words ≡ name ∷ codes "decode" ∷ file ∷ []) × IsFileWord file)
     ⊎ (words ≡ name ∷ codes "decode" ∷ codes "--" ∷ file ∷ []))
 
--- the command is `decode` of this file
+-- the command is `decode` of this file, with the limit of 4096 octets
 abbrev pub IsDecodeOf : Text → Command → Type 0
-IsDecodeOf text (Decode file) = file.now ≡ text
+IsDecodeOf text (Decode extended file) = (extended ≡ false) × (file.now ≡ text)
 IsDecodeOf text (Capture session file) = ⊥
 IsDecodeOf text (Judge config file) = ⊥
 IsDecodeOf text (Speak config speaking file) = ⊥

@@ -35,13 +35,14 @@ pub record IsJudgeLine (words : List Text) (parts : ConfigParts) (file : Text) :
   pub identifier : IsIdentifierText local_id parts.local_id
   pub ends : IsAddressText local parts.session.local × IsAddressText peer parts.session.peer
   pub refresh : parts.session.refresh ≡ true
+  pub extended : parts.session.extended ≡ false
   pub holds : (parts.hold ≡ 90) × (parts.large_hold ≡ 240)
   pub families : parts.families ≡ record { v4 = true; v6 = false }
   pub flags : (parts.as4 ≡ true) × (parts.delay_open ≡ false)
 
 -- the command is `judge` with what these words tell
 abbrev pub IsJudgeOf : List Text → Command → Type 0
-IsJudgeOf words (Decode file) = ⊥
+IsJudgeOf words (Decode extended file) = ⊥
 IsJudgeOf words (Capture session file) = ⊥
 IsJudgeOf words (Judge config file) = IsJudgeLine words config.parts file.now
 IsJudgeOf words (Speak config speaking file) = ⊥

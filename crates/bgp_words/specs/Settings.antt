@@ -7,11 +7,13 @@ use Rattle.bgp_open.specs.declared.config.ConfigParts.{ConfigParts}
 use Rattle.bgp_words.specs.Values.{IsValue, IsPositiveText, IsHoldText, IsIdentifierText}
 use Rattle.bgp_words.specs.Values.{IsFamiliesText, is_given}
 
--- the session between two addresses, where the local system offers route refresh, or not
+-- The session between two addresses, where the local system offers route refresh, or not;
+-- `--extended`: it offers extended messages
 pub record IsSession (session : Session) (offers : Bool) (rows : List Row) : Type 0 where
   pub peer : IsValue IsAddressText (codes "peer") rows session.peer
   pub local : IsValue IsAddressText (codes "local") rows session.local
   pub refresh : session.refresh ≡ offers
+  pub extended : session.extended ≡ is_given (codes "extended") rows
 
 -- the parts of a configuration; `--as2`: four-octet AS numbers aren't offered
 pub record AreParts (parts : ConfigParts) (offers : Bool) (rows : List Row) : Type 0 where

@@ -45,7 +45,7 @@ IsSpeak config speaking file rows =
 
 -- a command to speak can be done: both addresses are of one family, and turns can be counted
 abbrev pub CanSpeak : Command → Type 0
-CanSpeak (Decode file) = Unit {0}
+CanSpeak (Decode extended file) = Unit {0}
 CanSpeak (Capture session file) = Unit {0}
 CanSpeak (Judge config file) = Unit {0}
 CanSpeak (Speak config speaking file) =

@@ -1,5 +1,5 @@
 -- The command that the words of a command line spell, the program's own name first.
-use Rattle.std.specs.Prelude.{◌≡◌, ◌⊎◌, List, [], ◌∷◌, ◌++◌, Option, Some, None}
+use Rattle.std.specs.Prelude.{◌≡◌, ◌⊎◌, Bool, List, [], ◌∷◌, ◌++◌, Option, Some, None}
 use Rattle.std.specs.Prelude.{Result, MatchResult, codes}
 use Rattle.clap.specs.Words.{Kinds, Row, Text, fault_of, kind_of, subcommand_of}
 use Rattle.clap.specs.Kinds.{or_else}
@@ -27,7 +27,7 @@ IsUsed name values (Some used) = (used.0 ≡ name) × values used.1
 
 -- the name of a command
 abbrev pub name_of : Command → Text
-name_of (Decode file) = codes "decode"
+name_of (Decode extended file) = codes "decode"
 name_of (Capture session file) = codes "decode"
 name_of (Judge config file) = codes "judge"
 name_of (Speak config speaking file) = codes "speak"
@@ -35,7 +35,7 @@ name_of (Pair file) = codes "pair"
 
 -- its values
 abbrev pub AreValuesOf : Command → List Row → Type 0
-AreValuesOf (Decode file) = IsStream file.now
+AreValuesOf (Decode extended file) = IsStream extended file.now
 AreValuesOf (Capture session file) = IsCapture session file.now
 AreValuesOf (Judge config file) = IsJudge config file.now
 AreValuesOf (Speak config speaking file) = IsSpeak config speaking file.now
@@ -49,9 +49,9 @@ Names used command = IsUsed (name_of command) (AreValuesOf command) used
 abbrev pub NamesBy : Text → List Row → Command → Type 0
 NamesBy name rows = Names (Some (name, rows))
 
--- `decode` was named, with this file alone
-abbrev pub NamesDecode : Text → Option (Text × List Row) → Type 0
-NamesDecode file = IsUsed (codes "decode") (IsStream file)
+-- `decode` was named, of a stream, with extended messages or without, and with this file
+abbrev pub NamesDecode : Bool → Text → Option (Text × List Row) → Type 0
+NamesDecode extended file = IsUsed (codes "decode") (IsStream extended file)
 
 -- `judge` was named, with this configuration and file
 abbrev pub NamesJudge : Config → Text → Option (Text × List Row) → Type 0

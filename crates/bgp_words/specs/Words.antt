@@ -22,11 +22,12 @@ required_word name = record (option_word name) { required = true }
 abbrev pub default_word : Text → Text → Rule
 default_word name value = record (option_word name) { defaults = value ∷ [] }
 
--- `decode FILE`, `decode --mrt --peer A --local A FILE`
+-- `decode FILE`, `decode --mrt --peer A --local A FILE`, each with `--extended` or without
 abbrev pub decode_words : App
 decode_words =
-    with_rule (with_rule (with_rule (with_rule (new_app (codes "decode")) file_word)
-    (flag_word (codes "mrt"))) (option_word (codes "peer"))) (option_word (codes "local"))
+    with_rule (with_rule (with_rule (with_rule (with_rule (new_app (codes "decode")) file_word)
+    (flag_word (codes "mrt"))) (option_word (codes "peer"))) (option_word (codes "local")))
+    (flag_word (codes "extended"))
 
 -- the options that tell of a session and its local system: those that have to be given
 abbrev pub with_needs : App → App
@@ -39,10 +40,10 @@ with_needs command =
 -- and those that may be
 abbrev pub with_choices : App → App
 with_choices command =
-    with_rule (with_rule (with_rule (with_rule (with_rule (with_rule command
+    with_rule (with_rule (with_rule (with_rule (with_rule (with_rule (with_rule command
     (default_word (codes "hold") (codes "90"))) (default_word (codes "families") (codes "v4")))
     (flag_word (codes "as2"))) (flag_word (codes "delay-open"))) (flag_word (codes "no-refresh")))
-    (default_word (codes "large-hold") (codes "240"))
+    (flag_word (codes "extended"))) (default_word (codes "large-hold") (codes "240"))
 
 -- all of them
 abbrev pub with_settings : App → App

@@ -1,6 +1,6 @@
 //! The words of `decode`.
 
-ghost use Rattle.std.specs.Prelude.{◌≡◌, ℕ, List, IfOk, IsErr, false, codes};
+ghost use Rattle.std.specs.Prelude.{◌≡◌, ℕ, Bool, List, IfOk, IsErr, false, codes};
 ghost use Rattle.clap.specs.Words.{app_of, found_of, rows_of};
 ghost use Rattle.clap.specs.declared.builder.command.Command.TheViews.{out-Command as fields_of};
 ghost use Rattle.bgp_words.specs.Words.{decode_words};
@@ -55,7 +55,7 @@ A dash stands for nothing.
 The manual is README.md, at the top of the repository.";
 
 /// The words after `decode`.
-static WORDS: [Word<'static>; 4] = [
+static WORDS: [Word<'static>; 5] = [
     READ,
     Word::Flag(
         "mrt",
@@ -65,6 +65,10 @@ static WORDS: [Word<'static>; 4] = [
     Word::Option(
         "local",
         "The address of the system that recorded the session, with --mrt",
+    ),
+    Word::Flag(
+        "extended",
+        "UPDATE and NOTIFICATION may have 65535 octets, not only 4096",
     ),
 ];
 
@@ -82,12 +86,13 @@ pub(crate) fn decode_words<'a>(alloc: Global) -> Result<clap::Command<'a>, Alloc
 /// The command that the values of `decode` are. The flag and both addresses are given, or none.
 pub(crate) fn decode_of<'a>(decode: &ArgMatches<'a>) -> Result<Command<'a>, Misfit<'a>>
     ensures ok { IfOk result (NamesBy (codes "decode") (rows_of (found_of decode.now))) }
-    ensures no_stream { IsErr result → (file : List ℕ) →
-        IsStream file (rows_of (found_of decode.now)) → ⊥ }
+    ensures no_stream { IsErr result → (extended : Bool) (file : List ℕ) →
+        IsStream extended file (rows_of (found_of decode.now)) → ⊥ }
     ensures no_capture { IsErr result → (session : Session) (file : List ℕ) →
         IsCapture session file (rows_of (found_of decode.now)) → ⊥ }
 {
     let file = value_of(decode, "FILE")?;
+    let extended = has_flag(decode, "extended");
     if has_flag(decode, "mrt") {
         let peer = address_of(decode, "peer")?;
         let local = address_of(decode, "local")?;
@@ -95,12 +100,12 @@ pub(crate) fn decode_of<'a>(decode: &ArgMatches<'a>) -> Result<Command<'a>, Misf
             peer,
             local,
             refresh: false,
-            extended: false,
+            extended,
         };
         return Ok(Command::Capture { session, file });
     }
     if has_value(decode, "peer") || has_value(decode, "local") {
         return Err(Misfit::Missing { name: "mrt" });
     }
-    Ok(Command::Decode { file })
+    Ok(Command::Decode { extended, file })
 }

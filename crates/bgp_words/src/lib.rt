@@ -2,7 +2,7 @@
 //!
 //! ```text
 //! match command_line(alloc, words)? {
-//!     Command::Decode { file } => ..
+//!     Command::Decode { extended, file } => ..
 //! }
 //! ```
 #![tactic(auto)]

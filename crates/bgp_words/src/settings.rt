@@ -33,7 +33,7 @@ static NEEDS: [Word<'static>; 5] = [
 ];
 
 /// The words of a session that may be given.
-static CHOICES: [Word<'static>; 6] = [
+static CHOICES: [Word<'static>; 7] = [
     Word::Default(
         "hold",
         "90",
@@ -47,6 +47,10 @@ static CHOICES: [Word<'static>; 6] = [
     Word::Flag("as2", "It doesn't offer four-octet AS numbers"),
     Word::Flag("delay-open", "It may delay its OPEN (DelayOpen)"),
     Word::Flag("no-refresh", "It doesn't offer route refresh"),
+    Word::Flag(
+        "extended",
+        "It offers extended messages, of 65535 octets (RFC 8654)",
+    ),
     Word::Default(
         "large-hold",
         "240",
@@ -117,6 +121,6 @@ fn session_of<'a>(matches: &ArgMatches<'a>, refresh: bool) -> Result<Session, Mi
         peer: address_of(matches, "peer")?,
         local: address_of(matches, "local")?,
         refresh,
-        extended: false,
+        extended: has_flag(matches, "extended"),
     })
 }

@@ -1,6 +1,6 @@
 //! The words of the command line, as a command.
 
-ghost use Rattle.std.specs.Prelude.{◌≡◌, ◌≢◌, ◌∷◌, ℕ, List, All, map, IfOk, IfErr, IsErr};
+ghost use Rattle.std.specs.Prelude.{◌≡◌, ◌≢◌, ◌∷◌, ℕ, Bool, List, All, map, IfOk, IfErr, IsErr};
 ghost use Rattle.clap.specs.Words.{app_of, kind_of, subcommand_rows_of, IsAmong};
 ghost use Rattle.bgp_open.specs.declared.config.Config.{Config as Configured};
 ghost use Rattle.bgp_words.specs.Words.{program_words};
@@ -28,12 +28,15 @@ use std::convert::AsStr;
 pub enum Command<'a> {
     /// Print a raw stream, one line a message.
     Decode {
+        /// Whether UPDATE and NOTIFICATION messages may be extended ones (RFC 8654).
+        extended: bool,
         /// The file's path, or `-` for standard input.
         file: &'a str,
     },
     /// Print the records of one session in a capture, one a line.
     Capture {
-        /// The session's ends; the local system has no route refresh.
+        /// The session's ends, and whether the local system offers extended messages; it has no
+        /// route refresh.
         session: Session,
         /// The file's path, or `-` for standard input.
         file: &'a str,
@@ -129,8 +132,8 @@ pub fn command_line<'a, S: AsStr>(alloc: Global, words: &'a [S]) -> Result<Comma
 /// The command that was named.
 fn named<'a>(matches: &ArgMatches<'a>) -> Result<Command<'a>, Misfit<'a>>
     ensures ok { IfOk result (Names (subcommand_rows_of matches.now)) }
-    ensures no_stream { IsErr result → (file : List ℕ) →
-        NamesDecode file (subcommand_rows_of matches.now) → ⊥ }
+    ensures no_stream { IsErr result → (extended : Bool) (file : List ℕ) →
+        NamesDecode extended file (subcommand_rows_of matches.now) → ⊥ }
     ensures no_judge { IsErr result → (config : Configured) (file : List ℕ) →
         NamesJudge config file (subcommand_rows_of matches.now) → ⊥ }
     ensures none { IsErr result → (command : Command) →

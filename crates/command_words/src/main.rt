@@ -62,10 +62,14 @@ fn answer_to(alloc: Global, block: &str) -> io::Result<Answer> {
     }
     let mut told = String::new(alloc);
     let kind = match command_line(alloc, words.as_slice()) {
-        Ok(Command::Decode { file }) => format!(in alloc; "decode {file:?}")?,
+        Ok(Command::Decode { extended, file }) => {
+            let extended = extended_text(extended);
+            format!(in alloc; "decode{extended} {file:?}")?
+        }
         Ok(Command::Capture { session, file }) => {
             let Session { peer, local, .. } = session;
-            format!(in alloc; "capture peer {peer} local {local} file {file:?}")?
+            let extended = extended_text(session.extended);
+            format!(in alloc; "capture peer {peer} local {local}{extended} file {file:?}")?
         }
         Ok(Command::Judge { config, file }) => {
             let parts = parts_text(alloc, &config.parts)?;
@@ -92,6 +96,11 @@ fn answer_to(alloc: Global, block: &str) -> io::Result<Answer> {
     Ok(Answer { kind, told })
 }
 
+/// The word that says that extended messages are offered, after a blank.
+fn extended_text(extended: bool) -> &'static str {
+    if extended { " extended" } else { "" }
+}
+
 /// The parts of a configuration, each after its name.
 fn parts_text(alloc: Global, parts: &ConfigParts) -> Result<String, AllocError> {
     let ConfigParts {
@@ -113,12 +122,13 @@ fn parts_text(alloc: Global, parts: &ConfigParts) -> Result<String, AllocError> 
         peer,
         local,
         refresh,
-        ..
+        extended,
     } = session;
     let (id, Families { v4, v6 }) = (Address::V4(local_id), families);
     let own = format!(in alloc; "local-as {local_as} peer-as {peer_as} local-id {id}")?;
     let ends = format!(in alloc; "local {local} peer {peer} hold {hold} v4 {v4} v6 {v6}")?;
-    let rest = format!(in alloc; "as4 {as4} delay-open {delay_open} refresh {refresh}")?;
+    let extended = extended_text(extended);
+    let rest = format!(in alloc; "as4 {as4} delay-open {delay_open} refresh {refresh}{extended}")?;
     format!(in alloc; "{own} {ends} {rest} large-hold {large_hold}")
 }
 

@@ -7,8 +7,9 @@ use Rattle.bgp_words.proofs.decode.decode_words.Goals as goal
 
 abbrev words : App → App
 words decode =
-    with_rule (with_rule (with_rule (with_rule decode file_word)
-    (flag_word (codes "mrt"))) (option_word (codes "peer"))) (option_word (codes "local"))
+    with_rule (with_rule (with_rule (with_rule (with_rule decode file_word)
+    (flag_word (codes "mrt"))) (option_word (codes "peer"))) (option_word (codes "local")))
+    (flag_word (codes "extended"))
 
 pub returns-clause-words : goal.returns-clause-words
 returns-clause-words c =

@@ -1,4 +1,4 @@
-use Rattle.std.proofs.Common.{◌≡◌, ◌∙◌, [], ◌∷◌, Ok, Err, map, refl, sym, ap, subst, inl}
+use Rattle.std.proofs.Common.{◌≡◌, ◌∙◌, [], ◌∷◌, Ok, Err, map, refl, sym, ap, subst, inl, false}
 use Rattle.clap.specs.Words.{App, Kinds, IsAmong, HasKind, fault_of, is_simple, is_simple_and_free, kind_of, subcommand_of, subcommand_rows_of}
 use Rattle.clap.specs.Kinds.{or_else}
 use Rattle.clap.specs.declared.error.kind.ErrorKind.TheVariants.{ValueValidation}
@@ -61,7 +61,7 @@ returns-clause-decode g c file is =
     let words = map g.S.AsStr.text c.args.words.now in
     let app = c.in_ok-program.ensures in
     let subs = (c.in_ok-matches.ensures.matches (ap is_simple app)).1 ∙ ap (λ (a : App). subcommand_of a words) app in
-    absurd (c.in-Err.ensures.no_stream refl file (subst (NamesDecode file) (sym subs) (spelled_decode words file is).1))
+    absurd (c.in-Err.ensures.no_stream refl false file (subst (NamesDecode false file) (sym subs) (spelled_decode words file is).1))
 
 pub returns-clause-none : goal.returns-clause-none
 returns-clause-none g c other command spelled =
