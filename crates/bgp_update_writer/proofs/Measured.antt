@@ -5,9 +5,12 @@ use Rattle.std.proofs.lemmas.List.{take_more, append-nil, length-append, take-ap
 use Rattle.std.proofs.lemmas.Grind.{flat_map-append}
 use Rattle.bgp_prefix.specs.Prefix.{PrefixBits, prefix_octets}
 use Rattle.bgp_open.specs.declared.link.Link.{Link}
+use Rattle.bgp_wire.specs.Header.{limit_with}
+use Rattle.bgp_wire.proofs.GreatestLength.{allows_4096, fits_two_octets}
 use Rattle.bgp_wire.proofs.WrittenMessage.{length-message_octets}
 use Rattle.bgp_attr.specs.Field.{attribute_octets}
 use Rattle.bgp_path.specs.declared.path.NextHop.{NextHop}
+use Rattle.bgp_update.specs.Clean.{most_octets}
 use Rattle.bgp_update.specs.Sections.{section_octets}
 use Rattle.bgp_update_writer.specs.Update.{UpdateValue}
 use Rattle.bgp_update_writer.specs.Refusals.{IsTooLarge}
@@ -49,7 +52,14 @@ pub length_of_update : (link : Link) (value : UpdateValue) → length (update_oc
 length_of_update link value =
     omega (arith, length-message_octets 2 (section_octets (written_sections link value)), length-section_octets (written_sections link value))
 
-pub too_large : (link : Link) (value : UpdateValue) → 4073 < length (withdrawn_octets value) + length (flat_map attribute_octets (written_attributes link value)) + length (announced_octets value) → IsTooLarge link value
+-- that number fits the Length field, and is never below 4096
+pub fits_length : (link : Link) → most_octets link ≤ 65535
+fits_length link = fits_two_octets (limit_with link.extended) 2
+
+pub has_room : (link : Link) → 4096 ≤ most_octets link
+has_room link = allows_4096 (limit_with link.extended) 2
+
+pub too_large : (link : Link) (value : UpdateValue) → most_octets link < 23 + length (withdrawn_octets value) + length (flat_map attribute_octets (written_attributes link value)) + length (announced_octets value) → IsTooLarge link value
 too_large link value h = omega (arith, length_of_update link value)
 
 pub unreach_len : (ps : List PrefixBits) → length (unreach_octets ps) ≡ 3 + length (nlri_octets ps)

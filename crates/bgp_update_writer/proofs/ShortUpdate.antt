@@ -32,7 +32,7 @@ use Rattle.bgp_update_writer.specs.Refusals.{IsTooLarge}
 use Rattle.bgp_update_writer.specs.Short.{HasFewNumbers, IsShortPath, OnePrefixCanBeWritten}
 use Rattle.bgp_update_writer.specs.Update.{UpdateValue, Announces, Withdraws}
 use Rattle.bgp_update_writer.specs.Written.{announced_octets, hop_octets, nlri_octets, reach_octets, unreach_octets, withdrawn_octets, written_attributes}
-use Rattle.bgp_update_writer.proofs.Measured.{length_of_update, reach_len, unreach_len}
+use Rattle.bgp_update_writer.proofs.Measured.{has_room, length_of_update, reach_len, unreach_len}
 
 -- ---- the values of a path's attributes have at most eight octets
 
@@ -147,7 +147,7 @@ one_hop (hops.V6WithLinkLocal address link_local) = omega arith
 -- ---- the message
 
 fits : (link : Link) (value : UpdateValue) → length (withdrawn_octets value) + length (flat_map attribute_octets (written_attributes link value)) + length (announced_octets value) ≤ 4073 → ¬ IsTooLarge link value
-fits link value room large = absurd (omega (arith, length_of_update link value))
+fits link value room large = absurd (omega (arith, length_of_update link value, has_room link))
 
 announced_fits : (link : Link) (family : Family) (prefix : PrefixBits) → IsPrefix prefix → (path : PathValue) → IsShortPath path → ¬ IsTooLarge link (Announces family (prefix ∷ []) path)
 announced_fits link V4 prefix is path short =

@@ -9,7 +9,7 @@ pub length-section_octets : (s : Sections) → length (section_octets s) ≡ 4 +
 length-section_octets s =
     omega (arith, length-append s.withdrawn (big_bytes 2 (length s.attributes) ++ (s.attributes ++ s.nlri)), length-append s.attributes s.nlri)
 
-pub written_update : (s : Sections) → 19 + length (section_octets s) ≤ 4096 → IsUpdate (message_octets 2 (section_octets s)) s
+pub written_update : (s : Sections) → 19 + length (section_octets s) ≤ 65535 → IsUpdate (message_octets 2 (section_octets s)) s
 written_update s fits = record {
   message = written_message 2 (section_octets s) (omega arith);
   body = body_of-message_octets 2 (section_octets s);

@@ -35,7 +35,7 @@ use Rattle.bgp_update.specs.Found.{Found, found, found_of, side_of, has_class, i
 use Rattle.bgp_update.specs.Mp.{Sound, mp_state, has_other_bits}
 use Rattle.bgp_update.specs.MpValue.{reach_contents, unreach_contents, next_hop_in}
 use Rattle.bgp_update.specs.Changes.{RouteChanges, withdrawals, announcements, routes_with}
-use Rattle.bgp_update.specs.Clean.{IsClean, IsCleanBy}
+use Rattle.bgp_update.specs.Clean.{IsClean, IsCleanBy, most_octets}
 use Rattle.bgp_update.specs.Laws.{no_families}
 use Rattle.bgp_update.specs.Outcome.{Applied, IsOutcome, IsOutcomeBy}
 use Rattle.bgp_update.specs.Prefixes.{prefixes_of}
@@ -46,11 +46,11 @@ use Rattle.bgp_update_writer.specs.Refusals.{IsHopOf, IsSendable, IsFamilyUsed}
 use Rattle.bgp_update_writer.specs.Applied.{changes_of_update, IsJustApplied, IsFitUpdate, WritesWhatIsApplied}
 use Rattle.bgp_update_writer.proofs.WrittenSections.{written_update, length-section_octets}
 use Rattle.bgp_update.proofs.OneOutcome.{one_outcome, alone_outcome}
-use Rattle.bgp_wire.specs.declared.header.Limit.TheVariants.{Plain}
+use Rattle.bgp_wire.specs.Header.{limit_with}
 use Rattle.bgp_wire.specs.declared.header.MessageType.{MessageType}
 use Rattle.bgp_wire.specs.Framing.{IsFrame}
 use Rattle.bgp_wire.proofs.WholeMessages.{message_is_frame, known_type}
-use Rattle.bgp_update_writer.proofs.Measured.{length_of_update}
+use Rattle.bgp_update_writer.proofs.Measured.{fits_length, length_of_update}
 use Rattle.bgp_update_writer.proofs.WrittenPrefixes.{written_prefixes}
 use Rattle.bgp_update_writer.proofs.PlainUpdate.{HasMissing, IsRight, IsPlain, IsTidy, clean}
 
@@ -206,12 +206,12 @@ tidy_of link w n attributes e good base = record {
 
 -- ---- one body, one outcome
 
-total : (link : Link) (octets : List ℕ) (s : Sections) (x : Found) (attributes : List Attribute) (changes : RouteChanges) → IsUpdate octets s → found link s ≡ x
+total : (link : Link) (octets : List ℕ) → length octets ≤ most_octets link → (s : Sections) (x : Found) (attributes : List Attribute) (changes : RouteChanges) → IsUpdate octets s → found link s ≡ x
     → attributes_of s.attributes ≡ attributes → IsPlain x → IsTidy link x → changes ≡ record { remove = withdrawals link x; put = announcements link x attributes }
     → IsClean link octets × IsJustApplied link octets changes
-total link octets s x attributes changes is e a plain tidy same =
+total link octets few s x attributes changes is e a plain tidy same =
     let by : IsCleanBy link x = clean link x plain tidy in
-    let cleans : IsClean link octets = (s, is, subst (IsCleanBy link) (sym e) by) in
+    let cleans : IsClean link octets = (few, s, is, subst (IsCleanBy link) (sym e) by) in
     let one = one_outcome link octets cleans in
     let applied : IsOutcomeBy link x attributes (Applied changes no_families) =
     subst (λ (c : RouteChanges). IsOutcomeBy link x attributes (Applied c no_families)) (sym same) (alone_outcome link x attributes by.alone) in
@@ -242,10 +242,12 @@ nothing_missing_6 link ps m = elim m [
   | inr some ↦ some.1 refl
 ]
 
-all_octets : (link : Link) (value : UpdateValue) → length (update_octets link value) ≤ 4096 → 19 + length (section_octets (written_sections link value)) ≤ 4096
-all_octets link value h = omega (arith, length-message_octets 2 (section_octets (written_sections link value)))
+all_octets : (link : Link) (value : UpdateValue) → length (update_octets link value) ≤ most_octets link
+    → 19 + length (section_octets (written_sections link value)) ≤ 65535
+all_octets link value h = omega (arith, h, fits_length link, length-message_octets 2 (section_octets (written_sections link value)))
 
-field_octets : (link : Link) (value : UpdateValue) → length (update_octets link value) ≤ 4096 → length (flat_map attribute_octets (written_attributes link value)) ≤ 4096
+field_octets : (link : Link) (value : UpdateValue) → length (update_octets link value) ≤ most_octets link
+    → length (flat_map attribute_octets (written_attributes link value)) ≤ 65535
 field_octets link value h = omega (arith, all_octets link value h, length-section_octets (written_sections link value))
 
 abbrev none_if : Bool → List PrefixBits
@@ -256,7 +258,7 @@ nothing true = refl
 nothing false = refl
 
 withdraw_4 : (link : Link) (ps : List PrefixBits) → All IsPrefix ps → IsTrue link.families.v4 → All (λ p. p.family ≡ families.V4) ps
-    → length (update_octets link (Withdraws families.V4 ps)) ≤ 4096
+    → length (update_octets link (Withdraws families.V4 ps)) ≤ most_octets link
     → IsClean link (update_octets link (Withdraws families.V4 ps)) × IsJustApplied link (update_octets link (Withdraws families.V4 ps)) (record { remove = ps; put = [] })
 withdraw_4 link ps fits used of small =
     let value = Withdraws families.V4 ps in
@@ -264,13 +266,13 @@ withdraw_4 link ps fits used of small =
     let x = found_of link (Some ps) (Some []) [] None in
     let field : IsAttributeField [] [] None = record { rest = []; whole = refl; each = All-nil IsAttribute; last = refl } in
     let e : found link s ≡ x = found_by link s ps [] [] (written_prefixes families.V4 ps fits of) (written_prefixes families.V4 [] (All-nil IsPrefix) (All-nil (λ p. p.family ≡ families.V4))) field in
-    total link (update_octets link value) s x [] (record { remove = ps; put = [] }) (written_update s (all_octets link value small)) e
+    total link (update_octets link value) small s x [] (record { remove = ps; put = [] }) (written_update s (all_octets link value small)) e
     (ap (λ (t : Split). t.attributes) (is_split [] [] None field)) (plain_withdrawal_4 link ps)
     (record { discard = refl; repeats = refl; base = inl used })
     (rw (used, append-nil ps) refl)
 
 withdraw_6 : (link : Link) (ps : List PrefixBits) → All IsPrefix ps → IsTrue link.families.v6 → All (λ p. p.family ≡ families.V6) ps
-    → length (update_octets link (Withdraws families.V6 ps)) ≤ 4096
+    → length (update_octets link (Withdraws families.V6 ps)) ≤ most_octets link
     → IsClean link (update_octets link (Withdraws families.V6 ps)) × IsJustApplied link (update_octets link (Withdraws families.V6 ps)) (record { remove = ps; put = [] })
 withdraw_6 link ps fits used of small =
     let value = Withdraws families.V6 ps in
@@ -290,7 +292,7 @@ withdraw_6 link ps fits used of small =
     let state = unreach_sound link ps used (written_prefixes families.V6 ps fits of) in
     let plain = plain_of link [] [] attributes None (Some mp) refl refl refl good (inl refl, refl, refl)
     (inr (families.V6, record { next_hop = None; prefixes = ps }, state), bits_unreach (length (unreach_octets ps)), refl) (nothing_missing_6 link ps) in
-    total link (update_octets link value) s x attributes (record { remove = ps; put = [] }) (written_update s (all_octets link value small)) e
+    total link (update_octets link value) small s x attributes (record { remove = ps; put = [] }) (written_update s (all_octets link value small)) e
     (ap (λ (t : Split). t.attributes) (is_split s.attributes attributes None field)) plain
     (tidy_of link [] [] attributes refl good (inr (refl, refl)))
     (rw (nothing link.families.v4, state) refl)
@@ -335,7 +337,7 @@ nothing_missing link ps path of m = elim m [
 ]
 
 announce_4 : (link : Link) (ps : List PrefixBits) (path : PathValue) → All IsPrefix ps → IsFit path → IsTrue link.families.v4 → All (λ p. p.family ≡ families.V4) ps
-    → IsHopOf families.V4 path.next_hop → IsForPeer (side_of link) path → length (update_octets link (Announces families.V4 ps path)) ≤ 4096
+    → IsHopOf families.V4 path.next_hop → IsForPeer (side_of link) path → length (update_octets link (Announces families.V4 ps path)) ≤ most_octets link
     → IsClean link (update_octets link (Announces families.V4 ps path))
     × IsJustApplied link (update_octets link (Announces families.V4 ps path)) (record { remove = []; put = routes_with path ps })
 announce_4 link ps path prefixes fits used of hop peer small =
@@ -349,7 +351,7 @@ announce_4 link ps path prefixes fits used of hop peer small =
     let reach = first_is (value_in (side_of link) path) types.MpReachNlri in
     let unreach = first_is (value_in (side_of link) path) types.MpUnreachNlri in
     let plain = plain_of link [] ps attributes None None reach unreach back.1 (harmless (side_of link) attributes back.0) (inl refl, refl, refl) (inl refl, refl, refl) (nothing_missing link ps path hop) in
-    total link (update_octets link value) s x attributes (record { remove = []; put = routes_with path ps }) (written_update s (all_octets link value small)) e
+    total link (update_octets link value) small s x attributes (record { remove = []; put = routes_with path ps }) (written_update s (all_octets link value small)) e
     (ap (λ (t : Split). t.attributes) (is_split s.attributes attributes None field)) plain
     (tidy_of link [] ps attributes back.1 (harmless (side_of link) attributes back.0) (inl used))
     (rw (used, reach, unreach, hop_read link path fits peer hop, path_read link path fits peer, append-nil (routes_with path ps)) refl)
@@ -364,7 +366,7 @@ nothing_missing_v6 link mp path is m = elim m [
 ]
 
 announce_6 : (link : Link) (ps : List PrefixBits) (path : PathValue) → All IsPrefix ps → IsFit path → IsTrue link.families.v6 → All (λ p. p.family ≡ families.V6) ps
-    → IsHopOf families.V6 path.next_hop → IsForPeer (side_of link) path → length (update_octets link (Announces families.V6 ps path)) ≤ 4096
+    → IsHopOf families.V6 path.next_hop → IsForPeer (side_of link) path → length (update_octets link (Announces families.V6 ps path)) ≤ most_octets link
     → IsClean link (update_octets link (Announces families.V6 ps path))
     × IsJustApplied link (update_octets link (Announces families.V6 ps path)) (record { remove = []; put = routes_with path ps })
 announce_6 link ps path prefixes fits used of hop peer small =
@@ -393,23 +395,24 @@ announce_6 link ps path prefixes fits used of hop peer small =
     let plain = plain_of link [] [] attributes (Some mp) None refl unreach repeats good
     (inr (families.V6, record { next_hop = Some path.next_hop; prefixes = ps }, state), bits_reach (length mp_value), refl) (inl refl, refl, refl)
     (nothing_missing_v6 link mp path refl) in
-    total link (update_octets link value) s x attributes (record { remove = []; put = routes_with path ps }) (written_update s (all_octets link value small)) e
+    total link (update_octets link value) small s x attributes (record { remove = []; put = routes_with path ps }) (written_update s (all_octets link value small)) e
     (ap (λ (t : Split). t.attributes) (is_split s.attributes attributes None field)) plain
     (tidy_of link [] [] attributes repeats good (inr (refl, refl)))
     (rw (nothing link.families.v4, unreach, state, path_read link path fits peer) refl)
 
 -- ---- each update
 
-framed : (link : Link) (value : UpdateValue) → length (update_octets link value) ≤ 4096 → IsFrame Plain (update_octets link value)
+framed : (link : Link) (value : UpdateValue) → length (update_octets link value) ≤ most_octets link
+    → IsFrame (limit_with link.extended) (update_octets link value)
 framed link value small =
     let s = written_sections link value in
     let message = (written_update s (all_octets link value small)).message in
-    message_is_frame Plain 2 (update_octets link value) message (known_type MessageType.Update) (λ bad. elim bad [
+    message_is_frame (limit_with link.extended) 2 (update_octets link value) message (known_type MessageType.Update) (λ bad. elim bad [
       | inl few ↦ absurd (omega (arith, few, length_of_update link value))
       | inr more ↦ elim more [ inl many ↦ absurd (omega (arith, many, small)) | inr other ↦ absurd (omega (arith, other.0)) ]
     ])
 
-each_applied : (link : Link) (value : UpdateValue) → IsFitUpdate value → IsFamilyUsed link value → IsSendable link value → length (update_octets link value) ≤ 4096
+each_applied : (link : Link) (value : UpdateValue) → IsFitUpdate value → IsFamilyUsed link value → IsSendable link value → length (update_octets link value) ≤ most_octets link
     → IsClean link (update_octets link value) × IsJustApplied link (update_octets link value) (changes_of_update value)
 each_applied link (Announces families.V4 ps path) fits used sendable small = announce_4 link ps path fits.0 fits.1 used sendable.0 sendable.1 sendable.2 small
 each_applied link (Announces families.V6 ps path) fits used sendable small = announce_6 link ps path fits.0 fits.1 used sendable.0 sendable.1 sendable.2 small
@@ -418,6 +421,6 @@ each_applied link (Withdraws families.V6 ps) fits used sendable small = withdraw
 
 pub written_applied : WritesWhatIsApplied
 written_applied link value fits used sendable small =
-    let few : length (update_octets link value) ≤ 4096 = elim (cases_lt 4096 (length (update_octets link value))) [ inl large ↦ absurd (small large) | inr few ↦ few ] in
+    let few : length (update_octets link value) ≤ most_octets link = elim (cases_lt (most_octets link) (length (update_octets link value))) [ inl large ↦ absurd (small large) | inr few ↦ few ] in
     let both = each_applied link value fits used sendable few in
     (both.0, both.1, framed link value few)

@@ -1,6 +1,6 @@
 -- What a peer does on an UPDATE that was written, and that it is clean (RFC 7606, 2).
 use Rattle.std.specs.Prelude.{◌≡◌, ◌↔◌, ℕ, List, [], All}
-use Rattle.bgp_wire.specs.declared.header.Limit.TheVariants.{Plain}
+use Rattle.bgp_wire.specs.Header.{limit_with}
 use Rattle.bgp_wire.specs.Framing.{IsFrame}
 use Rattle.bgp_prefix.specs.Prefix.{IsPrefix}
 use Rattle.bgp_open.specs.declared.link.Link.{Link}
@@ -29,7 +29,8 @@ abbrev pub IsFitUpdate : UpdateValue → Type 0
 IsFitUpdate (Announces family prefixes path) = All IsPrefix prefixes × IsFit path
 IsFitUpdate (Withdraws family prefixes) = All IsPrefix prefixes
 
--- what is written is a clean UPDATE, which is applied as it is meant, and a whole frame
+-- what is written is a clean UPDATE, which is applied as it is meant, and a whole frame of the
+-- link's limit
 abbrev pub WritesWhatIsApplied : Type 0
 WritesWhatIsApplied =
     (link : Link) (value : UpdateValue)
@@ -37,4 +38,4 @@ WritesWhatIsApplied =
     → ¬ IsTooLarge link value
     → IsClean link (update_octets link value)
     × IsJustApplied link (update_octets link value) (changes_of_update value)
-    × IsFrame Plain (update_octets link value)
+    × IsFrame (limit_with link.extended) (update_octets link value)

@@ -2,6 +2,7 @@
 use Rattle.std.specs.Prelude.{◌≡◌, ◌≤◌, ◌+◌, ℕ, List, [], length}
 use Rattle.bgp_prefix.specs.declared.family.Family.TheVariants as families
 use Rattle.bgp_open.specs.declared.link.Link.{Link}
+use Rattle.bgp_update.specs.Clean.{most_octets}
 use Rattle.bgp_update_writer.specs.declared.lengths.Lengths.{Lengths}
 use Rattle.bgp_update_writer.specs.Applied.{IsFitUpdate}
 use Rattle.bgp_update_writer.specs.Update.{UpdateValue, Announces, Withdraws}
@@ -20,5 +21,5 @@ pub record AreLengths (link : Link) (value : UpdateValue) (lengths : Lengths) : 
   pub mp_value : lengths.mp_value ≡ length (mp_octets value)
   pub attributes : lengths.attributes ≡ length (field_octets link value)
   pub nlri : lengths.nlri ≡ length (announced_octets value)
-  pub room : 23 + lengths.withdrawn + lengths.attributes + lengths.nlri ≤ 4096
+  pub room : 23 + lengths.withdrawn + lengths.attributes + lengths.nlri ≤ most_octets link
   pub fits : IsFitUpdate value

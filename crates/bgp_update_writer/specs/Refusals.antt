@@ -1,7 +1,5 @@
 -- What keeps an update from being written, and the numbers of that.
 use Rattle.std.specs.Prelude.{◌≡◌, ◌<◌, ℕ, All, IsTrue, length}
-use Rattle.bgp_wire.specs.declared.header.Limit.TheVariants.{Plain}
-use Rattle.bgp_wire.specs.Header.{greatest_length}
 use Rattle.bgp_prefix.specs.declared.family.Family.{Family}
 use Rattle.bgp_prefix.specs.declared.family.Family.TheVariants as families
 use Rattle.bgp_open.specs.declared.link.Link.{Link}
@@ -9,6 +7,7 @@ use Rattle.bgp_open.specs.Families.{contains}
 use Rattle.bgp_path.specs.declared.path.NextHop.{NextHop}
 use Rattle.bgp_path.specs.declared.path.NextHop.TheVariants as hops
 use Rattle.bgp_attr.specs.ReadBack.{IsForPeer}
+use Rattle.bgp_update.specs.Clean.{most_octets}
 use Rattle.bgp_update.specs.Found.{side_of}
 use Rattle.bgp_update_writer.specs.declared.update.UpdateFault.{UpdateFault}
 use Rattle.bgp_update_writer.specs.declared.update.UpdateFault.TheVariants as faults
@@ -37,9 +36,9 @@ IsSendable link (Announces family prefixes path) =
     × IsHopOf family path.next_hop × IsForPeer (side_of link) path
 IsSendable link (Withdraws family prefixes) = All (λ prefix. prefix.family ≡ family) prefixes
 
--- it has more octets than a message may have (RFC 4271, 4.1)
+-- it has more octets than an UPDATE may have on the link (RFC 4271, 4.1; RFC 8654, 4)
 abbrev pub IsTooLarge : Link → UpdateValue → Type 0
-IsTooLarge link value = greatest_length Plain 2 < length (update_octets link value)
+IsTooLarge link value = most_octets link < length (update_octets link value)
 
 -- the numbers of the refusals
 abbrev pub update_number : UpdateFault → ℕ

@@ -7,6 +7,7 @@ ghost use Rattle.bgp_prefix.specs.Prefix.{IsPrefix};
 ghost use Rattle.bgp_attr.specs.Field.{attribute_octets};
 ghost use Rattle.bgp_attr.specs.Writing.{attribute_with};
 ghost use Rattle.bgp_attr.specs.declared.types.AttrType.{AttrType};
+ghost use Rattle.bgp_update.specs.Clean.{most_octets};
 ghost use Rattle.bgp_update_writer.specs.Update.{Announces, Withdraws, update_value};
 ghost use Rattle.bgp_update_writer.specs.Written.{hop_octets, nlri_octets};
 ghost use Rattle.bgp_update_writer.specs.Refusals.{IsTooLarge};
@@ -17,12 +18,11 @@ use bgp_attr::path_len;
 use bgp_open::Link;
 use bgp_path::{NextHop, Path, path_is_fit};
 use bgp_prefix::{Family, Prefix};
-use bgp_update::side;
+use bgp_update::{most_octets, side};
 use std::alloc::Allocator;
 
-/// The most octets of the three fields together: a message has at most 4096 (RFC 4271, 4.1), its
-/// header 19, and the lengths of two fields 2 each.
-const MOST: u16 = 4073;
+/// The octets of an UPDATE besides its three fields: header 19, lengths of two fields 2 each.
+const FIXED: u16 = 23;
 
 /// The octets before the prefixes in the value of MP_UNREACH_NLRI: AFI and SAFI (RFC 4760, 4).
 const UNREACH_FIXED: u16 = 3;
@@ -47,11 +47,11 @@ pub(crate) struct Lengths {
 impl Lengths {
     /// How many octets the message has: the header and the lengths of two fields take 23.
     pub(crate) fn message(self) -> u16
-        requires { self.withdrawn + self.attributes + self.nlri ≤ 4073 }
+        requires { self.withdrawn + self.attributes + self.nlri ≤ 65512 }
         ensures { result ≡ 23 + self.withdrawn + self.attributes + self.nlri }
     {
         let fields = self.withdrawn + self.attributes + self.nlri;
-        23 + fields
+        FIXED + fields
     }
 }
 
@@ -62,7 +62,14 @@ struct MpLength {
     attribute: u16,
 }
 
-/// How many octets the fields have, if the message has at most 4096.
+/// The most octets that the three fields may have together in a message on the link.
+fn field_room(link: &Link) -> u16
+    ensures { FIXED + result ≡ most_octets link.now }
+{
+    most_octets(link) - FIXED
+}
+
+/// How many octets the fields have, if a message on the link may have so many.
 pub(crate) fn measured<A: Allocator>(link: &Link, update: &Update<'_, A>) -> Option<Lengths>
     ensures some { IfSome result (AreLengths link.now (update_value update.now)) }
     ensures none { IfNone result (IsTooLarge link.now (update_value update.now)) }
@@ -95,7 +102,7 @@ fn withdrawn_v4(link: &Link, prefixes: &[Prefix]) -> Option<Lengths>
     ensures some { IfSome result (AreLengths link.now (Withdraws V4 prefixes.now)) }
     ensures none { IfNone result (IsTooLarge link.now (Withdraws V4 prefixes.now)) }
 {
-    let Some(withdrawn) = prefixes_len(prefixes, MOST) else {
+    let Some(withdrawn) = prefixes_len(prefixes, field_room(link)) else {
         return None;
     };
     Some(Lengths {
@@ -112,7 +119,7 @@ fn withdrawn_v6(link: &Link, prefixes: &[Prefix]) -> Option<Lengths>
     ensures some { IfSome result (AreLengths link.now (Withdraws V6 prefixes.now)) }
     ensures none { IfNone result (IsTooLarge link.now (Withdraws V6 prefixes.now)) }
 {
-    let Some(mp) = mp_length(UNREACH_FIXED, prefixes, MOST) else {
+    let Some(mp) = mp_length(UNREACH_FIXED, prefixes, field_room(link)) else {
         return None;
     };
     Some(Lengths {
@@ -130,10 +137,11 @@ fn announced_v4<A: Allocator>(link: &Link, prefixes: &[Prefix], path: &Path<A>) 
     ensures none { IfNone result (IsTooLarge link.now (Announces V4 prefixes.now path.now)) }
 {
     path_is_fit(path);
-    let Some(attributes) = path_len(side(link), path, MOST) else {
+    let most = field_room(link);
+    let Some(attributes) = path_len(side(link), path, most) else {
         return None;
     };
-    let Some(nlri) = prefixes_len(prefixes, MOST - attributes) else {
+    let Some(nlri) = prefixes_len(prefixes, most - attributes) else {
         return None;
     };
     Some(Lengths {
@@ -151,11 +159,12 @@ fn announced_v6<A: Allocator>(link: &Link, prefixes: &[Prefix], path: &Path<A>) 
     ensures none { IfNone result (IsTooLarge link.now (Announces V6 prefixes.now path.now)) }
 {
     path_is_fit(path);
-    let Some(own) = path_len(side(link), path, MOST) else {
+    let most = field_room(link);
+    let Some(own) = path_len(side(link), path, most) else {
         return None;
     };
     let fixed = REACH_FIXED + u16::from(hop_len(path.parts().next_hop));
-    let Some(mp) = mp_length(fixed, prefixes, MOST - own) else {
+    let Some(mp) = mp_length(fixed, prefixes, most - own) else {
         return None;
     };
     Some(Lengths {
@@ -201,7 +210,7 @@ fn prefixes_len(prefixes: &[Prefix], most: u16) -> Option<u16>
 }
 
 /// How many octets the header of an attribute has whose value has so many.
-fn header_len(value_len: u16) -> u16
+fn header_len(value_len: u32) -> u32
     ensures all { (t : AttrType) (value : List ℕ) → length value ≡ value_len
         → length (attribute_octets (attribute_with t value)) ≡ result + value_len }
     ensures bound { result ≤ 4 }
@@ -212,8 +221,6 @@ fn header_len(value_len: u16) -> u16
 /// How many octets an MP attribute has whose value has `fixed` octets besides these prefixes, if at
 /// most `most`.
 fn mp_length(fixed: u16, prefixes: &[Prefix], most: u16) -> Option<MpLength>
-    requires fixed { fixed ≤ 64 }
-    requires most { most ≤ 4073 }
     ensures value { IfSome result (λ len. len.value ≡ fixed + length (nlri_octets prefixes.now)) }
     ensures attribute { IfSome result (λ len. (t : AttrType) (value : List ℕ)
         → length value ≡ len.value
@@ -224,10 +231,13 @@ fn mp_length(fixed: u16, prefixes: &[Prefix], most: u16) -> Option<MpLength>
         → length value ≡ fixed + length (nlri_octets prefixes.now)
         → most < length (attribute_octets (attribute_with t value))) }
 {
-    let value = fixed + prefixes_len(prefixes, most)?;
+    let value = u32::from(fixed) + u32::from(prefixes_len(prefixes, most)?);
     let attribute = value + header_len(value);
-    if attribute > most {
+    if attribute > u32::from(most) {
         return None;
     }
-    Some(MpLength { value, attribute })
+    Some(MpLength {
+        value: value as u16,
+        attribute: attribute as u16,
+    })
 }

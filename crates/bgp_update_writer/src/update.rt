@@ -2,7 +2,7 @@
 
 ghost use Rattle.std.specs.Prelude.{◌≡◌, ◌++◌, ◌+◌, ◌↔◌, ◌<◌, IsTrue, OnOk, OnErr, Err, All};
 ghost use Rattle.std.specs.Prelude.{length, drop, vec_len, vec_capacity};
-ghost use Rattle.bgp_wire.specs.declared.header.Limit.TheVariants.{Plain};
+ghost use Rattle.bgp_wire.specs.Header.{limit_with};
 ghost use Rattle.bgp_wire.specs.Framing.{IsFrame};
 ghost use Rattle.bgp_update.specs.Clean.{IsClean};
 ghost use Rattle.bgp_update_writer.specs.Update.{family_of_update, update_value};
@@ -46,8 +46,9 @@ pub enum Update<'a, A: Allocator = Global> {
 /// Why an UPDATE isn't written.
 #[derive(Clone, Copy, Debug, PartialEq, Eq, Error)]
 pub enum UpdateFault {
-    /// The message would have more than 4096 octets.
-    #[error("the UPDATE would have more than 4096 octets")]
+    /// The message would have more octets than one may have that is sent to this peer: 65535 where
+    /// it offers extended messages (RFC 8654, 4), else 4096 (RFC 4271, 4.1).
+    #[error("the UPDATE would have more octets than a message may have")]
     TooLarge = 1,
     /// The session doesn't exchange routes of the family.
     #[error("the session exchanges no routes of this family")]
@@ -134,7 +135,8 @@ pub fn write_update<A: Allocator, B: Allocator>(
 
     // What was appended is a whole frame and a clean UPDATE, whose one outcome is that it is
     // applied as it is meant.
-    ensures frame { OnOk result (IsFrame Plain (drop (length out.old.items) out.new.items)) }
+    ensures frame { OnOk result
+        (IsFrame (limit_with link.now.extended) (drop (length out.old.items) out.new.items)) }
     ensures clean { OnOk result (IsClean link.now (drop (length out.old.items) out.new.items)) }
     ensures outcome { OnOk result (IsJustApplied link.now
         (drop (length out.old.items) out.new.items) (changes_of_update (update_value update.now))) }

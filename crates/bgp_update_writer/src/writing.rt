@@ -6,6 +6,7 @@ ghost use Rattle.bgp_prefix.specs.Prefix.{prefix_octets};
 ghost use Rattle.bgp_prefix.specs.declared.family.Family.TheVariants.{V6};
 ghost use Rattle.bgp_attr.specs.Field.{attribute_octets};
 ghost use Rattle.bgp_attr.specs.Writing.{path_octets};
+ghost use Rattle.bgp_update.specs.Clean.{most_octets};
 ghost use Rattle.bgp_update.specs.Found.{side_of};
 ghost use Rattle.bgp_update_writer.specs.Update.{Announces, update_value};
 ghost use Rattle.bgp_update_writer.specs.Written.{hop_octets, nlri_octets, reach_attribute};
@@ -124,7 +125,7 @@ fn put_unreach<A: Allocator>(out: &mut Vec<u8, A>, prefixes: &[Prefix], value_le
 
 /// Appends the attributes of a path that a message has room for.
 fn put_short_path<A: Allocator, B: Allocator>(out: &mut Vec<u8, A>, link: &Link, path: &Path<B>)
-    requires fits { length (path_octets (side_of link.now) path.now) ≤ 4096 }
+    requires fits { length (path_octets (side_of link.now) path.now) ≤ most_octets link.now }
     requires room { vec_len out.old + length (path_octets (side_of link.now) path.now)
         ≤ vec_capacity out.old }
     ensures items { out.new.items ≡ out.old.items ++ path_octets (side_of link.now) path.now }
@@ -144,7 +145,7 @@ fn put_reachable<A: Allocator, B: Allocator>(
     value_len: u16,
 )
     requires value { value_len ≡ length (reach_octets path.now.next_hop prefixes.now) }
-    requires fits { length (field_octets link.now (Announces V6 prefixes.now path.now)) ≤ 4096 }
+    requires fits { length (field_octets link.now (Announces V6 prefixes.now path.now)) ≤ most_octets link.now }
     requires room { vec_len out.old
         + length (field_octets link.now (Announces V6 prefixes.now path.now))
         ≤ vec_capacity out.old }

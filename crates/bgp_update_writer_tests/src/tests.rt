@@ -76,6 +76,8 @@ struct Row<'a> {
     as4: bool,
     /// Whether the peer is internal.
     internal: bool,
+    /// Whether the peer offers extended messages.
+    extended: bool,
     /// By which path the prefixes are reachable; `None` where they are withdrawn.
     path: Option<Said<'a>>,
     family: Family,
@@ -102,6 +104,12 @@ const LARGE: LargeCommunity = LargeCommunity {
     local_data_part_2: 2,
 };
 
+/// The path by AS 65002 and 2001:db8::2, with fe80::2.
+const BY_BOTH_V6: Said<'static> = Said {
+    next_hop: NextHop::V6WithLinkLocal(0x2001_0db8 << 96 | 2, 0xfe80 << 112 | 2),
+    ..BY_V4
+};
+
 /// The path by AS 65002 and 2001:db8::2.
 const BY_V6: Said<'static> = Said {
     next_hop: HOP_V6,
@@ -114,6 +122,7 @@ const ANNOUNCE: Row<'static> = Row {
     families: BOTH,
     as4: true,
     internal: false,
+    extended: false,
     path: Some(BY_V4),
     family: Family::V4,
     prefixes: &[(1, "10.0.0.0/8")],
@@ -135,6 +144,7 @@ fn link_of(rt: &impl Abort, row: &Row<'_>) -> Link {
     link.families = row.families;
     link.as4 = row.as4;
     link.internal = row.internal;
+    link.extended = row.extended;
     link
 }
 

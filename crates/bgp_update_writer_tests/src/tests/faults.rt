@@ -185,7 +185,7 @@ static TEXTS: [(UpdateFault, u8, &str); 4] = [
     (
         UpdateFault::TooLarge,
         1,
-        "the UPDATE would have more than 4096 octets",
+        "the UPDATE would have more octets than a message may have",
     ),
     (
         UpdateFault::FamilyNotInUse,

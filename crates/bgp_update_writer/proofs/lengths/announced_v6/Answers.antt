@@ -16,7 +16,7 @@ returns-in_default-clause-none g c =
     let h = rw c.side.ensures at c.in_default.ensures.none in
     let mp = attribute_with types.MpReachNlri (reach_octets c.args.path.now.next_hop c.args.prefixes.now) in
     too_large c.args.link.now (Announces V6 c.args.prefixes.now c.args.path.now)
-    (omega (arith, h, length-append (attribute_octets mp) (flat_map attribute_octets (path_attributes (side_of c.args.link.now) c.args.path.now))))
+    (omega (arith, h, c.field_room-most.ensures, length-append (attribute_octets mp) (flat_map attribute_octets (path_attributes (side_of c.args.link.now) c.args.path.now))))
 
 pub returns-in_default-mp_length-clause-none : goal.returns-in_default-mp_length-clause-none
 returns-in_default-mp_length-clause-none g c =
@@ -29,7 +29,7 @@ returns-in_default-mp_length-clause-none g c =
     let long = c.in_default-mp_length.ensures.none types.MpReachNlri value (omega (arith, size, c.from-fixed.ensures)) in
     let own = rw c.side.ensures at c.in-Some.ensures.some in
     too_large c.args.link.now (Announces V6 ps path)
-    (omega (arith, long, own, c.in-Some.ensures.fits, length-append (attribute_octets mp) (flat_map attribute_octets (path_attributes (side_of c.args.link.now) path))))
+    (omega (arith, long, own, c.field_room-most.ensures, c.in-Some.ensures.fits, length-append (attribute_octets mp) (flat_map attribute_octets (path_attributes (side_of c.args.link.now) path))))
 
 pub returns-clause-some : goal.returns-clause-some
 returns-clause-some g c =
@@ -46,6 +46,6 @@ returns-clause-some g c =
       mp_value = omega (arith, size);
       attributes = omega (arith, long, own, length-append (attribute_octets mp) (flat_map attribute_octets (path_attributes (side_of c.args.link.now) path)));
       nlri = refl;
-      room = omega (arith, c.in-Some.ensures.fits, c.in-Some-mp_length.ensures.fits);
+      room = omega (arith, c.field_room-most.ensures, c.in-Some.ensures.fits, c.in-Some-mp_length.ensures.fits);
       fits = (c.in-Some-mp_length.ensures.each, c.path_is_fit.ensures);
     }

@@ -13,7 +13,7 @@ returns-in_default-clause-none c =
     let ps = c.args.prefixes.now in
     let mp = attribute_with types.MpUnreachNlri (unreach_octets ps) in
     let long = c.in_default.ensures.none types.MpUnreachNlri (unreach_octets ps) (unreach_len ps) in
-    too_large c.args.link.now (Withdraws V6 ps) (omega (arith, long, length-append (attribute_octets mp) []))
+    too_large c.args.link.now (Withdraws V6 ps) (omega (arith, c.field_room.ensures, long, length-append (attribute_octets mp) []))
 
 pub returns-clause-some : goal.returns-clause-some
 returns-clause-some c =
@@ -26,6 +26,6 @@ returns-clause-some c =
       mp_value = omega (arith, size);
       attributes = omega (arith, long, length-append (attribute_octets mp) []);
       nlri = refl;
-      room = omega (arith, c.in-Some.ensures.fits);
+      room = omega (arith, c.field_room.ensures, c.in-Some.ensures.fits);
       fits = c.in-Some.ensures.each;
     }

@@ -1,9 +1,9 @@
 use Rattle.std.proofs.Common.{◌≡◌, ◌↔◌, ◌++◌, ◌≤◌, ◌+◌, ℕ, List, length, drop, sym, ap, subst, ◌∙◌, arith, Result, Ok, Err, rules}
 use Rattle.std.proofs.Math.Seq.{drop-append_seam}
 use Rattle.bgp_open.specs.declared.link.Link.{Link}
-use Rattle.bgp_wire.specs.declared.header.Limit.TheVariants.{Plain}
+use Rattle.bgp_wire.specs.Header.{limit_with}
 use Rattle.bgp_wire.specs.Framing.{IsFrame}
-use Rattle.bgp_update.specs.Clean.{IsClean}
+use Rattle.bgp_update.specs.Clean.{IsClean, most_octets}
 use Rattle.bgp_update_writer.specs.declared.lengths.Lengths.{Lengths}
 use Rattle.bgp_update_writer.specs.declared.update.UpdateFault.{UpdateFault}
 use Rattle.bgp_update_writer.specs.declared.update.UpdateFault.TheVariants.{TooLarge, Memory}
@@ -21,7 +21,7 @@ exactly : (link : Link) (value : UpdateValue) (n : Lengths) → AreLengths link 
     → length (update_octets link value) ≡ 23 + n.withdrawn + n.attributes + n.nlri
 exactly link value n are = omega (arith, are.withdrawn, are.attributes, are.nlri, length_of_update link value)
 
-small : (link : Link) (value : UpdateValue) (n : Lengths) → AreLengths link value n → length (update_octets link value) ≤ 4096
+small : (link : Link) (value : UpdateValue) (n : Lengths) → AreLengths link value n → length (update_octets link value) ≤ most_octets link
 small link value n are = omega (arith, are.room, exactly link value n are)
 
 not_large : (link : Link) (value : UpdateValue) (n : Lengths) → AreLengths link value n → ¬ IsTooLarge link value
@@ -29,10 +29,10 @@ not_large link value n are large = absurd (omega (arith, small link value n are)
 
 applied : (link : Link) (value : UpdateValue) (n : Lengths) (old new : List ℕ) → AreLengths link value n → IsFamilyUsed link value → IsSendable link value
     → new ≡ old ++ update_octets link value
-    → IsClean link (drop (length old) new) × IsJustApplied link (drop (length old) new) (changes_of_update value) × IsFrame Plain (drop (length old) new)
+    → IsClean link (drop (length old) new) × IsJustApplied link (drop (length old) new) (changes_of_update value) × IsFrame (limit_with link.extended) (drop (length old) new)
 applied link value n old new are used sendable e =
     let own : drop (length old) new ≡ update_octets link value = ap (drop (length old)) e ∙ drop-append_seam old (update_octets link value) in
-    subst (λ (octets : List ℕ). IsClean link octets × IsJustApplied link octets (changes_of_update value) × IsFrame Plain octets) (sym own)
+    subst (λ (octets : List ℕ). IsClean link octets × IsJustApplied link octets (changes_of_update value) × IsFrame (limit_with link.extended) octets) (sym own)
     (written_applied link value are.fits used sendable (not_large link value n are))
 
 never : (P : Type 0) (r : Result (Unit {0}) UpdateFault) → (r ≡ Err TooLarge → ⊥) → ¬ P → (r ≡ Err TooLarge) ↔ P
