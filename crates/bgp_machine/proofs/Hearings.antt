@@ -3,12 +3,12 @@ use Rattle.std.proofs.Common.{◌≡◌, ◌≤◌, Bool, false, inl, inr, IsTru
 use Rattle.bgp_wire.specs.Header.{IsSound, header_of, type_of}
 use Rattle.bgp_wire.specs.Verdict.{AreEachFault}
 use Rattle.bgp_wire.specs.declared.header.HeaderFaults.{HeaderFaults}
-use Rattle.bgp_wire.specs.declared.header.Limit.TheVariants.{Plain}
+use Rattle.bgp_wire.specs.declared.header.Limit.{Limit}
 use Rattle.bgp_open.proofs.OneSetOfSubcodes.{names_of_both}
 use Rattle.bgp_open.specs.declared.config.Config.{Config}
 use Rattle.bgp_open.specs.declared.subcodes.OpenSubcodes.{OpenSubcodes}
 use Rattle.bgp_open.specs.OpenSubcodes.{AreSubcodesOf, IsEmpty, IsValid, mandatory_faults, permitted_faults, union}
-use Rattle.bgp_machine.specs.Heard.{Announces, open_faults}
+use Rattle.bgp_machine.specs.Heard.{Announces, received_limit, open_faults}
 
 -- the union of both sets is that of what an OPEN may be refused for
 pub both_sets : (config : Config) (octets : List ℕ) (must may both : OpenSubcodes) → AreSubcodesOf (mandatory_faults config octets) must
@@ -26,15 +26,15 @@ pub not_valid : (config : Config) (octets : List ℕ) (must : OpenSubcodes) (emp
     → (IsTrue empty → IsEmpty must) × (IsEmpty must → IsTrue empty) → empty ≡ false → IsValid config octets → ⊥
 not_valid config octets must empty iff is e valid = not_both empty e (is.1 (iff.1 valid))
 
-pub announces : (octets header : List ℕ) (kind : ℕ) → header ≡ header_of octets → 19 ≤ length octets → IsSound Plain header
-    → kind ≡ type_of header → Announces kind octets
-announces octets header kind e long sound is = record {
+pub announces : (config : Config) (octets header : List ℕ) (kind : ℕ) → header ≡ header_of octets → 19 ≤ length octets
+    → IsSound (received_limit config) header → kind ≡ type_of header → Announces config kind octets
+announces config octets header kind e long sound is = record {
   header = long;
-  sound = subst (λ (h : List ℕ). IsSound Plain h) e sound;
+  sound = subst (λ (h : List ℕ). IsSound (received_limit config) h) e sound;
   type_field = sym (is ∙ ap type_of e);
 }
 
-pub faulty : (octets header : List ℕ) (faults : HeaderFaults) → header ≡ header_of octets → 19 ≤ length octets → (IsSound Plain header → ⊥)
-    → AreEachFault Plain header faults → (19 ≤ length octets) × (IsSound Plain (header_of octets) → ⊥) × AreEachFault Plain (header_of octets) faults
-faulty octets header faults e long not each =
-    (long, λ sound. not (subst (λ (h : List ℕ). IsSound Plain h) (sym e) sound), subst (λ (h : List ℕ). AreEachFault Plain h faults) e each)
+pub faulty : (limit : Limit) (octets header : List ℕ) (faults : HeaderFaults) → header ≡ header_of octets → 19 ≤ length octets → (IsSound limit header → ⊥)
+    → AreEachFault limit header faults → (19 ≤ length octets) × (IsSound limit (header_of octets) → ⊥) × AreEachFault limit (header_of octets) faults
+faulty limit octets header faults e long not each =
+    (long, λ sound. not (subst (λ (h : List ℕ). IsSound limit h) (sym e) sound), subst (λ (h : List ℕ). AreEachFault limit h faults) e each)

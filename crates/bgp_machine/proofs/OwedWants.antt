@@ -8,7 +8,7 @@ use Rattle.bgp_wire.proofs.EachOctet.{Octets, none, one_more, octets-big_bytes, 
 use Rattle.bgp_wire.proofs.WholeMessages.{keepalive_is_frame}
 use Rattle.bgp_wire.proofs.WrittenMessage.{written_message, body_of-message_octets}
 use Rattle.bgp_wire.specs.declared.header.HeaderFaults.{HeaderFaults}
-use Rattle.bgp_wire.specs.declared.header.Limit.TheVariants.{Plain}
+use Rattle.bgp_wire.specs.declared.header.Limit.{Limit}
 use Rattle.bgp_wire.specs.Header.{IsSound, header_of}
 use Rattle.bgp_wire.specs.Message.{message_octets}
 use Rattle.bgp_wire.specs.Verdict.{AreEachFault, IsEmpty as IsEmptyHeader}
@@ -38,12 +38,12 @@ use Rattle.bgp_machine.specs.declared.want.Unexpected.{Unexpected}
 use Rattle.bgp_machine.specs.declared.want.Unexpected.TheVariants.{InOpenSent, InOpenConfirm, InEstablished}
 use Rattle.bgp_machine.specs.declared.want.Want.{Want}
 use Rattle.bgp_machine.specs.declared.want.Want.TheVariants.{OwnOpen, KeepAlive, CleanUpdate, Cease, HoldExpired, MachineError, Faults}
-use Rattle.bgp_machine.specs.Heard.{Hears, open_faults}
+use Rattle.bgp_machine.specs.Heard.{Hears, received_limit, open_faults}
 use Rattle.bgp_machine.specs.Lists.{Each}
 use Rattle.bgp_machine.specs.Owed.{CanBeMet, EachOwedCanBeMet, EachOwedSetHasFault, HasFault, NoteKeepsState}
 use Rattle.bgp_machine.specs.State.{SessionState, Turn, link_at, moved}
 use Rattle.bgp_machine.specs.Step.{AreRefusals, Hidden, HiddenIn, Received, ReceivedIn}
-use Rattle.bgp_machine.specs.Want.{Fulfils, Meets, NamesFault as NamesOne}
+use Rattle.bgp_machine.specs.Want.{Fulfils, Meets, NamesFault as NamesOne, limit_on}
 
 -- ---- one message for each want
 
@@ -52,7 +52,7 @@ open_met config link = (
   open_octets (own_fields config),
   octets-own_open config,
   record {
-    whole = is_frame (open_octets (own_fields config)) (octets-own_open config) (own_open config).form Plain;
+    whole = is_frame (open_octets (own_fields config)) (octets-own_open config) (own_open config).form (limit_on link);
     fulfils = own_open config;
   },
 )
@@ -63,7 +63,7 @@ alive_met config link =
       message_octets 4 [],
       (octets-message_octets 4 [] (omega arith) none).are,
       record {
-        whole = keepalive_is_frame Plain (message_octets 4 []) (message, body_of-message_octets 4 []);
+        whole = keepalive_is_frame (limit_on link) (message_octets 4 []) (message, body_of-message_octets 4 []);
         fulfils = message;
       },
     )
@@ -73,7 +73,7 @@ octets-empty =
     octets-message_octets 2 _ (omega arith) (one_more (omega arith) (one_more (omega arith) (one_more (omega arith) (one_more (omega arith) none))))
 
 clean_met : (config : Config) (link : Link) → HasCleanUpdate → CanBeMet config (Some link) CleanUpdate
-clean_met config link clean = (empty_update, octets-empty.are, record { whole = clean.frame; fulfils = clean.clean link })
+clean_met config link clean = (empty_update, octets-empty.are, record { whole = clean.frame (limit_on (Some link)); fulfils = clean.clean link })
 
 -- a NOTIFICATION that says so
 notification_met : (config : Config) (link : Option Link) (want : Want) (code subcode : ℕ) (detail : List ℕ) → code < 256 → subcode < 256 → Octets detail → length detail ≤ 4075
@@ -81,7 +81,7 @@ notification_met : (config : Config) (link : Option Link) (want : Want) (code su
 notification_met config link want code subcode detail small few octets fits says = (
   notification_octets code subcode detail,
   (octets-message_octets 3 (code ∷ subcode ∷ detail) (omega arith) (one_more small (one_more few octets))).are,
-  record { whole = notification_frame code subcode detail fits Plain; fulfils = says },
+  record { whole = notification_frame code subcode detail fits (limit_on link); fulfils = says },
 )
 
 cease_met : (config : Config) (link : Option Link) → CanBeMet config link Cease
@@ -126,9 +126,9 @@ header_fields false (Some n) k = inr (record { code = 1; subcode = 2; detail = b
 header_fields false None (Some n) = inr (record { code = 1; subcode = 3; detail = big_bytes 1 n; small = omega arith; few = omega arith; octets = octets-big_bytes 1 n; fits = one_octet n; names = (refl, inr (inr (refl, refl))) })
 header_fields false None None = inl ((no_field_is_set (record { marker = false; length = None; kind = None })).0 (λ t. cc, refl, refl))
 
-header_named : (header : List ℕ) (faults : HeaderFaults) → (IsSound Plain header → ⊥) → AreEachFault Plain header faults → Named (sets.Header faults)
-header_named header faults not each = elim (header_fields faults.marker faults.length faults.kind) [
-  | inl e ↦ absurd (not (empty_is_sound Plain header faults each e))
+header_named : (limit : Limit) (header : List ℕ) (faults : HeaderFaults) → (IsSound limit header → ⊥) → AreEachFault limit header faults → Named (sets.Header faults)
+header_named limit header faults not each = elim (header_fields faults.marker faults.length faults.kind) [
+  | inl e ↦ absurd (not (empty_is_sound limit header faults each e))
   | inr n ↦ n
 ]
 
@@ -228,7 +228,7 @@ heard_met (Connect d) config t b (heard.ValidOpen l e) Accepts ws u x h = subst 
 heard_met (Connect d) config t b (heard.ValidOpen l e) Drops ws u x h = none_owed config None ws h.0
 heard_met (Connect d) config t b (heard.ValidOpen l e) NamesFault ws u x h = one_owed config None (Faults (sets.Open e)) ws h.0 (faults_met config None (sets.Open e) (valid_named config b e x.1 x.3))
 heard_met (Connect d) config t b (heard.FaultyHeader f) Drops ws u x h = none_owed config None ws h.0
-heard_met (Connect d) config t b (heard.FaultyHeader f) NamesFault ws u x h = one_owed config None (Faults (sets.Header f)) ws h.0 (faults_met config None (sets.Header f) (header_named (header_of b) f x.1 x.2))
+heard_met (Connect d) config t b (heard.FaultyHeader f) NamesFault ws u x h = one_owed config None (Faults (sets.Header f)) ws h.0 (faults_met config None (sets.Header f) (header_named (received_limit config) (header_of b) f x.1 x.2))
 heard_met (Connect d) config t b (heard.InvalidOpen e) Drops ws u x h = none_owed config None ws h.0
 heard_met (Connect d) config t b (heard.InvalidOpen e) NamesFault ws u x h = one_owed config None (Faults (sets.Open e)) ws h.0 (faults_met config None (sets.Open e) (invalid_named config b e x.1 x.2))
 heard_met (Connect d) config t b heard.BadVersion Drops ws u x h = none_owed config None ws h.0
@@ -239,7 +239,7 @@ heard_met (Active d) config t b (heard.ValidOpen l e) Accepts ws u x h = subst (
 heard_met (Active d) config t b (heard.ValidOpen l e) Drops ws u x h = none_owed config None ws h.0
 heard_met (Active d) config t b (heard.ValidOpen l e) NamesFault ws u x h = one_owed config None (Faults (sets.Open e)) ws h.0 (faults_met config None (sets.Open e) (valid_named config b e x.1 x.3))
 heard_met (Active d) config t b (heard.FaultyHeader f) Drops ws u x h = none_owed config None ws h.0
-heard_met (Active d) config t b (heard.FaultyHeader f) NamesFault ws u x h = one_owed config None (Faults (sets.Header f)) ws h.0 (faults_met config None (sets.Header f) (header_named (header_of b) f x.1 x.2))
+heard_met (Active d) config t b (heard.FaultyHeader f) NamesFault ws u x h = one_owed config None (Faults (sets.Header f)) ws h.0 (faults_met config None (sets.Header f) (header_named (received_limit config) (header_of b) f x.1 x.2))
 heard_met (Active d) config t b (heard.InvalidOpen e) Drops ws u x h = none_owed config None ws h.0
 heard_met (Active d) config t b (heard.InvalidOpen e) NamesFault ws u x h = one_owed config None (Faults (sets.Open e)) ws h.0 (faults_met config None (sets.Open e) (invalid_named config b e x.1 x.2))
 heard_met (Active d) config t b heard.BadVersion Drops ws u x h = none_owed config None ws h.0
@@ -249,7 +249,7 @@ heard_met (Active d) config t b heard.Update Drops ws u x h = none_owed config N
 heard_met (OpenSent s) config t b (heard.ValidOpen l e) Accepts ws u x h = one_owed config None KeepAlive ws h.0 (alive_met config None)
 heard_met (OpenSent s) config t b (heard.ValidOpen l e) Collides ws u x h = one_owed config None Cease ws h.0 (cease_met config None)
 heard_met (OpenSent s) config t b (heard.ValidOpen l e) NamesFault ws u x h = one_owed config None (Faults (sets.Open e)) ws h.0 (faults_met config None (sets.Open e) (valid_named config b e x.1 x.3))
-heard_met (OpenSent s) config t b (heard.FaultyHeader f) NamesFault ws u x h = one_owed config None (Faults (sets.Header f)) ws h.0 (faults_met config None (sets.Header f) (header_named (header_of b) f x.1 x.2))
+heard_met (OpenSent s) config t b (heard.FaultyHeader f) NamesFault ws u x h = one_owed config None (Faults (sets.Header f)) ws h.0 (faults_met config None (sets.Header f) (header_named (received_limit config) (header_of b) f x.1 x.2))
 heard_met (OpenSent s) config t b (heard.InvalidOpen e) NamesFault ws u x h = one_owed config None (Faults (sets.Open e)) ws h.0 (faults_met config None (sets.Open e) (invalid_named config b e x.1 x.2))
 heard_met (OpenSent s) config t b heard.BadVersion Drops ws u x h = none_owed config None ws h.0
 heard_met (OpenSent s) config t b heard.Notification Drops ws u x h = none_owed config None ws h.0
@@ -260,7 +260,7 @@ heard_met (OpenConfirm k s) config t b (heard.ValidOpen l e) Overlooks ws u x h 
 heard_met (OpenConfirm k s) config t b (heard.ValidOpen l e) Collides ws u x h = one_owed config (Some k) Cease ws h.0 (cease_met config (Some k))
 heard_met (OpenConfirm k s) config t b (heard.ValidOpen l e) NamesFault ws u x h = one_owed config (Some k) (Faults (sets.Open e)) ws h.0 (faults_met config (Some k) (sets.Open e) (valid_named config b e x.1 x.3))
 heard_met (OpenConfirm k s) config t b (heard.ValidOpen l e) ReportsError ws u x h = one_owed config (Some k) (MachineError InOpenConfirm) ws h.0 (error_met config (Some k) InOpenConfirm)
-heard_met (OpenConfirm k s) config t b (heard.FaultyHeader f) NamesFault ws u x h = one_owed config (Some k) (Faults (sets.Header f)) ws h.0 (faults_met config (Some k) (sets.Header f) (header_named (header_of b) f x.1 x.2))
+heard_met (OpenConfirm k s) config t b (heard.FaultyHeader f) NamesFault ws u x h = one_owed config (Some k) (Faults (sets.Header f)) ws h.0 (faults_met config (Some k) (sets.Header f) (header_named (received_limit config) (header_of b) f x.1 x.2))
 heard_met (OpenConfirm k s) config t b (heard.InvalidOpen e) NamesFault ws u x h = one_owed config (Some k) (Faults (sets.Open e)) ws h.0 (faults_met config (Some k) (sets.Open e) (invalid_named config b e x.1 x.2))
 heard_met (OpenConfirm k s) config t b heard.BadVersion Drops ws u x h = none_owed config (Some k) ws h.0
 heard_met (OpenConfirm k s) config t b heard.Notification Drops ws u x h = none_owed config (Some k) ws h.0
@@ -270,7 +270,7 @@ heard_met (Established k s) config t b (heard.ValidOpen l e) Overlooks ws u x h 
 heard_met (Established k s) config t b (heard.ValidOpen l e) Collides ws u x h = one_owed config (Some k) Cease ws h.0 (cease_met config (Some k))
 heard_met (Established k s) config t b (heard.ValidOpen l e) NamesFault ws u x h = one_owed config (Some k) (Faults (sets.Open e)) ws h.0 (faults_met config (Some k) (sets.Open e) (valid_named config b e x.1 x.3))
 heard_met (Established k s) config t b (heard.ValidOpen l e) ReportsError ws u x h = one_owed config (Some k) (MachineError InEstablished) ws h.0 (error_met config (Some k) InEstablished)
-heard_met (Established k s) config t b (heard.FaultyHeader f) NamesFault ws u x h = one_owed config (Some k) (Faults (sets.Header f)) ws h.0 (faults_met config (Some k) (sets.Header f) (header_named (header_of b) f x.1 x.2))
+heard_met (Established k s) config t b (heard.FaultyHeader f) NamesFault ws u x h = one_owed config (Some k) (Faults (sets.Header f)) ws h.0 (faults_met config (Some k) (sets.Header f) (header_named (received_limit config) (header_of b) f x.1 x.2))
 heard_met (Established k s) config t b (heard.FaultyHeader f) ReportsError ws u x h = one_owed config (Some k) (MachineError InEstablished) ws h.0 (error_met config (Some k) InEstablished)
 heard_met (Established k s) config t b (heard.InvalidOpen e) NamesFault ws u x h = one_owed config (Some k) (Faults (sets.Open e)) ws h.0 (faults_met config (Some k) (sets.Open e) (invalid_named config b e x.1 x.2))
 heard_met (Established k s) config t b (heard.InvalidOpen e) ReportsError ws u x h = one_owed config (Some k) (MachineError InEstablished) ws h.0 (error_met config (Some k) InEstablished)

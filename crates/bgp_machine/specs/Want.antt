@@ -3,6 +3,7 @@ use Rattle.std.specs.Prelude.{◌≡◌, ◌≤◌, ◌⊎◌, ℕ, List, [], �
 use Rattle.bgp_wire.specs.declared.header.Limit.{Limit}
 use Rattle.bgp_wire.specs.declared.header.Limit.TheVariants.{Plain}
 use Rattle.bgp_wire.specs.Framing.{IsFrame}
+use Rattle.bgp_wire.specs.Header.{limit_with}
 use Rattle.bgp_wire.specs.Message.{IsMessage}
 use Rattle.bgp_wire.specs.Verdict.{Names as NamesHeaderFault}
 use Rattle.bgp_open.specs.declared.config.Config.{Config}
@@ -29,9 +30,11 @@ wants_of Nothing = []
 wants_of (One want) = want ∷ []
 wants_of (Two first second) = first ∷ second ∷ []
 
--- how long a message may be on a link, and before there is one
+-- How long a sent message may be: on a link as the peer offered (RFC 8654, 4), whatever the local
+-- system offers; before there is one 4096 octets.
 abbrev pub limit_on : Option Link → Limit
-limit_on link = Plain
+limit_on None = Plain
+limit_on (Some link) = limit_with link.extended
 
 -- the subcode of Finite State Machine Error that names the state (RFC 6608, 3)
 abbrev pub subcode_of : Unexpected → ℕ

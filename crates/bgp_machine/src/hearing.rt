@@ -2,7 +2,7 @@
 //! 8.1.5).
 
 ghost use Rattle.std.specs.Prelude.{◌≡◌, ◌↔◌, IsTrue};
-ghost use Rattle.bgp_machine.specs.Heard.{Hears, Announces, IsBadVersion};
+ghost use Rattle.bgp_machine.specs.Heard.{Hears, Announces, IsBadVersion, received_limit};
 ghost use Rattle.bgp_wire.specs.Verdict.{type_code};
 
 use bgp_open::{
@@ -34,7 +34,7 @@ pub enum Heard {
 
 /// An OPEN is heard.
 fn hear_open(config: &Config, octets: &[u8]) -> Heard
-    requires { Announces 1 octets.now }
+    requires { Announces config.now 1 octets.now }
     ensures { Hears config.now octets.now result }
 {
     let faults = open_faults(config, octets);
@@ -64,7 +64,7 @@ fn is_bad_version(octets: &[u8]) -> bool
 
 /// A message of a type is heard.
 fn hear_type(config: &Config, octets: &[u8], kind: MessageType) -> Heard
-    requires { Announces (type_code kind) octets.now }
+    requires { Announces config.now (type_code kind) octets.now }
     ensures { Hears config.now octets.now result }
 {
     match kind {
@@ -81,6 +81,14 @@ fn hear_type(config: &Config, octets: &[u8], kind: MessageType) -> Heard
     }
 }
 
+/// How long a message may be that the local system receives, in every state: as long as an extended
+/// one where it offers those (RFC 8654, 4), whatever the peer offers.
+pub fn received_limit(config: &Config) -> Limit
+    ensures { result ≡ received_limit config.now }
+{
+    Limit::with_extended(config.parts.session.extended)
+}
+
 /// What octets are heard as. It takes no memory.
 pub fn hear(config: &Config, octets: &[u8]) -> Heard
     ensures { Hears config.now octets.now result }
@@ -88,7 +96,7 @@ pub fn hear(config: &Config, octets: &[u8]) -> Heard
     let Some(header) = header_at(octets) else {
         return Heard::TooShort;
     };
-    match check_header(header, Limit::Plain) {
+    match check_header(header, received_limit(config)) {
         HeaderVerdict::Faulty(faults) => Heard::FaultyHeader(faults),
         HeaderVerdict::Whole(_, kind) => hear_type(config, octets, kind),
     }

@@ -29,7 +29,7 @@ mod updates;
 mod want;
 
 pub use fsm::Fsm;
-pub use hearing::{Heard, hear};
+pub use hearing::{Heard, hear, received_limit};
 pub use hidden::{hidden_step, hidden_steps};
 pub use laws::{
     a_note_keeps_the_state, each_owed_want_can_be_met, each_record_goes_one_way, runs_are_joined,

@@ -12,11 +12,15 @@ use bgp_open::{Config, Link, is_own_open, read_notification};
 use bgp_update::is_clean;
 use bgp_wire::{Limit, MessageType, is_frame, message_body};
 
-/// How long a message may be on a link, and before there is one.
+/// How long a sent message may be: on a link as the peer offered (RFC 8654, 4), whatever the local
+/// system offers, and before there is one 4096 octets.
 fn limit_on(link: Option<Link>) -> Limit
     ensures { result ≡ limit_by link }
 {
-    Limit::Plain
+    match link {
+        Some(link) => Limit::with_extended(link.extended),
+        None => Limit::Plain,
+    }
 }
 
 fn is_keepalive(octets: &[u8]) -> bool

@@ -35,6 +35,9 @@ pub fn same_link(a: Link, b: Link) -> bool
     if a.internal != b.internal {
         return false;
     }
+    if a.extended != b.extended {
+        return false;
+    }
     same_families(a.families, b.families)
 }
 
