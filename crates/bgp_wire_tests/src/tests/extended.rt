@@ -69,10 +69,11 @@ fn is_framed(
     (limit, kind, length, is_whole): &(Limit, MessageType, u16, bool),
 ) -> Result<bool, AllocError> {
     frames.feed(octets)?;
+    let front = header(*length, kind.code());
     let wanted = if *is_whole {
         Next::Frame(*kind, octets)
     } else {
-        Next::Fault(bad_length(*length), &header(*length, kind.code()))
+        Next::Fault(bad_length(*length), &front)
     };
     Ok(frames.next() == wanted && is_frame(*limit, octets) == *is_whole)
 }

@@ -80,7 +80,7 @@ fn is_body_read(
     alloc: Global,
     (session, count, is_long): &(Session, u32, bool),
 ) -> Result<bool, AllocError> {
-    let message = message(alloc, &[], *count as usize - 20)?;
+    let message = message(alloc, &[], (*count as usize).saturating_sub(20))?;
     let capture = record(alloc, 4, *count, &message)?;
     let fault = is_long.then_some(FaultKind::TooLong);
     let shown = Record::In(101, &message);
@@ -97,7 +97,7 @@ fn a_body_has_8192_octets_or_where_messages_are_extended_65583(rt: HostRuntime) 
 
 /// A session, a message's Type and Length, how many octets it has, and whether that is refused: it
 /// is where the header is sound by the session's limit.
-static MESSAGES: [(Session, u8, u16, usize, bool); 9] = [
+static MESSAGES: [(Session, u8, u16, u16, bool); 9] = [
     (SESSION, 2, 4096, 4097, true),
     (SESSION, 2, 4097, 4097, false),
     (SESSION, 2, 4097, 4098, false),
@@ -112,12 +112,13 @@ static MESSAGES: [(Session, u8, u16, usize, bool); 9] = [
 /// Whether the message is read or refused, both where it was received and where it was sent.
 fn is_message_read(
     alloc: Global,
-    (session, code, length, count, is_refused): &(Session, u8, u16, usize, bool),
+    (session, code, length, count, is_refused): &(Session, u8, u16, u16, bool),
 ) -> Result<bool, AllocError> {
-    let message = message(alloc, &message_front(*length, *code), *count)?;
+    let message = message(alloc, &message_front(*length, *code), usize::from(*count))?;
+    let body = u32::from(*count) + 20;
     let fault = is_refused.then_some(FaultKind::NotAMessage);
-    let received = record(alloc, 4, 20 + *count as u32, &message)?;
-    let sent = record(alloc, 7, 20 + *count as u32, &message)?;
+    let received = record(alloc, 4, body, &message)?;
+    let sent = record(alloc, 7, body, &message)?;
     let (input, output) = (Record::In(101, &message), Record::Out(101, &message));
     let is_read = is_answered(alloc, session, received, &input, fault);
     Ok(is_read && is_answered(alloc, session, sent, &output, fault))
@@ -150,12 +151,19 @@ static WRITABLE: [(Session, usize, bool); 8] = [
     (EXTENDED_OVER_IPV6, 65540, false),
 ];
 
+/// Whether that is told of a message of that many octets.
+fn is_told(octets: &[u8], (session, count, is_so): &(Session, usize, bool)) -> bool {
+    match octets.get(..*count) {
+        Some(message) => is_writable(session, &Record::Out(101, message)) == *is_so,
+        None => false,
+    }
+}
+
 #[test]
 fn what_is_too_long_to_read_is_not_writable(rt: HostRuntime) -> Result<(), Fail> {
     let octets = vec![in rt.alloc(); 0; 65564]?;
-    for (row, (session, count, is_so)) in WRITABLE.iter().enumerate() {
-        let sent = Record::Out(101, &octets[..*count]);
-        assert!(rt; is_writable(session, &sent) == *is_so, "row {row}");
+    for (count, row) in WRITABLE.iter().enumerate() {
+        assert!(rt; is_told(&octets, row), "row {count}");
     }
     Ok(())
 }
