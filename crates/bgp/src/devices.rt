@@ -4,6 +4,7 @@ use bgp_compact::CompactTracker;
 use bgp_open::Config;
 use bgp_prefix::Session;
 use bgp_tool::{Outcome, decode_opened, decode_opened_capture, judge_opened};
+use bgp_wire::Limit;
 use mrt::FromWrite;
 use std::alloc::Global;
 use std::fs::OpenFile;
@@ -11,12 +12,17 @@ use std::io::{BufReader, ErrorKind, Read};
 use std::rt::Files;
 use std::{fs, io};
 
-/// Runs `decode` on a file, or on standard input for `-`, and answers the exit status.
-pub fn decode<R: Files + Input + Print + Eprint + AllocGlobal>(rt: &R, file: &str) -> u8 {
+/// Runs `decode` on a file, or on standard input for `-`, whose messages may be so long, and
+/// answers the exit status.
+pub fn decode<R: Files + Input + Print + Eprint + AllocGlobal>(
+    rt: &R,
+    limit: Limit,
+    file: &str,
+) -> u8 {
     if file == "-" {
-        decode_from(rt, file, Ok(rt.reader()))
+        decode_from(rt, limit, file, Ok(rt.reader()))
     } else {
-        decode_from(rt, file, open(rt, file))
+        decode_from(rt, limit, file, open(rt, file))
     }
 }
 
@@ -49,11 +55,15 @@ pub fn judge<R: Files + Input + Print + Eprint + AllocGlobal>(
 /// Decodes what a file's reader gives.
 fn decode_from<R: Print + Eprint + AllocGlobal, F: Read + Drop>(
     rt: &R,
+    limit: Limit,
     file: &str,
     opened: io::Result<F>,
 ) -> u8 {
     let mut sink = FromWrite::new(io::writer(rt));
-    tell(rt, &decode_opened(rt.alloc(), file, opened, &mut sink))
+    tell(
+        rt,
+        &decode_opened(limit, rt.alloc(), file, opened, &mut sink),
+    )
 }
 
 /// Decodes the capture that a file's reader gives.

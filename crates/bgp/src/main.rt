@@ -7,6 +7,7 @@ mod speaker;
 mod watched;
 
 use bgp_tool::{Command, Status, command_line, words_status};
+use bgp_wire::Limit;
 use clap::Error;
 use std::net::Net;
 use std::process::ExitCode;
@@ -28,7 +29,9 @@ fn run<R: Files + Net + Clock + Env + Input + Print + Eprint + AllocGlobal, E: P
         Err(error) => return unread(rt, &error).code(),
     };
     match command_line(rt.alloc(), words.as_slice()) {
-        Ok(Command::Decode { file }) => devices::decode(rt, file),
+        Ok(Command::Decode { extended, file }) => {
+            devices::decode(rt, Limit::with_extended(extended), file)
+        }
         Ok(Command::Capture { session, file }) => devices::decode_capture(rt, &session, file),
         Ok(Command::Judge { config, file }) => devices::judge(rt, &config, file),
         Ok(

@@ -14,8 +14,8 @@ use std::io::Print;
 /// The octets of a record's header, whose last four are the length of its body (RFC 6396, 2).
 const HEADER: usize = 12;
 
-/// The octets of the longest record of a capture.
-const RECORD: usize = HEADER + 8192;
+/// The octets of the longest record of a capture, with a message of 65535 octets (RFC 8654).
+const RECORD: usize = HEADER + 65583;
 
 /// What prints the records of one session, as `decode --mrt` does, from their octets.
 #[derive(Drop)]

@@ -101,7 +101,7 @@ told_link config words table records base link stand of is e =
 
 -- an UPDATE's changes are those of an outcome
 gives_outcome : (config : Config) (own : Link) (timer : HoldTimer) (octets : List ℕ) (m : Heard) (turn : RoutesTurn) (c : RouteChanges) (f : Families) → Hears config octets m
-    → GoOnWith (Established own timer) octets m turn → turn ≡ Given c f → MayApply own octets c
+    → GoOnWith (Established own timer) octets m turn → turn ≡ Given c f → MayApply config own octets c
 gives_outcome config own timer octets heard.TooShort turn c f h g e = absurd (let k : Kept ≡ Given c f = sym g ∙ e in let z : ⊥ = cc in z)
 gives_outcome config own timer octets (heard.ValidOpen link x) turn c f h g e = absurd (let k : Kept ≡ Given c f = sym g ∙ e in let z : ⊥ = cc in z)
 gives_outcome config own timer octets (heard.FaultyHeader x) turn c f h g e = absurd (let k : Kept ≡ Given c f = sym g ∙ e in let z : ⊥ = cc in z)
@@ -114,14 +114,14 @@ gives_outcome config own timer octets heard.Update turn c f h g e =
     (h, g.1, subst (λ (v : RouteChanges). IsOutcome own octets (Applied v g.1)) same g.2)
 
 pub opened_outcome : (config : Config) (own : Link) (timer : HoldTimer) (u : ℕ) (octets : List ℕ) (left : List Want) (still : Option (Fsm × Fsm)) (turn : Turn) (c : RouteChanges) (f : Families)
-    → Opens config (Established own timer) (Received u octets) left still turn → turn.routes ≡ Given c f → MayApply own octets c
+    → Opens config (Established own timer) (Received u octets) left still turn → turn.routes ≡ Given c f → MayApply config own octets c
 opened_outcome config own timer u octets left still turn c f o e =
     elim (shape_received (Established own timer) u octets o.0.0 o.0.1 left turn o.0.3) [
       | inl x ↦ absurd (falling_gives (Established own timer) left turn c f x e)
       | inr g ↦ gives_outcome config own timer octets o.0.0 turn.routes c f o.0.2 g.routes e
     ]
 
-outcome_opens : (config : Config) (own : Link) (timer : HoldTimer) (u : ℕ) (octets : List ℕ) (c : RouteChanges) → (may : MayApply own octets c)
+outcome_opens : (config : Config) (own : Link) (timer : HoldTimer) (u : ℕ) (octets : List ℕ) (c : RouteChanges) → (may : MayApply config own octets c)
     → Opens config (Established own timer) (Received u octets) [] None (record { head = Established own (renewed timer u); routes = Given c may.1 })
 outcome_opens config own timer u octets c may = ((heard.Update, Applies may.1, may.0, (c, may.2, refl, refl)), refl)
 
@@ -185,20 +185,20 @@ made_none config words r given made never = elim made [
 -- in Established
 changed_up : {X : Type 0} (config : Config) (head : Head) (u : ℕ) (octets : List ℕ) (given : Option (Changes X)) (link : Link) (table last : Routes) → fsm_of head ≡ fsms.Established
     → ((own : Link) → link_at head ≡ Some own → own ≡ link) → AreMadeAt config head (Received u octets) given → last ≡ routes_after (changes_of given) table
-    → IsTableChanged link octets table last
+    → IsTableChanged config link octets table last
 changed_up config head u octets given link table last up linked made e =
     let h = up_head head up in
     let same : h.0 ≡ link = linked h.0 (ap link_at h.2) in
     let at : AreMadeAt config (Established h.0 h.1) (Received u octets) given = subst (λ (v : Head). AreMadeAt config v (Received u octets) given) h.2 made in
     record {
       applied = λ c may.
-          let may2 : MayApply h.0 octets c = subst (λ (v : Link). MayApply v octets c) (sym same) may in
+          let may2 : MayApply config h.0 octets c = subst (λ (v : Link). MayApply config v octets c) (sym same) may in
           let k = at.all [] None (record { head = Established h.0 (renewed h.1 u); routes = Given c may2.1 }) c may2.1 (outcome_opens config h.0 h.1 u octets c may2) refl in
           e ∙ ap (λ (v : RouteChanges). routes_after v table) (sym k);
       kept = λ none.
           let k = no_changes_of given (λ is.
           let x = at.some is in
-          none (changes_of given) (subst (λ (v : Link). MayApply v octets (changes_of given)) same
+          none (changes_of given) (subst (λ (v : Link). MayApply config v octets (changes_of given)) same
           (opened_outcome config h.0 h.1 u octets x.0 x.1 x.2 (changes_of given) x.3 x.4 x.5))) in
           e ∙ ap (λ (v : RouteChanges). routes_after v table) k ∙ after_no_changes table;
     }
@@ -212,7 +212,7 @@ none_elsewhere config head r given made down = no_changes_of given (λ is.
 
 by_message : {X : Type 0} (f : Fsm) (config : Config) (head : Head) (u : ℕ) (octets : List ℕ) (given : Option (Changes X)) (link : Link) (table : Routes) → fsm_of head ≡ f
     → ((own : Link) → link_at head ≡ Some own → own ≡ link) → AreMadeAt config head (Received u octets) given → (f ≡ fsms.Idle → table ≡ no_routes)
-    → IsTableByMessage f link octets table (table_behind f (changes_of given) table)
+    → IsTableByMessage config f link octets table (table_behind f (changes_of given) table)
 by_message fsms.Idle config head u octets given link table e linked made empty = sym (empty refl)
 by_message fsms.Connect config head u octets given link table e linked made empty =
     behind_none fsms.Connect (changes_of given) table (none_elsewhere config head (Received u octets) given made (λ z. let k : fsms.Connect ≡ fsms.Established = sym e ∙ z in cc)) empty
@@ -240,7 +240,7 @@ table_next config words table records (Received u octets) given shown stand of i
   | inl none ↦ absurd (needs none.0)
   | inr k ↦
       let f : fsm_of k.0.head ≡ (told records).fsm = k.1.name ∙ is in
-      subst (λ (v : Fsm). IsTableByMessage (told records).fsm (link_told config (told records)) octets table (table_behind v (changes_of given) table)) (sym (e ∙ is))
+      subst (λ (v : Fsm). IsTableByMessage config (told records).fsm (link_told config (told records)) octets table (table_behind v (changes_of given) table)) (sym (e ∙ is))
       (by_message (told records).fsm config k.0.head u octets given (link_told config (told records)) table f
       (λ own l. told_link config words table records k.0 own stand of k.1 l) k.2 (λ z. of.empty (idle_not_up words.shown (is ∙ z))))
 ]

@@ -17,23 +17,23 @@ by_test next other true e stable = (routes_decide next other).0 e
 by_test next other false e stable = stable (λ same. let k = sym e ∙ (routes_decide next other).1 same in cc)
 
 -- two that differ come of no changes, so both are the old one
-one_changed : (link : Link) (octets : List ℕ) (table next other : Routes) → IsTableChanged link octets table next → IsTableChanged link octets table other → next ≡ other
-one_changed link octets table next other a b = by_test next other (same_routes next other) refl (λ differ.
+one_changed : (config : Config) (link : Link) (octets : List ℕ) (table next other : Routes) → IsTableChanged config link octets table next → IsTableChanged config link octets table other → next ≡ other
+one_changed config link octets table next other a b = by_test next other (same_routes next other) refl (λ differ.
     a.kept (λ changes may. differ (a.applied changes may ∙ sym (b.applied changes may)))
     ∙ sym (b.kept (λ changes may. differ (a.applied changes may ∙ sym (b.applied changes may)))))
 
-one_by_message : (fsm : Fsm) (link : Link) (octets : List ℕ) (table next other : Routes) → IsTableByMessage fsm link octets table next
-    → IsTableByMessage fsm link octets table other → next ≡ other
-one_by_message fsms.Established link octets table next other a b = one_changed link octets table next other a b
-one_by_message fsms.Idle link octets table next other a b = a ∙ sym b
-one_by_message fsms.Connect link octets table next other a b = a ∙ sym b
-one_by_message fsms.Active link octets table next other a b = a ∙ sym b
-one_by_message fsms.OpenSent link octets table next other a b = a ∙ sym b
-one_by_message fsms.OpenConfirm link octets table next other a b = a ∙ sym b
+one_by_message : (config : Config) (fsm : Fsm) (link : Link) (octets : List ℕ) (table next other : Routes) → IsTableByMessage config fsm link octets table next
+    → IsTableByMessage config fsm link octets table other → next ≡ other
+one_by_message config fsms.Established link octets table next other a b = one_changed config link octets table next other a b
+one_by_message config fsms.Idle link octets table next other a b = a ∙ sym b
+one_by_message config fsms.Connect link octets table next other a b = a ∙ sym b
+one_by_message config fsms.Active link octets table next other a b = a ∙ sym b
+one_by_message config fsms.OpenSent link octets table next other a b = a ∙ sym b
+one_by_message config fsms.OpenConfirm link octets table next other a b = a ∙ sym b
 
 one_behind : (config : Config) (t : Told) (r : ShownRecord) (table next other : Routes) → IsTableBehind config t r table next → IsTableBehind config t r table other
     → next ≡ other
-one_behind config t (Received u octets) table next other a b = one_by_message t.fsm (link_told config t) octets table next other a b
+one_behind config t (Received u octets) table next other a b = one_by_message config t.fsm (link_told config t) octets table next other a b
 one_behind config t (Sent u octets) table next other a b = a ∙ sym b
 one_behind config t (Changed u x y) table next other a b = a ∙ sym b
 

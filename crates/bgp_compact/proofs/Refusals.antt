@@ -64,8 +64,8 @@ base_takes config words table records (Changed u x y) stands takes = takes.2
 
 -- ---- the changes of an UPDATE
 
-applied_not_only : (link : Link) (octets : List ℕ) (changes : RouteChanges) → MayApply link octets changes → ¬ IsOnlyReset link octets
-applied_not_only link octets changes may = elim may.2 [
+applied_not_only : (config : Config) (link : Link) (octets : List ℕ) (changes : RouteChanges) → MayApply config link octets changes → ¬ IsOnlyReset link octets
+applied_not_only config link octets changes may = elim may.2 [
   | inl bad ↦ absurd bad.1
   | inr by ↦ not_only link octets by.0 by.1 by.2.0
 ]
@@ -82,11 +82,11 @@ changes_take config words table records (Received u octets) given stands made is
       let x = k.2.some is in
       let up = (given_then config k.0.head (Received u octets) x.0 x.0 x.1 x.1 x.2 x.2 (changes_of given) x.3 x.4 x.5).0 in
       let h = up_head k.0.head up in
-      let may : MayApply h.0 octets (changes_of given) =
+      let may : MayApply config h.0 octets (changes_of given) =
       opened_outcome config h.0 h.1 u octets x.0 x.1 x.2 (changes_of given) x.3 (subst (λ (v : Head). Opens config v (Received u octets) x.0 x.1 x.2) h.2 x.4) x.5 in
       takes_as_told config (told records) k.0.head octets (k.1.name ∙ stands.shown_is)
       (λ own e. told_link config words table records k.0 own stands.stand stands.is_table k.1 e)
-      (subst (λ (v : Head). HeadTakesMemory v octets) (sym h.2) (applied_not_only h.0 octets (changes_of given) may))
+      (subst (λ (v : Head). HeadTakesMemory v octets) (sym h.2) (applied_not_only config h.0 octets (changes_of given) may))
 ]
 changes_take config words table records (Sent u octets) given stands made is = elim made [
   | inl none ↦ absurd (none_given given none.1 is)

@@ -135,22 +135,22 @@ steps_tell config t s (x ∷ xs) e are same =
 -- ---- how the table stands to what was told: it is the one that the messages make, if they make any
 
 record Agrees (config : Config) (t : Told) (table : Routes) : Type 0 where
-  pub up : t.fsm ≡ fsms.Established → (other : Routes) → IsTableAfter (link_told config t) no_routes t.received other → other ≡ table
+  pub up : t.fsm ≡ fsms.Established → (other : Routes) → IsTableAfter config (link_told config t) no_routes t.received other → other ≡ table
   pub down : (t.fsm ≡ fsms.Established → ⊥) → (table ≡ no_routes) × (t.received ≡ [])
 
-last_message : (link : Link) (table : Routes) (messages : List (List ℕ)) (octets : List ℕ) (last : Routes) → IsTableAfter link table (messages ++ octets ∷ []) last
-    → (mid : Routes) × IsTableAfter link table messages mid × IsTableNext link octets mid last
-last_message link table [] octets last after = (table, refl, subst (λ (v : Routes). IsTableNext link octets table v) (sym after.2) after.1)
-last_message link table (m ∷ messages) octets last after =
-    let k = last_message link after.0 messages octets last after.2 in (k.0, (after.0, after.1, k.1), k.2)
+last_message : (config : Config) (link : Link) (table : Routes) (messages : List (List ℕ)) (octets : List ℕ) (last : Routes) → IsTableAfter config link table (messages ++ octets ∷ []) last
+    → (mid : Routes) × IsTableAfter config link table messages mid × IsTableNext config link octets mid last
+last_message config link table [] octets last after = (table, refl, subst (λ (v : Routes). IsTableNext config link octets table v) (sym after.2) after.1)
+last_message config link table (m ∷ messages) octets last after =
+    let k = last_message config link after.0 messages octets last after.2 in (k.0, (after.0, after.1, k.1), k.2)
 
-same_next : (link : Link) (octets : List ℕ) (mid other table next : Routes) → IsTableNext link octets mid other → mid ≡ table → IsTableChanged link octets table next
+same_next : (config : Config) (link : Link) (octets : List ℕ) (mid other table next : Routes) → IsTableNext config link octets mid other → mid ≡ table → IsTableChanged config link octets table next
     → other ≡ next
-same_next link octets mid other table next (inl k) same changes =
+same_next config link octets mid other table next (inl k) same changes =
     k.4 ∙ ap (λ (v : Routes). routes_after k.1 v) same ∙ sym (changes.applied k.1 (k.0, k.2, k.3))
-same_next link octets mid other table next (inr k) same changes = k.1 ∙ same ∙ sym (changes.kept (λ c may. k.0 may.0))
+same_next config link octets mid other table next (inr k) same changes = k.1 ∙ same ∙ sym (changes.kept (λ c may. k.0 may.0))
 
-heard_so : (config : Config) (t : Told) (f : Fsm) (octets : List ℕ) (table next : Routes) → t.fsm ≡ f → IsTableByMessage f (link_told config t) octets table next
+heard_so : (config : Config) (t : Told) (f : Fsm) (octets : List ℕ) (table next : Routes) → t.fsm ≡ f → IsTableByMessage config f (link_told config t) octets table next
     → Agrees config t table → Agrees config (told_by_message f t octets) next
 heard_so config t fsms.Idle octets table next e is so =
     let k = so.down (λ up. let z = sym e ∙ up in cc) in
@@ -167,8 +167,8 @@ heard_so config t fsms.OpenSent octets table next e is so =
 heard_so config t fsms.OpenConfirm octets table next e is so = subst (λ (v : Routes). Agrees config t v) (sym is) so
 heard_so config t fsms.Established octets table next e is so = record {
   up = λ up other after.
-      let k = last_message (link_told config t) no_routes t.received octets other after in
-      same_next (link_told config t) octets k.0 other table next k.2 (so.up e k.0 k.1) is;
+      let k = last_message config (link_told config t) no_routes t.received octets other after in
+      same_next config (link_told config t) octets k.0 other table next k.2 (so.up e k.0 k.1) is;
   down = λ not. absurd (not e);
 }
 
@@ -184,7 +184,7 @@ moved_so config t f table busy leaves so = elim (up_or_not t.fsm) [
       let k = so.down was in
       record {
         up = λ up other after.
-            let e : other ≡ no_routes = subst (λ (ms : List (List ℕ)). IsTableAfter (link_told config t) no_routes ms other) k.1 after in
+            let e : other ≡ no_routes = subst (λ (ms : List (List ℕ)). IsTableAfter config (link_told config t) no_routes ms other) k.1 after in
             e ∙ sym k.0;
         down = λ not. k;
       }

@@ -17,20 +17,22 @@ use Rattle.bgp_rib.specs.Routes.{Routes, no_routes, routes_after, routes_without
 use Rattle.bgp_judge.specs.Told.{Told, fresh_told, link_told, told_next}
 
 -- an UPDATE may be applied with these changes
-abbrev pub MayApply : Link → List ℕ → RouteChanges → Type 0
-MayApply link octets changes =
-    Announces 2 octets × (families : Families) × IsOutcome link octets (Applied changes families)
+abbrev pub MayApply : Config → Link → List ℕ → RouteChanges → Type 0
+MayApply config link octets changes =
+    Announces config 2 octets × (families : Families) × IsOutcome link octets (Applied changes families)
 
 -- Where an UPDATE may be applied, its changes are made; no other message changes the table.
-pub record IsTableChanged (link : Link) (octets : List ℕ) (table next : Routes) : Type 0 where
-  pub applied : (changes : RouteChanges) → MayApply link octets changes
+pub record IsTableChanged (config : Config) (link : Link) (octets : List ℕ) (table next : Routes)
+    : Type 0 where
+  pub applied : (changes : RouteChanges) → MayApply config link octets changes
       → next ≡ routes_after changes table
-  pub kept : ((changes : RouteChanges) → ¬ MayApply link octets changes) → next ≡ table
+  pub kept : ((changes : RouteChanges) → ¬ MayApply config link octets changes) → next ≡ table
 
 -- what a message makes of it: only in Established may it change
-abbrev pub IsTableByMessage : Fsm → Link → List ℕ → Routes → Routes → Type 0
-IsTableByMessage fsms.Established link octets table next = IsTableChanged link octets table next
-IsTableByMessage fsm link octets table next = next ≡ table
+abbrev pub IsTableByMessage : Config → Fsm → Link → List ℕ → Routes → Routes → Type 0
+IsTableByMessage config fsms.Established link octets table next =
+    IsTableChanged config link octets table next
+IsTableByMessage config fsm link octets table next = next ≡ table
 
 -- what a change of state makes of it: a session that ends in Idle leaves no route
 abbrev pub table_by_change : Option Fsm → Routes → Routes
@@ -40,7 +42,7 @@ table_by_change change table = table
 -- what it is behind one record more, where those before told so
 abbrev pub IsTableBehind : Config → Told → ShownRecord → Routes → Routes → Type 0
 IsTableBehind config t (Received second octets) table next =
-    IsTableByMessage t.fsm (link_told config t) octets table next
+    IsTableByMessage config t.fsm (link_told config t) octets table next
 IsTableBehind config t (Sent second octets) table next = next ≡ table
 IsTableBehind config t (Changed second old new) table next =
     next ≡ table_by_change (fsm_at new) table

@@ -61,7 +61,7 @@ pays_told config link wants (Some c) (Changed u x y ∷ rs) t pays =
 -- the routes come from the table that the messages make
 abbrev ComeFrom : Config → Told → Routes → Type 0
 ComeFrom config T routes =
-    (table : Routes) × IsTableAfter (link_told config T) no_routes T.received table × (routes ≡ routes_without routes.disabled table)
+    (table : Routes) × IsTableAfter config (link_told config T) no_routes T.received table × (routes ≡ routes_without routes.disabled table)
 
 abbrev Held : Config → Told → Head → Routes → Type 0
 Held config T Idle routes = (T.fsm ≡ fsms.Idle) × (routes ≡ no_routes) × (T.received ≡ [])
@@ -157,10 +157,10 @@ falling_held config T head routes octets wants turn falling h = elim falling.end
 ]
 
 -- the table after one message more
-table_more : (link : Link) (table : Routes) (messages : List (List ℕ)) (octets : List ℕ) (last next : Routes) → IsTableAfter link table messages last
-    → IsTableNext link octets last next → IsTableAfter link table (messages ++ octets ∷ []) next
-table_more link table [] octets last next e is = (next, subst (λ (v : Routes). IsTableNext link octets v next) e is, refl)
-table_more link table (m ∷ messages) octets last next after is = (after.0, after.1, table_more link after.0 messages octets last next after.2 is)
+table_more : (config : Config) (link : Link) (table : Routes) (messages : List (List ℕ)) (octets : List ℕ) (last next : Routes) → IsTableAfter config link table messages last
+    → IsTableNext config link octets last next → IsTableAfter config link table (messages ++ octets ∷ []) next
+table_more config link table [] octets last next e is = (next, subst (λ (v : Routes). IsTableNext config link octets v next) e is, refl)
+table_more config link table (m ∷ messages) octets last next after is = (after.0, after.1, table_more link after.0 messages octets last next after.2 is)
 
 -- the families that are disabled
 disabled_kept : (changes : RouteChanges) (routes : Routes) → (routes_after changes routes).disabled ≡ routes.disabled
@@ -180,13 +180,13 @@ no_routes_without = refl
 abbrev IsTable : Routes → Type 0
 IsTable table = AreRoutes table × (table.disabled ≡ record { v4 = false; v6 = false })
 
-next_table : (link : Link) (octets : List ℕ) (table next : Routes) → IsTable table → IsTableNext link octets table next → IsTable next
-next_table link octets table next is (inl k) = subst IsTable (sym k.4) (changed_are k.1 table is.0, disabled_kept k.1 table ∙ is.1)
-next_table link octets table next is (inr k) = subst IsTable (sym k.1) is
+next_table : (config : Config) (link : Link) (octets : List ℕ) (table next : Routes) → IsTable table → IsTableNext config link octets table next → IsTable next
+next_table config link octets table next is (inl k) = subst IsTable (sym k.4) (changed_are k.1 table is.0, disabled_kept k.1 table ∙ is.1)
+next_table config link octets table next is (inr k) = subst IsTable (sym k.1) is
 
-pub is_table : (link : Link) (table : Routes) (messages : List (List ℕ)) (last : Routes) → IsTable table → IsTableAfter link table messages last → IsTable last
-is_table link table [] last is e = subst IsTable (sym e) is
-is_table link table (m ∷ messages) last is after = is_table link after.0 messages last (next_table link m table after.0 is after.1) after.2
+pub is_table : (config : Config) (link : Link) (table : Routes) (messages : List (List ℕ)) (last : Routes) → IsTable table → IsTableAfter config link table messages last → IsTable last
+is_table config link table [] last is e = subst IsTable (sym e) is
+is_table config link table (m ∷ messages) last is after = is_table config link after.0 messages last (next_table config link m table after.0 is after.1) after.2
 
 -- an UPDATE that is applied
 applied : (changes : RouteChanges) (families : Families) (routes table : Routes) → IsTable table → routes ≡ routes_without routes.disabled table
@@ -199,22 +199,22 @@ applied changes families routes table is e =
     all ∙ ap (λ (f : Families). routes_without f (routes_after changes table)) (sym same)
 
 -- one message more in Established that isn't an UPDATE
-passed_over : (config : Config) (T : Told) (octets : List ℕ) (routes : Routes) → (¬ hearing.Announces 2 octets) → ComeFrom config T routes
+passed_over : (config : Config) (T : Told) (octets : List ℕ) (routes : Routes) → (¬ hearing.Announces config 2 octets) → ComeFrom config T routes
     → ComeFrom config (record T { received = T.received ++ octets ∷ [] }) routes
 passed_over config T octets routes other from =
-    (from.0, table_more (link_told config T) no_routes T.received octets from.0 from.0 from.1 (inr (other, refl)), from.2)
+    (from.0, table_more config (link_told config T) no_routes T.received octets from.0 from.0 from.1 (inr (other, refl)), from.2)
 
 update_applied : (config : Config) (T : Told) (octets : List ℕ) (routes : Routes) (changes : RouteChanges) (families : Families)
-    → hearing.Announces 2 octets → IsOutcome (link_told config T) octets (Applied changes families) → ComeFrom config T routes
+    → hearing.Announces config 2 octets → IsOutcome (link_told config T) octets (Applied changes families) → ComeFrom config T routes
     → ComeFrom config (record T { received = T.received ++ octets ∷ [] }) (routes_without families (routes_after changes routes))
 update_applied config T octets routes changes families is outcome from = (
   routes_after changes from.0,
-  table_more (link_told config T) no_routes T.received octets from.0 (routes_after changes from.0) from.1 (inl (is, changes, families, outcome, refl)),
-  applied changes families routes from.0 (is_table (link_told config T) no_routes T.received from.0 (none_are, refl) from.1) from.2,
+  table_more config (link_told config T) no_routes T.received octets from.0 (routes_after changes from.0) from.1 (inl (is, changes, families, outcome, refl)),
+  applied changes families routes from.0 (is_table config (link_told config T) no_routes T.received from.0 (none_are, refl) from.1) from.2,
 )
 
 -- another message is no UPDATE
-no_update : (config : Config) (octets : List ℕ) (x : Heard) → Hears config octets x → (x ≡ Update → ⊥) → ¬ hearing.Announces 2 octets
+no_update : (config : Config) (octets : List ℕ) (x : Heard) → Hears config octets x → (x ≡ Update → ⊥) → ¬ hearing.Announces config 2 octets
 no_update config octets x hears other is = other (one_heard config octets x Update hears is)
 
 going_end : (head : Head) (t : ℕ) (octets : List ℕ) (x : Heard) (wants : List Want) (turn : Turn) → GoingOn head t octets x wants turn
@@ -225,7 +225,7 @@ going_end head t octets x wants turn goes kept = λ i. record { head = goes.head
 new_table : (config : Config) (T : Told) (routes : Routes) → routes ≡ no_routes → T.received ≡ [] → ComeFrom config (record T { fsm = fsms.Established }) routes
 new_table config T routes none empty = (
   no_routes,
-  subst (λ (m : List (List ℕ)). IsTableAfter (link_told config T) no_routes m no_routes) (sym empty) refl,
+  subst (λ (m : List (List ℕ)). IsTableAfter config (link_told config T) no_routes m no_routes) (sym empty) refl,
   subst (λ (r : Routes). r ≡ routes_without r.disabled no_routes) (sym none) no_routes_without,
 )
 
@@ -407,22 +407,22 @@ each_as_told config records e run = as_told config (told records) e.head e.route
 
 -- ---- one table, one end
 
-one_next : (link : Link) (octets : List ℕ) (table next other : Routes) → IsTableNext link octets table next → IsTableNext link octets table other → next ≡ other
-one_next link octets table next other (inl a) (inl b) =
+one_next : (config : Config) (link : Link) (octets : List ℕ) (table next other : Routes) → IsTableNext config link octets table next → IsTableNext config link octets table other → next ≡ other
+one_next config link octets table next other (inl a) (inl b) =
     a.4 ∙ ap (λ (c : RouteChanges). routes_after c table) (one_change link octets a.1 b.1 a.2 b.2 a.3 b.3) ∙ sym b.4
-one_next link octets table next other (inl a) (inr b) = absurd (b.0 a.0)
-one_next link octets table next other (inr a) (inl b) = absurd (a.0 b.0)
-one_next link octets table next other (inr a) (inr b) = a.1 ∙ sym b.1
+one_next config link octets table next other (inl a) (inr b) = absurd (b.0 a.0)
+one_next config link octets table next other (inr a) (inl b) = absurd (a.0 b.0)
+one_next config link octets table next other (inr a) (inr b) = a.1 ∙ sym b.1
 
-one_after : (link : Link) (table : Routes) (messages : List (List ℕ)) (last other : Routes) → IsTableAfter link table messages last
-    → IsTableAfter link table messages other → last ≡ other
-one_after link table [] last other a b = a ∙ sym b
-one_after link table (m ∷ messages) last other a b =
-    one_after link a.0 messages last other a.2
-    (subst (λ (v : Routes). IsTableAfter link v messages other) (one_next link m table b.0 a.0 b.1 a.1) b.2)
+one_after : (config : Config) (link : Link) (table : Routes) (messages : List (List ℕ)) (last other : Routes) → IsTableAfter config link table messages last
+    → IsTableAfter config link table messages other → last ≡ other
+one_after config link table [] last other a b = a ∙ sym b
+one_after config link table (m ∷ messages) last other a b =
+    one_after config link a.0 messages last other a.2
+    (subst (λ (v : Routes). IsTableAfter config link v messages other) (one_next config link m table b.0 a.0 b.1 a.1) b.2)
 
 pub one_table : HasOneTable
-one_table link messages table other a b = one_after link no_routes messages table other a b
+one_table config link messages table other a b = one_after config link no_routes messages table other a b
 
 same_routes : (config : Config) (T : Told) (f : Fsm) (a b : SessionState) → T.fsm ≡ f → IsAsTold config T a → IsAsTold config T b
     → a.routes.disabled ≡ b.routes.disabled → a.routes ≡ b.routes
@@ -430,7 +430,7 @@ same_routes config T fsms.Established a b up one other same =
     let x = one.routes up in
     let y = other.routes up in
     x.2 ∙ ap (λ (f : Families). routes_without f x.0) same
-    ∙ ap (λ (v : Routes). routes_without b.routes.disabled v) (one_table (link_told config T) T.received x.0 y.0 x.1 y.1) ∙ sym y.2
+    ∙ ap (λ (v : Routes). routes_without b.routes.disabled v) (one_table config (link_told config T) T.received x.0 y.0 x.1 y.1) ∙ sym y.2
 same_routes config T fsms.Idle a b is one other same =
     one.none (λ up. let k = sym is ∙ up in cc) ∙ sym (other.none (λ up. let k = sym is ∙ up in cc))
 same_routes config T fsms.Connect a b is one other same =

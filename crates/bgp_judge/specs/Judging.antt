@@ -44,7 +44,7 @@ module _ {S : Type 0} (gives : S → S → List ℕ → Type 0) (has_ended : S �
     pub each : ArePieces config.parts.session None pieces
     pub kind : fault.kind ≡ kinds.Device
     pub offset : fault.offset ≡ length (joined pieces)
-    pub begun : IsBegun rest
+    pub begun : IsBegun config.parts.session rest
 
   -- Memory was refused: before anything was read; or at a record of the session or at the end, and
   -- then the records before begin a run.

@@ -61,17 +61,17 @@ link_told config t = link_of config (open_of t.peer_open)
 
 -- What a table of routes becomes by a message: an UPDATE's changes are made, as wherever it is
 -- applied; other messages change nothing.
-abbrev pub IsTableNext : Link → List ℕ → Routes → Routes → Type 0
-IsTableNext link octets table next =
-    (Announces 2 octets × (changes : RouteChanges) × (families : Families)
+abbrev pub IsTableNext : Config → Link → List ℕ → Routes → Routes → Type 0
+IsTableNext config link octets table next =
+    (Announces config 2 octets × (changes : RouteChanges) × (families : Families)
     × IsOutcome link octets (Applied changes families) × (next ≡ routes_after changes table))
-    ⊎ ((¬ Announces 2 octets) × (next ≡ table))
+    ⊎ ((¬ Announces config 2 octets) × (next ≡ table))
 
 -- what it becomes by messages, one after another
-abbrev pub IsTableAfter : Link → Routes → List (List ℕ) → Routes → Type 0
-IsTableAfter link table [] last = last ≡ table
-IsTableAfter link table (octets ∷ others) last =
-    (next : Routes) × IsTableNext link octets table next × IsTableAfter link next others last
+abbrev pub IsTableAfter : Config → Link → Routes → List (List ℕ) → Routes → Type 0
+IsTableAfter config link table [] last = last ≡ table
+IsTableAfter config link table (octets ∷ others) last =
+    (next : Routes) × IsTableNext config link octets table next × IsTableAfter config link next others last
 
 -- The state is as told. In Established its routes are those of the table that the messages make,
 -- without those of the disabled families; elsewhere it has none.
@@ -79,7 +79,7 @@ pub record IsAsTold (config : Config) (t : Told) (s : SessionState) : Type 0 whe
   pub fsm : fsm_of s.head ≡ t.fsm
   pub link : (link : Link) → link_at s.head ≡ Some link → link ≡ link_told config t
   pub routes : t.fsm ≡ fsms.Established → (table : Routes)
-      × IsTableAfter (link_told config t) no_routes t.received table
+      × IsTableAfter config (link_told config t) no_routes t.received table
       × (s.routes ≡ routes_without s.routes.disabled table)
   pub none : t.fsm ≢ fsms.Established → s.routes ≡ no_routes
 
@@ -100,8 +100,8 @@ ToldOneMore =
 -- messages make one table
 abbrev pub HasOneTable : Type 0
 HasOneTable =
-    (link : Link) (messages : List (List ℕ)) (table other : Routes)
-    → IsTableAfter link no_routes messages table → IsTableAfter link no_routes messages other
+    (config : Config) (link : Link) (messages : List (List ℕ)) (table other : Routes)
+    → IsTableAfter config link no_routes messages table → IsTableAfter config link no_routes messages other
     → table ≡ other
 
 -- two possible ends with the same families disabled are one

@@ -10,7 +10,8 @@ use Rattle.bgp_machine.specs.declared.state.Head.{Head}
 use Rattle.bgp_machine.specs.declared.state.Head.TheVariants.{Idle, Connect, Active, OpenSent, OpenConfirm, Established}
 use Rattle.bgp_rib.proofs.PrefixKeys.{same_tie}
 use Rattle.bgp_wire.specs.Held.{Held, after_feed}
-use Rattle.bgp_wire.specs.declared.header.Limit.TheVariants.{Plain}
+use Rattle.bgp_wire.specs.declared.header.Limit.{Limit}
+use Rattle.bgp_machine.specs.Heard.{received_limit}
 use Rattle.bgp_speaker.specs.declared.draft.Draft.{Draft}
 use Rattle.bgp_speaker.specs.declared.engine.Output.{Output}
 use Rattle.bgp_speaker.specs.declared.input.Cue.{Cue}
@@ -48,9 +49,9 @@ held_on (OpenConfirm l o) rest on = refl
 held_on (Established l o) rest on = refl
 
 -- what is left of it where there is a connection, and nothing where there is none
-pub holds_right : (head : Head) (held : Held) (rest : List ℕ) → held ≡ record { limit = Plain; octets = held_after head rest; is_closed = false }
-    → (held.limit ≡ Plain) × (held.is_closed ≡ false) × ((IsConnected head → ⊥) → held.octets ≡ [])
-holds_right head held rest is = (
+pub holds_right : (limit : Limit) (head : Head) (held : Held) (rest : List ℕ) → held ≡ record { limit = limit; octets = held_after head rest; is_closed = false }
+    → (held.limit ≡ limit) × (held.is_closed ≡ false) × ((IsConnected head → ⊥) → held.octets ≡ [])
+holds_right limit head held rest is = (
   ap (λ (v : Held). v.limit) is,
   ap (λ (v : Held). v.is_closed) is,
   λ off. ap (λ (v : Held). v.octets) is ∙ held_off head rest off,
@@ -145,13 +146,13 @@ taken_state : (seen after s : CoreState) (e : Moment) (t : ℕ) (held : Held) (o
 taken_state seen after s e t held octets same is left =
     ap (λ (v : CoreState). record v { held = held.octets }) (same ∙ is) ∙ ap (λ (o : List ℕ). record { speaker = s.speaker; moment = e; kept = s.kept; second = t; held = o }) left
 
-pub answers_on : {X : Type 0} (s seen after : CoreState) (octets given : List ℕ) (second t : ℕ) (left held : Held) (before d : Draft X) (out : Output X)
+pub answers_on : {X : Type 0} (limit : Limit) (s seen after : CoreState) (octets given : List ℕ) (second t : ℕ) (left held : Held) (before d : Draft X) (out : Output X)
     → t ≡ max s.second second → IsFreshDraft s before → IsConnected before.head → given ≡ s.held ++ octets
     → HearsWell s.moment.session.routes s.speaker s.kept t given left before d → IsShownBy d out
     → seen ≡ after → after ≡ state_after s (moment_of s.moment.session.routes d) t
-    → held ≡ record { limit = Plain; octets = held_after d.head left.octets; is_closed = false }
+    → held ≡ record { limit = limit; octets = held_after d.head left.octets; is_closed = false }
     → Answers s (Bytes octets) second out (record seen { held = held.octets })
-answers_on {X} s seen after octets given second t left held before d out later fresh on is_given w by same is holds =
+answers_on {X} limit s seen after octets given second t left held before d out later fresh on is_given w by same is holds =
     let e = moment_of s.moment.session.routes d in
     let records = w.does.records in
     answers_so s (record seen { held = held.octets }) (Bytes octets) second t before d out records e w.rest later fresh w.does.shows by

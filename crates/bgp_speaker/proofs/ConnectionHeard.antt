@@ -3,7 +3,8 @@ use Rattle.std.proofs.Common.{◌≡◌, ℕ, List, [], ◌∷◌, ◌++◌, ◌
 use Rattle.std.proofs.lemmas.List.Elements.{All-nil}
 use Rattle.bgp_prefix.specs.Prefix.{PrefixBits}
 use Rattle.bgp_prefix.specs.Shown.{ShownRecord, Received, Sent, Changed}
-use Rattle.bgp_wire.specs.declared.header.Limit.TheVariants.{Plain}
+use Rattle.bgp_wire.specs.declared.header.Limit.{Limit}
+use Rattle.bgp_machine.specs.Heard.{received_limit}
 use Rattle.bgp_wire.specs.Framing.{IsFrame, IsShort}
 use Rattle.bgp_machine.specs.declared.fsm.Fsm.{Fsm}
 use Rattle.bgp_machine.specs.declared.state.Head.{Head}
@@ -116,52 +117,52 @@ on_or_off (Established l o) = inl tt
 
 -- what is held between two inputs: nothing without a connection, and with one what is left of its octets, where all the rest was
 -- received
-record IsUpTo (s : CoreState) (c : Connection) : Type 0 where
+record IsUpTo (limit : Limit) (s : CoreState) (c : Connection) : Type 0 where
   off : (IsConnected s.moment.session.head → ⊥) → s.held ≡ []
-  on : IsConnected s.moment.session.head → AreHeard c.octets c.messages s.held
-  short : IsConnected s.moment.session.head → IsShort Plain s.held
+  on : IsConnected s.moment.session.head → AreHeard limit c.octets c.messages s.held
+  short : IsConnected s.moment.session.head → IsShort limit s.held
 
 -- after an input both hold
-record IsHeardAfter (s : CoreState) (c : Connection) : Type 0 where
-  heard : IsHeardOn s.moment.session.head c
-  up : IsUpTo s c
+record IsHeardAfter (limit : Limit) (s : CoreState) (c : Connection) : Type 0 where
+  heard : IsHeardOn limit s.moment.session.head c
+  up : IsUpTo limit s c
 
-heard_nothing : AreHeard [] [] []
-heard_nothing = record {
+heard_nothing : (limit : Limit) → AreHeard limit [] [] []
+heard_nothing limit = record {
   frames = [];
   last = [];
-  framing = record { whole = refl; each = All-nil (IsFrame Plain); last = inl (inl (omega arith)) };
+  framing = record { whole = refl; each = All-nil (IsFrame limit); last = inl (inl (omega arith)) };
   ends = inl (inl (omega arith), refl);
   are = refl;
 }
 
 -- where all was received, and just that is held, if the connection stands
-all_heard : (s : CoreState) (c : Connection) (rest : List ℕ) → AreHeard c.octets c.messages rest → IsShort Plain rest
-    → s.held ≡ held_after s.moment.session.head rest → IsHeardAfter s c
-all_heard s c rest heard short held = record {
+all_heard : (limit : Limit) (s : CoreState) (c : Connection) (rest : List ℕ) → AreHeard limit c.octets c.messages rest → IsShort limit rest
+    → s.held ≡ held_after s.moment.session.head rest → IsHeardAfter limit s c
+all_heard limit s c rest heard short held = record {
   heard = record {
     later = [];
     rest = rest;
-    heard = subst (λ (v : List (List ℕ)). AreHeard c.octets v rest) (sym (append-nil c.messages)) heard;
+    heard = subst (λ (v : List (List ℕ)). AreHeard limit c.octets v rest) (sym (append-nil c.messages)) heard;
     all = λ on. refl;
   };
   up = record {
     off = λ off. held ∙ held_off s.moment.session.head rest off;
-    on = λ on. subst (λ (v : List ℕ). AreHeard c.octets c.messages v) (sym (held ∙ held_on s.moment.session.head rest on)) heard;
-    short = λ on. subst (λ (v : List ℕ). IsShort Plain v) (sym (held ∙ held_on s.moment.session.head rest on)) short;
+    on = λ on. subst (λ (v : List ℕ). AreHeard limit c.octets c.messages v) (sym (held ∙ held_on s.moment.session.head rest on)) heard;
+    short = λ on. subst (λ (v : List ℕ). IsShort limit v) (sym (held ∙ held_on s.moment.session.head rest on)) short;
   };
 }
 
 -- without a connection nothing is received, and nothing is held after
-after_off : (s s2 : CoreState) (c : Connection) (input : InputValue) (records : List ShownRecord) (rest : List ℕ)
+after_off : (limit : Limit) (s s2 : CoreState) (c : Connection) (input : InputValue) (records : List ShownRecord) (rest : List ℕ)
     → (IsConnected s.moment.session.head → ⊥) → s.held ≡ [] → received_in records ≡ [] → rest ≡ s.held
     → s2.held ≡ held_after s2.moment.session.head rest
-    → IsHeardAfter s2 (connection_after s.moment.session.head input (received_in records) c)
-after_off s s2 c input records rest off empty none left held =
+    → IsHeardAfter limit s2 (connection_after s.moment.session.head input (received_in records) c)
+after_off limit s s2 c input records rest off empty none left held =
     let is : connection_after s.moment.session.head input (received_in records) c ≡ new_connection =
     connection_off s.moment.session.head input (received_in records) c off ∙ (λ i. record { octets = []; messages = none i }) in
-    subst (λ (v : Connection). IsHeardAfter s2 v) (sym is)
-    (all_heard s2 new_connection [] heard_nothing (inl (omega arith))
+    subst (λ (v : Connection). IsHeardAfter limit s2 v) (sym is)
+    (all_heard limit s2 new_connection [] (heard_nothing limit) (inl (omega arith))
     (held ∙ ap (λ (v : List ℕ). held_after s2.moment.session.head v) (left ∙ empty)))
 
 quiet_brings : (input : InputValue) → BringsNothing input → octets_in input ≡ []
@@ -176,84 +177,87 @@ quiet_brings (Announce prefix) quiet = refl
 quiet_brings (Withdraw prefix) quiet = refl
 
 -- an input that brings no octets
-after_quiet : (s s2 : CoreState) (c : Connection) (input : InputValue) (records : List ShownRecord) (rest : List ℕ)
-    → BringsNothing input → IsUpTo s c → received_in records ≡ [] → rest ≡ s.held → s2.held ≡ held_after s2.moment.session.head rest
-    → IsHeardAfter s2 (connection_after s.moment.session.head input (received_in records) c)
-after_quiet s s2 c input records rest quiet up none left held = elim (on_or_off s.moment.session.head) [
-  | inr off ↦ after_off s s2 c input records rest off (up.off off) none left held
+after_quiet : (limit : Limit) (s s2 : CoreState) (c : Connection) (input : InputValue) (records : List ShownRecord) (rest : List ℕ)
+    → BringsNothing input → IsUpTo limit s c → received_in records ≡ [] → rest ≡ s.held → s2.held ≡ held_after s2.moment.session.head rest
+    → IsHeardAfter limit s2 (connection_after s.moment.session.head input (received_in records) c)
+after_quiet limit s s2 c input records rest quiet up none left held = elim (on_or_off s.moment.session.head) [
+  | inr off ↦ after_off limit s s2 c input records rest off (up.off off) none left held
   | inl on ↦
       let is : connection_after s.moment.session.head input (received_in records) c ≡ c =
       connection_on s.moment.session.head input (received_in records) c on ∙ (λ i. record {
         octets = (ap (λ (v : List ℕ). c.octets ++ v) (quiet_brings input quiet) ∙ append-nil c.octets) i;
         messages = (ap (λ (v : List (List ℕ)). c.messages ++ v) none ∙ append-nil c.messages) i;
       }) in
-      subst (λ (v : Connection). IsHeardAfter s2 v) (sym is)
-      (all_heard s2 c rest (subst (λ (v : List ℕ). AreHeard c.octets c.messages v) (sym left) (up.on on))
-      (subst (λ (v : List ℕ). IsShort Plain v) (sym left) (up.short on)) held)
+      subst (λ (v : Connection). IsHeardAfter limit s2 v) (sym is)
+      (all_heard limit s2 c rest (subst (λ (v : List ℕ). AreHeard limit c.octets c.messages v) (sym left) (up.on on))
+      (subst (λ (v : List ℕ). IsShort limit v) (sym left) (up.short on)) held)
 ]
 
 -- octets
 after_bytes : (s s2 : CoreState) (c : Connection) (octets : List ℕ) (t : ℕ) (records : List ShownRecord) (rest : List ℕ)
-    → IsConnected s.moment.session.head → IsUpTo s c
+    → IsConnected s.moment.session.head → IsUpTo (received_limit s.speaker.config) s c
     → HearsBytes s.speaker s.kept t s.moment (s.held ++ octets) records s2.moment rest → s2.held ≡ held_after s2.moment.session.head rest
-    → IsHeardAfter s2 (connection_after s.moment.session.head (Bytes octets) (received_in records) c)
+    → IsHeardAfter (received_limit s.speaker.config) s2 (connection_after s.moment.session.head (Bytes octets) (received_in records) c)
 after_bytes s s2 c octets t records rest on up x held =
+    let limit = received_limit s.speaker.config in
     let is = connection_on s.moment.session.head (Bytes octets) (received_in records) c on in
     let got = are_received s.speaker s.kept t s.moment s2.moment x.messages records x.each in
-    let all : AreHeard (c.octets ++ octets) (c.messages ++ x.messages) rest =
-    heard_joined c.octets octets c.messages x.messages s.held rest (up.on on) (up.short on) x.heard in
-    let split : AreHeard (c.octets ++ octets) ((c.messages ++ received_in records) ++ got.later) rest =
-    subst (λ (v : List (List ℕ)). AreHeard (c.octets ++ octets) v rest)
+    let all : AreHeard limit (c.octets ++ octets) (c.messages ++ x.messages) rest =
+    heard_joined limit c.octets octets c.messages x.messages s.held rest (up.on on) (up.short on) x.heard in
+    let split : AreHeard limit (c.octets ++ octets) ((c.messages ++ received_in records) ++ got.later) rest =
+    subst (λ (v : List (List ℕ)). AreHeard limit (c.octets ++ octets) v rest)
     (ap (λ (v : List (List ℕ)). c.messages ++ v) got.are ∙ sym (append_assoc c.messages (received_in records) got.later)) all in
-    subst (λ (v : Connection). IsHeardAfter s2 v) (sym is) (record {
+    subst (λ (v : Connection). IsHeardAfter limit s2 v) (sym is) (record {
       heard = record { later = got.later; rest = rest; heard = split; all = got.all };
       up = record {
         off = λ off. held ∙ held_off s2.moment.session.head rest off;
-        on = λ still. subst (λ (v : List ℕ). AreHeard (c.octets ++ octets) (c.messages ++ received_in records) v) (sym (held ∙ held_on s2.moment.session.head rest still))
-            (subst (λ (v : List (List ℕ)). AreHeard (c.octets ++ octets) v rest)
+        on = λ still. subst (λ (v : List ℕ). AreHeard limit (c.octets ++ octets) (c.messages ++ received_in records) v) (sym (held ∙ held_on s2.moment.session.head rest still))
+            (subst (λ (v : List (List ℕ)). AreHeard limit (c.octets ++ octets) v rest)
             (ap (λ (v : List (List ℕ)). (c.messages ++ received_in records) ++ v) (got.all still) ∙ append-nil (c.messages ++ received_in records)) split);
         short = λ still. subst (λ (v : List ℕ). IsShort Plain v) (sym (held ∙ held_on s2.moment.session.head rest still))
             (fault_ends_all s.speaker s.kept t s.moment s2.moment (s.held ++ octets) records rest x still);
       };
     })
 
-quiet_after : (s s2 : CoreState) (c : Connection) (input : InputValue) (second : ℕ) (records : List ShownRecord) → BringsNothing input → IsUpTo s c
-    → Chooses s input second records s2 → IsHeardAfter s2 (connection_after s.moment.session.head input (received_in records) c)
-quiet_after s s2 c input second records quiet up x =
+quiet_after : (limit : Limit) (s s2 : CoreState) (c : Connection) (input : InputValue) (second : ℕ) (records : List ShownRecord) → BringsNothing input → IsUpTo limit s c
+    → Chooses s input second records s2 → IsHeardAfter limit s2 (connection_after s.moment.session.head input (received_in records) c)
+quiet_after limit s s2 c input second records quiet up x =
     let kept = quiet_kept s ReceivesNothing (by_itself s.speaker) input (max s.second second) records x.0 x.1 quiet x.2 in
-    after_quiet s s2 c input records x.1 quiet up kept.0 kept.1
+    after_quiet limit s s2 c input records x.1 quiet up kept.0 kept.1
     (subst (λ (v : CoreState). v.held ≡ held_after v.moment.session.head x.1) (sym x.3) refl)
 
-chooses_heard : (s s2 : CoreState) (c : Connection) (input : InputValue) (second : ℕ) (records : List ShownRecord) → IsUpTo s c
-    → Chooses s input second records s2 → IsHeardAfter s2 (connection_after s.moment.session.head input (received_in records) c)
+chooses_heard : (s s2 : CoreState) (c : Connection) (input : InputValue) (second : ℕ) (records : List ShownRecord) → IsUpTo (received_limit s.speaker.config) s c
+    → Chooses s input second records s2 → IsHeardAfter (received_limit s.speaker.config) s2 (connection_after s.moment.session.head input (received_in records) c)
 chooses_heard s s2 c (Bytes octets) second records up x =
     let held : s2.held ≡ held_after s2.moment.session.head x.1 = subst (λ (v : CoreState). v.held ≡ held_after v.moment.session.head x.1) (sym x.3) refl in
     elim x.2 [
-      | inl idle ↦ after_off s s2 c (Bytes octets) records x.1 idle.0 (up.off idle.0) (ap (λ (v : List ShownRecord). received_in v) idle.1) idle.3 held
+      | inl idle ↦ after_off (received_limit s.speaker.config) s s2 c (Bytes octets) records x.1 idle.0 (up.off idle.0) (ap (λ (v : List ShownRecord). received_in v) idle.1) idle.3 held
       | inr there ↦ after_bytes s s2 c octets (max s.second second) records x.1 there.0 up
           (subst (λ (v : Moment). HearsBytes s.speaker s.kept (max s.second second) s.moment (s.held ++ octets) records v x.1)
           (sym (ap (λ (v : CoreState). v.moment) x.3)) there.1) held
     ]
-chooses_heard s s2 c Start second records up x = quiet_after s s2 c Start second records tt up x
-chooses_heard s s2 c Passive second records up x = quiet_after s s2 c Passive second records tt up x
-chooses_heard s s2 c Stop second records up x = quiet_after s s2 c Stop second records tt up x
-chooses_heard s s2 c Connected second records up x = quiet_after s s2 c Connected second records tt up x
-chooses_heard s s2 c Failed second records up x = quiet_after s s2 c Failed second records tt up x
-chooses_heard s s2 c Tick second records up x = quiet_after s s2 c Tick second records tt up x
-chooses_heard s s2 c (Announce prefix) second records up x = quiet_after s s2 c (Announce prefix) second records tt up x
-chooses_heard s s2 c (Withdraw prefix) second records up x = quiet_after s s2 c (Withdraw prefix) second records tt up x
+chooses_heard s s2 c Start second records up x = quiet_after (received_limit s.speaker.config) s s2 c Start second records tt up x
+chooses_heard s s2 c Passive second records up x = quiet_after (received_limit s.speaker.config) s s2 c Passive second records tt up x
+chooses_heard s s2 c Stop second records up x = quiet_after (received_limit s.speaker.config) s s2 c Stop second records tt up x
+chooses_heard s s2 c Connected second records up x = quiet_after (received_limit s.speaker.config) s s2 c Connected second records tt up x
+chooses_heard s s2 c Failed second records up x = quiet_after (received_limit s.speaker.config) s s2 c Failed second records tt up x
+chooses_heard s s2 c Tick second records up x = quiet_after (received_limit s.speaker.config) s s2 c Tick second records tt up x
+chooses_heard s s2 c (Announce prefix) second records up x = quiet_after (received_limit s.speaker.config) s s2 c (Announce prefix) second records tt up x
+chooses_heard s s2 c (Withdraw prefix) second records up x = quiet_after (received_limit s.speaker.config) s s2 c (Withdraw prefix) second records tt up x
 
-drives_heard : (s e : CoreState) (c : Connection) (inputs : List (ℕ × InputValue)) (records : List ShownRecord) → IsUpTo s c
+drives_heard : (s e : CoreState) (c : Connection) (inputs : List (ℕ × InputValue)) (records : List ShownRecord) → IsUpTo (received_limit s.speaker.config) s c
     → Drives s inputs records e → DrivesHearing s c inputs records e
 drives_heard s e c [] records up x = x
 drives_heard s e c (input ∷ inputs) records up x =
-    let after = chooses_heard s x.1 c input.1 input.0 x.0 up x.3 in (
+    let after = chooses_heard s x.1 c input.1 input.0 x.0 up x.3 in
+    let next = connection_after s.moment.session.head input.1 (received_in x.0) c in
+    let same : received_limit s.speaker.config ≡ received_limit x.1.speaker.config = ap (λ (v : CoreState). received_limit v.speaker.config) (sym x.3.3) in (
       x.0,
       x.1,
       x.2,
       x.3,
       after.heard,
-      drives_heard x.1 e (connection_after s.moment.session.head input.1 (received_in x.0) c) inputs x.2 after.up x.4,
+      drives_heard x.1 e (connection_after s.moment.session.head input.1 (received_in x.0) c) inputs x.2 (subst (λ (l : Limit). IsUpTo l x.1 next) same after.up) x.4,
       x.5,
     )
 

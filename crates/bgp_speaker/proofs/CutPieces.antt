@@ -3,7 +3,8 @@ use Rattle.std.proofs.Common.{◌≡◌, ◌≤◌, ℕ, List, [], ◌∷◌, �
 use Rattle.std.proofs.lemmas.List.{take-append-le}
 use Rattle.bgp_prefix.specs.Prefix.{PrefixBits}
 use Rattle.bgp_prefix.specs.Shown.{ShownRecord}
-use Rattle.bgp_wire.specs.declared.header.Limit.TheVariants.{Plain}
+use Rattle.bgp_wire.specs.declared.header.Limit.{Limit}
+use Rattle.bgp_machine.specs.Heard.{received_limit}
 use Rattle.bgp_wire.specs.Framing.{IsFaulty, joined}
 use Rattle.bgp_wire.specs.Header.{IsSound, header_of}
 use Rattle.bgp_wire.proofs.EachFraming.{each_framing}
@@ -20,9 +21,9 @@ use Rattle.bgp_speaker.proofs.HowCut.{cut_doesnt_matter, stays_deaf}
 header_stays : (rest more : List ℕ) → 19 ≤ length rest → header_of (rest ++ more) ≡ header_of rest
 header_stays rest more long = take-append-le 19 rest more long
 
-faulty_stays : (rest more : List ℕ) → IsFaulty Plain rest → IsFaulty Plain (rest ++ more)
-faulty_stays rest more f =
-    ((let n = length-append rest more in let l = f.0 in omega arith), λ sound. f.1 (subst (λ (h : List ℕ). IsSound Plain h) (header_stays rest more f.0) sound))
+faulty_stays : (limit : Limit) (rest more : List ℕ) → IsFaulty limit rest → IsFaulty limit (rest ++ more)
+faulty_stays limit rest more f =
+    ((let n = length-append rest more in let l = f.0 in omega arith), λ sound. f.1 (subst (λ (h : List ℕ). IsSound limit h) (header_stays rest more f.0) sound))
 
 -- once the connection has ended, what comes more isn't heard
 deaf_to_more : (speaker : Speaker) (kept : List PrefixBits) (t : ℕ) (m e : Moment) (octets more : List ℕ) (records : List ShownRecord) (rest : List ℕ)
@@ -30,8 +31,8 @@ deaf_to_more : (speaker : Speaker) (kept : List PrefixBits) (t : ℕ) (m e : Mom
     → (left : List ℕ) × HearsBytes speaker kept t m (octets ++ more) records e left
 deaf_to_more speaker kept t m e octets more records rest x off = elim x.heard.ends [
   | inl short ↦
-      let next = each_framing Plain (rest ++ more) in
-      let ends = ends_of next.1 next.2.last in (
+      let next = each_framing (received_limit speaker.config) (rest ++ more) in
+      let ends = ends_of (received_limit speaker.config) next.1 next.2.last in (
         next.1,
         subst (λ (r : List ShownRecord). HearsBytes speaker kept t m (octets ++ more) r e next.1) (append-nil records)
             (cut_doesnt_matter speaker kept t m e e octets more rest next.1 records [] x short.0 (record {
@@ -41,7 +42,7 @@ deaf_to_more speaker kept t m e octets more records rest x off = elim x.heard.en
             })),
       )
   | inr faulty ↦
-      let still : IsFaulty Plain (rest ++ more) = faulty_stays rest more faulty.0 in (
+      let still : IsFaulty (received_limit speaker.config) (rest ++ more) = faulty_stays (received_limit speaker.config) rest more faulty.0 in (
         rest ++ more,
         record {
           messages = x.messages;

@@ -13,7 +13,8 @@ use Rattle.bgp_machine.specs.declared.state.Head.TheVariants.{Idle, Connect, Act
 use Rattle.bgp_machine.specs.declared.state.HoldTimer.{HoldTimer}
 use Rattle.bgp_machine.specs.Listed.{no_changes}
 use Rattle.bgp_update.specs.Changes.{RouteChanges}
-use Rattle.bgp_wire.specs.declared.header.Limit.TheVariants.{Plain}
+use Rattle.bgp_wire.specs.declared.header.Limit.{Limit}
+use Rattle.bgp_machine.specs.Heard.{received_limit}
 use Rattle.bgp_wire.specs.Framing.{IsFrame, IsFaulty}
 use Rattle.bgp_wire.specs.Header.{IsSound, header_of}
 use Rattle.bgp_speaker.specs.declared.speaker.Speaker.{Speaker}
@@ -99,33 +100,33 @@ picked_taken (Established link timer) (Withdraw prefix) sent_at t row p = absurd
 
 -- ---- the messages that a connection brings: frames, and a header with a fault
 
-abbrev pub IsFaultyHeader : List ℕ → Type 0
-IsFaultyHeader octets = (length octets ≡ 19) × (¬ IsSound Plain (header_of octets))
+abbrev pub IsFaultyHeader : Limit → List ℕ → Type 0
+IsFaultyHeader limit octets = (length octets ≡ 19) × (¬ IsSound limit (header_of octets))
 
-abbrev pub IsHeardMessage : List ℕ → Type 0
-IsHeardMessage octets = IsFrame Plain octets ⊎ IsFaultyHeader octets
+abbrev pub IsHeardMessage : Limit → List ℕ → Type 0
+IsHeardMessage limit octets = IsFrame limit octets ⊎ IsFaultyHeader limit octets
 
 pub all_joined : {T : Type 0} (P : T → Type 0) (xs ys : List T) → AllByRecursion P xs → AllByRecursion P ys → AllByRecursion P (xs ++ ys)
 all_joined P [] ys p q = q
 all_joined P (x ∷ xs) ys p q = (p.0, all_joined P xs ys p.1 q)
 
-pub faulty_header : (rest : List ℕ) → IsFaulty Plain rest → IsFaultyHeader (header_of rest)
-faulty_header rest f =
+pub faulty_header : (limit : Limit) (rest : List ℕ) → IsFaulty limit rest → IsFaultyHeader limit (header_of rest)
+faulty_header limit rest f =
     let long : length (take 19 rest) ≡ 19 = length-take-le 19 rest f.0 in
-    (long, λ sound. f.1 (subst (λ (h : List ℕ). IsSound Plain h) (take_all 19 (take 19 rest) (omega arith)) sound))
+    (long, λ sound. f.1 (subst (λ (h : List ℕ). IsSound limit h) (take_all 19 (take 19 rest) (omega arith)) sound))
 
-last_heard : (rest : List ℕ) (last : List (List ℕ)) → AreLast rest last → AllByRecursion IsHeardMessage last
-last_heard rest last ends = elim ends [
-  | inl short ↦ subst (λ (v : List (List ℕ)). AllByRecursion IsHeardMessage v) (sym short.1) tt
-  | inr faulty ↦ subst (λ (v : List (List ℕ)). AllByRecursion IsHeardMessage v) (sym faulty.1) (inr (faulty_header rest faulty.0), tt)
+last_heard : (limit : Limit) (rest : List ℕ) (last : List (List ℕ)) → AreLast limit rest last → AllByRecursion (IsHeardMessage limit) last
+last_heard limit rest last ends = elim ends [
+  | inl short ↦ subst (λ (v : List (List ℕ)). AllByRecursion (IsHeardMessage limit) v) (sym short.1) tt
+  | inr faulty ↦ subst (λ (v : List (List ℕ)). AllByRecursion (IsHeardMessage limit) v) (sym faulty.1) (inr (faulty_header limit rest faulty.0), tt)
 ]
 
-pub each_heard : (octets : List ℕ) (messages : List (List ℕ)) (rest : List ℕ) → AreHeard octets messages rest → AllByRecursion IsHeardMessage messages
-each_heard octets messages rest x =
-    let frames : AllByRecursion IsHeardMessage x.frames = recursion_from_All IsHeardMessage x.frames
-    (All-weaker (IsFrame Plain) IsHeardMessage (λ f is. inl is) x.frames x.framing.each) in
-    subst (λ (v : List (List ℕ)). AllByRecursion IsHeardMessage v) (sym x.are)
-    (all_joined IsHeardMessage x.frames x.last frames (last_heard rest x.last x.ends))
+pub each_heard : (limit : Limit) (octets : List ℕ) (messages : List (List ℕ)) (rest : List ℕ) → AreHeard limit octets messages rest → AllByRecursion (IsHeardMessage limit) messages
+each_heard limit octets messages rest x =
+    let frames : AllByRecursion (IsHeardMessage limit) x.frames = recursion_from_All (IsHeardMessage limit) x.frames
+    (All-weaker (IsFrame limit) (IsHeardMessage limit) (λ f is. inl is) x.frames x.framing.each) in
+    subst (λ (v : List (List ℕ)). AllByRecursion (IsHeardMessage limit) v) (sym x.are)
+    (all_joined (IsHeardMessage limit) x.frames x.last frames (last_heard limit rest x.last x.ends))
 
 -- ---- what is kept by each step
 
@@ -139,7 +140,8 @@ pub record IsKept (speaker : Speaker) (R : ℕ → Moment → List ShownRecord �
 -- and of each step about a message that a connection brings
 abbrev pub IsKeptOn : Speaker → (ℕ → Moment → List ShownRecord → Moment → Type 0) → Type 0
 IsKeptOn speaker R =
-    (t : ℕ) (octets : List ℕ) (m e : Moment) (records : List ShownRecord) → IsHeardMessage octets → IsConnected m.session.head
+    (t : ℕ) (octets : List ℕ) (m e : Moment) (records : List ShownRecord)
+    → IsHeardMessage (received_limit speaker.config) octets → IsConnected m.session.head
     → TakesOn speaker t octets m records e → R t m records e
 
 pub rests_kept : (speaker : Speaker) (R : ℕ → Moment → List ShownRecord → Moment → Type 0) → IsKept speaker R
@@ -172,7 +174,7 @@ greets_kept speaker R k kept t (OpenConfirm own timer) (OpenSent o) m e records 
 greets_kept speaker R k kept t (OpenConfirm own timer) (OpenConfirm l o) m e records x = rests_kept speaker R k t m e records x.0 x.1
 
 hears_kept : (speaker : Speaker) (R : ℕ → Moment → List ShownRecord → Moment → Type 0) → IsKept speaker R → IsKeptOn speaker R
-    → (kept : List PrefixBits) (t : ℕ) (m e : Moment) (messages : List (List ℕ)) (records : List ShownRecord) → AllByRecursion IsHeardMessage messages
+    → (kept : List PrefixBits) (t : ℕ) (m e : Moment) (messages : List (List ℕ)) (records : List ShownRecord) → AllByRecursion (IsHeardMessage (received_limit speaker.config)) messages
     → HearsEach speaker kept t m messages records e → R t m records e
 hears_kept speaker R k on kept t m e [] records each x = rests_kept speaker R k t m e records x.0 x.1
 hears_kept speaker R k on kept t m e (octets ∷ messages) records each x = elim x [
@@ -242,7 +244,7 @@ moves_kept : (s : CoreState) (R : ℕ → Moment → List ShownRecord → Moment
 moves_kept s R k on (Bytes octets) t records e rest x = elim x [
   | inl off ↦ rests_kept s.speaker R k t s.moment e records off.1 off.2
   | inr there ↦ hears_kept s.speaker R k on s.kept t s.moment e there.1.messages records
-      (each_heard (s.held ++ octets) there.1.messages rest there.1.heard) there.1.each
+      (each_heard (received_limit s.speaker.config) (s.held ++ octets) there.1.messages rest there.1.heard) there.1.each
 ]
 moves_kept s R k on (Announce prefix) t records e rest x = (quiet_kept s R k (Announce prefix) t records e rest tt x).0
 moves_kept s R k on (Withdraw prefix) t records e rest x = (quiet_kept s R k (Withdraw prefix) t records e rest tt x).0

@@ -4,7 +4,7 @@ use Rattle.bgp_prefix.specs.Prefix.{PrefixBits}
 use Rattle.bgp_prefix.specs.Shown.{ShownRecord}
 use Rattle.bgp_machine.specs.declared.state.Head.{Head}
 use Rattle.bgp_machine.specs.declared.state.Head.TheVariants.{Idle, Connect, Active, OpenSent, OpenConfirm, Established}
-use Rattle.bgp_wire.specs.declared.header.Limit.TheVariants.{Plain}
+use Rattle.bgp_machine.specs.Heard.{received_limit}
 use Rattle.bgp_wire.specs.Framing.{IsShort}
 use Rattle.bgp_wire.specs.Header.{header_of}
 use Rattle.bgp_speaker.specs.declared.speaker.Speaker.{Speaker}
@@ -14,7 +14,7 @@ use Rattle.bgp_speaker.specs.Core.{IsConnected, Moment}
 use Rattle.bgp_speaker.proofs.EachStep.{IsFaultyHeader, faulty_header}
 use Rattle.bgp_speaker.proofs.HearingAll.{nothing_greets, refused}
 
-faulty_ends : (speaker : Speaker) (t : ℕ) (octets : List ℕ) (m e : Moment) (records : List ShownRecord) → IsFaultyHeader octets
+faulty_ends : (speaker : Speaker) (t : ℕ) (octets : List ℕ) (m e : Moment) (records : List ShownRecord) → IsFaultyHeader (received_limit speaker.config) octets
     → TakesOn speaker t octets m records e → e.session.head ≡ Idle
 faulty_ends speaker t octets m e records faulty x =
     let long : 19 ≤ length octets = (let n = faulty.0 in omega arith) in
@@ -26,7 +26,7 @@ idle_off head e on = subst IsConnected e on
 
 -- where it is the last message, there is no connection after it
 pub ends_all : (speaker : Speaker) (kept : List PrefixBits) (t : ℕ) (m e : Moment) (frames : List (List ℕ)) (header : List ℕ) (records : List ShownRecord)
-    → IsFaultyHeader header → HearsEach speaker kept t m (frames ++ header ∷ []) records e → IsConnected e.session.head → ⊥
+    → IsFaultyHeader (received_limit speaker.config) header → HearsEach speaker kept t m (frames ++ header ∷ []) records e → IsConnected e.session.head → ⊥
 ends_all speaker kept t m e [] header records faulty x still = elim x [
   | inl idle ↦ idle.0 (subst (λ (v : Moment). IsConnected v.session.head) idle.2 still)
   | inr there ↦
@@ -42,10 +42,10 @@ ends_all speaker kept t m e (frame ∷ frames) header records faulty x still = e
 
 -- so while the connection stands, what is left is less than a message
 pub fault_ends_all : (speaker : Speaker) (kept : List PrefixBits) (t : ℕ) (m e : Moment) (octets : List ℕ) (records : List ShownRecord) (rest : List ℕ)
-    → HearsBytes speaker kept t m octets records e rest → IsConnected e.session.head → IsShort Plain rest
+    → HearsBytes speaker kept t m octets records e rest → IsConnected e.session.head → IsShort (received_limit speaker.config) rest
 fault_ends_all speaker kept t m e octets records rest x still = elim x.heard.ends [
   | inl short ↦ short.0
-  | inr faulty ↦ absurd (ends_all speaker kept t m e x.heard.frames (header_of rest) records (faulty_header rest faulty.0)
+  | inr faulty ↦ absurd (ends_all speaker kept t m e x.heard.frames (header_of rest) records (faulty_header (received_limit speaker.config) rest faulty.0)
       (subst (λ (v : List (List ℕ)). HearsEach speaker kept t m v records e)
       (x.heard.are ∙ ap (λ (v : List (List ℕ)). x.heard.frames ++ v) faulty.1) x.each) still)
 ]

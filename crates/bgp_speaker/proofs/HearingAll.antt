@@ -4,7 +4,7 @@ use Rattle.std.proofs.lemmas.List.{length-take-le, take_all}
 use Rattle.std.proofs.lemmas.List.Elements.{All-nil}
 use Rattle.bgp_prefix.specs.Prefix.{PrefixBits}
 use Rattle.bgp_prefix.specs.Shown.{ShownRecord}
-use Rattle.bgp_wire.specs.declared.header.Limit.TheVariants.{Plain}
+use Rattle.bgp_wire.specs.declared.header.Limit.{Limit}
 use Rattle.bgp_wire.specs.Framing.{IsFrame, IsFraming, IsShort, IsFaulty}
 use Rattle.bgp_wire.specs.Header.{IsSound, header_of, type_of}
 use Rattle.bgp_wire.specs.Held.{Held}
@@ -16,7 +16,7 @@ use Rattle.bgp_machine.specs.declared.rows.ReceivedRow.TheVariants.{Ignores, Acc
 use Rattle.bgp_machine.specs.declared.state.Head.{Head}
 use Rattle.bgp_machine.specs.declared.state.Head.TheVariants.{Idle, Connect, Active, OpenSent, OpenConfirm, Established}
 use Rattle.bgp_machine.specs.declared.want.Want.{Want}
-use Rattle.bgp_machine.specs.Heard.{Hears}
+use Rattle.bgp_machine.specs.Heard.{Hears, received_limit}
 use Rattle.bgp_machine.specs.State.{Turn}
 use Rattle.bgp_machine.specs.Step.{ReceivedIn}
 use Rattle.bgp_rib.specs.Routes.{Routes}
@@ -38,7 +38,7 @@ goes_on routes speaker kept t octets d = record {
 }
 
 pub one_more_heard : {X : Type 0} (routes : Routes) (speaker : Speaker) (kept : List PrefixBits) (t : ℕ) (octets now frame later : List ℕ) (old mid new : Draft X)
-    → GoesOnHearing routes speaker kept t octets now old mid → IsConnected mid.head → IsFrame Plain frame → now ≡ frame ++ later
+    → GoesOnHearing routes speaker kept t octets now old mid → IsConnected mid.head → IsFrame (received_limit speaker.config) frame → now ≡ frame ++ later
     → DoesHear routes speaker kept t frame mid new → GoesOnHearing routes speaker kept t octets later old new
 one_more_heard routes speaker kept t octets now frame later old mid new g on is split x = record {
   records = g.records ++ (x.first ++ x.greeting);
@@ -53,14 +53,14 @@ one_more_heard routes speaker kept t octets now frame later old mid new g on is 
 
 -- ---- the ends
 
-pub ends_of : (rest : List ℕ) → IsShort Plain rest ⊎ IsFaulty Plain rest → (last : List (List ℕ)) × AreLast rest last
-ends_of rest h = elim h [ inl short ↦ ([], inl (short, refl)) | inr faulty ↦ (header_of rest ∷ [], inr (faulty, refl)) ]
+pub ends_of : (limit : Limit) (rest : List ℕ) → IsShort limit rest ⊎ IsFaulty limit rest → (last : List (List ℕ)) × AreLast limit rest last
+ends_of limit rest h = elim h [ inl short ↦ ([], inl (short, refl)) | inr faulty ↦ (header_of rest ∷ [], inr (faulty, refl)) ]
 
 -- without a connection nothing more is heard
 pub ends_deaf : {X : Type 0} (routes : Routes) (speaker : Speaker) (kept : List PrefixBits) (t : ℕ) (octets now : List ℕ) (held : Held) (old new : Draft X) (frames : List (List ℕ)) (rest : List ℕ)
-    → GoesOnHearing routes speaker kept t octets now old new → (IsConnected new.head → ⊥) → IsFraming Plain now frames rest → HearsWell routes speaker kept t octets held old new
+    → GoesOnHearing routes speaker kept t octets now old new → (IsConnected new.head → ⊥) → IsFraming (received_limit speaker.config) now frames rest → HearsWell routes speaker kept t octets held old new
 ends_deaf routes speaker kept t octets now held old new frames rest g off framing =
-    let last = ends_of rest framing.last in
+    let last = ends_of (received_limit speaker.config) rest framing.last in
     record {
       rest = rest;
       does = record {
@@ -78,7 +78,7 @@ ends_deaf routes speaker kept t octets now held old new frames rest g off framin
 
 -- less than a message is left
 pub ends_short : {X : Type 0} (routes : Routes) (speaker : Speaker) (kept : List PrefixBits) (t : ℕ) (octets now : List ℕ) (held : Held) (old new : Draft X)
-    → GoesOnHearing routes speaker kept t octets now old new → IsShort Plain now → held ≡ record { limit = Plain; octets = now; is_closed = false }
+    → GoesOnHearing routes speaker kept t octets now old new → IsShort (received_limit speaker.config) now → held ≡ record { limit = received_limit speaker.config; octets = now; is_closed = false }
     → HearsWell routes speaker kept t octets held old new
 ends_short routes speaker kept t octets now held old new g short is = record {
   rest = now;
@@ -87,7 +87,7 @@ ends_short routes speaker kept t octets now held old new g short is = record {
     hears = subst (λ (r : List ShownRecord). HearsBytes speaker kept t (moment_of routes old) octets r (moment_of routes new) now) (append-nil g.records)
         (g.hears [] (moment_of routes new) now (record {
           messages = [];
-          heard = record { frames = []; last = []; framing = record { whole = refl; each = All-nil (IsFrame Plain); last = inl short }; ends = inl (short, refl); are = refl };
+          heard = record { frames = []; last = []; framing = record { whole = refl; each = All-nil (IsFrame (received_limit speaker.config)); last = inl short }; ends = inl (short, refl); are = refl };
           each = (refl, refl);
         }));
     shows = g.shows;
@@ -98,7 +98,7 @@ ends_short routes speaker kept t octets now held old new g short is = record {
 -- ---- a header with a fault ends the connection
 
 pub refused : (config : Config) (head : Head) (t : ℕ) (octets : List ℕ) (heard : Heard) (row : ReceivedRow) (wants : List Want) (turn : Turn)
-    → 19 ≤ length octets → (IsSound Plain (header_of octets) → ⊥) → Hears config octets heard → PicksOn head octets heard row → ReceivedIn head t octets heard row wants turn
+    → 19 ≤ length octets → (IsSound (received_limit config) (header_of octets) → ⊥) → Hears config octets heard → PicksOn head octets heard row → ReceivedIn head t octets heard row wants turn
     → turn.head ≡ Idle
 refused config head t octets TooShort row wants turn long faulty hears picks is = absurd (omega (arith, long, hears))
 refused config head t octets (ValidOpen link e) row wants turn long faulty hears picks is = absurd (faulty hears.0.sound)
@@ -178,7 +178,7 @@ nothing_greets speaker kept t (OpenConfirm own timer) m e records x = x.1
 nothing_greets speaker kept t (Established own timer) m e records x = x.1
 
 fault_ends : {X : Type 0} (routes : Routes) (speaker : Speaker) (kept : List PrefixBits) (t : ℕ) (octets : List ℕ) (old new : Draft X)
-    → 19 ≤ length octets → (IsSound Plain (header_of octets) → ⊥) → DoesHear routes speaker kept t octets old new → new.head ≡ Idle
+    → 19 ≤ length octets → (IsSound (received_limit speaker.config) (header_of octets) → ⊥) → DoesHear routes speaker kept t octets old new → new.head ≡ Idle
 fault_ends routes speaker kept t octets old new long faulty x =
     let takes = x.takes in
     let idle : x.between.session.head ≡ Idle = ap (λ (v : Moment). v.session.head) takes.4.acts.leaves
@@ -191,8 +191,8 @@ off_at_idle head e on = subst IsConnected e on
 
 -- a header with a fault is left
 pub ends_faulty : {X : Type 0} (routes : Routes) (speaker : Speaker) (kept : List PrefixBits) (t : ℕ) (octets now header : List ℕ) (held : Held) (old mid new : Draft X)
-    → GoesOnHearing routes speaker kept t octets now old mid → IsConnected mid.head → IsFaulty Plain now → header ≡ header_of now
-    → 19 ≤ length header → (IsSound Plain (header_of header) → ⊥)
+    → GoesOnHearing routes speaker kept t octets now old mid → IsConnected mid.head → IsFaulty (received_limit speaker.config) now → header ≡ header_of now
+    → 19 ≤ length header → (IsSound (received_limit speaker.config) (header_of header) → ⊥)
     → DoesHear routes speaker kept t header mid new → HearsWell routes speaker kept t octets held old new
 ends_faulty routes speaker kept t octets now header held old mid new g on faulty front long unsound x = record {
   rest = now;
@@ -204,7 +204,7 @@ ends_faulty routes speaker kept t octets now header held old mid new g on faulty
           heard = record {
             frames = [];
             last = header ∷ [];
-            framing = record { whole = refl; each = All-nil (IsFrame Plain); last = inr faulty };
+            framing = record { whole = refl; each = All-nil (IsFrame (received_limit speaker.config)); last = inr faulty };
             ends = inr (faulty, ap (λ (v : List ℕ). v ∷ []) front);
             are = refl;
           };
@@ -215,8 +215,8 @@ ends_faulty routes speaker kept t octets now header held old mid new g on faulty
   left = λ still. absurd (off_at_idle new.head (fault_ends routes speaker kept t header mid new long unsound x) still);
 }
 
-pub held_is : (h : Held) → h.limit ≡ Plain → h.is_closed ≡ false → h ≡ record { limit = Plain; octets = h.octets; is_closed = false }
-held_is h p q = λ i. record { limit = p i; octets = h.octets; is_closed = q i }
+pub held_is : (limit : Limit) (h : Held) → h.limit ≡ limit → h.is_closed ≡ false → h ≡ record { limit = limit; octets = h.octets; is_closed = false }
+held_is limit h p q = λ i. record { limit = p i; octets = h.octets; is_closed = q i }
 
 long_front : (octets : List ℕ) → 19 ≤ length octets → 19 ≤ length (take 19 octets)
 long_front octets long = subst (λ (n : ℕ). 19 ≤ n) (sym (length-take-le 19 octets long)) (omega arith)
@@ -225,12 +225,12 @@ front_of_front : (octets : List ℕ) → 19 ≤ length octets → take 19 (take 
 front_of_front octets long = take_all 19 (take 19 octets) (subst (λ (n : ℕ). n ≤ 19) (sym (length-take-le 19 octets long)) (omega arith))
 
 pub ends_at_fault : {X : Type 0} (routes : Routes) (speaker : Speaker) (kept : List PrefixBits) (t : ℕ) (octets now header : List ℕ) (held : Held) (old mid new : Draft X)
-    → GoesOnHearing routes speaker kept t octets now old mid → IsConnected mid.head → IsFaulty Plain now → header ≡ header_of now
+    → GoesOnHearing routes speaker kept t octets now old mid → IsConnected mid.head → IsFaulty (received_limit speaker.config) now → header ≡ header_of now
     → DoesHear routes speaker kept t header mid new → HearsWell routes speaker kept t octets held old new
 ends_at_fault routes speaker kept t octets now header held old mid new g on faulty front x =
     ends_faulty routes speaker kept t octets now header held old mid new g on faulty front
     (subst (λ (h : List ℕ). 19 ≤ length h) (sym front) (long_front now faulty.0))
-    (λ sound. faulty.1 (subst (λ (h : List ℕ). IsSound Plain h) (ap (λ (h : List ℕ). take 19 h) front ∙ front_of_front now faulty.0) sound)) x
+    (λ sound. faulty.1 (subst (λ (h : List ℕ). IsSound (received_limit speaker.config) h) (ap (λ (h : List ℕ). take 19 h) front ∙ front_of_front now faulty.0) sound)) x
 
 pub kind_at : (octets header : List ℕ) → 19 ≤ length octets → header ≡ take 19 octets → slice_index_or header 18 0 ≡ type_of (header_of header)
 unfolding type_of

@@ -4,7 +4,8 @@ use Rattle.std.proofs.lemmas.List.Concat.{flat_map-append}
 use Rattle.std.proofs.lemmas.List.Elements.{All-cons, All-append}
 use Rattle.bgp_prefix.specs.Prefix.{PrefixBits}
 use Rattle.bgp_prefix.specs.Shown.{ShownRecord}
-use Rattle.bgp_wire.specs.declared.header.Limit.TheVariants.{Plain}
+use Rattle.bgp_wire.specs.declared.header.Limit.{Limit}
+use Rattle.bgp_machine.specs.Heard.{received_limit}
 use Rattle.bgp_wire.specs.Framing.{IsFrame, IsFraming, IsShort, joined}
 use Rattle.bgp_speaker.specs.declared.speaker.Speaker.{Speaker}
 use Rattle.bgp_speaker.specs.Choice.{HearsEach}
@@ -12,11 +13,11 @@ use Rattle.bgp_speaker.specs.Choosing.{AreHeard, AreLast}
 use Rattle.bgp_speaker.specs.Core.{Moment, IsConnected}
 use Rattle.bgp_speaker.specs.Hearing.{FrameFirst, CutDoesntMatter}
 
-framed_first : (frame later : List ℕ) (frames : List (List ℕ)) (rest : List ℕ) → IsFrame Plain frame → IsFraming Plain later frames rest
-    → IsFraming Plain (frame ++ later) (frame ∷ frames) rest
-framed_first frame later frames rest is x = record {
+framed_first : (limit : Limit) (frame later : List ℕ) (frames : List (List ℕ)) (rest : List ℕ) → IsFrame limit frame → IsFraming limit later frames rest
+    → IsFraming limit (frame ++ later) (frame ∷ frames) rest
+framed_first limit frame later frames rest is x = record {
   whole = ap (λ (v : List ℕ). frame ++ v) x.whole ∙ sym (append_assoc frame (joined frames) rest);
-  each = All-cons (IsFrame Plain) frame frames is x.each;
+  each = All-cons (IsFrame limit) frame frames is x.each;
   last = x.last;
 }
 
@@ -26,7 +27,7 @@ frame_first speaker kept t m between greeted e frame later rest first greeting o
   heard = record {
     frames = frame ∷ x.heard.frames;
     last = x.heard.last;
-    framing = framed_first frame later x.heard.frames rest is x.heard.framing;
+    framing = framed_first (received_limit speaker.config) frame later x.heard.frames rest is x.heard.framing;
     ends = x.heard.ends;
     are = ap (λ (v : List (List ℕ)). frame ∷ v) x.heard.are;
   };
@@ -35,18 +36,18 @@ frame_first speaker kept t m between greeted e frame later rest first greeting o
 
 -- ---- cuts
 
-framing_joined : (octets more : List ℕ) (xs ys : List (List ℕ)) (rest last : List ℕ) → IsFraming Plain octets xs rest
-    → IsFraming Plain (rest ++ more) ys last → IsFraming Plain (octets ++ more) (xs ++ ys) last
-framing_joined octets more xs ys rest last p q = record {
+framing_joined : (limit : Limit) (octets more : List ℕ) (xs ys : List (List ℕ)) (rest last : List ℕ) → IsFraming limit octets xs rest
+    → IsFraming limit (rest ++ more) ys last → IsFraming limit (octets ++ more) (xs ++ ys) last
+framing_joined limit octets more xs ys rest last p q = record {
   whole = ap (λ (v : List ℕ). v ++ more) p.whole ∙ (append_assoc (joined xs) rest more ∙ (ap (λ (v : List ℕ). joined xs ++ v) q.whole
       ∙ (sym (append_assoc (joined xs) (joined ys) last) ∙ ap (λ (v : List ℕ). v ++ last) (sym (flat_map-append (λ (f : List ℕ). f) xs ys)))));
-  each = All-append (IsFrame Plain) xs ys p.each q.each;
+  each = All-append (IsFrame limit) xs ys p.each q.each;
   last = q.last;
 }
 
 -- a short rest isn't a faulty one
-short_or_faulty : (rest : List ℕ) (last : List (List ℕ)) → IsShort Plain rest → AreLast rest last → last ≡ []
-short_or_faulty rest last short ends = elim ends [
+short_or_faulty : (limit : Limit) (rest : List ℕ) (last : List (List ℕ)) → IsShort limit rest → AreLast limit rest last → last ≡ []
+short_or_faulty limit rest last short ends = elim ends [
   | inl a ↦ a.1
   | inr b ↦ elim short [ inl few ↦ absurd (omega (arith, few, b.0.0)) | inr sound ↦ absurd (b.0.1 sound.1) ]
 ]
@@ -87,15 +88,15 @@ hears_joined speaker kept t m between e (x ∷ xs) ys first others p q = elim p 
 ]
 
 -- the messages of the octets, and then those of what is left of them with more
-pub heard_joined : (octets more : List ℕ) (xs ys : List (List ℕ)) (rest last : List ℕ) → AreHeard octets xs rest → IsShort Plain rest
-    → AreHeard (rest ++ more) ys last → AreHeard (octets ++ more) (xs ++ ys) last
-heard_joined octets more xs ys rest last p short q =
-    let none = short_or_faulty rest p.last short p.ends in
+pub heard_joined : (limit : Limit) (octets more : List ℕ) (xs ys : List (List ℕ)) (rest last : List ℕ) → AreHeard limit octets xs rest → IsShort limit rest
+    → AreHeard limit (rest ++ more) ys last → AreHeard limit (octets ++ more) (xs ++ ys) last
+heard_joined limit octets more xs ys rest last p short q =
+    let none = short_or_faulty limit rest p.last short p.ends in
     let whole : xs ≡ p.frames = p.are ∙ (ap (λ (v : List (List ℕ)). p.frames ++ v) none ∙ append-nil p.frames) in
     record {
       frames = p.frames ++ q.frames;
       last = q.last;
-      framing = framing_joined octets more p.frames q.frames rest last p.framing q.framing;
+      framing = framing_joined limit octets more p.frames q.frames rest last p.framing q.framing;
       ends = q.ends;
       are = ap (λ (v : List (List ℕ)). v ++ ys) whole ∙ (ap (λ (v : List (List ℕ)). p.frames ++ v) q.are ∙ sym (append_assoc p.frames q.frames q.last));
     }
@@ -103,6 +104,6 @@ heard_joined octets more xs ys rest last p short q =
 pub cut_doesnt_matter : CutDoesntMatter
 cut_doesnt_matter speaker kept t m between e octets more rest last first others p short q = record {
   messages = p.messages ++ q.messages;
-  heard = heard_joined octets more p.messages q.messages rest last p.heard short q.heard;
+  heard = heard_joined (received_limit speaker.config) octets more p.messages q.messages rest last p.heard short q.heard;
   each = hears_joined speaker kept t m between e p.messages q.messages first others p.each q.each;
 }

@@ -1,3 +1,4 @@
+mod PlainFrames
 mod SaidIsMeant
 mod ChosenIsAStep
 mod Drafting

@@ -6,7 +6,8 @@ use Rattle.std.specs.Set.{is_member}
 use Rattle.bgp_prefix.specs.Shown.{ShownRecord, Sent}
 use Rattle.bgp_open.specs.declared.link.Link.{Link}
 use Rattle.bgp_open.specs.Families.{contains}
-use Rattle.bgp_wire.specs.declared.header.Limit.TheVariants.{Plain}
+use Rattle.bgp_wire.specs.declared.header.Limit.{Limit}
+use Rattle.bgp_machine.specs.Heard.{received_limit}
 use Rattle.bgp_wire.specs.Framing.{IsShort, IsFaulty}
 use Rattle.bgp_wire.proofs.OneFraming.{one_framing}
 use Rattle.bgp_update.specs.Changes.{RouteChanges}
@@ -138,26 +139,26 @@ heard_same once speaker kept t m e f (octets ∷ messages) xs ys (inr x) (inr y)
       others.1,
     )
 
-short_or_faulty : (rest : List ℕ) → IsShort Plain rest → IsFaulty Plain rest → ⊥
-short_or_faulty rest (inl few) faulty = absurd (let many = faulty.0 in omega (arith, few, many))
-short_or_faulty rest (inr sound) faulty = faulty.1 sound.1
+short_or_faulty : (limit : Limit) (rest : List ℕ) → IsShort limit rest → IsFaulty limit rest → ⊥
+short_or_faulty limit rest (inl few) faulty = absurd (let many = faulty.0 in omega (arith, few, many))
+short_or_faulty limit rest (inr sound) faulty = faulty.1 sound.1
 
-last_same : (rest : List ℕ) (last others : List (List ℕ)) → AreLast rest last → AreLast rest others → last ≡ others
-last_same rest last others (inl x) (inl y) = x.1 ∙ sym y.1
-last_same rest last others (inl x) (inr y) = absurd (short_or_faulty rest x.0 y.0)
-last_same rest last others (inr x) (inl y) = absurd (short_or_faulty rest y.0 x.0)
-last_same rest last others (inr x) (inr y) = x.1 ∙ sym y.1
+last_same : (limit : Limit) (rest : List ℕ) (last others : List (List ℕ)) → AreLast limit rest last → AreLast limit rest others → last ≡ others
+last_same limit rest last others (inl x) (inl y) = x.1 ∙ sym y.1
+last_same limit rest last others (inl x) (inr y) = absurd (short_or_faulty limit rest x.0 y.0)
+last_same limit rest last others (inr x) (inl y) = absurd (short_or_faulty limit rest y.0 x.0)
+last_same limit rest last others (inr x) (inr y) = x.1 ∙ sym y.1
 
-messages_same : (octets rest other : List ℕ) (messages others : List (List ℕ)) → AreHeard octets messages rest → AreHeard octets others other → (messages ≡ others) × (rest ≡ other)
-messages_same octets rest other messages others x y =
-    let one = one_framing Plain octets x.frames y.frames rest other x.framing y.framing in
-    let last = last_same rest x.last y.last x.ends (subst (λ (r : List ℕ). AreLast r y.last) (sym one.1) y.ends) in
+messages_same : (limit : Limit) (octets rest other : List ℕ) (messages others : List (List ℕ)) → AreHeard limit octets messages rest → AreHeard limit octets others other → (messages ≡ others) × (rest ≡ other)
+messages_same limit octets rest other messages others x y =
+    let one = one_framing limit octets x.frames y.frames rest other x.framing y.framing in
+    let last = last_same limit rest x.last y.last x.ends (subst (λ (r : List ℕ). AreLast limit r y.last) (sym one.1) y.ends) in
     (x.are ∙ ((λ i. one.0 i ++ last i) ∙ sym y.are), one.1)
 
 bytes_same : (once : AreOnce) (speaker : Speaker) (kept : List PrefixBits) (t : ℕ) (m e f : Moment) (octets rest other : List ℕ) (xs ys : List ShownRecord)
     → HearsBytes speaker kept t m octets xs e rest → HearsBytes speaker kept t m octets ys f other → IsSame xs ys e f × (rest ≡ other)
 bytes_same once speaker kept t m e f octets rest other xs ys x y =
-    let one = messages_same octets rest other x.messages y.messages x.heard y.heard in (
+    let one = messages_same (received_limit speaker.config) octets rest other x.messages y.messages x.heard y.heard in (
       heard_same once speaker kept t m e f x.messages xs ys x.each (subst (λ (ms : List (List ℕ)). HearsEach speaker kept t m ms ys f) (sym one.0) y.each),
       one.1,
     )

@@ -4,7 +4,8 @@ use Rattle.byteorder.specs.Endian.{big_bytes}
 use Rattle.bgp_prefix.specs.Shown.{Sent}
 use Rattle.bgp_wire.proofs.WholeMessages.{keepalive_is_frame}
 use Rattle.bgp_wire.proofs.WrittenMessage.{written_message, body_of-message_octets}
-use Rattle.bgp_wire.specs.declared.header.Limit.TheVariants.{Plain}
+use Rattle.bgp_wire.specs.declared.header.Limit.{Limit}
+use Rattle.bgp_wire.specs.Framing.{IsFrame}
 use Rattle.bgp_wire.specs.Message.{message_octets}
 use Rattle.bgp_open.proofs.OwnOpens.{own_open, octets-own_open, is_frame}
 use Rattle.bgp_open.proofs.WrittenNotification.{written_notification, notification_frame}
@@ -20,10 +21,11 @@ use Rattle.bgp_machine.specs.declared.want.FaultSet.TheVariants as sets
 use Rattle.bgp_machine.specs.declared.want.Want.{Want}
 use Rattle.bgp_machine.specs.declared.want.Want.TheVariants.{OwnOpen, KeepAlive, CleanUpdate, Cease, HoldExpired, MachineError, Faults}
 use Rattle.bgp_machine.specs.Shows.{PaysAll}
-use Rattle.bgp_machine.specs.Want.{IsLeastFault, Fulfils, Meets, subcode_of}
+use Rattle.bgp_machine.specs.Want.{IsLeastFault, Fulfils, Meets, limit_on, subcode_of}
 use Rattle.bgp_speaker.specs.declared.speaker.Speaker.{Speaker}
 use Rattle.bgp_speaker.specs.Choice.{change_records}
 use Rattle.bgp_speaker.specs.Said.{Says, SaysEach}
+use Rattle.bgp_speaker.proofs.PlainFrames.{plain_is_frame}
 
 -- ---- the data of a fault are short
 
@@ -74,23 +76,23 @@ fault_short (sets.Update s) code subcode detail f = of_none detail (f.without f.
 notification_meets : (config : Config) (link : Option Link) (want : Want) (code subcode : ℕ) (detail octets : List ℕ) → length detail ≤ 4075
     → octets ≡ notification_octets code subcode detail → Fulfils config link want (notification_octets code subcode detail) → Meets config link want octets
 notification_meets config link want code subcode detail octets fits e says =
-    subst (λ (b : List ℕ). Meets config link want b) (sym e) (record { whole = notification_frame code subcode detail fits Plain; fulfils = says })
+    subst (λ (b : List ℕ). Meets config link want b) (sym e) (record { whole = notification_frame code subcode detail fits (limit_on link); fulfils = says })
 
 pub said_meets : (speaker : Speaker) (link : Option Link) (kind : ℕ) (changes : RouteChanges) (want : Want) (octets : List ℕ)
     → Says speaker link kind changes want octets → Meets speaker.config link want octets
 said_meets speaker link kind changes OwnOpen octets e =
     subst (λ (b : List ℕ). Meets speaker.config link OwnOpen b) (sym e) (record {
-      whole = is_frame (open_octets (own_fields speaker.config)) (octets-own_open speaker.config) (own_open speaker.config).form Plain;
+      whole = is_frame (open_octets (own_fields speaker.config)) (octets-own_open speaker.config) (own_open speaker.config).form (limit_on link);
       fulfils = own_open speaker.config;
     })
 said_meets speaker link kind changes KeepAlive octets e =
     let message = written_message 4 [] (omega arith) in
     subst (λ (b : List ℕ). Meets speaker.config link KeepAlive b) (sym e) (record {
-      whole = keepalive_is_frame Plain (message_octets 4 []) (message, body_of-message_octets 4 []);
+      whole = keepalive_is_frame (limit_on link) (message_octets 4 []) (message, body_of-message_octets 4 []);
       fulfils = message;
     })
 said_meets speaker None event changes CleanUpdate octets says = absurd says
-said_meets speaker (Some link) event changes CleanUpdate octets says = record { whole = says.0; fulfils = says.1 }
+said_meets speaker (Some link) event changes CleanUpdate octets says = record { whole = plain_is_frame (limit_on (Some link)) octets says.0; fulfils = says.1 }
 said_meets speaker link kind changes Cease octets e =
     notification_meets speaker.config link Cease 6 2 [] octets (omega arith) e (6, 2, [], written_notification 6 2 [] (omega arith), refl)
 said_meets speaker link kind changes HoldExpired octets e =
@@ -106,6 +108,30 @@ said_meets speaker link kind changes (Faults faults) octets says =
     let fits = fault_short faults code subcode detail least in
     notification_meets speaker.config link (Faults faults) code subcode detail octets fits says.4
     (code, subcode, detail, written_notification code subcode detail fits, least.names)
+
+-- ---- it is a frame, however long a message may be
+
+notification_is_frame : (limit : Limit) (code subcode : ℕ) (detail octets : List ℕ) → length detail ≤ 4075
+    → octets ≡ notification_octets code subcode detail → IsFrame limit octets
+notification_is_frame limit code subcode detail octets fits e =
+    subst (λ (b : List ℕ). IsFrame limit b) (sym e) (notification_frame code subcode detail fits limit)
+
+pub said_frame : (limit : Limit) (speaker : Speaker) (link : Option Link) (kind : ℕ) (changes : RouteChanges) (want : Want) (octets : List ℕ)
+    → Says speaker link kind changes want octets → IsFrame limit octets
+said_frame limit speaker link kind changes OwnOpen octets e =
+    subst (λ (b : List ℕ). IsFrame limit b) (sym e)
+    (is_frame (open_octets (own_fields speaker.config)) (octets-own_open speaker.config) (own_open speaker.config).form limit)
+said_frame limit speaker link kind changes KeepAlive octets e =
+    subst (λ (b : List ℕ). IsFrame limit b) (sym e)
+    (keepalive_is_frame limit (message_octets 4 []) (written_message 4 [] (omega arith), body_of-message_octets 4 []))
+said_frame limit speaker None kind changes CleanUpdate octets says = absurd says
+said_frame limit speaker (Some link) kind changes CleanUpdate octets says = plain_is_frame limit octets says.0
+said_frame limit speaker link kind changes Cease octets e = notification_is_frame limit 6 2 [] octets (omega arith) e
+said_frame limit speaker link kind changes HoldExpired octets e = notification_is_frame limit 4 0 [] octets (omega arith) e
+said_frame limit speaker link kind changes (MachineError state) octets e =
+    notification_is_frame limit 5 (subcode_of state) (kind ∷ []) octets (omega arith) e
+said_frame limit speaker link kind changes (Faults faults) octets says =
+    notification_is_frame limit says.0 says.1 says.2 octets (fault_short faults says.0 says.1 says.2 says.3) says.4
 
 -- ---- a step's records pay what it owes
 

@@ -1,19 +1,22 @@
 -- An UPDATE about one prefix can be written, and reads as that.
-use Rattle.std.proofs.Common.{◌≡◌, ℕ, Bool, true, false, List, [], ◌∷◌, Some, if◌then◌else◌, length, drop, refl, sym, ap, subst, ◌∙◌, inl, inr}
-use Rattle.bgp_prefix.specs.Prefix.{PrefixBits}
+use Rattle.std.proofs.Common.{◌≡◌, ◌<◌, ℕ, Bool, true, false, List, [], ◌∷◌, ◌++◌, ◌≤◌, Some, if◌then◌else◌, length, drop, refl, sym, ap, subst, ◌∙◌, inl, inr}
+use Rattle.std.proofs.lemmas.Bool.{cases_lt}
+use Rattle.bgp_prefix.specs.Prefix.{PrefixBits, IsPrefix}
 use Rattle.bgp_prefix.specs.declared.family.Family.{Family}
-use Rattle.bgp_wire.specs.declared.header.Limit.TheVariants.{Plain}
 use Rattle.bgp_wire.specs.Framing.{IsFrame}
+use Rattle.bgp_wire.specs.Header.{limit_with}
 use Rattle.bgp_open.specs.declared.link.Link.{Link}
 use Rattle.bgp_path.specs.declared.as_path.SegmentKind.TheVariants.{Sequence}
 use Rattle.bgp_path.specs.Path.{PathValue}
 use Rattle.bgp_update.specs.Changes.{RouteChanges}
 use Rattle.bgp_update.specs.Clean.{IsClean}
 use Rattle.bgp_update_writer.specs.Applied.{IsJustApplied, changes_of_update}
-use Rattle.bgp_update_writer.specs.Short.{HasFewNumbers, IsShortPath}
-use Rattle.bgp_update_writer.specs.Update.{Announces}
+use Rattle.bgp_update_writer.specs.Short.{HasFewNumbers, IsShortPath, OnePrefixCanBeWritten}
+use Rattle.bgp_update_writer.specs.Update.{Announces, Withdraws}
+use Rattle.bgp_update_writer.specs.Written.{update_octets}
 use Rattle.bgp_speaker.specs.declared.speaker.Speaker.{Speaker}
 use Rattle.bgp_speaker.specs.Said.{SaysChanges, announced, own_path}
+use Rattle.bgp_speaker.proofs.PlainFrames.{short_is_plain}
 
 few_numbers : (internal : Bool) (number : ℕ) → HasFewNumbers (if internal then [] else (record { kind = Sequence; numbers = number ∷ [] }) ∷ [])
 few_numbers true number = inl refl
@@ -37,7 +40,27 @@ changes_announced speaker link prefix family path same e =
     ap (λ (p : PathValue). changes_of_update (Announces family (prefix ∷ []) p)) (e ∙ ap (own_path speaker link) same)
 
 -- what was written into nothing is all that stands there
-pub says_all : (link : Link) (changes : RouteChanges) (old new : List ℕ) → old ≡ [] → IsFrame Plain (drop (length old) new) → IsClean link (drop (length old) new)
+pub says_all : (link : Link) (changes : RouteChanges) (old new octets : List ℕ) → old ≡ [] → new ≡ old ++ octets → length octets ≤ 4096
+    → IsFrame (limit_with link.extended) (drop (length old) new) → IsClean link (drop (length old) new)
     → IsJustApplied link (drop (length old) new) changes → SaysChanges (Some link) changes new
-says_all link changes old new none frame clean outcome =
-    subst (λ (o : List ℕ). IsFrame Plain (drop (length o) new) × IsClean link (drop (length o) new) × IsJustApplied link (drop (length o) new) changes) none (frame, clean, outcome)
+says_all link changes old new octets none is short frame clean outcome =
+    let says : IsFrame (limit_with link.extended) new × IsClean link new × IsJustApplied link new changes =
+    subst (λ (o : List ℕ). IsFrame (limit_with link.extended) (drop (length o) new) × IsClean link (drop (length o) new) × IsJustApplied link (drop (length o) new) changes)
+    none (frame, clean, outcome) in
+    let within : length new ≤ 4096 = subst (λ (n : List ℕ). length n ≤ 4096) (sym (is ∙ ap (λ (o : List ℕ). o ++ octets) none)) short in
+    (short_is_plain (limit_with link.extended) new within says.0, says.1, says.2)
+
+-- One prefix can be written on the link as if the peer offered no longer messages, and that has as many octets: so it has at most
+-- 4096 on every link.
+not_above : (count : ℕ) → (4096 < count → ⊥) → count ≤ 4096
+not_above count not = elim (cases_lt 4096 count) [ inl more ↦ absurd (not more) | inr within ↦ within ]
+
+pub announced_short : OnePrefixCanBeWritten → (link : Link) (family : Family) (prefix : PrefixBits) → IsPrefix prefix → (path : PathValue)
+    → IsShortPath path → length (update_octets link (Announces family (prefix ∷ []) path)) ≤ 4096
+announced_short law link family prefix fits path short =
+    not_above (length (update_octets link (Announces family (prefix ∷ []) path))) ((law (record link { extended = false }) family prefix fits).0 path short)
+
+pub withdrawn_short : OnePrefixCanBeWritten → (link : Link) (family : Family) (prefix : PrefixBits) → IsPrefix prefix
+    → length (update_octets link (Withdraws family (prefix ∷ []))) ≤ 4096
+withdrawn_short law link family prefix fits =
+    not_above (length (update_octets link (Withdraws family (prefix ∷ [])))) ((law (record link { extended = false }) family prefix fits).1)

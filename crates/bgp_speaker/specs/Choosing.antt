@@ -9,10 +9,11 @@ use Rattle.bgp_prefix.specs.PrefixOrder.{prefix_cmp, prefix_eq}
 use Rattle.bgp_prefix.specs.Shown.{ShownRecord}
 use Rattle.bgp_prefix.specs.Shown.{Received as In, Sent as Out, Changed as Change}
 use Rattle.bgp_open.specs.declared.link.Link.{Link}
-use Rattle.bgp_wire.specs.declared.header.Limit.TheVariants.{Plain}
+use Rattle.bgp_wire.specs.declared.header.Limit.{Limit}
 use Rattle.bgp_wire.specs.Framing.{IsFraming, IsShort, IsFaulty}
 use Rattle.bgp_wire.specs.Header.{header_of}
 use Rattle.bgp_open.specs.Families.{contains}
+use Rattle.bgp_machine.specs.Heard.{received_limit}
 use Rattle.bgp_machine.specs.declared.rows.HiddenRow.{HiddenRow}
 use Rattle.bgp_machine.specs.declared.rows.HiddenRow.TheVariants.{Announces}
 use Rattle.bgp_machine.specs.declared.state.Head.{Head}
@@ -28,19 +29,20 @@ use Rattle.bgp_speaker.specs.Core.{Announce, Withdraw}
 use Rattle.bgp_speaker.specs.Picks.{Picks}
 use Rattle.bgp_speaker.specs.Said.{announced, withdrawn}
 
--- ---- the messages of a stretch of octets
+-- ---- the messages of a stretch of octets, where they may be so long
 
 -- a header with a fault stands as a message of its own, and is the last one
-abbrev pub AreLast : List ℕ → List (List ℕ) → Type 0
-AreLast rest last =
-    (IsShort Plain rest × (last ≡ [])) ⊎ (IsFaulty Plain rest × (last ≡ header_of rest ∷ []))
+abbrev pub AreLast : Limit → List ℕ → List (List ℕ) → Type 0
+AreLast limit rest last =
+    (IsShort limit rest × (last ≡ [])) ⊎ (IsFaulty limit rest × (last ≡ header_of rest ∷ []))
 
 -- the frames of the octets, then the header with a fault that ends them, if one does; and the rest
-pub record AreHeard (octets : List ℕ) (messages : List (List ℕ)) (rest : List ℕ) : Type 0 where
+pub record AreHeard (limit : Limit) (octets : List ℕ) (messages : List (List ℕ))
+    (rest : List ℕ) : Type 0 where
   pub frames : List (List ℕ)
   pub last : List (List ℕ)
-  pub framing : IsFraming Plain octets frames rest
-  pub ends : AreLast rest last
+  pub framing : IsFraming limit octets frames rest
+  pub ends : AreLast limit rest last
   pub are : messages ≡ frames ++ last
 
 -- ---- inputs
@@ -74,7 +76,7 @@ SendsAt speaker head changes prefix t m records e = (records ≡ []) × (e ≡ m
 pub record HearsBytes (speaker : Speaker) (kept : List PrefixBits) (t : ℕ) (m : Moment)
     (octets : List ℕ) (records : List ShownRecord) (e : Moment) (rest : List ℕ) : Type 0 where
   pub messages : List (List ℕ)
-  pub heard : AreHeard octets messages rest
+  pub heard : AreHeard (received_limit speaker.config) octets messages rest
   pub each : HearsEach speaker kept t m messages records e
 
 -- the steps, and the octets that are held after them where a connection is

@@ -6,6 +6,8 @@ use Rattle.bgp_prefix.specs.Shown.{Received as In, Sent as Out, Changed as Chang
 use Rattle.bgp_machine.specs.declared.state.Head.{Head}
 use Rattle.bgp_machine.specs.declared.state.Head.TheVariants.{OpenSent, OpenConfirm, Established}
 use Rattle.bgp_speaker.specs.declared.speaker.Speaker.{Speaker}
+use Rattle.bgp_wire.specs.declared.header.Limit.{Limit}
+use Rattle.bgp_machine.specs.Heard.{received_limit}
 use Rattle.bgp_speaker.specs.Choosing.{AreHeard, Chooses, Drives}
 use Rattle.bgp_speaker.specs.Core.{CoreState, InputValue, IsConnected, Bytes, fresh_core}
 
@@ -42,13 +44,13 @@ connection_after (Established link timer) input messages c =
     record { octets = c.octets ++ octets_in input; messages = c.messages ++ messages }
 connection_after head input messages c = record { octets = []; messages = messages }
 
--- The messages received are the first of those that stand in the octets: of the frames, and of the
--- header with a fault that ends them, if one does. While the connection stands they are all of
--- them.
-pub record IsHeardOn (head : Head) (c : Connection) : Type 0 where
+-- The messages received are the first of those that stand in the octets: of the frames, which may be
+-- so long, and of the header with a fault that ends them, if one does. While the connection stands
+-- they are all of them.
+pub record IsHeardOn (limit : Limit) (head : Head) (c : Connection) : Type 0 where
   pub later : List (List ℕ)
   pub rest : List ℕ
-  pub heard : AreHeard c.octets (c.messages ++ later) rest
+  pub heard : AreHeard limit c.octets (c.messages ++ later) rest
   pub all : IsConnected head → later ≡ []
 
 -- many inputs, as `Drives` says, where after each of them the connection was heard
@@ -58,7 +60,7 @@ DrivesHearing s c [] records e = (records ≡ []) × (e ≡ s)
 DrivesHearing s c (x ∷ xs) records e =
     (first : List ShownRecord) × (between : CoreState) × (others : List ShownRecord)
     × Chooses s x.1 x.0 first between
-    × IsHeardOn between.moment.session.head
+    × IsHeardOn (received_limit s.speaker.config) between.moment.session.head
     (connection_after s.moment.session.head x.1 (received_in first) c)
     × DrivesHearing between (connection_after s.moment.session.head x.1 (received_in first) c)
     xs others e

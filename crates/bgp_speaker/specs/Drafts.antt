@@ -9,7 +9,7 @@ use Rattle.bgp_machine.specs.declared.hearing.Heard.{Heard}
 use Rattle.bgp_machine.specs.declared.rows.ReceivedRow.{ReceivedRow}
 use Rattle.bgp_machine.specs.declared.state.Head.{Head}
 use Rattle.bgp_machine.specs.declared.step.Step.{Step}
-use Rattle.bgp_machine.specs.Heard.{Hears}
+use Rattle.bgp_machine.specs.Heard.{Hears, received_limit}
 use Rattle.bgp_machine.specs.Rows.{HeardShown}
 use Rattle.bgp_rib.specs.Routes.{Routes}
 use Rattle.bgp_speaker.specs.Pending.{routes_pending}
@@ -33,7 +33,6 @@ use Rattle.bgp_speaker.specs.declared.speaker.Speaker.{Speaker}
 use Rattle.bgp_machine.specs.declared.rows.HiddenRow.{HiddenRow}
 use Rattle.bgp_speaker.specs.Choice.{Acts, Greets, TakesOwn, TakesOn, change_records, sent_after}
 use Rattle.bgp_speaker.specs.Choosing.{HearsBytes, SendsAt, TakesPicked, sent_in}
-use Rattle.bgp_wire.specs.declared.header.Limit.TheVariants.{Plain}
 use Rattle.bgp_wire.specs.Held.{Held}
 use Rattle.bgp_speaker.specs.Core.{IsConnected}
 use Rattle.bgp_speaker.specs.Core.{Moment, InputValue, Start, Passive, Stop, Connected, Failed}
@@ -187,7 +186,11 @@ pub record HearsWell {X : Type 0} (routes : Routes) (speaker : Speaker) (kept : 
   pub rest : List ℕ
   pub does : DoesHearAll routes speaker kept t octets rest old new
   pub left : IsConnected new.head
-      → held ≡ record { limit = Plain; octets = rest; is_closed = false }
+      → held ≡ record {
+        limit = received_limit speaker.config;
+        octets = rest;
+        is_closed = false;
+      }
 
 -- whatever is heard from here on is heard from there on
 pub record GoesOnHearing {X : Type 0} (routes : Routes) (speaker : Speaker)

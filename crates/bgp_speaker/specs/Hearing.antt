@@ -2,8 +2,8 @@
 use Rattle.std.specs.Prelude.{◌++◌, ℕ, List}
 use Rattle.bgp_prefix.specs.Prefix.{PrefixBits}
 use Rattle.bgp_prefix.specs.Shown.{ShownRecord}
-use Rattle.bgp_wire.specs.declared.header.Limit.TheVariants.{Plain}
 use Rattle.bgp_wire.specs.Framing.{IsFrame, IsShort}
+use Rattle.bgp_machine.specs.Heard.{received_limit}
 use Rattle.bgp_speaker.specs.declared.speaker.Speaker.{Speaker}
 use Rattle.bgp_speaker.specs.Choice.{TakesOn, Greets}
 use Rattle.bgp_speaker.specs.Choosing.{HearsBytes, Chooses}
@@ -14,7 +14,7 @@ abbrev pub FrameFirst : Type 0
 FrameFirst =
     (speaker : Speaker) (kept : List PrefixBits) (t : ℕ) (m between greeted e : Moment)
     (frame later rest : List ℕ) (first greeting others : List ShownRecord)
-    → IsFrame Plain frame → IsConnected m.session.head
+    → IsFrame (received_limit speaker.config) frame → IsConnected m.session.head
     → TakesOn speaker t frame m first between
     → Greets speaker kept t m.session.head between greeting greeted
     → HearsBytes speaker kept t greeted later others e rest
@@ -26,7 +26,7 @@ CutDoesntMatter =
     (speaker : Speaker) (kept : List PrefixBits) (t : ℕ) (m between e : Moment)
     (octets more rest last : List ℕ) (first others : List ShownRecord)
     → HearsBytes speaker kept t m octets first between rest
-    → IsShort Plain rest
+    → IsShort (received_limit speaker.config) rest
     → HearsBytes speaker kept t between (rest ++ more) others e last
     → HearsBytes speaker kept t m (octets ++ more) (first ++ others) e last
 

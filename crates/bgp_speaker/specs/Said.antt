@@ -62,7 +62,8 @@ announced speaker link prefix = record {
 abbrev pub withdrawn : PrefixBits → RouteChanges
 withdrawn prefix = record { remove = prefix ∷ []; put = [] }
 
--- the octets are a clean UPDATE that reads as these changes
+-- The octets are a clean UPDATE that reads as these changes. It has at most 4096 octets on every
+-- link, so that a capture of the session can hold it where the peer alone offers longer ones.
 abbrev pub SaysChanges : Option Link → RouteChanges → List ℕ → Type 0
 SaysChanges None changes octets = ⊥
 SaysChanges (Some link) changes octets =

@@ -17,12 +17,14 @@ pub record TakesAll (session : Session) : Type 0 where
   pub local : IsAddress session.local
   pub refresh : IsFalse session.refresh
 
--- each record can be written, where the seconds of the inputs fit their field
+-- each record can be written, where the seconds of the inputs fit their field, and a message may be
+-- as long in the session's captures as the core hears one (RFC 8654, 4)
 abbrev pub EachRecordCanBeWritten : Type 0
 EachRecordCanBeWritten =
     (session : Session) (speaker : Speaker) (e : CoreState) (inputs : List (ℕ × InputValue))
     (records : List ShownRecord)
-    → TakesAll session → AllByRecursion (λ x. x.0 < 2 ^ 32) inputs
+    → TakesAll session → session.extended ≡ speaker.config.parts.session.extended
+    → AllByRecursion (λ x. x.0 < 2 ^ 32) inputs
     → Drives (fresh_core speaker) inputs records e
     → AllByRecursion (CanBeCaptured session) records
 

@@ -17,11 +17,11 @@ use crate::pending::Pending;
 use crate::saying::News;
 use crate::shown::Shown;
 use crate::speaker::Speaker;
-use bgp_machine::{Fsm, State};
+use bgp_machine::{Fsm, State, received_limit};
 use bgp_open::Config;
 use bgp_prefix::{Prefix, Seconds};
 use bgp_rib::RibIn;
-use bgp_wire::{Frames, Limit};
+use bgp_wire::Frames;
 use std::alloc::{AllocError, Allocator, Global};
 use std::collections::BTreeSet;
 use std::marker::Model;
@@ -55,7 +55,7 @@ pub struct Core<A: Allocator = Global> {
 
 impl<A: Allocator> Model for Core<A> {
     ghost use Rattle.std.specs.Prelude.{◌≡◌, [], false};
-    ghost use Rattle.bgp_wire.specs.declared.header.Limit.TheVariants.{Plain};
+    ghost use Rattle.bgp_machine.specs.Heard.{received_limit};
     ghost use Rattle.bgp_machine.specs.State.{state_value};
     ghost use Rattle.bgp_speaker.specs.Core.{CoreState, IsConnected};
 
@@ -69,7 +69,8 @@ impl<A: Allocator> Model for Core<A> {
       held = c.frames.octets;
     } };
 
-    ghost invariant = { λ c. (c.frames.limit ≡ Plain) × (c.frames.is_closed ≡ false)
+    ghost invariant = { λ c. (c.frames.limit ≡ received_limit c.speaker.config)
+        × (c.frames.is_closed ≡ false)
         × ((¬ IsConnected c.state.head) → c.frames.octets ≡ []) };
 }
 
@@ -100,7 +101,7 @@ impl<A: Allocator + Copy> Core<A> {
             sent_at: 0,
             kept: BTreeSet::new(alloc),
             second: 0,
-            frames: Frames::new(alloc, Limit::Plain),
+            frames: Frames::new(alloc, received_limit(config)),
         }
     }
 
@@ -184,7 +185,8 @@ impl<A: Allocator + Copy> Core<A> {
         let mut frames = self.frames.copy()?;
         frames.feed(octets)?;
         hear_all(&mut draft, &self.speaker, &self.kept, t, &mut frames)?;
-        forget_unconnected(self.alloc, draft.head, &mut frames);
+        let limit = received_limit(&self.speaker.config);
+        forget_unconnected(self.alloc, limit, draft.head, &mut frames);
         let output = self.commit(draft, t)?;
         self.frames = frames;
         Ok(output)
@@ -241,7 +243,8 @@ impl<A: Allocator + Copy> Core<A> {
             records,
             ..
         } = draft;
-        forget_unconnected(self.alloc, head, &mut self.frames);
+        let limit = received_limit(&self.speaker.config);
+        forget_unconnected(self.alloc, limit, head, &mut self.frames);
         self.state.head = head;
         self.sent_at = sent_at;
         self.second = t;

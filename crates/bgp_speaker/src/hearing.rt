@@ -2,7 +2,7 @@
 
 ghost use Rattle.std.specs.Prelude.{◌≡◌, ◌↔◌, ℕ, List, OnOk, IsTrue, false};
 ghost use Rattle.bgp_rib.specs.Routes.{Routes};
-ghost use Rattle.bgp_wire.specs.declared.header.Limit.TheVariants.{Plain};
+ghost use Rattle.bgp_machine.specs.Heard.{received_limit};
 ghost use Rattle.bgp_speaker.specs.Choosing.{held_after};
 ghost use Rattle.bgp_speaker.specs.Core.{IsConnected};
 ghost use Rattle.bgp_speaker.specs.Drafts.{HearsWell};
@@ -25,18 +25,23 @@ pub(crate) fn is_connected(head: Head) -> bool
     }
 }
 
-/// Forgets what is held unless there is a connection.
-pub(crate) fn forget_unconnected<A: Allocator + Copy>(alloc: A, head: Head, frames: &mut Frames<A>)
+/// Forgets what is held of messages that may be so long, unless there is a connection.
+pub(crate) fn forget_unconnected<A: Allocator + Copy>(
+    alloc: A,
+    limit: Limit,
+    head: Head,
+    frames: &mut Frames<A>,
+)
     requires { IsConnected head
-        → (frames.old.limit ≡ Plain) × (frames.old.is_closed ≡ false) }
+        → (frames.old.limit ≡ limit) × (frames.old.is_closed ≡ false) }
     ensures { frames.new ≡ record {
-      limit = Plain;
+      limit = limit;
       octets = held_after head frames.old.octets;
       is_closed = false;
     } }
 {
     if !is_connected(head) {
-        *frames = Frames::new(alloc, Limit::Plain);
+        *frames = Frames::new(alloc, limit);
     }
 }
 
@@ -48,7 +53,7 @@ pub(crate) fn hear_all<A: Allocator + Copy>(
     t: Seconds,
     frames: &mut Frames<A>,
 ) -> Result<(), AllocError>
-    requires limit { frames.old.limit ≡ Plain }
+    requires limit { frames.old.limit ≡ received_limit speaker.now.config }
     requires open { frames.old.is_closed ≡ false }
     ensures { (routes : Routes) → OnOk result (HearsWell routes speaker.now kept.now.keys t
         frames.old.octets frames.new draft.old draft.new) }

@@ -8,8 +8,9 @@ ghost use Rattle.bgp_open.specs.Families.{contains};
 ghost use Rattle.bgp_open.specs.OwnOpen.{own_fields};
 ghost use Rattle.bgp_open.specs.Written.{notification_octets, open_octets};
 ghost use Rattle.bgp_update_writer.specs.Applied.{changes_of_update};
-ghost use Rattle.bgp_update_writer.specs.Refusals.{IsFamilyUsed, IsSendable, IsTooLarge};
+ghost use Rattle.bgp_update_writer.specs.Refusals.{IsFamilyUsed, IsSendable};
 ghost use Rattle.bgp_update_writer.specs.Update.{update_value};
+ghost use Rattle.bgp_update_writer.specs.Written.{update_octets};
 ghost use Rattle.bgp_speaker.specs.Drafts.{CanBeSaid, CanBeTold, news_changes, prefix_told};
 ghost use Rattle.bgp_speaker.specs.Said.{Says, SaysChanges, announced, own_path, withdrawn};
 
@@ -251,7 +252,8 @@ fn announced_as_path<A: Allocator + Copy>(
     Ok(as_path)
 }
 
-/// The UPDATE that says this, where the peer takes it as it is meant and it isn't too large.
+/// The UPDATE that says this, where the peer takes it as it is meant and it is no longer than every
+/// link allows.
 fn written<A: Allocator + Copy>(
     alloc: A,
     link: &Link,
@@ -259,7 +261,7 @@ fn written<A: Allocator + Copy>(
 ) -> Result<Vec<u8, A>, AllocError>
     requires used { IsFamilyUsed link.now (update_value update.now) }
     requires sendable { IsSendable link.now (update_value update.now) }
-    requires fits { ¬ IsTooLarge link.now (update_value update.now) }
+    requires fits { length (update_octets link.now (update_value update.now)) ≤ 4096 }
     ensures { IfOk result (λ m. SaysChanges (Some link.now)
         (changes_of_update (update_value update.now)) m.items) }
 {

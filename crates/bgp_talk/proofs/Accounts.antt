@@ -13,6 +13,8 @@ use Rattle.bgp_speaker.specs.Choosing.{Chooses, Drives, sent_in}
 use Rattle.bgp_speaker.specs.Core.{CoreState, InputValue, Stop, Connected, Failed}
 use Rattle.bgp_speaker.specs.Shown.{shown_value}
 use Rattle.bgp_talk.specs.Account.{Telling, Asked, Read, Clock, Wrote, turn_inputs, IsCalm, IsInTurn, HasNoStop, owed_by, handed_by, owed_after, inputs_of, taken_by, taken_of, reads_by, reads_of}
+use Rattle.mrt.specs.Rules.{body_limit}
+use Rattle.bgp_speaker.proofs.EachShown.{message_room}
 use Rattle.bgp_talk.specs.CoreFacts.{IsShort}
 use Rattle.bgp_talk.specs.Talk.{SentSoFar, Took, capture_of}
 
@@ -94,19 +96,20 @@ text_first config xs ys x v is same =
     ap (λ (q : _). capture_of config (map shown_value q)) is
     ∙ ap (λ (q : ShownRecord). record_octets config.parts.session config.parts.peer_as config.parts.local_as q ++ capture_of config (map shown_value ys)) (sym same)
 
-pub short_first : {A : Type 0} (xs ys : List (declared.Shown A)) (x : declared.Shown A) → xs ≡ x ∷ ys → AllByRecursion IsShort (map shown_value xs)
-    → IsShort (shown_value x) × AllByRecursion IsShort (map shown_value ys)
-short_first xs ys x is short = subst (λ (q : _). AllByRecursion IsShort (map shown_value q)) is short
+pub short_first : {A : Type 0} (config : Config) (xs ys : List (declared.Shown A)) (x : declared.Shown A) → xs ≡ x ∷ ys → AllByRecursion (IsShort config) (map shown_value xs)
+    → IsShort config (shown_value x) × AllByRecursion (IsShort config) (map shown_value ys)
+short_first config xs ys x is short = subst (λ (q : _). AllByRecursion (IsShort config) (map shown_value q)) is short
 
 address_short : (a : Address) → length (address_octets a) ≤ 16
 address_short (V4 n) = let four : length (address_octets (V4 n)) ≡ 4 = refl in omega (arith, four)
 address_short (V6 n) = let more : length (address_octets (V6 n)) ≡ 16 = refl in omega (arith, more)
 
 -- a record of a short message can be written
-pub writable : (s : Session) (v : ShownRecord) → IsShort v → body_len s v ≤ 8192
-writable s v short =
-    let peer = address_short s.peer in
-    let local = address_short s.local in omega (arith, short, peer, local)
+pub writable : (config : Config) (v : ShownRecord) → IsShort config v → body_len config.parts.session v ≤ body_limit config.parts.session
+writable config v short =
+    let room = message_room config.parts.session in
+    let peer = address_short config.parts.session.peer in
+    let local = address_short config.parts.session.local in omega (arith, short, peer, local, room)
 
 -- octets of which some more were taken
 pub sent_more : (account : List Telling) (octets rest front behind : List ℕ) → SentSoFar account octets rest → rest ≡ front ++ behind → 0 < length front

@@ -4,6 +4,9 @@ use Rattle.std.specs.Prelude.{◌≡◌, ◌≤◌, ℕ, Bool, true, false, IsTr
 use Rattle.std.specs.List.{AllByRecursion}
 use Rattle.bgp_prefix.specs.Prefix.{PrefixBits}
 use Rattle.bgp_prefix.specs.Shown.{ShownRecord}
+use Rattle.bgp_wire.specs.Header.{greatest_length}
+use Rattle.bgp_open.specs.declared.config.Config.{Config}
+use Rattle.bgp_machine.specs.Heard.{received_limit}
 use Rattle.bgp_machine.specs.declared.fsm.Fsm.{Fsm}
 use Rattle.bgp_machine.specs.declared.fsm.Fsm.TheVariants as fsms
 use Rattle.bgp_machine.specs.declared.state.Head.{Head}
@@ -43,14 +46,15 @@ is_idle s = idle_at s.moment.session.head
 abbrev pub is_resting : CoreState → Bool
 is_resting s = rests_at s.moment.session.head
 
--- it fits the body of a capture's record: a message has at most 4096 octets (RFC 4271, 4.1)
-abbrev pub IsShort : ShownRecord → Type 0
-IsShort shown = length (content_for shown) ≤ 4096
+-- It fits the body of a capture's record: a message has no more octets than the longest one that a
+-- local system may receive which is configured so (RFC 4271, 4.1; RFC 8654, 4).
+abbrev pub IsShort : Config → ShownRecord → Type 0
+IsShort config shown = length (content_for shown) ≤ greatest_length (received_limit config) 2
 
 abbrev pub EachRecordIsShort : Type 0
 EachRecordIsShort =
     (a b : CoreState) (input : InputValue) (second : ℕ) (records : List ShownRecord)
-    → Chooses a input second records b → AllByRecursion IsShort records
+    → Chooses a input second records b → AllByRecursion (IsShort a.speaker.config) records
 
 -- by the end of its connection a core comes to rest, and sends nothing
 abbrev pub FailureBringsRest : Type 0

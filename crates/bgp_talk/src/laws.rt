@@ -4,15 +4,12 @@ ghost use Rattle.bgp_talk.specs.CoreFacts.{EachRecordIsShort, FailureBringsRest,
 ghost use Rattle.bgp_talk.specs.CoreFacts.{IdleKeepsPrefix, StartIsSilent};
 ghost use Rattle.bgp_talk.specs.MemWire.{TookWhatIsTold};
 
-use bgp_speaker::each_chosen_step_is_the_machines;
-
 /// Whatever a core shows on an input fits the records of a capture: a message that it received or
-/// sent has at most 4096 octets (RFC 4271, 4.1).
+/// sent has at most 4096 octets (RFC 4271, 4.1), or 65535 where it offers extended messages
+/// (RFC 8654, 4).
 pub fn each_record_is_short()
     ensures { EachRecordIsShort }
-{
-    each_chosen_step_is_the_machines();
-}
+{}
 
 /// A core that is told of a failure comes to rest, Idle or Active, and sends nothing. There it
 /// stays, and is silent, at a tick, a failure or a stop. An Idle one is silent when a prefix is

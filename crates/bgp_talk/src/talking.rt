@@ -83,7 +83,7 @@ pub fn write_records<A: Allocator, C: Sink>(
     requires families { family_of config.now.parts.session.peer
         ≡ family_of config.now.parts.session.local }
     requires failures { C.failures sink.old < u64.MAX }
-    requires short { AllByRecursion IsShort (map shown_value records.now) }
+    requires short { AllByRecursion (IsShort config.now) (map shown_value records.now) }
     ensures ok { OnOk result (C.takes sink.old sink.new
         (capture_of config.now (map shown_value records.now))) }
     ensures err { OnErr result (TakesBeginning C.takes sink.old sink.new
@@ -139,10 +139,12 @@ fn enter<A: Allocator + Copy, W: Wire, C: Sink>(
 ) -> Result<Vec<u8, A>, SpeakFault>
     requires families { family_of config.now.parts.session.peer
         ≡ family_of config.now.parts.session.local }
+    requires config { core.old.speaker.config ≡ config.now }
     requires failures { C.failures sink.old < u64.MAX }
     ensures ok { IfOk result (λ octets. Entered W.tells C.takes
         (capture_of config.now) (input_value input.now)
         core.old wire.old sink.old octets.items core.new wire.new sink.new) }
+    ensures config { IfOk result (λ octets. core.new.speaker.config ≡ config.now) }
     ensures err { OnErr result ((owed : List InputValue) → EnteringCut W.tells C.takes
         (capture_of config.now)
         (input_value input.now ∷ owed)
@@ -173,12 +175,14 @@ fn hand_in<A: Allocator + Copy, W: Wire, C: Sink>(
 ) -> Result<(), SpeakFault>
     requires families { family_of config.now.parts.session.peer
         ≡ family_of config.now.parts.session.local }
+    requires config { core.old.speaker.config ≡ config.now }
     requires failures { C.failures sink.old < u64.MAX }
     requires stands { W.connection wire.old ≡ Stands }
     requires wire_failures { W.failures wire.old < u64.MAX }
     ensures ok { OnOk result ((owed : List InputValue) → Handed W.tells C.takes
         (capture_of config.now) (input_value input.now)
         owed core.old wire.old sink.old core.new wire.new sink.new) }
+    ensures config { OnOk result (core.new.speaker.config ≡ config.now) }
     ensures err { OnErr result ((owed : List InputValue) → HandingCut W.tells C.takes
         (capture_of config.now) (input_value input.now)
         owed core.old wire.old sink.old core.new wire.new sink.new) }
@@ -211,12 +215,14 @@ fn hear<A: Allocator + Copy, W: Wire, C: Sink>(
 ) -> Result<(), SpeakFault>
     requires families { family_of config.now.parts.session.peer
         ≡ family_of config.now.parts.session.local }
+    requires config { core.old.speaker.config ≡ config.now }
     requires failures { C.failures sink.old < u64.MAX }
     requires stands { W.connection wire.old ≡ Stands }
     requires wire_failures { W.failures wire.old + 1 < u64.MAX }
     ensures ok { OnOk result (Done W.tells C.takes
         (capture_of config.now)
         [] core.old wire.old sink.old 1 (Tick ∷ []) core.new wire.new sink.new) }
+    ensures config { OnOk result (core.new.speaker.config ≡ config.now) }
     ensures err { OnErr result (Cut W.tells C.takes
         (capture_of config.now)
         [] core.old wire.old sink.old core.new wire.new sink.new) }
@@ -246,12 +252,14 @@ fn turn<A: Allocator + Copy, W: Wire, C: Sink>(
 ) -> Result<(), SpeakFault>
     requires families { family_of config.now.parts.session.peer
         ≡ family_of config.now.parts.session.local }
+    requires config { core.old.speaker.config ≡ config.now }
     requires failures { C.failures sink.old < u64.MAX }
     requires stands { W.connection wire.old ≡ Stands }
     requires wire_failures { W.failures wire.old + 2 < u64.MAX }
     ensures ok { OnOk result (Done W.tells C.takes
         (capture_of config.now)
         [] core.old wire.old sink.old 1 [] core.new wire.new sink.new) }
+    ensures config { OnOk result (core.new.speaker.config ≡ config.now) }
     ensures err { OnErr result (Cut W.tells C.takes
         (capture_of config.now)
         [] core.old wire.old sink.old core.new wire.new sink.new) }
@@ -277,6 +285,7 @@ fn talk<A: Allocator + Copy, W: Wire, C: Sink>(
 ) -> Result<u64, SpeakFault>
     requires families { family_of config.now.parts.session.peer
         ≡ family_of config.now.parts.session.local }
+    requires config { core.old.speaker.config ≡ config.now }
     requires failures { C.failures sink.old < u64.MAX }
     requires stands { W.connection wire.old ≡ Stands }
     requires wire_failures { W.failures wire.old + 3 < u64.MAX }
@@ -285,6 +294,7 @@ fn talk<A: Allocator + Copy, W: Wire, C: Sink>(
         [] core.old wire.old sink.old count [] core.new wire.new sink.new) }
     ensures most { IfOk result (λ count. count ≤ turns) }
     ensures enough { IfOk result (λ count. (count ≡ turns) ⊎ IsTrue (is_resting core.new)) }
+    ensures config { IfOk result (λ count. core.new.speaker.config ≡ config.now) }
     ensures err { OnErr result (Cut W.tells C.takes
         (capture_of config.now)
         [] core.old wire.old sink.old core.new wire.new sink.new) }
@@ -315,12 +325,14 @@ fn note<A: Allocator + Copy, W: Wire, C: Sink>(
 ) -> Result<(), SpeakFault>
     requires families { family_of config.now.parts.session.peer
         ≡ family_of config.now.parts.session.local }
+    requires config { core.old.speaker.config ≡ config.now }
     requires failures { C.failures sink.old < u64.MAX }
     requires silent { (b : CoreState) (second : ℕ) (records : List ShownRecord)
         → Chooses core.old (input_value input.now) second records b → sent_in records ≡ [] }
     ensures ok { OnOk result ((owed : List InputValue) → Noted W.tells C.takes
         (capture_of config.now)
         (input_value input.now) owed core.old wire.old sink.old core.new wire.new sink.new) }
+    ensures config { OnOk result (core.new.speaker.config ≡ config.now) }
     ensures err { OnErr result ((owed : List InputValue) → EnteringCut W.tells C.takes
         (capture_of config.now)
         (input_value input.now ∷ owed)
@@ -348,12 +360,14 @@ fn open<A: Allocator + Copy, W: Wire, C: Sink>(
 ) -> Result<bool, SpeakFault>
     requires families { family_of config.now.parts.session.peer
         ≡ family_of config.now.parts.session.local }
+    requires config { core.old.speaker.config ≡ config.now }
     requires failures { C.failures sink.old < u64.MAX }
     requires fresh { W.connection wire.old ≡ NotAsked }
     requires wire_failures { W.failures wire.old + 1 < u64.MAX }
     ensures ok { IfOk result (λ answer. Opened W.tells C.takes
         (capture_of config.now)
         answer core.old wire.old sink.old core.new wire.new sink.new) }
+    ensures config { IfOk result (λ answer. core.new.speaker.config ≡ config.now) }
     ensures err { OnErr result (Cut W.tells C.takes
         (capture_of config.now)
         [] core.old wire.old sink.old core.new wire.new sink.new) }
@@ -384,12 +398,14 @@ fn introduce<A: Allocator + Copy, W: Wire, C: Sink>(
 ) -> Result<(), SpeakFault>
     requires families { family_of config.now.parts.session.peer
         ≡ family_of config.now.parts.session.local }
+    requires config { core.old.speaker.config ≡ config.now }
     requires failures { C.failures sink.old < u64.MAX }
     requires idle { IsTrue (is_idle core.old) }
     ensures ok { OnOk result ((passive : Bool) → Begun W.tells C.takes
         (capture_of config.now)
         (first_owed own.now passive) core.old wire.old sink.old
         (first_owed [] passive) core.new wire.new sink.new) }
+    ensures config { OnOk result (core.new.speaker.config ≡ config.now) }
     ensures err { OnErr result ((passive : Bool) → Cut W.tells C.takes
         (capture_of config.now)
         (first_owed own.now passive)
@@ -420,12 +436,14 @@ fn begin<A: Allocator + Copy, W: Wire, C: Sink>(
 ) -> Result<(), SpeakFault>
     requires families { family_of config.now.parts.session.peer
         ≡ family_of config.now.parts.session.local }
+    requires config { core.old.speaker.config ≡ config.now }
     requires failures { C.failures sink.old < u64.MAX }
     requires idle { IsTrue (is_idle core.old) }
     ensures ok { OnOk result (Begun W.tells C.takes
         (capture_of config.now)
         (first_owed own.now passive) core.old wire.old sink.old
         [] core.new wire.new sink.new) }
+    ensures config { OnOk result (core.new.speaker.config ≡ config.now) }
     ensures err { OnErr result (Cut W.tells C.takes
         (capture_of config.now)
         (first_owed own.now passive)
@@ -453,6 +471,7 @@ pub(crate) fn close<A: Allocator + Copy, W: Wire, C: Sink>(
 ) -> Result<(), SpeakFault>
     requires families { family_of config.now.parts.session.peer
         ≡ family_of config.now.parts.session.local }
+    requires config { core.old.speaker.config ≡ config.now }
     requires failures { C.failures sink.old < u64.MAX }
     requires wire_failures { W.failures wire.old < u64.MAX }
     requires ready { IsTrue (is_resting core.old) ⊎ (W.connection wire.old ≡ Stands) }
@@ -484,6 +503,7 @@ pub(crate) fn converse<A: Allocator + Copy, W: Wire, C: Sink>(
 ) -> Result<u64, SpeakFault>
     requires families { family_of config.now.parts.session.peer
         ≡ family_of config.now.parts.session.local }
+    requires config { core.old.speaker.config ≡ config.now }
     requires failures { C.failures sink.old < u64.MAX }
     requires idle { IsTrue (is_idle core.old) }
     requires fresh { W.connection wire.old ≡ NotAsked }
@@ -493,6 +513,7 @@ pub(crate) fn converse<A: Allocator + Copy, W: Wire, C: Sink>(
         count core.new wire.new sink.new) }
     ensures most { IfOk result (λ count. count ≤ turns) }
     ensures enough { IfOk result (λ count. (count ≡ turns) ⊎ IsTrue (is_resting core.new)) }
+    ensures config { IfOk result (λ count. core.new.speaker.config ≡ config.now) }
     ensures err { OnErr result (Cut W.tells C.takes (capture_of config.now)
         (first_owed own.now passive)
         core.old wire.old sink.old core.new wire.new sink.new) }

@@ -2,7 +2,7 @@
 use Rattle.std.proofs.Common.{◌≡◌, ◌≤◌, ◌∷◌, ◌-◌, [], All, ℕ, List, length, refl, inl, inr, arith}
 use Rattle.std.proofs.lemmas.List.{length-drop}
 use Rattle.std.proofs.lemmas.List.Elements.{All-head, All-tail}
-use Rattle.bgp_wire.specs.declared.header.Limit.TheVariants.{Plain}
+use Rattle.bgp_wire.specs.declared.header.Limit.{Limit}
 use Rattle.bgp_wire.specs.Header.{header_of, length_of}
 use Rattle.bgp_wire.specs.Message.{body_of}
 use Rattle.bgp_wire.specs.Framing.{IsFrame}
@@ -19,39 +19,39 @@ two_first (code ∷ []) few = absurd (omega arith)
 two_first (code ∷ subcode ∷ detail) few = (code, subcode, detail, refl)
 
 -- how long the body of a frame is
-body_length : (frame : List ℕ) (least : ℕ) → IsFrame Plain frame → least ≤ length_of (header_of frame)
+body_length : (limit : Limit) (frame : List ℕ) (least : ℕ) → IsFrame limit frame → least ≤ length_of (header_of frame)
     → least - 19 ≤ length (body_of frame)
-body_length frame least whole enough = omega (arith, whole.whole, length-drop 19 frame)
+body_length limit frame least whole enough = omega (arith, whole.whole, length-drop 19 frame)
 
-pub each_message : (frame : List ℕ) → IsFrame Plain frame → (message : Message) × Says frame message
-each_message frame whole = elim (type_of_frame Plain frame whole) [
+pub each_message : (limit : Limit) (frame : List ℕ) → IsFrame limit frame → (message : Message) × Says frame message
+each_message limit frame whole = elim (type_of_frame limit frame whole) [
   | inl is ↦
-      let fields : 10 ≤ length (body_of frame) = body_length frame 29 whole (least_holds Plain (header_of frame) 1 whole.sound is) in
-      let open_ : IsOpen frame = record { message = frame_is_message Plain frame 1 whole is; fields = fields } in
+      let fields : 10 ≤ length (body_of frame) = body_length limit frame 29 whole (least_holds limit (header_of frame) 1 whole.sound is) in
+      let open_ : IsOpen frame = record { message = frame_is_message limit frame 1 whole is; fields = fields } in
       elim (each_open frame open_) [
         | inl well ↦ (open_message (open_of frame), (is, well, refl))
         | inr fault ↦ (malformed_open_message fault.0, (is, fault.1))
       ]
   | inr others ↦ elim others [
-    | inl is ↦ elim (each_parts frame (frame_is_message Plain frame 2 whole is)) [
+    | inl is ↦ elim (each_parts frame (frame_is_message limit frame 2 whole is)) [
       | inl parts ↦ (update_message parts.0, (is, parts.1))
       | inr none ↦ (malformed_update_message, (is, none))
     ]
     | inr last ↦ elim last [
       | inl is ↦
-          let fields : 2 ≤ length (body_of frame) = body_length frame 21 whole (least_holds Plain (header_of frame) 3 whole.sound is) in
+          let fields : 2 ≤ length (body_of frame) = body_length limit frame 21 whole (least_holds limit (header_of frame) 3 whole.sound is) in
           let parts = two_first (body_of frame) fields in (
             notification_message parts.0 parts.1 parts.2,
-            (is, record { message = frame_is_message Plain frame 3 whole is; body = parts.3 }),
+            (is, record { message = frame_is_message limit frame 3 whole is; body = parts.3 }),
           )
-      | inr is ↦ (keepalive_message, (is, frame_is_keepalive Plain frame whole is))
+      | inr is ↦ (keepalive_message, (is, frame_is_keepalive limit frame whole is))
     ]
   ]
 ]
 
-pub each_say : (frames : List (List ℕ)) → All (IsFrame Plain) frames → (messages : List Message) × Say frames messages
-each_say [] each = ([], tt)
-each_say (frame ∷ frames) each =
-    let first = each_message frame (All-head (IsFrame Plain) frame frames each) in
-    let others = each_say frames (All-tail (IsFrame Plain) frame frames each) in
+pub each_say : (limit : Limit) (frames : List (List ℕ)) → All (IsFrame limit) frames → (messages : List Message) × Say frames messages
+each_say limit [] each = ([], tt)
+each_say limit (frame ∷ frames) each =
+    let first = each_message limit frame (All-head (IsFrame limit) frame frames each) in
+    let others = each_say limit frames (All-tail (IsFrame limit) frame frames each) in
     (first.0 ∷ others.0, (first.1, others.1))

@@ -3,9 +3,10 @@
 use Rattle.std.specs.Prelude.{◌≡◌, ◌⊎◌, ◌++◌, ℕ, List, [], ◌∷◌, is_some, codes}
 use Rattle.std.specs.Fmt.{decimal}
 use Rattle.bgp_prefix.specs.Shown.{ShownRecord, Received, Sent, Changed}
-use Rattle.bgp_wire.specs.declared.header.Limit.TheVariants.{Plain}
+use Rattle.bgp_prefix.specs.declared.session.Session.{Session}
+use Rattle.bgp_wire.specs.declared.header.Limit.{Limit}
 use Rattle.bgp_wire.specs.declared.header.HeaderFaults.{HeaderFaults}
-use Rattle.bgp_wire.specs.Header.{header_of}
+use Rattle.bgp_wire.specs.Header.{header_of, limit_with}
 use Rattle.bgp_wire.specs.Verdict.{AreFaults}
 use Rattle.bgp_wire.specs.Framing.{IsFrame, IsFaulty}
 use Rattle.mrt.specs.Fault.{fault_number, fault_name}
@@ -21,13 +22,14 @@ faulty_line faults =
     ++ (subcode_text (is_some faults.length) (codes " 1/2")
     ++ (subcode_text (is_some faults.kind) (codes " 1/3") ++ codes "\n")))
 
--- what is told of a message's octets: the line of what they say, or of a header with faults
-abbrev pub IsMessageText : List ℕ → List ℕ → Type 0
-IsMessageText octets text =
-    (IsFrame Plain octets
+-- What is told of a message's octets, where it may be so long: the line of what they say, or of a
+-- header with faults.
+abbrev pub IsMessageText : Limit → List ℕ → List ℕ → Type 0
+IsMessageText limit octets text =
+    (IsFrame limit octets
     × ((message : Message) × Says octets message × (text ≡ line_of message)))
-    ⊎ (IsFaulty Plain octets
-    × ((faults : HeaderFaults) × AreFaults Plain (header_of octets) faults
+    ⊎ (IsFaulty limit octets
+    × ((faults : HeaderFaults) × AreFaults limit (header_of octets) faults
     × (text ≡ faulty_line faults)))
 
 -- a message behind its second and how it went
@@ -40,21 +42,23 @@ change_line second old new =
     codes "@" ++ (decimal second ++ (codes " change " ++ (decimal old
     ++ (codes " " ++ (decimal new ++ codes "\n")))))
 
--- the line of a record
-abbrev pub IsRecordLine : ShownRecord → List ℕ → Type 0
-IsRecordLine (Received second octets) line =
-    (text : List ℕ) × IsMessageText octets text
+-- The line of a record of the session. A message that was received may be as long as the local
+-- system offers (RFC 8654, 4); one that was sent is told by the same limit, so that a longer one is
+-- told as a fault where the peer alone offers longer ones.
+abbrev pub IsRecordLine : Session → ShownRecord → List ℕ → Type 0
+IsRecordLine session (Received second octets) line =
+    (text : List ℕ) × IsMessageText (limit_with session.extended) octets text
     × (line ≡ message_line second (codes " received ") text)
-IsRecordLine (Sent second octets) line =
-    (text : List ℕ) × IsMessageText octets text
+IsRecordLine session (Sent second octets) line =
+    (text : List ℕ) × IsMessageText (limit_with session.extended) octets text
     × (line ≡ message_line second (codes " sent ") text)
-IsRecordLine (Changed second old new) line = line ≡ change_line second old new
+IsRecordLine session (Changed second old new) line = line ≡ change_line second old new
 
 -- the lines of records, one after another
-abbrev pub AreRecordLines : List ShownRecord → List ℕ → Type 0
-AreRecordLines [] text = text ≡ []
-AreRecordLines (shown ∷ records) text =
-    (line rest : List ℕ) × IsRecordLine shown line × AreRecordLines records rest
+abbrev pub AreRecordLines : Session → List ShownRecord → List ℕ → Type 0
+AreRecordLines session [] text = text ≡ []
+AreRecordLines session (shown ∷ records) text =
+    (line rest : List ℕ) × IsRecordLine session shown line × AreRecordLines session records rest
     × (text ≡ line ++ rest)
 
 -- a capture that is refused: the fault's number and name, and the record's offset

@@ -1,7 +1,7 @@
 //! One line a record of a capture (RFC 6396, 4.4), and one where the capture is refused.
 
 ghost use Rattle.std.specs.Prelude.{◌≤◌, ℕ, List, Option, length};
-ghost use Rattle.bgp_prefix.specs.declared.session.Session.{Session};
+ghost use Rattle.bgp_wire.specs.Header.{limit_with};
 ghost use Rattle.mrt.specs.Reader.{shown_of};
 ghost use Rattle.mrt.specs.Rules.{HasOtherLength};
 ghost use Rattle.mrt.specs.Written.{IsAllowed};
@@ -11,7 +11,7 @@ ghost use Rattle.bgp_text.specs.Capture.{message_line, refused_line};
 
 use crate::lines::Lines;
 use crate::messages::{put_message, put_subcodes};
-use bgp_prefix::Seconds;
+use bgp_prefix::{Seconds, Session};
 use bgp_wire::{HeaderFaults, HeaderVerdict, Limit, check_header, header_at};
 use mrt::{CaptureFault, Record, Sink};
 
@@ -23,32 +23,39 @@ fn put_faulty<W: Sink>(lines: &mut Lines<'_, W>, faults: HeaderFaults)
     put_subcodes(lines, faults);
 }
 
-/// The line of a message that a record holds.
-fn put_octets<W: Sink>(lines: &mut Lines<'_, W>, octets: &[u8])
+/// The line of a message that a record holds, where it may be so long.
+fn put_octets<W: Sink>(lines: &mut Lines<'_, W>, limit: Limit, octets: &[u8])
     requires long { 19 ≤ length octets.now }
-    requires whole { ¬ HasOtherLength octets.now }
-    ensures { (text : List ℕ) × IsMessageText octets.now text × Writes lines.old lines.new text }
+    requires whole { ¬ HasOtherLength limit octets.now }
+    ensures { (text : List ℕ) × IsMessageText limit octets.now text
+        × Writes lines.old lines.new text }
 {
     let Some(header) = header_at(octets) else {
         unreachable!();
     };
-    match check_header(header, Limit::Plain) {
+    match check_header(header, limit) {
         HeaderVerdict::Whole(_, kind) => put_message(lines, kind, octets),
         HeaderVerdict::Faulty(faults) => put_faulty(lines, faults),
     }
 }
 
-/// A message behind its second and how it went.
-fn put_message_of<W: Sink>(lines: &mut Lines<'_, W>, second: Seconds, went: &str, octets: &[u8])
+/// A message of the session behind its second and how it went.
+fn put_message_of<W: Sink>(
+    lines: &mut Lines<'_, W>,
+    session: &Session,
+    second: Seconds,
+    went: &str,
+    octets: &[u8],
+)
     requires long { 19 ≤ length octets.now }
-    requires whole { ¬ HasOtherLength octets.now }
-    ensures { (text : List ℕ) × IsMessageText octets.now text
+    requires whole { ¬ HasOtherLength (limit_with session.now.extended) octets.now }
+    ensures { (text : List ℕ) × IsMessageText (limit_with session.now.extended) octets.now text
         × Writes lines.old lines.new (message_line second went.now text) }
 {
     lines.put(b"@");
     lines.put_decimal(second);
     lines.put(went.as_bytes());
-    put_octets(lines, octets);
+    put_octets(lines, Limit::with_extended(session.extended), octets);
 }
 
 /// The line of a change of state.
@@ -64,16 +71,17 @@ fn put_change<W: Sink>(lines: &mut Lines<'_, W>, second: Seconds, old: u16, new:
     lines.put(b"\n");
 }
 
-/// The line of a record that a capture of a session may have.
-pub fn put_record<W: Sink>(lines: &mut Lines<'_, W>, shown: &Record<'_>)
-    requires { (session : Session) × ((last : Option ℕ)
-        × IsAllowed session last (shown_of shown.now)) }
-    ensures { (line : List ℕ) × IsRecordLine (shown_of shown.now) line
+/// The line of a record that a capture of the session may have.
+pub fn put_record<W: Sink>(lines: &mut Lines<'_, W>, session: &Session, shown: &Record<'_>)
+    requires { (last : Option ℕ) × IsAllowed session.now last (shown_of shown.now) }
+    ensures { (line : List ℕ) × IsRecordLine session.now (shown_of shown.now) line
         × Writes lines.old lines.new line }
 {
     match shown {
-        Record::In(second, octets) => put_message_of(lines, *second, " received ", octets),
-        Record::Out(second, octets) => put_message_of(lines, *second, " sent ", octets),
+        Record::In(second, octets) => {
+            put_message_of(lines, session, *second, " received ", octets)
+        }
+        Record::Out(second, octets) => put_message_of(lines, session, *second, " sent ", octets),
         Record::Change(second, old, new) => put_change(lines, *second, *old, *new),
     }
 }

@@ -17,11 +17,11 @@ use Rattle.bgp_text.specs.Capture.{IsRecordLine, AreRecordLines}
 use Rattle.bgp_tool.specs.CaptureDecoding.{EndsAt}
 
 -- one line more
-lines_more : (records : List ShownRecord) (text : List ℕ) (shown : ShownRecord) (line : List ℕ) → AreRecordLines records text → IsRecordLine shown line
-    → AreRecordLines (records ++ shown ∷ []) (text ++ line)
-lines_more [] text shown line are is = (line, [], is, refl, ap (λ (t : List ℕ). t ++ line) are ∙ sym (append-nil line))
-lines_more (one ∷ records) text shown line are is =
-    (are.0, are.1 ++ line, are.2, lines_more records are.1 shown line are.3 is, ap (λ (t : List ℕ). t ++ line) are.4 ∙ append_assoc are.0 are.1 line)
+lines_more : (session : Session) (records : List ShownRecord) (text : List ℕ) (shown : ShownRecord) (line : List ℕ) → AreRecordLines session records text → IsRecordLine session shown line
+    → AreRecordLines session (records ++ shown ∷ []) (text ++ line)
+lines_more session [] text shown line are is = (line, [], is, refl, ap (λ (t : List ℕ). t ++ line) are ∙ sym (append-nil line))
+lines_more session (one ∷ records) text shown line are is =
+    (are.0, are.1 ++ line, are.2, lines_more session records are.1 shown line are.3 is, ap (λ (t : List ℕ). t ++ line) are.4 ∙ append_assoc are.0 are.1 line)
 
 no_length : (xs : List ℕ) → length xs ≡ 0 → xs ≡ []
 no_length [] none = refl
@@ -41,7 +41,7 @@ module _ {R : Type 0} (gives : R → R → List ℕ → Type 0) (has_ended : R �
     pub other : state.other ≡ first_other None pieces
     pub calm : state.fault ≡ None
     pub going : state.is_ended ≡ false
-    pub are_lines : AreRecordLines (records_of pieces) text
+    pub are_lines : AreRecordLines session (records_of pieces) text
 
   pub nothing_read : (state : ReaderState) → state ≡ fresh_reader → gives source source [] → SoFar source state []
   nothing_read state fresh nothing = record {
@@ -64,15 +64,12 @@ module _ {R : Type 0} (gives : R → R → List ℕ → Type 0) (has_ended : R �
 
   -- a record of the session is one that a capture may have
   pub allowed_answer : (now next : R) (state after : ReaderState) (shown : ShownRecord) → Answers gives has_ended session now next state after shown
-      → (s : Session) × ((last : Option ℕ) × IsAllowed s last shown)
+      → (last : Option ℕ) × IsAllowed session last shown
   allowed_answer now next state after shown answer =
       let piece = last_piece session state.last answer.skipped (Shown answer.octets) answer.pieces in (
-        session,
-        (
-          last_of state.last answer.skipped,
-          subst (λ (r : ShownRecord). IsAllowed session (last_of state.last answer.skipped) r) answer.shown
-              (each_allowed session (last_of state.last answer.skipped) answer.octets piece.0),
-        ),
+        last_of state.last answer.skipped,
+        subst (λ (r : ShownRecord). IsAllowed session (last_of state.last answer.skipped) r) answer.shown
+            (each_allowed session (last_of state.last answer.skipped) answer.octets piece.0),
       )
 
   -- it has octets
@@ -111,7 +108,7 @@ module _ {R : Type 0} (gives : R → R → List ℕ → Type 0) (has_ended : R �
       let before = so_far.passed in omega arith
 
   pub answered : (now next : R) (state after : ReaderState) (text line : List ℕ) (shown : ShownRecord) → SoFar now state text
-      → Answers gives has_ended session now next state after shown → IsRecordLine shown line → SoFar next after (text ++ line)
+      → Answers gives has_ended session now next state after shown → IsRecordLine session shown line → SoFar next after (text ++ line)
   answered now next state after text line shown so_far answer is =
       let more = answer.skipped ++ Shown answer.octets ∷ [] in
       let records = records_chain so_far.pieces more ∙ ap (λ (r : List ShownRecord). records_of so_far.pieces ++ r) (one_record answer.skipped answer.octets answer.only) in
@@ -124,15 +121,15 @@ module _ {R : Type 0} (gives : R → R → List ℕ → Type 0) (has_ended : R �
         other = ap (λ (s : ReaderState). s.other) answer.stands ∙ other_behind now state text so_far more;
         calm = ap (λ (s : ReaderState). s.fault) answer.stands ∙ so_far.calm;
         going = ap (λ (s : ReaderState). s.is_ended) answer.stands ∙ so_far.going;
-        are_lines = subst (λ (r : List ShownRecord). AreRecordLines r (text ++ line)) (sym records)
-            (lines_more (records_of so_far.pieces) text (shown_of answer.octets) line so_far.are_lines (subst (λ (r : ShownRecord). IsRecordLine r line) (sym answer.shown) is));
+        are_lines = subst (λ (r : List ShownRecord). AreRecordLines session r (text ++ line)) (sym records)
+            (lines_more session (records_of so_far.pieces) text (shown_of answer.octets) line so_far.are_lines (subst (λ (r : ShownRecord). IsRecordLine session r line) (sym answer.shown) is));
       }
 
   -- skipped records add no line
   lines_behind : (now : R) (state : ReaderState) (text : List ℕ) (so_far : SoFar now state text) (more : List Piece) → records_of more ≡ []
-      → AreRecordLines (records_of (so_far.pieces ++ more)) text
+      → AreRecordLines session (records_of (so_far.pieces ++ more)) text
   lines_behind now state text so_far more only =
-      subst (λ (r : List ShownRecord). AreRecordLines r text)
+      subst (λ (r : List ShownRecord). AreRecordLines session r text)
       (sym (records_chain so_far.pieces more ∙ ap (λ (r : List ShownRecord). records_of so_far.pieces ++ r) only ∙ append-nil (records_of so_far.pieces))) so_far.are_lines
 
   -- how it ends
@@ -143,7 +140,7 @@ module _ {R : Type 0} (gives : R → R → List ℕ → Type 0) (has_ended : R �
     pub gave : gives source next (joined pieces ++ rest)
     pub each : ArePieces session None pieces
     pub ends : EndsAt has_ended session next pieces rest answer
-    pub are_lines : AreRecordLines (records_of pieces) text
+    pub are_lines : AreRecordLines session (records_of pieces) text
 
   pub stops_at_end : {X : Type 0} (x : X) (now next : R) (state after : ReaderState) (text : List ℕ) → SoFar now state text
       → Ends gives has_ended session now next state after → Stops next after text (Ok x)

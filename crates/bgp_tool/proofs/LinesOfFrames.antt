@@ -3,7 +3,7 @@ use Rattle.std.proofs.Common.{◌≡◌, ◌∙◌, ◌++◌, ◌∷◌, [], ℕ
 use Rattle.std.proofs.lemmas.List.{flat_map_more}
 use Rattle.std.proofs.lemmas.List.Elements.{All-nil, All-push, All-append}
 use Rattle.std.proofs.lemmas.Grind.{flat_map-append}
-use Rattle.bgp_wire.specs.declared.header.Limit.TheVariants.{Plain}
+use Rattle.bgp_wire.specs.declared.header.Limit.{Limit}
 use Rattle.bgp_wire.specs.Framing.{IsFrame, joined}
 use Rattle.bgp_text.specs.Message.{Message, Says, Say}
 use Rattle.bgp_text.specs.Text.{line_of}
@@ -19,34 +19,34 @@ say_more [] others (m ∷ ms) more said then' = absurd said
 say_more (f ∷ fs) others [] more said then' = absurd said
 
 -- before the first frame
-pub no_lines : (octets : List ℕ) → AreLines octets octets []
-no_lines octets = record { frames = []; split = refl; each = All-nil (IsFrame Plain); messages = []; said = tt; text = refl }
+pub no_lines : (limit : Limit) (octets : List ℕ) → AreLines limit octets octets []
+no_lines limit octets = record { frames = []; split = refl; each = All-nil (IsFrame limit); messages = []; said = tt; text = refl }
 
 -- one frame more
-pub one_line_more : (octets rest behind lines frame : List ℕ) (message : Message) → AreLines octets rest lines → IsFrame Plain frame
-    → rest ≡ frame ++ behind → Says frame message → AreLines octets behind (lines ++ line_of message)
-one_line_more octets rest behind lines frame message so_far whole is says = record {
+pub one_line_more : {limit : Limit} (octets rest behind lines frame : List ℕ) (message : Message) → AreLines limit octets rest lines → IsFrame limit frame
+    → rest ≡ frame ++ behind → Says frame message → AreLines limit octets behind (lines ++ line_of message)
+one_line_more {limit} octets rest behind lines frame message so_far whole is says = record {
   frames = so_far.frames ++ frame ∷ [];
   split =
       so_far.split ∙ ap (λ (xs : List ℕ). joined so_far.frames ++ xs) is
       ∙ sym (append_assoc (joined so_far.frames) frame behind)
       ∙ ap (λ (xs : List ℕ). xs ++ behind) (flat_map_more (λ (f : List ℕ). f) [] so_far.frames frame);
-  each = All-push (IsFrame Plain) so_far.frames frame so_far.each whole;
+  each = All-push (IsFrame limit) so_far.frames frame so_far.each whole;
   messages = so_far.messages ++ message ∷ [];
   said = say_more so_far.frames (frame ∷ []) so_far.messages (message ∷ []) so_far.said (says, tt);
   text = ap (λ (xs : List ℕ). xs ++ line_of message) so_far.text ∙ flat_map_more line_of [] so_far.messages message;
 }
 
 -- more frames
-pub more_lines : (octets rest behind lines more : List ℕ) → AreLines octets rest lines → AreLines rest behind more
-    → AreLines octets behind (lines ++ more)
-more_lines octets rest behind lines more front back = record {
+pub more_lines : {limit : Limit} (octets rest behind lines more : List ℕ) → AreLines limit octets rest lines → AreLines limit rest behind more
+    → AreLines limit octets behind (lines ++ more)
+more_lines {limit} octets rest behind lines more front back = record {
   frames = front.frames ++ back.frames;
   split =
       front.split ∙ ap (λ (xs : List ℕ). joined front.frames ++ xs) back.split
       ∙ sym (append_assoc (joined front.frames) (joined back.frames) behind)
       ∙ ap (λ (xs : List ℕ). xs ++ behind) (sym (flat_map-append (λ (f : List ℕ). f) front.frames back.frames));
-  each = All-append (IsFrame Plain) front.frames back.frames front.each back.each;
+  each = All-append (IsFrame limit) front.frames back.frames front.each back.each;
   messages = front.messages ++ back.messages;
   said = say_more front.frames back.frames front.messages back.messages front.said back.said;
   text =
@@ -55,8 +55,8 @@ more_lines octets rest behind lines more front back = record {
 }
 
 -- more octets come behind the rest
-pub lines_fed : (octets rest lines piece : List ℕ) → AreLines octets rest lines
-    → AreLines (octets ++ piece) (rest ++ piece) lines
+pub lines_fed : {limit : Limit} (octets rest lines piece : List ℕ) → AreLines limit octets rest lines
+    → AreLines limit (octets ++ piece) (rest ++ piece) lines
 lines_fed octets rest lines piece so_far = record {
   frames = so_far.frames;
   split = ap (λ (xs : List ℕ). xs ++ piece) so_far.split ∙ append_assoc (joined so_far.frames) rest piece;

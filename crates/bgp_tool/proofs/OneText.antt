@@ -1,7 +1,7 @@
 -- Each stream has one text and one status.
 use Rattle.std.proofs.Common.{◌≡◌, ◌∙◌, ◌++◌, ℕ, List, length, refl, sym, ap, subst, inl, inr, arith}
 use Rattle.bgp_wire.specs.declared.header.HeaderFaults.{HeaderFaults}
-use Rattle.bgp_wire.specs.declared.header.Limit.TheVariants.{Plain}
+use Rattle.bgp_wire.specs.declared.header.Limit.{Limit}
 use Rattle.bgp_wire.specs.Header.{header_of}
 use Rattle.bgp_wire.specs.Verdict.{AreFaults}
 use Rattle.bgp_wire.proofs.OneFaultSet.{same_fields}
@@ -14,17 +14,17 @@ use Rattle.bgp_text.specs.Text.{fault_line}
 use Rattle.bgp_tool.specs.Decoding.{lines_of, IsLastLine, IsDecoded}
 
 -- the faults of one header print one line
-one_fault_line : (offset : ℕ) (header : List ℕ) (faults others : HeaderFaults) → AreFaults Plain header faults
-    → AreFaults Plain header others → fault_line offset faults ≡ fault_line offset others
+one_fault_line : (limit : Limit) (offset : ℕ) (header : List ℕ) (faults others : HeaderFaults) → AreFaults limit header faults
+    → AreFaults limit header others → fault_line offset faults ≡ fault_line offset others
 unfolding fault_line
-one_fault_line offset header faults others h k =
-    let same = same_fields Plain header faults others h k in
+one_fault_line limit offset header faults others h k =
+    let same = same_fields limit header faults others h k in
     rw (same.0, same.1, same.2) refl
 
 -- a rest has one last line and one status
-one_last_line : (offset : ℕ) (rest line other : List ℕ) (status code : ℕ) → IsLastLine offset rest line status
-    → IsLastLine offset rest other code → (line ≡ other) × (status ≡ code)
-one_last_line offset rest line other status code h k = elim h [
+one_last_line : (limit : Limit) (offset : ℕ) (rest line other : List ℕ) (status code : ℕ) → IsLastLine limit offset rest line status
+    → IsLastLine limit offset rest other code → (line ≡ other) × (status ≡ code)
+one_last_line limit offset rest line other status code h k = elim h [
   | inl a ↦ elim k [
     | inl b ↦ (a.1 ∙ sym b.1, a.2 ∙ sym b.2)
     | inr b ↦ elim b [
@@ -37,15 +37,15 @@ one_last_line offset rest line other status code h k = elim h [
       | inl c ↦ absurd (b.0 c.0)
       | inr c ↦ elim c [
         | inl d ↦ (b.2 ∙ sym d.2, b.3 ∙ sym d.3)
-        | inr d ↦ absurd (faulty_not_short Plain rest d.0 b.1)
+        | inr d ↦ absurd (faulty_not_short limit rest d.0 b.1)
       ]
     ]
     | inr b ↦ elim k [
       | inl c ↦ let few : length rest ≡ 0 = ap length c.0 in absurd (omega (arith, b.0.0))
       | inr c ↦ elim c [
-        | inl d ↦ absurd (faulty_not_short Plain rest b.0 d.1)
+        | inl d ↦ absurd (faulty_not_short limit rest b.0 d.1)
         | inr d ↦ (
-          b.2.2 ∙ one_fault_line offset (header_of rest) b.2.0 d.2.0 b.2.1 d.2.1 ∙ sym d.2.2,
+          b.2.2 ∙ one_fault_line limit offset (header_of rest) b.2.0 d.2.0 b.2.1 d.2.1 ∙ sym d.2.2,
           b.1 ∙ sym d.1,
         )
       ]
@@ -53,17 +53,17 @@ one_last_line offset rest line other status code h k = elim h [
   ]
 ]
 
-pub one_text : (stream text other : List ℕ) (status code : ℕ) → IsDecoded stream text status → IsDecoded stream other code
+pub one_text : (limit : Limit) (stream text other : List ℕ) (status code : ℕ) → IsDecoded limit stream text status → IsDecoded limit stream other code
     → (text ≡ other) × (status ≡ code)
-one_text stream text other status code h k =
-    let framing = one_framing Plain stream h.frames k.frames h.rest k.rest h.framing k.framing in
+one_text limit stream text other status code h k =
+    let framing = one_framing limit stream h.frames k.frames h.rest k.rest h.framing k.framing in
     let said : Say h.frames k.messages = subst (λ (fs : List (List ℕ)). Say fs k.messages) (sym framing.0) k.said in
     let messages = one_reading h.frames h.messages k.messages h.said said in
-    let ending : IsLastLine (length (joined h.frames)) h.rest k.last code =
-    subst (λ (fs : List (List ℕ)). IsLastLine (length (joined fs)) h.rest k.last code) (sym framing.0)
-    (subst (λ (r : List ℕ). IsLastLine (length (joined k.frames)) r k.last code) (sym framing.1) k.ending)
+    let ending : IsLastLine limit (length (joined h.frames)) h.rest k.last code =
+    subst (λ (fs : List (List ℕ)). IsLastLine limit (length (joined fs)) h.rest k.last code) (sym framing.0)
+    (subst (λ (r : List ℕ). IsLastLine limit (length (joined k.frames)) r k.last code) (sym framing.1) k.ending)
     in
-    let last = one_last_line (length (joined h.frames)) h.rest h.last k.last status code h.ending ending in (
+    let last = one_last_line limit (length (joined h.frames)) h.rest h.last k.last status code h.ending ending in (
       h.text ∙ ap (λ (ms : List Message). lines_of ms ++ h.last) messages ∙ ap (λ (l : List ℕ). lines_of k.messages ++ l) last.0
           ∙ sym k.text,
       last.1,

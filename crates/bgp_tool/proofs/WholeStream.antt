@@ -1,7 +1,7 @@
 -- The text of what was given is that of the whole stream, where nothing is left or a fault came.
 use Rattle.std.proofs.Common.{◌≡◌, ◌⊎◌, ◌∙◌, ◌++◌, ◌≤◌, ℕ, List, [], length, sym, ap, subst, inl, inr, append_assoc, append-nil, arith, length-append}
 use Rattle.std.proofs.lemmas.List.{take-append-le}
-use Rattle.bgp_wire.specs.declared.header.Limit.TheVariants.{Plain}
+use Rattle.bgp_wire.specs.declared.header.Limit.{Limit}
 use Rattle.bgp_wire.specs.Header.{header_of, IsSound}
 use Rattle.bgp_wire.specs.Verdict.{AreFaults}
 use Rattle.bgp_wire.specs.Framing.{IsFaulty, joined}
@@ -11,18 +11,18 @@ use Rattle.bgp_tool.specs.Decoding.{IsDecoded}
 same_header : (rest left : List ℕ) → 19 ≤ length rest → header_of (rest ++ left) ≡ header_of rest
 same_header rest left whole = take-append-le 19 rest left whole
 
-still_faulty : (rest left : List ℕ) → IsFaulty Plain rest → IsFaulty Plain (rest ++ left)
-still_faulty rest left faulty = (
+still_faulty : (limit : Limit) (rest left : List ℕ) → IsFaulty limit rest → IsFaulty limit (rest ++ left)
+still_faulty limit rest left faulty = (
   omega (arith, faulty.0, length-append rest left),
-  subst (λ (header : List ℕ). ¬ IsSound Plain header) (sym (same_header rest left faulty.0)) faulty.1,
+  subst (λ (header : List ℕ). ¬ IsSound limit header) (sym (same_header rest left faulty.0)) faulty.1,
 )
 
-pub whole_stream : (stream given left written : List ℕ) (status : ℕ) → stream ≡ given ++ left
-    → (((status ≡ 0) ⊎ (status ≡ 2)) → left ≡ []) → IsDecoded given written status → IsDecoded stream written status
-whole_stream stream given left written status is ended decoded =
-    let all : left ≡ [] → IsDecoded stream written status =
+pub whole_stream : {limit : Limit} (stream given left written : List ℕ) (status : ℕ) → stream ≡ given ++ left
+    → (((status ≡ 0) ⊎ (status ≡ 2)) → left ≡ []) → IsDecoded limit given written status → IsDecoded limit stream written status
+whole_stream {limit} stream given left written status is ended decoded =
+    let all : left ≡ [] → IsDecoded limit stream written status =
     λ nothing.
-    subst (λ (s : List ℕ). IsDecoded s written status)
+    subst (λ (s : List ℕ). IsDecoded limit s written status)
     (sym (is ∙ ap (λ (l : List ℕ). given ++ l) nothing ∙ append-nil given)) decoded
     in
     elim decoded.ending [
@@ -37,17 +37,17 @@ whole_stream stream given left written status is ended decoded =
                 is ∙ ap (λ (s : List ℕ). s ++ left) decoded.framing.whole
                 ∙ append_assoc (joined decoded.frames) decoded.rest left;
             each = decoded.framing.each;
-            last = inr (still_faulty decoded.rest left faulty.0);
+            last = inr (still_faulty limit decoded.rest left faulty.0);
           };
           messages = decoded.messages;
           said = decoded.said;
           last = decoded.last;
           ending = inr (inr (
-            still_faulty decoded.rest left faulty.0,
+            still_faulty limit decoded.rest left faulty.0,
             faulty.1,
             (
               faulty.2.0,
-              subst (λ (header : List ℕ). AreFaults Plain header faulty.2.0)
+              subst (λ (header : List ℕ). AreFaults limit header faulty.2.0)
                   (sym (same_header decoded.rest left faulty.0.0)) faulty.2.1,
               faulty.2.2,
             ),

@@ -46,7 +46,7 @@ module _ {R : Type 0} (has_ended : R → Bool) (session : Session) where
   EndsAt source pieces rest (Err fault) =
       (fault.offset ≡ length (joined pieces))
       × (IsRefused session (last_of None pieces) rest (has_ended source) fault.kind
-      ⊎ ((fault.kind ≡ kinds.Device) × IsBegun rest)
+      ⊎ ((fault.kind ≡ kinds.Device) × IsBegun session rest)
       ⊎ ((fault.kind ≡ kinds.Memory) × (pieces ≡ []) × (rest ≡ [])))
 
 -- What was given is pieces of a capture and a rest, and the lines of the pieces' records were put.
@@ -62,7 +62,7 @@ pub record PutsRecords {R W X : Type 0} {sink : sinks.Ghosts W} (gives : R → R
   pub each : ArePieces session None pieces
   pub ends : EndsAt has_ended session source' pieces rest answer
       ⊎ (IsOk answer × IsTrue lines'.outlet.has_failed)
-  pub are_lines : AreRecordLines (records_of pieces) text
+  pub are_lines : AreRecordLines session (records_of pieces) text
   pub wrote : Writes lines lines' text
 
 -- What was given is pieces of a capture and a rest, to where the octets end or until the sink has
@@ -84,7 +84,7 @@ pub record DecodesCapture {R W : Type 0} (gives : R → R → List ℕ → Type 
   -- one failure of the source more, where that is the fault
   pub counted : source_failures source' ≡ source_failures source + failures_of answer
   pub lines : List ℕ
-  pub are_lines : AreRecordLines (records_of pieces) lines
+  pub are_lines : AreRecordLines session (records_of pieces) lines
   pub written : List ℕ
   pub left : List ℕ
   pub took : takes sink sink' written

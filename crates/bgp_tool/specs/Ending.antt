@@ -2,7 +2,7 @@
 use Rattle.std.specs.Prelude.{◌≡◌, ◌≢◌, ◌++◌, ◌+◌, ◌-◌, ◌⊎◌, ℕ, List, [], All, length}
 use Rattle.std.specs.Prelude.{Bool, true, false, IsTrue, IsFalse}
 use Rattle.mrt.specs.declared.sink.Sink as sinks
-use Rattle.bgp_wire.specs.declared.header.Limit.TheVariants.{Plain}
+use Rattle.bgp_wire.specs.declared.header.Limit.{Limit}
 use Rattle.bgp_wire.specs.Framing.{IsFrame, IsShort, joined}
 use Rattle.bgp_wire.specs.Held.{Held}
 use Rattle.bgp_tool.specs.declared.decoding.End.{End}
@@ -23,23 +23,23 @@ status_of ends.SourceFailed = 5
 status_of ends.SinkFailed = 5
 
 -- the text is the lines of the frames that stand before the rest
-pub record AreLines (octets rest lines : List ℕ) : Type 0 where
+pub record AreLines (limit : Limit) (octets rest lines : List ℕ) : Type 0 where
   pub frames : List (List ℕ)
   pub split : octets ≡ joined frames ++ rest
-  pub each : All (IsFrame Plain) frames
+  pub each : All (IsFrame limit) frames
   pub messages : List Message
   pub said : Say frames messages
   pub text : lines ≡ lines_of messages
 
 -- The text that was written of what was given: all of it where the stream ended or a header with
 -- faults came, the lines of the frames so far where the source failed, and else a beginning.
-abbrev pub HasText : List ℕ → List ℕ → End → Type 0
-HasText given written ends.BetweenMessages = IsDecoded given written 0
-HasText given written ends.InsideMessage = IsDecoded given written 2
-HasText given written ends.AtFault = IsDecoded given written 3
-HasText given written ends.SourceFailed = IsSoFar given written
-HasText given written ends.OutOfMemory = IsBeginning given written
-HasText given written ends.SinkFailed = IsBeginning given written
+abbrev pub HasText : Limit → List ℕ → List ℕ → End → Type 0
+HasText limit given written ends.BetweenMessages = IsDecoded limit given written 0
+HasText limit given written ends.InsideMessage = IsDecoded limit given written 2
+HasText limit given written ends.AtFault = IsDecoded limit given written 3
+HasText limit given written ends.SourceFailed = IsSoFar limit given written
+HasText limit given written ends.OutOfMemory = IsBeginning limit given written
+HasText limit given written ends.SinkFailed = IsBeginning limit given written
 
 -- the source's count of failures
 abbrev pub source_failures : ℕ → End → ℕ
@@ -69,13 +69,13 @@ IsAtEnd ends.SourceFailed = ⊥
 IsAtEnd ends.SinkFailed = ⊥
 
 -- what was given and what was written when a decoding ended, by what the source gives
-pub record Reaches {R W : Type 0} {sink : sinks.Ghosts W} (gives : R → R → List ℕ → Type 0)
+pub record Reaches {R W : Type 0} {sink : sinks.Ghosts W} (limit : Limit) (gives : R → R → List ℕ → Type 0)
     (source source' : R) (lines lines' : Lines W sink) (end : End) : Type 0 where
   pub given : List ℕ
   pub text : List ℕ
   pub gave : gives source source' given
   pub wrote : Writes lines lines' text
-  pub has_text : HasText given text end
+  pub has_text : HasText limit given text end
   -- nothing is held back, and a failure of the sink is told
   pub handed_over : lines'.held.items ≡ []
   pub told : lines'.outlet.has_failed ≡ has_sink_failed end
@@ -92,11 +92,11 @@ module _ {W : Type 0} {sink : sinks.Ghosts W} (lines lines' : Lines W sink) wher
   -- header with faults, if one stands there. So many octets were given when what it held ends.
   abbrev pub PutsFrames : ℕ → Held → Held → Bool → Type 0
   PutsFrames given held left false =
-      (text : List ℕ) × AreLines held.octets left.octets text × IsShort Plain left.octets
+      (text : List ℕ) × AreLines held.limit held.octets left.octets text × IsShort held.limit left.octets
       × (left ≡ record held { octets = left.octets }) × Writes lines lines' text
   PutsFrames given held left true =
-      (rest text last : List ℕ) × AreLines held.octets rest text
-      × IsLastLine (given - length rest) rest last 3 × Writes lines lines' (text ++ last)
+      (rest text last : List ℕ) × AreLines held.limit held.octets rest text
+      × IsLastLine held.limit (given - length rest) rest last 3 × Writes lines lines' (text ++ last)
 
   -- so many octets behind the last frame, at the end of the stream, were told
   abbrev pub PutsRest : ℕ → End → Type 0

@@ -30,7 +30,7 @@ fn put_records<R: Source, W: Sink, A: Allocator + Copy>(
 {
     loop {
         match reader.next_record(source, session) {
-            Ok(Some(shown)) => put_record(lines, &shown),
+            Ok(Some(shown)) => put_record(lines, session, &shown),
             Ok(None) => return Ok(()),
             Err(fault) => return Err(fault),
         }

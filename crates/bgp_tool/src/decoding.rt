@@ -1,7 +1,6 @@
 //! `bgp decode` of a raw stream: the octets of one direction of a connection (RFC 4271, 4).
 
 ghost use Rattle.std.specs.Prelude.{◌≡◌, ◌<◌, ◌≤◌, ◌^◌, ◌+◌, ◌-◌, ◌⊎◌, IsTrue, length, false};
-ghost use Rattle.bgp_wire.specs.declared.header.Limit.TheVariants.{Plain};
 ghost use Rattle.bgp_tool.specs.Decoding.{CountsFailures, Decodes};
 ghost use Rattle.bgp_tool.specs.Ending.{PutsFrames, PutsRest, HandsOver};
 ghost use Rattle.bgp_tool.specs.Ending.{Reaches, IsAtEnd, source_failures};
@@ -61,7 +60,6 @@ fn put_frames<W: Sink, A: Allocator + Copy>(
     lines: &mut Lines<'_, W>,
     given: u64,
 ) -> bool
-    requires limit { frames.old.limit ≡ Plain }
     requires open { frames.old.is_closed ≡ false }
     requires given { length frames.old.octets ≤ given }
     ensures { PutsFrames lines.old lines.new given frames.old frames.new result }
@@ -105,16 +103,17 @@ const BLOCK: usize = 1 << 16;
 
 /// Decodes a stream to its end, to its first fault, or until something is refused.
 fn decode<R: Source, W: Sink, A: Allocator + Copy>(
+    limit: Limit,
     alloc: A,
     source: &mut R,
     lines: &mut Lines<'_, W>,
 ) -> End
     requires { R.failures source.old < u64.MAX }
-    ensures reaches { Reaches R.gives source.old source.new lines.old lines.new result }
+    ensures reaches { Reaches limit R.gives source.old source.new lines.old lines.new result }
     ensures source_count { R.failures source.new ≡ source_failures (R.failures source.old) result }
     ensures ended { IsAtEnd result → IsTrue (R.has_ended source.new) }
 {
-    let mut frames = Frames::new(alloc, Limit::Plain);
+    let mut frames = Frames::new(alloc, limit);
     let mut block = [0; BLOCK];
     let mut given = 0u64;
     'reads: loop {
@@ -142,7 +141,7 @@ fn decode<R: Source, W: Sink, A: Allocator + Copy>(
 
 /// Decodes a raw stream, the octets of one direction of a BGP connection: writes one line a message
 /// (bgp_text's `specs/Text.antt`), and a last one where the stream ends inside a message or stops
-/// being BGP.
+/// being BGP. A message may be as long as the limit says (RFC 4271, 4.1; RFC 8654, 4).
 ///
 /// Answers the exit status:
 ///
@@ -153,13 +152,14 @@ fn decode<R: Source, W: Sink, A: Allocator + Copy>(
 /// * 5: a device failed. Where it is the source, the lines of the frames that it gave are written,
 ///   and else a beginning of the text.
 pub fn decode_raw<R: Source, W: Sink, A: Allocator + Copy>(
+    limit: Limit,
     alloc: A,
     source: &mut R,
     sink: &mut W,
 ) -> u8
     requires source { R.failures source.old < 2 ^ 63 }
     requires sink { W.failures sink.old < 2 ^ 63 }
-    ensures text { Decodes R.gives W.takes source.old source.new sink.old sink.new
+    ensures text { Decodes limit R.gives W.takes source.old source.new sink.old sink.new
         (R.failures source.new ≡ R.failures source.old + 1) result }
     ensures failures { CountsFailures (R.failures source.old) (R.failures source.new)
         (W.failures sink.old) (W.failures sink.new) result }
@@ -167,7 +167,7 @@ pub fn decode_raw<R: Source, W: Sink, A: Allocator + Copy>(
     ensures statuses { result ≤ 5 }
 {
     let mut lines = Lines::new(sink);
-    let end = decode(alloc, source, &mut lines);
+    let end = decode(limit, alloc, source, &mut lines);
     // No effect: it ends the loan of the sink.
     lines.into_sink();
     end.status().code()

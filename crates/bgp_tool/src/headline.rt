@@ -12,6 +12,7 @@ use crate::judging::write_answer;
 use bgp_judge::{Tracker, judge, records_have_just_one_verdict};
 use bgp_open::Config;
 use bgp_speaker::{each_drive_can_be_written, each_drive_is_a_run};
+use bgp_wire::Limit;
 use mrt::{
     MemSink, MemSource, Sink, Source, each_capture_has_one_reading, written_captures_are_read,
 };
@@ -77,20 +78,24 @@ pub fn each_drive_is_judged_yes()
     each_drive_is_a_run();
 }
 
-/// The text of a stream of octets in memory, and the exit status.
+/// The text of a stream of octets in memory, whose messages may be so long, and the exit status.
 ///
 /// Where the status is 0, 2 or 3, the text is exactly the lines of the stream's one framing, with
 /// the last line that tells how it ends, and the status says which end it is
 /// ([`each_stream_has_one_text`](crate::each_stream_has_one_text)). Else memory was refused, to the
 /// splitter (4) or to the text (5), and the text is a beginning of that of the octets that were
 /// read.
-pub fn text_and_status<A: Allocator + Copy>(alloc: A, stream: Vec<u8, A>) -> (Vec<u8, A>, u8)
-    ensures text { result.1 < 4 → IsDecoded stream.items result.0.items result.1 }
-    ensures begun { IsBegun stream.items result.0.items }
+pub fn text_and_status<A: Allocator + Copy>(
+    limit: Limit,
+    alloc: A,
+    stream: Vec<u8, A>,
+) -> (Vec<u8, A>, u8)
+    ensures text { result.1 < 4 → IsDecoded limit stream.items result.0.items result.1 }
+    ensures begun { IsBegun limit stream.items result.0.items }
     ensures statuses { result.1 ≤ 5 }
 {
     let mut source = MemSource::new(stream);
     let mut sink = MemSink::new(alloc);
-    let status = decode_raw(alloc, &mut source, &mut sink);
+    let status = decode_raw(limit, alloc, &mut source, &mut sink);
     (sink.into_octets(), status)
 }

@@ -1,7 +1,7 @@
 //! A frame says one thing, and a stream has one text and one exit status.
 
 ghost use Rattle.std.specs.Prelude.{◌≡◌, ℕ, List};
-ghost use Rattle.bgp_wire.specs.declared.header.Limit.TheVariants.{Plain};
+ghost use Rattle.bgp_wire.specs.declared.header.Limit.{Limit};
 ghost use Rattle.bgp_wire.specs.Framing.{IsFrame};
 ghost use Rattle.bgp_text.specs.Message.{Message, Says};
 ghost use Rattle.bgp_tool.specs.Decoding.{IsDecoded};
@@ -9,13 +9,13 @@ ghost use Rattle.bgp_tool.specs.Decoding.{IsDecoded};
 /// Laws: each frame says one thing, by which its line is known; and each stream has one text and
 /// one exit status, which [`decode_raw`](crate::decode_raw) writes and answers.
 pub fn each_stream_has_one_text()
-    ensures says { (frame : List ℕ) → IsFrame Plain frame
+    ensures says { (limit : Limit) (frame : List ℕ) → IsFrame limit frame
         → (message : Message) × Says frame message }
     ensures says_once { (frame : List ℕ) (message other : Message)
         → Says frame message → Says frame other → message ≡ other }
-    ensures each { (stream : List ℕ)
-        → (text : List ℕ) × (status : ℕ) × IsDecoded stream text status }
-    ensures one { (stream text other : List ℕ) (status code : ℕ)
-        → IsDecoded stream text status → IsDecoded stream other code
+    ensures each { (limit : Limit) (stream : List ℕ)
+        → (text : List ℕ) × (status : ℕ) × IsDecoded limit stream text status }
+    ensures one { (limit : Limit) (stream text other : List ℕ) (status code : ℕ)
+        → IsDecoded limit stream text status → IsDecoded limit stream other code
         → (text ≡ other) × (status ≡ code) }
 {}

@@ -10,6 +10,7 @@ mod speaking;
 mod updates;
 
 use bgp_tool::*;
+use bgp_wire::Limit;
 use bgp_wire::vectors::{
     ADMINISTRATIVE_SHUTDOWN, ANNOUNCES_10, BAD_LENGTH_18, KEEPALIVE, KEEPALIVE_OF_18, OPEN_B,
     OPEN_WITH_ROUTE_REFRESH, OPEN_WITHOUT_PARAMETERS,
@@ -143,7 +144,7 @@ fn decoded<A: Allocator + Copy>(
     if let Some((call, upset)) = handling.sink {
         sink = sink.upset_at(call, upset);
     }
-    let answer = decode_raw(memory, &mut source, &mut sink);
+    let answer = decode_raw(Limit::Plain, memory, &mut source, &mut sink);
     (sink.into_octets(), answer)
 }
 
@@ -167,7 +168,7 @@ fn have_text(alloc: Global, messages: &[&[u8]], text: &[u8], status: u8) -> bool
     let Ok(octets) = joined(alloc, messages) else {
         return false;
     };
-    let (written, answer) = text_and_status(alloc, octets);
+    let (written, answer) = text_and_status(Limit::Plain, alloc, octets);
     same(&written, answer, text, status)
 }
 
@@ -359,7 +360,7 @@ fn a_refused_growth_leaves_a_beginning_of_the_text(rt: HostRuntime) -> Result<()
 fn status_on(heap: &LocalHeap, message: &[u8]) -> Option<u8> {
     let mut stream = Vec::new(heap);
     stream.extend_from_slice(message).ok()?;
-    let (_, answer) = text_and_status(heap, stream);
+    let (_, answer) = text_and_status(Limit::Plain, heap, stream);
     Some(answer)
 }
 

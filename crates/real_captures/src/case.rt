@@ -41,6 +41,7 @@ pub(crate) fn read_case(alloc: Global, block: &str) -> io::Result<Case> {
             "args" => {
                 case.session.peer = address_behind(rest, "--peer")?;
                 case.session.local = address_behind(rest, "--local")?;
+                case.session.extended = rest.split(' ').any(|word| word == "--extended");
             }
             "refresh" => case.session.refresh = true,
             "octets" => case.pieces.push(Piece {

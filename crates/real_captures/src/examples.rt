@@ -11,7 +11,7 @@ use std::{fs, io};
 
 /// The captures that lie in `judge/`, and the status of each. Beside each are its words, one a line
 /// with `{}` in the place of the capture, and its text.
-const EXAMPLES: [(&str, u8); 12] = [
+const EXAMPLES: [(&str, u8); 13] = [
     ("as-trans.b.mrt", 0),
     ("bird-frr.a.up.mrt", 0),
     ("clean-session.mrt", 0),
@@ -20,6 +20,7 @@ const EXAMPLES: [(&str, u8); 12] = [
     ("early-hold-expiry.mrt", 1),
     ("family-disabled.mrt", 0),
     ("hold-expiry.mrt", 0),
+    ("long-update.mrt", 0),
     ("missing-keepalive.mrt", 1),
     ("openbgpd-gobgp.b.mrt", 0),
     ("time-back.mrt", 3),

@@ -75,7 +75,7 @@ fn config_of(words: &str) -> Option<Config> {
             peer: address_behind(words, "--peer")?,
             local: address_behind(words, "--local")?,
             refresh: !has_flag(words, "--no-refresh"),
-            extended: false,
+            extended: has_flag(words, "--extended"),
         },
     })
 }

@@ -1,11 +1,12 @@
 //! Decodes and judges captures whose answers are known from elsewhere.
 //!
-//! Decoded are those of real routers' sessions, whose text is this program's; and two tables of
-//! captures, whose lines and statuses it compares. `cases.txt` was answered by another program,
-//! `rules.txt` was worked out by hand from RFC 6396.
+//! Decoded are those of real routers' sessions, whose text is this program's; and three tables of
+//! captures, whose lines and statuses it compares. `cases.txt` was answered by another program, and
+//! so was `cases-extended.txt`, once that knew extended messages (RFC 8654); `rules.txt` was worked
+//! out by hand from RFC 6396.
 //!
-//! Judged are four tables, by the plain tracker and by the compact one: `judged.txt`, random
-//! captures, and `recordings.txt`, those of real routers' sessions, were answered by a program that
+//! Judged are five tables, by the plain tracker and by the compact one: `judged.txt` and, with
+//! extended messages, `judged-extended.txt`, random captures, and `recordings.txt`, those of real routers' sessions, were answered by a program that
 //! was written apart from this one; `sessions.txt` was worked out by hand from RFC 4271, one
 //! session for each thing that it teaches, and `cuts.txt` is two records cut to each length. And
 //! each capture of `judged.txt` is altered twice: there both trackers answer alike. And the
@@ -47,13 +48,17 @@ fn decode_all<R: Files + Print + AllocGlobal>(rt: &R) -> io::Result<bool> {
     }
     let cases = compare(rt, "cases.txt", false)?;
     let rules = compare(rt, "rules.txt", true)?;
+    let cases_extended = compare(rt, "cases-extended.txt", false)?;
     let judged = compare_judged(rt, "judged.txt")?;
+    let judged_extended = compare_judged(rt, "judged-extended.txt")?;
     let sessions = compare_judged(rt, "sessions.txt")?;
     let cuts = compare_judged(rt, "cuts.txt")?;
     let recordings = compare_judged(rt, "recordings.txt")?;
     let altered = compare_altered(rt, "judged.txt")?;
     let examples = compare_examples(rt)?;
-    Ok(cases && rules && judged && sessions && cuts && recordings && altered && examples)
+    let decoded = cases && rules && cases_extended;
+    let all_judged = judged && judged_extended && sessions && cuts && recordings;
+    Ok(decoded && all_judged && altered && examples)
 }
 
 /// Prints each case of a table that is not so, and then how many there were. Answers whether all

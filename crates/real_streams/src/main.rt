@@ -5,6 +5,7 @@
 mod sessions;
 
 use bgp_tool::{Status, decode_raw};
+use bgp_wire::Limit;
 use mrt::{FromRead, FromWrite};
 use sessions::print_sessions;
 use std::process::ExitCode;
@@ -40,19 +41,32 @@ fn main(rt: HostRuntime) -> ExitCode {
     }
 }
 
+/// The streams of a session in which both sides offer extended messages (RFC 8654): each has an
+/// UPDATE of more than 4096 octets, so it is decoded with them and without.
+static EXTENDED: [&str; 2] = ["extmsg.a-to-b.bgp", "extmsg.b-to-a.bgp"];
+
 /// Decodes all streams. Answers whether all UPDATEs are clean.
 fn run<R: Files + Print + AllocGlobal>(rt: &R) -> io::Result<bool> {
     for name in &STREAMS {
-        print_stream(rt, name)?;
+        print_stream(rt, Limit::Plain, name)?;
+    }
+    for name in &EXTENDED {
+        print_stream(rt, Limit::Plain, name)?;
+        print_stream(rt, Limit::Extended, name)?;
     }
     print_sessions(rt)
 }
 
-/// Prints a stream's name, its text, and the status that decoding it answers.
-fn print_stream<R: Files + Print + AllocGlobal>(rt: &R, name: &str) -> io::Result<()> {
+/// Prints a stream's name, its text, where its messages may be so long, and the status that decoding
+/// it answers.
+fn print_stream<R: Files + Print + AllocGlobal>(
+    rt: &R,
+    limit: Limit,
+    name: &str,
+) -> io::Result<()> {
     println!(rt; "{name}")?;
     let mut source = FromRead::new(fs::open(rt, name)?);
     let mut sink = FromWrite::new(io::writer(rt));
-    let status = decode_raw(rt.alloc(), &mut source, &mut sink);
+    let status = decode_raw(limit, rt.alloc(), &mut source, &mut sink);
     println!(rt; "status {status}")
 }

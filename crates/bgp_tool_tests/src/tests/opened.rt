@@ -9,6 +9,7 @@ use bgp_compact::CompactTracker;
 use bgp_judge::PlainTracker;
 use bgp_open::{Config, ConfigParts};
 use bgp_prefix::Session;
+use bgp_wire::Limit;
 use mrt::{Endpoints, FromWrite};
 use std::io::{self, ErrorKind};
 
@@ -63,7 +64,7 @@ pub(super) fn done<A: Allocator + Copy>(
     let file = file_of(task);
     let mut sink = FromWrite::new(Paper::new(alloc, full));
     let outcome = match task {
-        Task::Decode => decode_opened(memory, file, opened, &mut sink),
+        Task::Decode => decode_opened(Limit::Plain, memory, file, opened, &mut sink),
         Task::DecodeCapture => {
             decode_opened_capture(memory, &config.parts.session, file, opened, &mut sink)
         }

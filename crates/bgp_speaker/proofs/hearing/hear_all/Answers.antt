@@ -30,7 +30,7 @@ returns-in-More g c routes =
     let held = c.loop-frames.frames in
     ends_short routes c.args.speaker.now c.args.kept.now.keys c.args.t c.args.frames.now.octets held.octets c.next.follows.lender-at-none c.args.draft.now c.loop-frames.draft
     (c.loop-frames.invariant.goes routes) (subst (λ (l : Limit). IsShort l held.octets) c.loop-frames.invariant.limit c.in-More.ensures.first)
-    (now ∙ held_is held c.loop-frames.invariant.limit c.loop-frames.invariant.unclosed)
+    (now ∙ held_is _ held c.loop-frames.invariant.limit c.loop-frames.invariant.unclosed)
 
 pub returns-in-Fault : goal.returns-in-Fault
 returns-in-Fault g c routes =

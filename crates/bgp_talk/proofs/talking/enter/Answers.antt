@@ -1,7 +1,9 @@
-use Rattle.std.proofs.Common.{arith, rules, ◌≡◌, [], ◌∷◌, sym, refl, map, subst}
+use Rattle.std.proofs.Common.{arith, rules, ◌≡◌, ◌∙◌, ap, [], ◌∷◌, sym, refl, map, subst}
 use Rattle.std.specs.List.{AllByRecursion}
 use Rattle.mrt.specs.Sink.{TakesBeginning}
+use Rattle.bgp_speaker.specs.Core.{CoreState}
 use Rattle.bgp_speaker.specs.Shown.{input_value, shown_value}
+use Rattle.bgp_open.specs.declared.config.Config.{Config}
 use Rattle.bgp_talk.specs.Account.{Clock}
 use Rattle.bgp_talk.specs.CoreFacts.{IsShort}
 use Rattle.bgp_talk.specs.Talk.{capture_of}
@@ -11,8 +13,9 @@ use Rattle.bgp_talk.proofs.talking.enter.Goals as goal
 
 pub write_records-requires-clause-short : goal.write_records-requires-clause-short
 write_records-requires-clause-short g c =
-    subst (λ (r : _). AllByRecursion IsShort (map shown_value r)) (sym c.as_slice.ensures.value)
-    (c.each_record_is_short.ensures _ _ _ _ _ (chosen_of _ _ _ _ _ _ c.again.ensures c.in-Ok.ensures.ok))
+    subst (λ (r : _). AllByRecursion (IsShort c.args.config.now) (map shown_value r)) (sym c.as_slice.ensures.value)
+    (subst (λ (config : Config). AllByRecursion (IsShort config) (map shown_value c.in-Ok.output.records.items)) c.requires.config
+    (c.each_record_is_short.ensures _ _ _ _ _ (chosen_of _ _ _ _ _ _ c.again.ensures c.in-Ok.ensures.ok)))
 
 pub returns-in_default-clause-err : goal.returns-in_default-clause-err
 returns-in_default-clause-err g c =
@@ -73,3 +76,8 @@ returns-clause-ok g c =
       chosen = chosen_of _ _ _ _ _ _ c.again.ensures c.in-Ok.ensures.ok;
       sends = sends_of _ _ _ _ _ c.in-Ok.ensures.ok;
     }
+
+pub returns-clause-config : goal.returns-clause-config
+returns-clause-config g c =
+    let chosen = chosen_of _ _ _ _ _ _ c.again.ensures c.in-Ok.ensures.ok in
+    ap (λ (v : CoreState). v.speaker.config) chosen.3 ∙ c.requires.config

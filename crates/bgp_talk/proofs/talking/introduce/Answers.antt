@@ -15,6 +15,7 @@ loop-first-init g c = record {
       g.met.W.Wire.joined g.met.C.Sink.joined (capture_joined c.args.config.now)
       (first_owed c.args.own.now passive) c.args.core.now c.args.wire.now c.args.sink.now (g.met.C.Sink.nothing c.args.sink.now) (g.met.W.Wire.nothing c.args.wire.now);
   idle = c.requires.idle;
+  config = c.requires.config;
   connection = refl;
   steady = refl;
   calm = refl;
@@ -31,6 +32,7 @@ loop-first-preserved g c =
           (subst (λ (r : List PrefixBits). Begun g.W.Wire.tells g.C.Sink.takes (capture_of c.args.config.now) (first_owed c.args.own.now passive) c.args.core.now c.args.wire.now c.args.sink.now (first_owed r passive) c.loop-first.core c.loop-first.wire c.loop-first.sink) is (c.loop-first.invariant.begun passive))
           (c.in-Ok.ensures.ok (first_owed c.in-Some.behind.now passive));
       idle = (idle_keeps_prefix c.loop-first.core c.note.new.core c.in-Some.first.now chosen.0 chosen.1 c.loop-first.invariant.idle chosen.2).0;
+      config = c.in-Ok.ensures.config;
       connection = search rules;
       steady = search rules;
       calm = search rules;

@@ -10,6 +10,7 @@ invariant-loop-first g l = record {
   begun : (passive : Bool) → Begun g.W.Wire.tells g.C.Sink.takes (capture_of l.config)
       (first_owed l.own passive) l.fn.core l.fn.wire l.fn.sink (first_owed l.rest passive) l.core l.wire l.sink;
   idle : IsTrue (is_idle l.core);
+  config : l.core.speaker.config ≡ l.config;
   connection : g.W.Wire.connection l.wire ≡ g.W.Wire.connection l.fn.wire;
   steady : g.W.Wire.failures l.wire ≡ g.W.Wire.failures l.fn.wire;
   calm : g.C.Sink.failures l.sink ≡ g.C.Sink.failures l.fn.sink;

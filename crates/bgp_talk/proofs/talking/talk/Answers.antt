@@ -14,6 +14,7 @@ loop-count-preserved g c =
           g.met.W.Wire.joined g.met.C.Sink.joined (capture_joined c.args.config.now)
           [] [] [] c.loop-count.count 1 _ _ _ _ _ _ _ _ _ awake c.loop-count.invariant.done c.in-Ok.ensures.ok;
       within = search rules;
+      config = c.in-Ok.ensures.config;
       stands = c.in-Ok.ensures.stands;
       few = (let f = c.in-Ok.ensures.wire_failures in omega (arith, f, same));
       steady = steady_more same c.in-Ok.ensures.steady;

@@ -10,6 +10,7 @@ invariant-loop-count g l = record {
   done : Done g.W.Wire.tells g.C.Sink.takes (capture_of l.config)
       [] l.fn.core l.fn.wire l.fn.sink l.count [] l.core l.wire l.sink;
   within : l.count ≤ l.turns;
+  config : l.core.speaker.config ≡ l.config;
   stands : g.W.Wire.connection l.wire ≡ Stands;
   few : g.W.Wire.failures l.wire ≤ g.W.Wire.failures l.fn.wire + 3;
   steady : IsTrue (is_resting l.core) ⊎ (g.W.Wire.failures l.wire ≡ g.W.Wire.failures l.fn.wire);

@@ -10,8 +10,8 @@ use Rattle.bgp_talk.proofs.talking.write_records.Goals as goal
 pub write_record-requires-clause-writable : goal.write_record-requires-clause-writable
 write_record-requires-clause-writable g c =
     let is : c.loop-first.rest.now ≡ c.in-Some.first.now ∷ c.in-Some.behind.now = search rules in
-    let short = (short_first _ _ _ is c.loop-first.invariant.short).0 in
-    (c.requires.families, writable c.args.config.now.parts.session (shown_of c.record.result) (subst IsShort (sym c.record.ensures) short))
+    let short = (short_first c.args.config.now _ _ _ is c.loop-first.invariant.short).0 in
+    (c.requires.families, writable c.args.config.now (shown_of c.record.result) (subst (IsShort c.args.config.now) (sym c.record.ensures) short))
 
 pub returns-then-is_err-clause-err : goal.returns-then-is_err-clause-err
 returns-then-is_err-clause-err g c =
@@ -34,6 +34,6 @@ loop-first-preserved g c =
         so_far.2 ∙ ap (λ (o : List ℕ). so_far.0 ++ o) (text_first c.args.config.now _ _ _ _ is c.record.ensures)
             ∙ sym (append_assoc so_far.0 _ _),
       );
-      short = (short_first _ _ _ is c.loop-first.invariant.short).1;
+      short = (short_first c.args.config.now _ _ _ is c.loop-first.invariant.short).1;
       calm = search rules;
     }

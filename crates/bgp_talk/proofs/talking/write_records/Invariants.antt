@@ -11,7 +11,7 @@ invariant-loop-first g l = record {
   written : (taken : List ℕ) × g.C.Sink.takes l.fn.sink l.sink taken
       × (capture_of l.config (map shown_value l.records)
       ≡ taken ++ capture_of l.config (map shown_value l.rest));
-  short : AllByRecursion IsShort (map shown_value l.rest);
+  short : AllByRecursion (IsShort l.config) (map shown_value l.rest);
   calm : g.C.Sink.failures l.sink ≡ g.C.Sink.failures l.fn.sink;
 }
 

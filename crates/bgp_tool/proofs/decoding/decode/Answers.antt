@@ -1,6 +1,6 @@
 use Rattle.std.proofs.Common.{◌≡◌, ◌∙◌, ◌+◌, ◌++◌, [], List, ℕ, length, take, false, inl, refl, sym, ap, subst, arith, length-append, append-nil, append_assoc, ◌-◌}
 use Rattle.std.proofs.lemmas.List.{length-take-le}
-use Rattle.bgp_wire.specs.declared.header.Limit.TheVariants.{Plain}
+use Rattle.bgp_wire.specs.declared.header.Limit.{Limit}
 use Rattle.bgp_wire.specs.Held.{Held, after_feed}
 use Rattle.bgp_tool.specs.declared.decoding.End.TheVariants as ends
 use Rattle.bgp_tool.specs.Decoding.{IsLastLine, IsDecoded}
@@ -12,13 +12,13 @@ use Rattle.bgp_tool.proofs.Reached.{finished, ended}
 use Rattle.bgp_tool.proofs.decoding.decode.Goals as goal
 
 -- octets that are held, where no fault was answered
-nothing_but : List ℕ → Held
-nothing_but octets = record { limit = Plain; octets = octets; is_closed = false }
+nothing_but : Limit → List ℕ → Held
+nothing_but limit octets = record { limit = limit; octets = octets; is_closed = false }
 
 -- a piece behind what is held, where no fault was answered
-fed_by : (held : Held) (piece : List ℕ) → held ≡ record { limit = Plain; octets = held.octets; is_closed = false }
-    → after_feed held piece ≡ record { limit = Plain; octets = held.octets ++ piece; is_closed = false }
-fed_by held piece state = ap (λ (h : Held). after_feed h piece) state
+fed_by : (limit : Limit) (held : Held) (piece : List ℕ) → held ≡ record { limit = limit; octets = held.octets; is_closed = false }
+    → after_feed held piece ≡ record { limit = limit; octets = held.octets ++ piece; is_closed = false }
+fed_by limit held piece state = ap (λ (h : Held). after_feed h piece) state
 
 -- the total counts the piece too
 total_of : (stream piece : List ℕ) (given count : ℕ) → given ≡ length stream → length piece ≡ count
@@ -31,7 +31,7 @@ unfolding nothing_but
 reads-init g c =
     let octets : c.new-frames.result.octets ≡ [] = ap (λ (h : Held). h.octets) c.new-frames.ensures in
     record {
-      state = c.new-frames.ensures ∙ ap (λ (o : List ℕ). nothing_but o) (sym octets);
+      state = c.new-frames.ensures ∙ ap (λ (o : List ℕ). nothing_but c.args.limit o) (sym octets);
       short = inl (omega (arith, ap length octets));
       failures = refl;
       so_far = (
@@ -39,7 +39,7 @@ reads-init g c =
         [],
         g.met.R.Source.nothing c.args.source.now,
         refl,
-        subst (λ (o : List ℕ). AreLines [] o []) (sym octets) (no_lines []),
+        subst (λ (o : List ℕ). AreLines c.args.limit [] o []) (sym octets) (no_lines c.args.limit []),
         nothing_yet g.W.Sink g.met.W.Sink.nothing c.args.lines.now.outlet c.args.lines.now.held.items,
       );
     }
@@ -81,7 +81,7 @@ returns-then-count-eq0-clause-reaches g c =
     let now = c.reads.invariant.so_far in
     let nothing = rw c.if-count-eq0.true at c.in-Ok-read.ensures.ok in
     let gave = rw append-nil at (g.met.R.Source.joined c.args.source.now c.reads.source c.read.new.self now.0 [] now.2 nothing) in
-    ended law g.R.Source.gives c.args.source.now c.read.new.self c.args.lines.now c.hand_over.new.self c.put_rest-end.new.lines
+    ended c.args.limit law g.R.Source.gives c.args.source.now c.read.new.self c.args.lines.now c.hand_over.new.self c.put_rest-end.new.lines
     c.hand_over-then-count-eq0.new.lines now.0 c.reads.frames.octets now.1 gave now.4 c.reads.invariant.short
     (and_nothing law now.5 c.in-Ok.ensures.writes) _ c.len.ensures c.put_rest-end.result c.hand_over-then-count-eq0.result
     c.put_rest-end.ensures c.hand_over-then-count-eq0.ensures
@@ -110,19 +110,19 @@ returns-then-put_frames-clause-reaches g c =
     let held = c.reads.frames.octets in
     let piece = take c.in-Ok-read.count c.read.new.buffer in
     let stream = now.0 ++ piece in
-    let fed = c.in-Ok-feed.ensures.ok ∙ fed_by c.reads.frames piece c.reads.invariant.state in
+    let fed = c.in-Ok-feed.ensures.ok ∙ fed_by c.args.limit c.reads.frames piece c.reads.invariant.state in
     let octets = ap (λ (h : Held). h.octets) fed in
     let count = total_of now.0 piece c.reads.given c.in-Ok-read.count now.3 (length-take-le c.in-Ok-read.count c.read.new.buffer c.in-Ok-read.ensures.bound) in
     let puts = c.if-put_frames.ensures in
     let rest = puts.0 in
-    let new_lines = subst (λ (o : List ℕ). AreLines o rest puts.1) octets puts.3 in
+    let new_lines = subst (λ (o : List ℕ). AreLines c.args.limit o rest puts.1) octets puts.3 in
     let all = more_lines stream (held ++ piece) rest now.1 puts.1 (lines_fed now.0 held now.1 piece now.4) new_lines in
-    let last = subst (λ (n : ℕ). IsLastLine (n - length rest) rest puts.2 3) count puts.4 in
-    finished law g.R.Source.gives c.args.source.now c.read.new.self c.args.lines.now c.put_frames.new.lines
+    let last = subst (λ (n : ℕ). IsLastLine c.args.limit (n - length rest) rest puts.2 3) count puts.4 in
+    finished c.args.limit law g.R.Source.gives c.args.source.now c.read.new.self c.args.lines.now c.put_frames.new.lines
     c.hand_over-then-put_frames.new.lines stream (now.1 ++ (puts.1 ++ puts.2)) ends.AtFault c.hand_over-then-put_frames.result
     (g.met.R.Source.joined c.args.source.now c.reads.source c.read.new.self now.0 piece now.2 c.in-Ok-read.ensures.ok)
     (and_then law (and_nothing law now.5 c.in-Ok.ensures.writes) puts.5)
-    (subst (λ (text : List ℕ). IsDecoded stream text 3) (append_assoc now.1 puts.1 puts.2)
+    (subst (λ (text : List ℕ). IsDecoded c.args.limit stream text 3) (append_assoc now.1 puts.1 puts.2)
     (decoded stream rest (now.1 ++ puts.1) puts.2 3 all last))
     refl c.hand_over-then-put_frames.ensures
 
@@ -132,11 +132,11 @@ reads-preserved g c =
     let now = c.reads.invariant.so_far in
     let held = c.reads.frames.octets in
     let piece = take c.in-Ok-read.count c.read.new.buffer in
-    let fed = c.in-Ok-feed.ensures.ok ∙ fed_by c.reads.frames piece c.reads.invariant.state in
+    let fed = c.in-Ok-feed.ensures.ok ∙ fed_by c.args.limit c.reads.frames piece c.reads.invariant.state in
     let octets = ap (λ (h : Held). h.octets) fed in
     let puts = c.if-put_frames.ensures in
     let left = c.put_frames.new.frames.octets in
-    let new_lines = subst (λ (o : List ℕ). AreLines o left puts.0) octets puts.1 in
+    let new_lines = subst (λ (o : List ℕ). AreLines c.args.limit o left puts.0) octets puts.1 in
     record {
       state = puts.3 ∙ ap (λ (h : Held). record h { octets = left }) fed;
       short = puts.2;

@@ -1,6 +1,5 @@
 use Rattle.std.proofs.Common.{◌≡◌, ◌∙◌, ◌++◌, ◌-◌, [], List, ℕ, length, drop, refl, sym, ap, subst, inr, arith}
 use Rattle.bgp_wire.specs.declared.header.Limit.{Limit}
-use Rattle.bgp_wire.specs.declared.header.Limit.TheVariants.{Plain}
 use Rattle.bgp_wire.specs.Header.{header_of}
 use Rattle.bgp_wire.specs.Verdict.{AreFaults}
 use Rattle.bgp_wire.specs.Framing.{IsFrame, IsShort, IsFaulty}
@@ -20,18 +19,18 @@ kept x y z o h k =
     k ∙ ap (λ (v : Held). record v { octets = o }) h
     ∙ ap (λ (p : List ℕ). record x { octets = p }) (sym (ap (λ (v : Held). v.octets) k))
 
-limit_is : (x y : Held) → y ≡ record x { octets = y.octets } → x.limit ≡ Plain → y.limit ≡ Plain
-limit_is x y h k = ap (λ (v : Held). v.limit) h ∙ k
+limit_is : (x y : Held) → y ≡ record x { octets = y.octets } → y.limit ≡ x.limit
+limit_is x y h = ap (λ (v : Held). v.limit) h
 
 -- a header with faults is the last line, by the offset at which it stands
-fault_is_last : (offset : ℕ) (limit : Limit) (rest header : List ℕ) (faults : _) → limit ≡ Plain → IsFaulty limit rest
-    → header ≡ header_of rest → AreFaults limit header faults → IsLastLine offset rest (fault_line offset faults) 3
-fault_is_last offset limit rest header faults plain faulty front are = inr (inr (
-  subst (λ (l : Limit). IsFaulty l rest) plain faulty,
+fault_is_last : (offset : ℕ) (limit own : Limit) (rest header : List ℕ) (faults : _) → limit ≡ own → IsFaulty limit rest
+    → header ≡ header_of rest → AreFaults limit header faults → IsLastLine own offset rest (fault_line offset faults) 3
+fault_is_last offset limit own rest header faults same faulty front are = inr (inr (
+  subst (λ (l : Limit). IsFaulty l rest) same faulty,
   refl,
   (
     faults,
-    subst (λ (l : Limit). AreFaults l (header_of rest) faults) plain (subst (λ (h : List ℕ). AreFaults limit h faults) front are),
+    subst (λ (l : Limit). AreFaults l (header_of rest) faults) same (subst (λ (h : List ℕ). AreFaults limit h faults) front are),
     refl,
   ),
 ))
@@ -43,7 +42,7 @@ loop-kind-init g c =
       state = refl;
       written = (
         [],
-        no_lines c.args.frames.now.octets,
+        no_lines c.args.frames.now.limit c.args.frames.now.octets,
         nothing_yet g.W.Sink g.met.W.Sink.nothing c.args.lines.now.outlet c.args.lines.now.held.items,
       );
     }
@@ -51,8 +50,8 @@ loop-kind-init g c =
 -- each frame says something
 pub put_message-requires-clause-says : goal.put_message-requires-clause-says
 put_message-requires-clause-says g c =
-    let limit = limit_is c.args.frames.now c.loop-kind.frames c.loop-kind.invariant.state c.requires.limit in
-    each_message c.in-Frame.frame.now (subst (λ (l : Limit). IsFrame l c.in-Frame.frame.now) limit c.in-Frame.ensures.first.0)
+    let limit = limit_is c.args.frames.now c.loop-kind.frames c.loop-kind.invariant.state in
+    each_message c.args.frames.now.limit c.in-Frame.frame.now (subst (λ (l : Limit). IsFrame l c.in-Frame.frame.now) limit c.in-Frame.ensures.first.0)
 
 pub loop-kind-preserved : goal.loop-kind-preserved
 loop-kind-preserved g c =
@@ -62,15 +61,15 @@ loop-kind-preserved g c =
     let so_far = c.loop-kind.invariant.written in
     let frame = c.in-Frame.frame.now in
     let behind = drop (length frame) c.loop-kind.frames.octets in
-    let limit = limit_is c.args.frames.now c.loop-kind.frames state c.requires.limit in
+    let limit = limit_is c.args.frames.now c.loop-kind.frames state in
     let whole = subst (λ (l : Limit). IsFrame l frame) limit c.in-Frame.ensures.first.0 in
-    let said = each_message frame whole in
+    let said = each_message c.args.frames.now.limit frame whole in
     let lines = one_line_more c.args.frames.now.octets c.loop-kind.frames.octets behind so_far.0 frame said.0 so_far.1 whole c.in-Frame.ensures.first.2 said.1 in
     record {
       state = kept c.args.frames.now c.loop-kind.frames c.next.follows.lender-at-none behind state now;
       written = (
         so_far.0 ++ line_of said.0,
-        subst (λ (o : List ℕ). AreLines c.args.frames.now.octets o (so_far.0 ++ line_of said.0)) (sym (ap (λ (v : Held). v.octets) now)) lines,
+        subst (λ (o : List ℕ). AreLines c.args.frames.now.limit c.args.frames.now.octets o (so_far.0 ++ line_of said.0)) (sym (ap (λ (v : Held). v.octets) now)) lines,
         and_then law so_far.2 (c.put_message.ensures said.0 said.1),
       );
     }
@@ -80,12 +79,12 @@ returns-in-More g c =
     let now = rw c.in-More.is at c.next.follows.holds-at-none in
     let state = c.loop-kind.invariant.state in
     let so_far = c.loop-kind.invariant.written in
-    let limit = limit_is c.args.frames.now c.loop-kind.frames state c.requires.limit in
+    let limit = limit_is c.args.frames.now c.loop-kind.frames state in
     let same : c.next.follows.lender-at-none.octets ≡ c.loop-kind.frames.octets = ap (λ (v : Held). v.octets) now in
     let short = subst (λ (l : Limit). IsShort l c.loop-kind.frames.octets) limit c.in-More.ensures.first in (
       so_far.0,
-      subst (λ (o : List ℕ). AreLines c.args.frames.now.octets o so_far.0) (sym same) so_far.1,
-      subst (λ (o : List ℕ). IsShort Plain o) (sym same) short,
+      subst (λ (o : List ℕ). AreLines c.args.frames.now.limit c.args.frames.now.octets o so_far.0) (sym same) so_far.1,
+      subst (λ (o : List ℕ). IsShort c.args.frames.now.limit o) (sym same) short,
       kept c.args.frames.now c.loop-kind.frames c.next.follows.lender-at-none c.loop-kind.frames.octets state now,
       so_far.2,
     )
@@ -100,10 +99,10 @@ returns-in-Fault g c =
     let held = rw now at c.len.ensures in
     let offset : c.offset_of_held-offset.result ≡ given - length rest = omega arith in
     let last = fault_line c.offset_of_held-offset.result c.in-Fault.faults in
-    let limit = limit_is c.args.frames.now c.loop-kind.frames c.loop-kind.invariant.state c.requires.limit in
+    let limit = limit_is c.args.frames.now c.loop-kind.frames c.loop-kind.invariant.state in
     let front = c.in-Fault.ensures.first in
-    let is_last = subst (λ (n : ℕ). IsLastLine n rest last 3) offset
-    (fault_is_last c.offset_of_held-offset.result _ rest c.in-Fault.field-1.now c.in-Fault.faults limit front.0 front.1 front.2)
+    let is_last = subst (λ (n : ℕ). IsLastLine c.args.frames.now.limit n rest last 3) offset
+    (fault_is_last c.offset_of_held-offset.result _ c.args.frames.now.limit rest c.in-Fault.field-1.now c.in-Fault.faults limit front.0 front.1 front.2)
     in (
       rest,
       so_far.0,

@@ -8,7 +8,7 @@ abbrev pub invariant-loop-kind : goal.invariant-loop-kind
 invariant-loop-kind g l =
     record {
       state : l.frames ≡ record l.fn.frames { octets = l.frames.octets };
-      written : (text : List ℕ) × AreLines l.fn.frames.octets l.frames.octets text × Writes l.fn.lines l.lines text;
+      written : (text : List ℕ) × AreLines l.fn.frames.limit l.fn.frames.octets l.frames.octets text × Writes l.fn.lines l.lines text;
     }
 
 abbrev pub decreases-loop-kind : goal.decreases-loop-kind

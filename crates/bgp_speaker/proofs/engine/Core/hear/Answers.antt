@@ -29,7 +29,7 @@ invariant_of-self g c =
       held = core.frames.octets;
     } in
     let draft = c.hear_all.new.draft in
-    let holds = holds_right draft.head c.forget_unconnected.new.frames c.hear_all.new.frames.octets c.forget_unconnected.ensures in
+    let holds = holds_right _ draft.head c.forget_unconnected.new.frames c.hear_all.new.frames.octets c.forget_unconnected.ensures in
     let now = c.args.self.now in
     let head = taken_head seen c.commit.new.self now (moment_of now.moment.session.routes draft) c.later-t.result c.self-2.view_is c.in_ok-output.ensures.ok.0 in
     (holds.0, holds.1, λ off. holds.2 (λ on. off (subst IsConnected (sym head) on)))
@@ -49,7 +49,7 @@ returns-clause-ok g c =
     let t = c.later-t.result in
     let draft = c.hear_all.new.draft in
     let left = c.hear_all.new.frames in
-    answers_on now seen c.commit.new.self octets c.feed.new.self.octets c.args.second t left c.forget_unconnected.new.frames c.draft-draft.result draft c.in_ok-output.output
+    answers_on _ now seen c.commit.new.self octets c.feed.new.self.octets c.args.second t left c.forget_unconnected.new.frames c.draft-draft.result draft c.in_ok-output.output
     (c.later-t.ensures ∙ ap (λ (s : CoreState). max s.second c.args.second) c.self.view_is)
     c.draft-draft.ensures (c.is_connected.ensures.0 (search rules))
     (fed c.self.inside.frames c.in_ok-frames.frames c.feed.new.self octets c.in_ok-frames.ensures c.in_ok-feed.ensures.ok c.self.invariant.1
