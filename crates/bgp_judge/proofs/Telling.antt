@@ -160,7 +160,7 @@ falling_held config T head routes octets wants turn falling h = elim falling.end
 table_more : (config : Config) (link : Link) (table : Routes) (messages : List (List ℕ)) (octets : List ℕ) (last next : Routes) → IsTableAfter config link table messages last
     → IsTableNext config link octets last next → IsTableAfter config link table (messages ++ octets ∷ []) next
 table_more config link table [] octets last next e is = (next, subst (λ (v : Routes). IsTableNext config link octets v next) e is, refl)
-table_more config link table (m ∷ messages) octets last next after is = (after.0, after.1, table_more link after.0 messages octets last next after.2 is)
+table_more config link table (m ∷ messages) octets last next after is = (after.0, after.1, table_more config link after.0 messages octets last next after.2 is)
 
 -- the families that are disabled
 disabled_kept : (changes : RouteChanges) (routes : Routes) → (routes_after changes routes).disabled ≡ routes.disabled
