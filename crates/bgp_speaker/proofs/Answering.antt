@@ -11,7 +11,6 @@ use Rattle.bgp_machine.specs.declared.state.Head.TheVariants.{Idle, Connect, Act
 use Rattle.bgp_rib.proofs.PrefixKeys.{same_tie}
 use Rattle.bgp_wire.specs.Held.{Held, after_feed}
 use Rattle.bgp_wire.specs.declared.header.Limit.{Limit}
-use Rattle.bgp_machine.specs.Heard.{received_limit}
 use Rattle.bgp_speaker.specs.declared.draft.Draft.{Draft}
 use Rattle.bgp_speaker.specs.declared.engine.Output.{Output}
 use Rattle.bgp_speaker.specs.declared.input.Cue.{Cue}
@@ -140,6 +139,9 @@ answers_off {X} s s2 octets second t before out later fresh off by is =
 -- the core as it was taken over, and then its octets
 pub taken_head : (seen after s : CoreState) (e : Moment) (t : ℕ) → seen ≡ after → after ≡ state_after s e t → seen.moment.session.head ≡ e.session.head
 taken_head seen after s e t same is = ap (λ (v : CoreState). v.moment.session.head) (same ∙ is)
+
+pub taken_speaker : (seen after s : CoreState) (e : Moment) (t : ℕ) → seen ≡ after → after ≡ state_after s e t → seen.speaker ≡ s.speaker
+taken_speaker seen after s e t same is = ap (λ (v : CoreState). v.speaker) (same ∙ is)
 
 taken_state : (seen after s : CoreState) (e : Moment) (t : ℕ) (held : Held) (octets : List ℕ) → seen ≡ after → after ≡ state_after s e t → held.octets ≡ octets
     → record seen { held = held.octets } ≡ record { speaker = s.speaker; moment = e; kept = s.kept; second = t; held = octets }

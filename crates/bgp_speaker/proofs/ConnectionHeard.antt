@@ -214,7 +214,7 @@ after_bytes s s2 c octets t records rest on up x held =
         on = λ still. subst (λ (v : List ℕ). AreHeard limit (c.octets ++ octets) (c.messages ++ received_in records) v) (sym (held ∙ held_on s2.moment.session.head rest still))
             (subst (λ (v : List (List ℕ)). AreHeard limit (c.octets ++ octets) v rest)
             (ap (λ (v : List (List ℕ)). (c.messages ++ received_in records) ++ v) (got.all still) ∙ append-nil (c.messages ++ received_in records)) split);
-        short = λ still. subst (λ (v : List ℕ). IsShort Plain v) (sym (held ∙ held_on s2.moment.session.head rest still))
+        short = λ still. subst (λ (v : List ℕ). IsShort limit v) (sym (held ∙ held_on s2.moment.session.head rest still))
             (fault_ends_all s.speaker s.kept t s.moment s2.moment (s.held ++ octets) records rest x still);
       };
     })

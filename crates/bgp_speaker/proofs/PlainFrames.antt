@@ -1,11 +1,9 @@
 -- A frame of at most 4096 octets is one whether longer messages may be or not.
-use Rattle.std.proofs.Common.{◌<◌, ◌≤◌, ◌==◌, ◌||◌, ◌≡◌, Bool, true, false, ℕ, List, length, inl, inr, sym, subst, if◌then◌else◌, arith}
+use Rattle.std.proofs.Common.{◌<◌, ◌≤◌, ◌==◌, ◌||◌, Bool, true, false, ℕ, List, length, inl, inr, subst, if◌then◌else◌, arith}
 use Rattle.bgp_wire.specs.declared.header.Limit.{Limit}
 use Rattle.bgp_wire.specs.declared.header.Limit.TheVariants.{Plain, Extended}
 use Rattle.bgp_wire.specs.Framing.{IsFrame}
-use Rattle.bgp_wire.specs.Header.{HasHeaderFault, IsBadLength, greatest_length, header_of, length_of, limit_with, type_of}
-use Rattle.bgp_open.specs.declared.link.Link.{Link}
-use Rattle.bgp_update.specs.Clean.{most_octets}
+use Rattle.bgp_wire.specs.Header.{HasHeaderFault, IsBadLength, greatest_length, header_of, length_of, type_of}
 
 long_anyway : (long : Bool) (count : ℕ) → (if long then 65535 else 4096) < count → 4096 < count
 long_anyway true count more = omega (arith, more)
@@ -65,12 +63,3 @@ short_is_plain limit octets short is =
       sound = λ subcode detail fault. is.sound subcode detail (fault_by_any limit (header_of octets) subcode detail within fault);
       whole = is.whole;
     }
-
--- ---- so many octets an UPDATE may have on every link
-
-fits_with : (extended : Bool) → 4096 ≤ greatest_length (limit_with extended) 2
-fits_with true = omega arith
-fits_with false = omega arith
-
-pub fits_on : (link : Link) (count : ℕ) → count ≤ 4096 → most_octets link < count → ⊥
-fits_on link count short more = let least = fits_with link.extended in absurd (omega (arith, least, short, more))

@@ -1,21 +1,27 @@
 -- An UPDATE about one prefix can be written, and reads as that.
-use Rattle.std.proofs.Common.{◌≡◌, ◌<◌, ℕ, Bool, true, false, List, [], ◌∷◌, ◌++◌, ◌≤◌, Some, if◌then◌else◌, length, drop, refl, sym, ap, subst, ◌∙◌, inl, inr}
+use Rattle.std.proofs.Common.{◌≡◌, ◌<◌, ℕ, Bool, true, false, List, [], ◌∷◌, ◌++◌, ◌≤◌, Some, if◌then◌else◌, length, drop, refl, sym, ap, subst, ◌∙◌, inl, inr, IsTrue, None, ◌⊎◌}
 use Rattle.std.proofs.lemmas.Bool.{cases_lt}
+use Rattle.std.proofs.lemmas.List.Elements.{All-cons, All-nil}
 use Rattle.bgp_prefix.specs.Prefix.{PrefixBits, IsPrefix}
 use Rattle.bgp_prefix.specs.declared.family.Family.{Family}
+use Rattle.bgp_prefix.specs.declared.family.Family.TheVariants.{V4, V6}
 use Rattle.bgp_wire.specs.Framing.{IsFrame}
 use Rattle.bgp_wire.specs.Header.{limit_with}
 use Rattle.bgp_open.specs.declared.link.Link.{Link}
 use Rattle.bgp_path.specs.declared.as_path.SegmentKind.TheVariants.{Sequence}
 use Rattle.bgp_path.specs.Path.{PathValue}
+use Rattle.bgp_path.proofs.Repeats.{none_are_distinct}
+use Rattle.bgp_attr.specs.ReadBack.{IsForPeer}
+use Rattle.bgp_update.specs.Found.{side_of}
 use Rattle.bgp_update.specs.Changes.{RouteChanges}
 use Rattle.bgp_update.specs.Clean.{IsClean}
 use Rattle.bgp_update_writer.specs.Applied.{IsJustApplied, changes_of_update}
+use Rattle.bgp_update_writer.specs.Refusals.{IsHopOf, IsSendable}
 use Rattle.bgp_update_writer.specs.Short.{HasFewNumbers, IsShortPath, OnePrefixCanBeWritten}
 use Rattle.bgp_update_writer.specs.Update.{Announces, Withdraws}
 use Rattle.bgp_update_writer.specs.Written.{update_octets}
 use Rattle.bgp_speaker.specs.declared.speaker.Speaker.{Speaker}
-use Rattle.bgp_speaker.specs.Said.{SaysChanges, announced, own_path}
+use Rattle.bgp_speaker.specs.Said.{SaysChanges, announced, own_hop, own_path}
 use Rattle.bgp_speaker.proofs.PlainFrames.{short_is_plain}
 
 few_numbers : (internal : Bool) (number : ℕ) → HasFewNumbers (if internal then [] else (record { kind = Sequence; numbers = number ∷ [] }) ∷ [])
@@ -64,3 +70,30 @@ pub withdrawn_short : OnePrefixCanBeWritten → (link : Link) (family : Family) 
     → length (update_octets link (Withdraws family (prefix ∷ []))) ≤ 4096
 withdrawn_short law link family prefix fits =
     not_above (length (update_octets link (Withdraws family (prefix ∷ [])))) ((law (record link { extended = false }) family prefix fits).1)
+
+-- the peer takes it as it is meant
+hop_fits : (speaker : Speaker) (family : Family) → IsHopOf family (own_hop speaker family)
+hop_fits speaker V4 = tt
+hop_fits speaker V6 = tt
+
+no_preference : (internal : Bool) → IsTrue internal ⊎ ((if internal then Some 100 else None) ≡ None)
+no_preference true = inl refl
+no_preference false = inr refl
+
+own_path_is_for_peer : (speaker : Speaker) (link : Link) (family : Family) → IsForPeer (side_of link) (own_path speaker link family)
+own_path_is_for_peer speaker link family = (
+  elim (no_preference link.internal) [
+    | inl internal ↦ inl internal
+    | inr none ↦ inr (none, refl, refl)
+  ],
+  none_are_distinct,
+)
+
+pub sendable : (speaker : Speaker) (link : Link) (prefix : PrefixBits) (family : Family) (path : PathValue) → family ≡ prefix.family
+    → path ≡ own_path speaker link family → IsSendable link (Announces family (prefix ∷ []) path)
+sendable speaker link prefix family path same e =
+    subst (λ (p : PathValue). IsSendable link (Announces family (prefix ∷ []) p)) (sym e) (
+      All-cons (λ (p : PrefixBits). p.family ≡ family) prefix [] (sym same) (All-nil (λ (p : PrefixBits). p.family ≡ family)),
+      hop_fits speaker family,
+      own_path_is_for_peer speaker link family,
+    )

@@ -8,7 +8,7 @@ ghost use Rattle.bgp_open.specs.Families.{contains};
 ghost use Rattle.bgp_open.specs.OwnOpen.{own_fields};
 ghost use Rattle.bgp_open.specs.Written.{notification_octets, open_octets};
 ghost use Rattle.bgp_update_writer.specs.Applied.{changes_of_update};
-ghost use Rattle.bgp_update_writer.specs.Refusals.{IsFamilyUsed, IsSendable};
+ghost use Rattle.bgp_update_writer.specs.Refusals.{IsFamilyUsed, IsSendable, IsTooLarge};
 ghost use Rattle.bgp_update_writer.specs.Update.{update_value};
 ghost use Rattle.bgp_update_writer.specs.Written.{update_octets};
 ghost use Rattle.bgp_speaker.specs.Drafts.{CanBeSaid, CanBeTold, news_changes, prefix_told};
@@ -261,7 +261,8 @@ fn written<A: Allocator + Copy>(
 ) -> Result<Vec<u8, A>, AllocError>
     requires used { IsFamilyUsed link.now (update_value update.now) }
     requires sendable { IsSendable link.now (update_value update.now) }
-    requires fits { length (update_octets link.now (update_value update.now)) ≤ 4096 }
+    requires fits { ¬ IsTooLarge link.now (update_value update.now) }
+    requires short { length (update_octets link.now (update_value update.now)) ≤ 4096 }
     ensures { IfOk result (λ m. SaysChanges (Some link.now)
         (changes_of_update (update_value update.now)) m.items) }
 {

@@ -1,5 +1,5 @@
 -- What a speaker's core shows is judged yes.
-use Rattle.std.proofs.Common.{◌≡◌, ◌+◌, ℕ, List, inl, inr, drop, take, sym, subst}
+use Rattle.std.proofs.Common.{◌≡◌, ◌+◌, ℕ, List, inl, inr, drop, take, sym, subst, refl}
 use Rattle.std.proofs.lemmas.List.{take-append-drop}
 use Rattle.bgp_prefix.specs.Shown.{ShownRecord}
 use Rattle.bgp_open.specs.declared.config.Config.{Config}
@@ -39,7 +39,7 @@ drives_spell reads written seconds speaker inputs e octets capture =
     let session = speaker.config.parts.session in
     subst (λ (o : List ℕ). Spells speaker.config.parts.session o capture.records) (sym capture.written)
     (reads session capture.peer_as capture.local_as capture.records
-    (written session speaker e inputs capture.records capture.takes capture.seconds capture.drives)
+    (written session speaker e inputs capture.records capture.takes refl capture.seconds capture.drives)
     (seconds (fresh_core speaker) e inputs capture.records capture.drives))
 
 pub not_refused : DrivesSpellTheirRecords → NeverBoth → DrivesAreNotRefused

@@ -1,10 +1,12 @@
 use Rattle.std.proofs.Common.{◌∙◌, ◌++◌, ap, max, rules, subst, sym}
+use Rattle.bgp_machine.specs.Heard.{received_limit}
 use Rattle.bgp_machine.specs.State.{state_value}
 use Rattle.bgp_rib.specs.Routes.{no_routes}
 use Rattle.bgp_wire.specs.Held.{Held}
+use Rattle.bgp_speaker.specs.declared.speaker.Speaker.{Speaker}
 use Rattle.bgp_speaker.specs.Core.{CoreState, IsConnected}
 use Rattle.bgp_speaker.specs.Drafts.{HearsWell, moment_of}
-use Rattle.bgp_speaker.proofs.Answering.{answers_off, answers_on, fed, holds_right, taken_head}
+use Rattle.bgp_speaker.proofs.Answering.{answers_off, answers_on, fed, holds_right, taken_head, taken_speaker}
 use Rattle.bgp_speaker.proofs.engine.Core.hear.Goals as goal
 
 pub returns-then-not-is_connected-clause-ok : goal.returns-then-not-is_connected-clause-ok
@@ -16,7 +18,7 @@ returns-then-not-is_connected-clause-ok g c =
 
 pub forget_unconnected-requires : goal.forget_unconnected-requires
 forget_unconnected-requires g c on =
-    let is = (c.in_ok-hear_all.ensures no_routes).left on in (ap (λ (v : Held). v.limit) is, ap (λ (v : Held). v.is_closed) is)
+    let is = (c.in_ok-hear_all.ensures no_routes).left on in (ap (λ (v : Held). v.limit) is ∙ sym c.received_limit-limit.ensures, ap (λ (v : Held). v.is_closed) is)
 
 pub invariant_of-self : goal.invariant_of-self
 invariant_of-self g c =
@@ -32,7 +34,10 @@ invariant_of-self g c =
     let holds = holds_right _ draft.head c.forget_unconnected.new.frames c.hear_all.new.frames.octets c.forget_unconnected.ensures in
     let now = c.args.self.now in
     let head = taken_head seen c.commit.new.self now (moment_of now.moment.session.routes draft) c.later-t.result c.self-2.view_is c.in_ok-output.ensures.ok.0 in
-    (holds.0, holds.1, λ off. holds.2 (λ on. off (subst IsConnected (sym head) on)))
+    let speaker = taken_speaker seen c.commit.new.self now (moment_of now.moment.session.routes draft) c.later-t.result c.self-2.view_is c.in_ok-output.ensures.ok.0 in
+    let limit = c.received_limit-limit.ensures ∙ ap (λ (s : CoreState). received_limit s.speaker.config) c.self.view_is
+    ∙ sym (ap (λ (s : Speaker). received_limit s.config) speaker) in
+    (holds.0 ∙ limit, holds.1, λ off. holds.2 (λ on. off (subst IsConnected (sym head) on)))
 
 pub returns-clause-ok : goal.returns-clause-ok
 returns-clause-ok g c =
