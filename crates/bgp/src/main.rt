@@ -4,7 +4,6 @@
 
 mod devices;
 mod speaker;
-mod watched;
 
 use bgp_tool::{Command, Status, command_line, words_status};
 use bgp_wire::Limit;

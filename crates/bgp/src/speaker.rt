@@ -5,11 +5,11 @@ ghost use Rattle.bgp_prefix.specs.Address.{family_of};
 ghost use Rattle.bgp_talk.specs.declared.wire.Connection.TheVariants.{NotAsked};
 
 use crate::devices::tell;
-use crate::watched::Watched;
 use bgp_compact::CompactTracker;
 use bgp_open::Config;
 use bgp_talk::SocketWire;
 use bgp_tool::{Note, Speaking, Start, Status, pair_session, speak_session};
+use bgp_watch::Watched;
 use mrt::FromWrite;
 use std::alloc::Global;
 use std::io::{ErrorKind, Write};

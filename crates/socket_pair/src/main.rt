@@ -1,6 +1,9 @@
 //! Both ends of a session over a real loopback connection, with real files: what `bgp pair` prints
-//! and answers, and what is told where its captures can't be made.
+//! and answers, and what is told where its captures can't be made. Then what is shown of these
+//! captures while they are written, as `bgp speak` does.
 #![tactic(auto)]
+
+mod watching;
 
 use bgp_compact::CompactTracker;
 use bgp_tool::pair_session;
@@ -18,10 +21,12 @@ fn main(rt: HostRuntime) -> ExitCode {
     }
 }
 
-/// Two pairs: one whose captures can be made, and one whose folder isn't there.
+/// Two pairs: one whose captures can be made, and one whose folder isn't there. Then what is shown
+/// of the captures of the first.
 fn run<R: Net + Files + Print + AllocGlobal>(rt: &R) -> io::Result<()> {
     pair(rt, "pair.mrt")?;
-    pair(rt, "no_folder/pair.mrt")
+    pair(rt, "no_folder/pair.mrt")?;
+    watching::show(rt, "pair.mrt", "pair.mrt.right")
 }
 
 /// Prints what a pair prints, its exit status, and what is told of it.

@@ -14,8 +14,9 @@ use std::io::Print;
 /// The octets of a record's header, whose last four are the length of its body (RFC 6396, 2).
 const HEADER: usize = 12;
 
-/// The octets of the longest record of a capture, with a message of 65535 octets (RFC 8654).
-const RECORD: usize = HEADER + 65583;
+/// The octets of the longest record of a capture: its body has 48 before an extended message, of
+/// 65535 octets at the most (RFC 8654, 4).
+const RECORD: usize = HEADER + 48 + 65535;
 
 /// What prints the records of one session, as `decode --mrt` does, from their octets.
 #[derive(Drop)]
