@@ -1,5 +1,5 @@
 -- An UPDATE about one prefix can be written, and reads as that.
-use Rattle.std.proofs.Common.{◌≡◌, ◌<◌, ℕ, Bool, true, false, List, [], ◌∷◌, ◌++◌, ◌≤◌, Some, if◌then◌else◌, length, drop, refl, sym, ap, subst, ◌∙◌, inl, inr, IsTrue, None, ◌⊎◌}
+use Rattle.std.proofs.Common.{◌≡◌, ◌<◌, ℕ, Bool, true, false, List, [], ◌∷◌, ◌++◌, ◌≤◌, Some, if◌then◌else◌, length, drop, refl, sym, ap, subst, ◌∙◌, inl, inr, IsTrue, None, ◌⊎◌, Option}
 use Rattle.std.proofs.lemmas.Bool.{cases_lt}
 use Rattle.std.proofs.lemmas.List.Elements.{All-cons, All-nil}
 use Rattle.bgp_prefix.specs.Prefix.{PrefixBits, IsPrefix}
@@ -76,7 +76,10 @@ hop_fits : (speaker : Speaker) (family : Family) → IsHopOf family (own_hop spe
 hop_fits speaker V4 = tt
 hop_fits speaker V6 = tt
 
-no_preference : (internal : Bool) → IsTrue internal ⊎ ((if internal then Some 100 else None) ≡ None)
+abbrev preference : Bool → Option ℕ
+preference internal = if internal then Some 100 else None
+
+no_preference : (internal : Bool) → IsTrue internal ⊎ (preference internal ≡ None)
 no_preference true = inl refl
 no_preference false = inr refl
 
