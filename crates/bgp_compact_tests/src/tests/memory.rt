@@ -192,15 +192,12 @@ fn are_judged(alloc: Global, size: usize) -> Option<(bool, bool)> {
     Some((plain, compact))
 }
 
-/// A heap of so many octets has no room for the reader's buffer of 65583.
-const LEAST: usize = 57_392;
-
 #[test]
 fn a_refused_growth_gives_no_verdict(rt: HostRuntime) {
     let mut is_refused = (false, false);
     let mut is_done = (false, false);
     for step in 1..1024 {
-        is_done = are_judged(rt.alloc(), LEAST + 16 * step).expect(&rt, "another verdict");
+        is_done = are_judged(rt.alloc(), 16 * step).expect(&rt, "another verdict");
         is_refused = (is_refused.0 || !is_done.0, is_refused.1 || !is_done.1);
     }
     assert!(rt; is_refused == (true, true) && is_done == (true, true));
