@@ -1,6 +1,6 @@
 //! Laws: contracts of functions that do nothing.
 
-ghost use Rattle.std.specs.Prelude.{◌≡◌, ◌≤◌, ◌+◌};
+ghost use Rattle.std.specs.Prelude.{◌<◌, ◌≤◌, ◌+◌};
 ghost use Rattle.std.specs.Mem.{type_size};
 ghost use Rattle.std.specs.contracts.alloc.Global.{the_row as global_row};
 ghost use Rattle.bgp_open.specs.contracts.config.Config.{the_row as config_row};
@@ -11,18 +11,19 @@ ghost use Rattle.bgp_compact.specs.Table.{EachRunEndsWithTheTable, RecordsMakeOn
 
 use std::alloc::{Allocator, Global};
 
-/// Law: a tracker over the program's own allocator takes at most 240 octets, whatever it took: its
-/// configuration, its words, at most 72 octets, and its one table, with nothing beside them.
+/// Law: a tracker over the program's own allocator takes at most 256 octets, whatever it took: its
+/// configuration, its words, at most 76 octets, and its one table, with nothing beside them but the
+/// fewer than 16 octets that its alignment asks for.
 ///
 /// Words and configuration are `Copy`, so that nothing of them lies elsewhere. What does is the
 /// table's own: its routes, and room to note what one UPDATE writes, which stays until the session
 /// ends.
 pub fn trackers_have_a_fixed_size()
-    ensures tracker { type_size (tracker_row global_row ⟦<Global as Allocator>⟧) ≤ 240 }
-    ensures words { type_size words_row ≤ 72 }
+    ensures tracker { type_size (tracker_row global_row ⟦<Global as Allocator>⟧) ≤ 256 }
+    ensures words { type_size words_row ≤ 76 }
     ensures alone { type_size (tracker_row global_row ⟦<Global as Allocator>⟧)
-        ≡ type_size config_row + type_size words_row
-        + type_size (table_row global_row ⟦<Global as Allocator>⟧) }
+        < type_size config_row + type_size words_row
+        + type_size (table_row global_row ⟦<Global as Allocator>⟧) + 16 }
 {}
 
 /// Law: a session's records make at most one table (`specs/Table`). So the table of a tracker that
