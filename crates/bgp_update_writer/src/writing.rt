@@ -145,7 +145,8 @@ fn put_reachable<A: Allocator, B: Allocator>(
     value_len: u16,
 )
     requires value { value_len ≡ length (reach_octets path.now.next_hop prefixes.now) }
-    requires fits { length (field_octets link.now (Announces V6 prefixes.now path.now)) ≤ most_octets link.now }
+    requires fits { length (field_octets link.now (Announces V6 prefixes.now path.now))
+        ≤ most_octets link.now }
     requires room { vec_len out.old
         + length (field_octets link.now (Announces V6 prefixes.now path.now))
         ≤ vec_capacity out.old }

@@ -29,8 +29,8 @@ abbrev pub least_length : ℕ → ℕ
 least_length kind =
     if kind == 1 then 29 else if kind == 2 then 23 else if kind == 3 then 21 else 19
 
--- The greatest Length of a message of a type (4.1). As extended messages UPDATE and NOTIFICATION may
--- have all that the field can say; OPEN, KEEPALIVE and types that are unknown have the same as
+-- The greatest Length of a message of a type (4.1). As extended messages UPDATE and NOTIFICATION
+-- may have all that the field can say; OPEN, KEEPALIVE and types that are unknown have the same as
 -- before (RFC 8654, 4; of the unknown ones it says nothing: profile).
 abbrev pub greatest_length : Limit → ℕ → ℕ
 greatest_length Plain kind = 4096

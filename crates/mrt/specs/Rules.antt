@@ -37,8 +37,8 @@ place_of octets = record {
 abbrev pub IsCut : Place → Type 0
 IsCut place = place.left < 12 + place.header.count
 
--- The most octets of a body that is read: 48 before a message of 65535 where the local system offers
--- extended messages (RFC 8654), which it may then receive, and else 8192.
+-- The most octets of a body that is read: 48 before a message of 65535 where the local system
+-- offers extended messages (RFC 8654), which it may then receive, and else 8192.
 unfoldable pub body_limit : Session → ℕ
 body_limit session = if session.extended then 65583 else 8192
 

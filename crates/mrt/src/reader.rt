@@ -67,8 +67,8 @@ fn record_of(found: Found, buffer: &[u8]) -> Record<'_>
 }
 
 /// Reads the records of one session from a capture. It holds the body of one record at the most, in
-/// a buffer of 65583 octets, takes no octets beyond the record that it answers, and asks for no more
-/// than that record lacks: who reads from a file puts a buffer between.
+/// a buffer of 65583 octets, takes no octets beyond the record that it answers, and asks for no
+/// more than that record lacks: who reads from a file puts a buffer between.
 ///
 /// After a fault it answers that fault for good, and after the end the end.
 #[derive(Drop)]
