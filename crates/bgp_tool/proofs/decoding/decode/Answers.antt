@@ -1,6 +1,7 @@
 use Rattle.std.proofs.Common.{◌≡◌, ◌∙◌, ◌+◌, ◌++◌, [], List, ℕ, length, take, false, inl, refl, sym, ap, subst, arith, length-append, append-nil, append_assoc, ◌-◌}
 use Rattle.std.proofs.lemmas.List.{length-take-le}
 use Rattle.bgp_wire.specs.declared.header.Limit.{Limit}
+use Rattle.bgp_wire.specs.Framing.{IsShort}
 use Rattle.bgp_wire.specs.Held.{Held, after_feed}
 use Rattle.bgp_tool.specs.declared.decoding.End.TheVariants as ends
 use Rattle.bgp_tool.specs.Decoding.{IsLastLine, IsDecoded}
@@ -19,6 +20,11 @@ nothing_but limit octets = record { limit = limit; octets = octets; is_closed = 
 fed_by : (limit : Limit) (held : Held) (piece : List ℕ) → held ≡ record { limit = limit; octets = held.octets; is_closed = false }
     → after_feed held piece ≡ record { limit = limit; octets = held.octets ++ piece; is_closed = false }
 fed_by limit held piece state = ap (λ (h : Held). after_feed h piece) state
+
+-- what holds of what is held holds of its limit and its octets
+by_fields : (P : Limit → List ℕ → Type 0) (held : Held) (limit : Limit) (octets : List ℕ)
+    → held ≡ record { limit = limit; octets = octets; is_closed = false } → P held.limit held.octets → P limit octets
+by_fields P held limit octets is holds = subst (λ (h : Held). P h.limit h.octets) is holds
 
 -- the total counts the piece too
 total_of : (stream piece : List ℕ) (given count : ℕ) → given ≡ length stream → length piece ≡ count
@@ -111,13 +117,13 @@ returns-then-put_frames-clause-reaches g c =
     let piece = take c.in-Ok-read.count c.read.new.buffer in
     let stream = now.0 ++ piece in
     let fed = c.in-Ok-feed.ensures.ok ∙ fed_by c.args.limit c.reads.frames piece c.reads.invariant.state in
-    let octets = ap (λ (h : Held). h.octets) fed in
     let count = total_of now.0 piece c.reads.given c.in-Ok-read.count now.3 (length-take-le c.in-Ok-read.count c.read.new.buffer c.in-Ok-read.ensures.bound) in
     let puts = c.if-put_frames.ensures in
     let rest = puts.0 in
-    let new_lines = subst (λ (o : List ℕ). AreLines c.args.limit o rest puts.1) octets puts.3 in
+    let new_lines = by_fields (λ (l : Limit) (o : List ℕ). AreLines l o rest puts.1) _ c.args.limit (held ++ piece) fed puts.3 in
     let all = more_lines stream (held ++ piece) rest now.1 puts.1 (lines_fed now.0 held now.1 piece now.4) new_lines in
-    let last = subst (λ (n : ℕ). IsLastLine c.args.limit (n - length rest) rest puts.2 3) count puts.4 in
+    let last = subst (λ (n : ℕ). IsLastLine c.args.limit (n - length rest) rest puts.2 3) count
+    (by_fields (λ (l : Limit) (o : List ℕ). IsLastLine l ((c.reads.given + c.in-Ok-read.count) - length rest) rest puts.2 3) _ c.args.limit (held ++ piece) fed puts.4) in
     finished c.args.limit law g.R.Source.gives c.args.source.now c.read.new.self c.args.lines.now c.put_frames.new.lines
     c.hand_over-then-put_frames.new.lines stream (now.1 ++ (puts.1 ++ puts.2)) ends.AtFault c.hand_over-then-put_frames.result
     (g.met.R.Source.joined c.args.source.now c.reads.source c.read.new.self now.0 piece now.2 c.in-Ok-read.ensures.ok)
@@ -133,13 +139,12 @@ reads-preserved g c =
     let held = c.reads.frames.octets in
     let piece = take c.in-Ok-read.count c.read.new.buffer in
     let fed = c.in-Ok-feed.ensures.ok ∙ fed_by c.args.limit c.reads.frames piece c.reads.invariant.state in
-    let octets = ap (λ (h : Held). h.octets) fed in
     let puts = c.if-put_frames.ensures in
     let left = c.put_frames.new.frames.octets in
-    let new_lines = subst (λ (o : List ℕ). AreLines c.args.limit o left puts.0) octets puts.1 in
+    let new_lines = by_fields (λ (l : Limit) (o : List ℕ). AreLines l o left puts.0) _ c.args.limit (held ++ piece) fed puts.1 in
     record {
       state = puts.3 ∙ ap (λ (h : Held). record h { octets = left }) fed;
-      short = puts.2;
+      short = subst (λ (l : Limit). IsShort l left) (ap (λ (h : Held). h.limit) fed) puts.2;
       failures = c.in-Ok-read.ensures.failures ∙ c.reads.invariant.failures;
       so_far = (
         now.0 ++ piece,
