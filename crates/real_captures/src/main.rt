@@ -1,13 +1,14 @@
 //! Decodes and judges captures whose answers are known from elsewhere.
 //!
-//! Decoded are those of real routers' sessions, whose text is this program's; and three tables of
+//! Decoded are those of real routers' sessions, whose text is this program's; and four tables of
 //! captures, whose lines and statuses it compares. `cases.txt` was answered by another program, and
-//! so was `cases-extended.txt`, once that knew extended messages (RFC 8654); `rules.txt` was worked
-//! out by hand from RFC 6396.
+//! so were `cases-extended.txt`, once that knew extended messages (RFC 8654), and `cases-large.txt`,
+//! once it knew large communities too (RFC 8092); `rules.txt` was worked out by hand from RFC 6396.
 //!
-//! Judged are five tables, by the plain tracker and by the compact one: `judged.txt` and, with
-//! extended messages, `judged-extended.txt`, random captures, and `recordings.txt`, those of real routers' sessions, were answered by a program that
-//! was written apart from this one; `sessions.txt` was worked out by hand from RFC 4271, one
+//! Judged are six tables, by the plain tracker and by the compact one: `judged.txt`, random captures,
+//! `judged-extended.txt` and `judged-large.txt`, more of them as that program answered them later,
+//! and `recordings.txt`, those of real routers' sessions, were answered by a program that was written
+//! apart from this one; `sessions.txt` was worked out by hand from RFC 4271, one
 //! session for each thing that it teaches, and `cuts.txt` is two records cut to each length. And
 //! each capture of `judged.txt` is altered twice: there both trackers answer alike. And the
 //! examples of `bgp judge` are, by both trackers, from the words of the command line on.
@@ -49,15 +50,17 @@ fn decode_all<R: Files + Print + AllocGlobal>(rt: &R) -> io::Result<bool> {
     let cases = compare(rt, "cases.txt", false)?;
     let rules = compare(rt, "rules.txt", true)?;
     let cases_extended = compare(rt, "cases-extended.txt", false)?;
+    let cases_large = compare(rt, "cases-large.txt", false)?;
     let judged = compare_judged(rt, "judged.txt")?;
     let judged_extended = compare_judged(rt, "judged-extended.txt")?;
+    let judged_large = compare_judged(rt, "judged-large.txt")?;
     let sessions = compare_judged(rt, "sessions.txt")?;
     let cuts = compare_judged(rt, "cuts.txt")?;
     let recordings = compare_judged(rt, "recordings.txt")?;
     let altered = compare_altered(rt, "judged.txt")?;
     let examples = compare_examples(rt)?;
-    let decoded = cases && rules && cases_extended;
-    let all_judged = judged && judged_extended && sessions && cuts && recordings;
+    let decoded = cases && rules && cases_extended && cases_large;
+    let all_judged = judged && judged_extended && judged_large && sessions && cuts && recordings;
     Ok(decoded && all_judged && altered && examples)
 }
 

@@ -1,5 +1,5 @@
 //! Compares the outcomes of UPDATEs with what another program told of them, which was written from
-//! the same specification apart from ours: `data/updates.txt`, a block of lines a case.
+//! the same specification apart from ours, in two tables, a block of lines a case.
 //!
 //! `link` and `octets` are given; told are the families that an Apply disables (`apply`), what it
 //! removes and puts (`remove`, `put`), the subcodes of a reset (`reset`), and whether the UPDATE is
@@ -38,7 +38,7 @@ const OPEN: [u8; 49] = [
 const SECOND_AFI: usize = 40;
 
 fn main(rt: HostRuntime) -> ExitCode {
-    match compare(&rt) {
+    match compare_all(&rt) {
         Ok(true) => ExitCode::SUCCESS,
         Ok(false) => ExitCode::FAILURE,
         Err(error) => {
@@ -48,9 +48,22 @@ fn main(rt: HostRuntime) -> ExitCode {
     }
 }
 
-/// Prints each case that is not so, and then how many there were. Answers whether all are so.
-fn compare<R: Files + Print + AllocGlobal>(rt: &R) -> io::Result<bool> {
-    let table = fs::read_to_string(rt, "updates.txt")?;
+/// The tables: UPDATEs of all kinds, and more of them with large communities.
+const TABLES: [&str; 2] = ["updates.txt", "updates-large.txt"];
+
+/// Goes through the tables. Answers whether all their cases are so.
+fn compare_all<R: Files + Print + AllocGlobal>(rt: &R) -> io::Result<bool> {
+    let mut all = true;
+    for name in TABLES {
+        all = compare(rt, name)? && all;
+    }
+    Ok(all)
+}
+
+/// Prints each case of a table that is not so, and then how many there were. Answers whether all
+/// are so.
+fn compare<R: Files + Print + AllocGlobal>(rt: &R, name: &str) -> io::Result<bool> {
+    let table = fs::read_to_string(rt, name)?;
     let mut cases = 0u64;
     let mut all = true;
     for block in table.split("\n\n") {
@@ -60,11 +73,11 @@ fn compare<R: Files + Print + AllocGlobal>(rt: &R) -> io::Result<bool> {
         cases = cases.saturating_add(1);
         let is_so = is_so(rt.alloc(), block)?;
         if !is_so {
-            println!(rt; "case {cases} is not so:\n{block}")?;
+            println!(rt; "{name}: case {cases} is not so:\n{block}")?;
             all = false;
         }
     }
-    println!(rt; "{cases} cases")?;
+    println!(rt; "{name}: {cases} cases")?;
     Ok(all)
 }
 
