@@ -145,19 +145,20 @@ fn is_shared(heap: &LocalHeap, path: &Path<&LocalHeap>) -> bool {
     }
 }
 
-/// Whether copies of a path's communities are equal to them.
-fn are_copied(path: &PathParts<&LocalHeap>) -> bool {
-    let (communities, extended) = (&path.communities, &path.extended_communities);
-    let copy: Result<_, _> = communities.clone();
-    let is_same = match copy {
-        Ok(copy) => copy == *communities,
-        Err(_) => false,
-    };
-    let copy: Result<_, _> = extended.clone();
+/// Whether a copy of items is equal to them.
+fn is_copied_alike<'h, T: Copy + PartialEq>(items: &Items<T, &'h LocalHeap>) -> bool {
+    let copy: Result<Items<T, &'h LocalHeap>, AllocError> = items.clone();
     match copy {
-        Ok(copy) => is_same && copy == *extended,
+        Ok(copy) => copy == *items,
         Err(_) => false,
     }
+}
+
+/// Whether copies of a path's communities are equal to them.
+fn are_copied(path: &PathParts<&LocalHeap>) -> bool {
+    is_copied_alike(&path.communities)
+        && is_copied_alike(&path.extended_communities)
+        && is_copied_alike(&path.large_communities)
 }
 
 /// Whether items of a path are copied, and a copy of it takes no memory.
