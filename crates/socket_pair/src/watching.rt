@@ -64,6 +64,7 @@ fn session_of(local: Address, peer: Address) -> Session {
         peer,
         local,
         refresh: false,
+        extended: false,
     }
 }
 
