@@ -152,7 +152,8 @@ pub(crate) struct End<S: Drop, W: Drop, A: Allocator> {
     unread: usize,
     pub(crate) ghost families: { family_of config.parts.session.peer
         ≡ family_of config.parts.session.local },
-    pub(crate) ghost configured: { core.speaker.config ≡ config },
+    pub(crate) ghost alike: { core.speaker.config.parts.session.extended
+        ≡ config.parts.session.extended },
 }
 
 impl<S: Read + Write + Drop, W: Write + Drop, A: Allocator + Copy> End<S, W, A> {

@@ -1,7 +1,9 @@
-use Rattle.std.proofs.Common.{map, sym, subst, rules}
+use Rattle.std.proofs.Common.{◌≤◌, Bool, length, map, sym, subst, rules}
 use Rattle.std.specs.List.{AllByRecursion}
 use Rattle.bgp_speaker.specs.Shown.{shown_value}
-use Rattle.bgp_open.specs.declared.config.Config.{Config}
+use Rattle.bgp_prefix.specs.Shown.{ShownRecord}
+use Rattle.bgp_wire.specs.Header.{greatest_length, limit_with}
+use Rattle.mrt.specs.Written.{content_for}
 use Rattle.bgp_talk.specs.CoreFacts.{IsShort}
 use Rattle.bgp_talk.specs.Talk.{capture_of}
 use Rattle.mrt.specs.FromWrite.{writer_state, Takes}
@@ -10,9 +12,10 @@ use Rattle.bgp_tool.proofs.pair_end.End.hand_in.Goals as goal
 
 pub write_records-requires-clause-short : goal.write_records-requires-clause-short
 write_records-requires-clause-short g c =
+    let records = map shown_value c.in-Ok.output.records.items in
     subst (λ (r : _). AllByRecursion (IsShort c.args.self.now.config) (map shown_value r)) (sym c.as_slice.ensures.value)
-    (subst (λ (config : Config). AllByRecursion (IsShort config) (map shown_value c.in-Ok.output.records.items)) c.args.self.now.configured
-    (c.each_record_is_short.ensures _ _ _ _ _ (chosen_of _ _ _ _ _ _ c.again.ensures c.in-Ok.ensures.ok)))
+    (subst (λ (long : Bool). AllByRecursion (λ (shown : ShownRecord). length (content_for shown) ≤ greatest_length (limit_with long) 2) records)
+    c.args.self.now.alike (c.each_record_is_short.ensures _ _ _ _ _ (chosen_of _ _ _ _ _ _ c.again.ensures c.in-Ok.ensures.ok)))
 
 pub returns-in-Ok-write_all-clause-ok : goal.returns-in-Ok-write_all-clause-ok
 returns-in-Ok-write_all-clause-ok g c =
