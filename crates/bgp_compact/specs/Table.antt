@@ -19,7 +19,8 @@ use Rattle.bgp_judge.specs.Told.{Told, fresh_told, link_told, told_next}
 -- an UPDATE may be applied with these changes
 abbrev pub MayApply : Config → Link → List ℕ → RouteChanges → Type 0
 MayApply config link octets changes =
-    Announces config 2 octets × (families : Families) × IsOutcome link octets (Applied changes families)
+    Announces config 2 octets × (families : Families)
+    × IsOutcome link octets (Applied changes families)
 
 -- Where an UPDATE may be applied, its changes are made; no other message changes the table.
 pub record IsTableChanged (config : Config) (link : Link) (octets : List ℕ) (table next : Routes)

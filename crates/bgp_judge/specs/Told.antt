@@ -71,7 +71,8 @@ IsTableNext config link octets table next =
 abbrev pub IsTableAfter : Config → Link → Routes → List (List ℕ) → Routes → Type 0
 IsTableAfter config link table [] last = last ≡ table
 IsTableAfter config link table (octets ∷ others) last =
-    (next : Routes) × IsTableNext config link octets table next × IsTableAfter config link next others last
+    (next : Routes) × IsTableNext config link octets table next
+    × IsTableAfter config link next others last
 
 -- The state is as told. In Established its routes are those of the table that the messages make,
 -- without those of the disabled families; elsewhere it has none.
@@ -101,7 +102,8 @@ ToldOneMore =
 abbrev pub HasOneTable : Type 0
 HasOneTable =
     (config : Config) (link : Link) (messages : List (List ℕ)) (table other : Routes)
-    → IsTableAfter config link no_routes messages table → IsTableAfter config link no_routes messages other
+    → IsTableAfter config link no_routes messages table
+    → IsTableAfter config link no_routes messages other
     → table ≡ other
 
 -- two possible ends with the same families disabled are one

@@ -20,8 +20,8 @@ pub fn keeps_the_first()
     ensures { KeepsTheFirst }
 {}
 
-/// `==` is true exactly of paths, AS paths, segments, lists of numbers and of large communities with
-/// the same contents, whatever room they have.
+/// `==` is true exactly of paths, AS paths, segments, lists of numbers and of large communities
+/// with the same contents, whatever room they have.
 pub fn equality_is_real()
     ensures { EqualityIsReal }
 {}

@@ -44,9 +44,9 @@ connection_after (Established link timer) input messages c =
     record { octets = c.octets ++ octets_in input; messages = c.messages ++ messages }
 connection_after head input messages c = record { octets = []; messages = messages }
 
--- The messages received are the first of those that stand in the octets: of the frames, which may be
--- so long, and of the header with a fault that ends them, if one does. While the connection stands
--- they are all of them.
+-- The messages received are the first of those that stand in the octets: of the frames, which may
+-- be so long, and of the header with a fault that ends them, if one does. While the connection
+-- stands they are all of them.
 pub record IsHeardOn (limit : Limit) (head : Head) (c : Connection) : Type 0 where
   pub later : List (List ℕ)
   pub rest : List ℕ

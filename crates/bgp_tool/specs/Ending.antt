@@ -69,7 +69,8 @@ IsAtEnd ends.SourceFailed = ⊥
 IsAtEnd ends.SinkFailed = ⊥
 
 -- what was given and what was written when a decoding ended, by what the source gives
-pub record Reaches {R W : Type 0} {sink : sinks.Ghosts W} (limit : Limit) (gives : R → R → List ℕ → Type 0)
+pub record Reaches {R W : Type 0} {sink : sinks.Ghosts W} (limit : Limit)
+    (gives : R → R → List ℕ → Type 0)
     (source source' : R) (lines lines' : Lines W sink) (end : End) : Type 0 where
   pub given : List ℕ
   pub text : List ℕ
@@ -92,7 +93,8 @@ module _ {W : Type 0} {sink : sinks.Ghosts W} (lines lines' : Lines W sink) wher
   -- header with faults, if one stands there. So many octets were given when what it held ends.
   abbrev pub PutsFrames : ℕ → Held → Held → Bool → Type 0
   PutsFrames given held left false =
-      (text : List ℕ) × AreLines held.limit held.octets left.octets text × IsShort held.limit left.octets
+      (text : List ℕ) × AreLines held.limit held.octets left.octets text
+      × IsShort held.limit left.octets
       × (left ≡ record held { octets = left.octets }) × Writes lines lines' text
   PutsFrames given held left true =
       (rest text last : List ℕ) × AreLines held.limit held.octets rest text

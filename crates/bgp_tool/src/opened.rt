@@ -41,8 +41,8 @@ pub fn decode_opened<'a, R: Read + Drop, W: Write, A: Allocator + Copy>(
     sink: &mut FromWrite<W>,
 ) -> Outcome<'a>
     requires { (writer_state sink.old).failures < 2 ^ 63 }
-    ensures decoded { IfOk opened (λ reader. DecodesReader limit R.remaining W.contents file.entry reader
-        (writer_state sink.old) (writer_state sink.new) result) }
+    ensures decoded { IfOk opened (λ reader. DecodesReader limit R.remaining W.contents file.entry
+        reader (writer_state sink.old) (writer_state sink.new) result) }
     ensures unopened { IfErr opened (λ error. IsUnopened file.entry (error_kind error) result
         × (writer_state sink.new ≡ writer_state sink.old)) }
     ensures statuses { result.status ≤ 5 }

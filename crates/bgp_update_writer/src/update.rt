@@ -53,8 +53,8 @@ pub enum UpdateFault {
     /// The session doesn't exchange routes of the family.
     #[error("the session exchanges no routes of this family")]
     FamilyNotInUse = 2,
-    /// A prefix or the next hop isn't of the family, the peer would discard an attribute, or a large
-    /// community stands twice (RFC 8092, 5).
+    /// A prefix or the next hop isn't of the family, the peer would discard an attribute, or a
+    /// large community stands twice (RFC 8092, 5).
     #[error("the peer would not take the UPDATE as it is meant")]
     NotClean = 3,
     /// There was no memory for it.

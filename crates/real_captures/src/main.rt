@@ -2,16 +2,17 @@
 //!
 //! Decoded are those of real routers' sessions, whose text is this program's; and four tables of
 //! captures, whose lines and statuses it compares. `cases.txt` was answered by another program, and
-//! so were `cases-extended.txt`, once that knew extended messages (RFC 8654), and `cases-large.txt`,
-//! once it knew large communities too (RFC 8092); `rules.txt` was worked out by hand from RFC 6396.
+//! so were `cases-extended.txt`, once it knew extended messages (RFC 8654), and `cases-large.txt`,
+//! once it knew large communities, too (RFC 8092); `rules.txt` was worked out by hand from RFC
+//! 6396.
 //!
-//! Judged are six tables, by the plain tracker and by the compact one: `judged.txt`, random captures,
-//! `judged-extended.txt` and `judged-large.txt`, more of them as that program answered them later,
-//! and `recordings.txt`, those of real routers' sessions, were answered by a program that was written
-//! apart from this one; `sessions.txt` was worked out by hand from RFC 4271, one
-//! session for each thing that it teaches, and `cuts.txt` is two records cut to each length. And
-//! each capture of `judged.txt` is altered twice: there both trackers answer alike. And the
-//! examples of `bgp judge` are, by both trackers, from the words of the command line on.
+//! Judged are six tables, by the plain tracker and by the compact one. A program that was written
+//! apart from this one answered `judged.txt`, random captures, `judged-extended.txt` and
+//! `judged-large.txt`, more of them as it answered later, and `recordings.txt`, those of real
+//! routers' sessions; `sessions.txt` was worked out by hand from RFC 4271, one session for each
+//! thing that it teaches, and `cuts.txt` is two records cut to each length. And each capture of
+//! `judged.txt` is altered twice: there both trackers answer alike. And the examples of `bgp judge`
+//! are, by both trackers, from the words of the command line on.
 #![tactic(auto)]
 
 mod altered;

@@ -57,8 +57,8 @@ fn run<R: Files + Print + AllocGlobal>(rt: &R) -> io::Result<bool> {
     print_sessions(rt)
 }
 
-/// Prints a stream's name, its text, where its messages may be so long, and the status that decoding
-/// it answers.
+/// Prints a stream's name, its text, where its messages may be so long, and the status that
+/// decoding it answers.
 fn print_stream<R: Files + Print + AllocGlobal>(
     rt: &R,
     limit: Limit,

@@ -195,8 +195,9 @@ fn refused_at(
     Ok(place)
 }
 
-/// With each size of heap, from one that has no room for the reader's buffer of 65583 octets: status
-/// 4, and memory was refused at such an octet; until the heap is large enough for the verdict.
+/// With each size of heap, from one that has no room for the reader's buffer of 65583 octets:
+/// status 4, and memory was refused at such an octet; until the heap is large enough for the
+/// verdict.
 fn is_refused_until_ample(
     rt: &impl Abort,
     alloc: Global,
