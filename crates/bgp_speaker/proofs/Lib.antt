@@ -16,7 +16,7 @@ mod ConnectionHeard
 mod CutPieces
 mod CanBeSaid
 mod MayBeTaken
-mod EachShown
+pub mod EachShown
 mod StillToCome
 mod OneRow
 mod OneSaying
