@@ -19,9 +19,9 @@ behind_frames stream rest lines so_far =
     omega (arith, ap length so_far.split, length-append (joined so_far.frames) rest)
 
 -- what a last line is of is short or faulty
-rest_of_last : {limit : Limit} (offset : ℕ) (rest last : List ℕ) (status : ℕ) → IsLastLine limit offset rest last status
+rest_of_last : (limit : Limit) (offset : ℕ) (rest last : List ℕ) (status : ℕ) → IsLastLine limit offset rest last status
     → IsShort limit rest ⊎ IsFaulty limit rest
-rest_of_last offset rest last status is_last = elim is_last [
+rest_of_last limit offset rest last status is_last = elim is_last [
   | inl none ↦ let empty : length rest ≡ 0 = ap length none.0 in inl (inl (omega arith))
   | inr some ↦ elim some [ inl short ↦ inl short.1 | inr faulty ↦ inr faulty.0 ]
 ]
@@ -35,7 +35,7 @@ decoded {limit} stream rest lines last status so_far is_last = record {
   framing = record {
     whole = so_far.split;
     each = so_far.each;
-    last = rest_of_last (length stream - length rest) rest last status is_last;
+    last = rest_of_last limit (length stream - length rest) rest last status is_last;
   };
   messages = so_far.messages;
   said = so_far.said;

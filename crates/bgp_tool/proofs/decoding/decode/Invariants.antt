@@ -8,11 +8,11 @@ use Rattle.bgp_tool.proofs.decoding.decode.Given as goal
 abbrev pub invariant-reads : goal.invariant-reads
 invariant-reads g l =
     record {
-      state : l.frames ≡ record { limit = l.limit; octets = l.frames.octets; is_closed = false };
-      short : IsShort l.limit l.frames.octets;
+      state : l.frames ≡ record { limit = l.fn.limit; octets = l.frames.octets; is_closed = false };
+      short : IsShort l.fn.limit l.frames.octets;
       failures : g.R.Source.failures l.source ≡ g.R.Source.failures l.fn.source;
       so_far : (stream text : List ℕ) × g.R.Source.gives l.fn.source l.source stream × (l.given ≡ length stream)
-          × AreLines l.limit stream l.frames.octets text × Writes l.fn.lines l.lines text;
+          × AreLines l.fn.limit stream l.frames.octets text × Writes l.fn.lines l.lines text;
     }
 
 abbrev pub decreases-reads : goal.decreases-reads
