@@ -29,8 +29,6 @@ capture() {
 
 capture short 2000000 openbgpd-gobgp.a.up.mrt
 capture long "$size" openbgpd-gobgp.a.up.mrt
-capture short-extended 2000000 extmsg.a.up.mrt
-capture long-extended "$size" extmsg.a.up.mrt
 
 # UPDATEs of 65535 octets: three attributes, and one of an unknown type that fills them up.
 updates() {
@@ -41,8 +39,23 @@ updates() {
     printf '\x40\x03\x04\xc0\x00\x02\x02\xd0\x63\xff\xce' >> "$update"
     head -c 65486 /dev/zero >> "$update"
     printf '\x08\x0a' >> "$update"
+    record "$update"
     mv "$update" "$work/updates"
     grow "$work/updates" "$size"
+}
+
+# Captures of these UPDATEs, all received in one second: the body of a record has 65555 octets.
+record() {
+    local record=$work/record copy
+    printf '\x6b\x00\x00\x00\x00\x10\x00\x04\x00\x01\x00\x13' > "$record"
+    printf '\x00\x00\xfd\xea\x00\x00\xfd\xe9\x00\x00\x00\x01' >> "$record"
+    printf '\xc0\x00\x02\x02\xc0\x00\x02\x01' >> "$record"
+    cat "$1" >> "$record"
+    for copy in short-extended long-extended; do
+        cp "$record" "$work/$copy"
+    done
+    grow "$work/short-extended" 2000000
+    grow "$work/long-extended" "$size"
 }
 
 updates
