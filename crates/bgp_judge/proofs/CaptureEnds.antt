@@ -1,5 +1,5 @@
 -- How judging a capture ends.
-use Rattle.std.proofs.Common.{◌≡◌, ◌∙◌, ℕ, Bool, List, [], ◌++◌, refl, sym, ap, subst, inl, inr, append-nil, Option, None, Some, Result, Ok, Err, IsErrAnd}
+use Rattle.std.proofs.Common.{◌≡◌, ◌∙◌, ℕ, Bool, List, [], ◌++◌, refl, sym, ap, subst, inl, inr, append-nil, Option, Some, Result, Ok, Err, IsErrAnd}
 use Rattle.bgp_open.specs.declared.config.Config.{Config}
 use Rattle.bgp_prefix.specs.Shown.{ShownRecord}
 use Rattle.bgp_prefix.specs.declared.session.Session.{Session}
@@ -8,7 +8,6 @@ use Rattle.mrt.specs.declared.fault.CaptureFault.{CaptureFault}
 use Rattle.mrt.specs.declared.fault.FaultKind.TheVariants as kinds
 use Rattle.mrt.specs.Capture.{Piece, joined, records_of}
 use Rattle.mrt.specs.Reader.{ReaderState, fresh_reader}
-use Rattle.mrt.specs.ReadBy.{ReadBy}
 use Rattle.bgp_judge.specs.declared.verdict.Verdict.{Verdict}
 use Rattle.bgp_judge.specs.Judging.{EndsBy, IsJudged, IsRefusal, Judges, ReadsAll, ReadsWith, fault_in}
 use Rattle.bgp_judge.specs.Verdict.{IsVerdict}

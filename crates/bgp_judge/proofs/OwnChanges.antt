@@ -1,6 +1,6 @@
 -- A record that is no received message opens no step that makes changes.
 use Rattle.std.proofs.Common.{◌≡◌, ◌⊎◌, inl, inr, List, [], ◌∷◌, Option, ap, subst}
-use Rattle.bgp_prefix.specs.Shown.{ShownRecord, second_of}
+use Rattle.bgp_prefix.specs.Shown.{ShownRecord}
 use Rattle.bgp_open.specs.declared.config.Config.{Config}
 use Rattle.bgp_open.specs.declared.families.Families.{Families}
 use Rattle.bgp_machine.specs.declared.fsm.Fsm.{Fsm}
@@ -9,7 +9,7 @@ use Rattle.bgp_machine.specs.declared.step.Routes.{Routes}
 use Rattle.bgp_machine.specs.declared.step.Routes.TheVariants as routes
 use Rattle.bgp_machine.specs.declared.step.Step.{Step}
 use Rattle.bgp_machine.specs.declared.want.Want.{Want}
-use Rattle.bgp_machine.specs.Going.{Falling, Going}
+use Rattle.bgp_machine.specs.Going.{Falling}
 use Rattle.bgp_machine.specs.Listed.{MakesChanges, no_changes, routes_turn, turn_of}
 use Rattle.bgp_machine.specs.Lists.{Has, Each}
 use Rattle.bgp_machine.specs.Shows.{Pays}

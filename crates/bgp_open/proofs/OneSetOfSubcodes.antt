@@ -1,5 +1,5 @@
 -- Sets of subcodes of OPEN Message Error are told by what they name, and unite.
-use Rattle.std.proofs.Common.{◌≡◌, ◌↔◌, ◌⊎◌, ◌∙◌, ◌||◌, Bool, true, false, IsTrue, ℕ, List, [], refl, sym, ap, inl, inr, arith}
+use Rattle.std.proofs.Common.{◌≡◌, ◌↔◌, ◌⊎◌, ◌∙◌, ◌||◌, Bool, true, false, IsTrue, ℕ, List, [], refl, ap, inl, inr, arith}
 use Rattle.byteorder.specs.Endian.{big_bytes}
 use Rattle.bgp_wire.proofs.OneFaultSet.{same_bool}
 use Rattle.bgp_open.specs.declared.subcodes.OpenSubcodes.{OpenSubcodes}

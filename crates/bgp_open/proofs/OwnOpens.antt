@@ -1,9 +1,8 @@
 -- For every configuration there is an OPEN that the local system may send, and no such OPEN has a header fault.
-use Rattle.std.proofs.Common.{◌≡◌, ◌∙◌, Bool, true, false, ℕ, zero, suc, ◌<◌, ◌≤◌, ◌^◌, List, [], ◌∷◌, ◌++◌, Some, None, IsTrue, length, drop, replicate, refl, sym, ap, subst, arith, length-append, length-drop, length-take, inl, inr}
+use Rattle.std.proofs.Common.{◌≡◌, ◌∙◌, Bool, true, false, ℕ, ◌<◌, ◌≤◌, ◌^◌, List, [], ◌∷◌, ◌++◌, Some, None, IsTrue, length, drop, refl, sym, ap, subst, arith, length-append, length-drop, length-take, inl, inr}
 use Rattle.std.specs.Prelude.{if◌then◌else◌}
 use Rattle.std.proofs.lemmas.Bool.{cases_lt, lt-ltb, le-ltb}
-use Rattle.std.proofs.lemmas.List.Elements.{All-nil, All-cons, All-append, All-replicate, All-take, All-drop}
-use Rattle.byteorder.specs.Endian.{big_bytes}
+use Rattle.std.proofs.lemmas.List.Elements.{All-take, All-drop}
 use Rattle.byteorder.specs.Numbers.{big_number-reads_back}
 use Rattle.std.proofs.lemmas.Grind.{flat_map-append}
 use Rattle.bgp_prefix.specs.declared.family.Family.{Family}

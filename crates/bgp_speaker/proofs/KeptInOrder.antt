@@ -1,5 +1,5 @@
 -- The kept prefixes ascend.
-use Rattle.std.proofs.Common.{◌≡◌, ℕ, Bool, true, false, List, [], ◌∷◌, refl, sym, ap, subst}
+use Rattle.std.proofs.Common.{◌≡◌, ℕ, Bool, true, false, List, [], ◌∷◌, refl, sym, subst}
 use Rattle.std.specs.declared.cmp.Ordering.{Ordering}
 use Rattle.std.specs.declared.cmp.Ordering.TheVariants.{Less, Equal, Greater}
 use Rattle.std.specs.BTreeMap.{is_at}
@@ -12,7 +12,7 @@ use Rattle.bgp_prefix.specs.Prefix.{PrefixBits}
 use Rattle.bgp_prefix.specs.Shown.{ShownRecord}
 use Rattle.bgp_prefix.specs.PrefixOrder.{prefix_cmp}
 use Rattle.bgp_rib.proofs.PrefixKeys.{prefixes_total}
-use Rattle.bgp_speaker.specs.Choosing.{Chooses, Drives, kept_after}
+use Rattle.bgp_speaker.specs.Choosing.{Drives, kept_after}
 use Rattle.bgp_speaker.specs.Core.{CoreState, InputValue, Start, Passive, Stop, Connected, Failed, Bytes, Tick, Announce, Withdraw}
 use Rattle.bgp_speaker.specs.Driven.{EachKeptListAscends}
 

@@ -1,7 +1,7 @@
 -- Each stream splits into frames and a rest.
-use Rattle.std.proofs.Common.{Bool, true, false, Option, Some, None, IsSome, IfSome, IsTrue, ◌↔◌, ◌≡◌, ◌⊎◌, ◌∙◌, ◌≤◌, ◌++◌, ◌∷◌, [], All, ℕ, zero, suc, List, length, take, drop, refl, sym, ap, inl, inr, append_assoc, arith}
+use Rattle.std.proofs.Common.{Bool, true, false, Option, Some, None, IsSome, IfSome, IsTrue, ◌↔◌, ◌≡◌, ◌⊎◌, ◌∙◌, ◌≤◌, ◌++◌, ◌∷◌, [], ℕ, zero, suc, List, length, take, drop, refl, sym, ap, inl, inr, append_assoc, arith}
 use Rattle.std.proofs.lemmas.List.{length-drop, take-append-drop}
-use Rattle.std.proofs.lemmas.List.Elements.{All-cons, All-nil, All-head, All-tail}
+use Rattle.std.proofs.lemmas.List.Elements.{All-cons, All-nil}
 use Rattle.std.proofs.lemmas.Bool.{cases_lt, cases_eq}
 use Rattle.byteorder.specs.Endian.{big_bytes}
 use Rattle.bgp_wire.specs.declared.header.Limit.{Limit}

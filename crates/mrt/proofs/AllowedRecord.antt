@@ -8,7 +8,7 @@ use Rattle.mrt.specs.declared.fault.FaultKind.{FaultKind}
 use Rattle.mrt.specs.declared.layout.Form.{Form}
 use Rattle.mrt.specs.declared.layout.Form.TheVariants as forms
 use Rattle.mrt.specs.Layout.{header_of, body_of, content_in, is_of, old_state_in, new_state_in, IsState}
-use Rattle.mrt.specs.Rules.{Rule, FirstSays, Judgement, judgement_of, End, Skipped, SkippedSession, Refused, OfSession, Holds, place_of, IsBefore, HasBadState, IsRouteRefresh, HasOtherLength}
+use Rattle.mrt.specs.Rules.{Rule, FirstSays, judgement_of, End, Skipped, SkippedSession, Refused, OfSession, Holds, place_of, IsBefore, HasBadState, IsRouteRefresh, HasOtherLength}
 use Rattle.mrt.specs.Rules as r
 use Rattle.mrt.specs.Written.{IsAllowed}
 use Rattle.mrt.specs.CaptureLaws.{EachAllowed}

@@ -4,7 +4,7 @@ use Rattle.std.proofs.lemmas.List.{take-append-le, length-take-le, take-append-d
 use Rattle.bgp_prefix.specs.Shown.{ShownRecord}
 use Rattle.bgp_prefix.specs.declared.session.Session.{Session}
 use Rattle.mrt.specs.Layout.{Header, header_in, header_of, IsRecord}
-use Rattle.mrt.specs.Rules.{Rule, Judgement, End, Skipped, SkippedSession, Refused, OfSession, judgement_of, Holds, FirstSays, rules, place_of, IsCut, IsJudged}
+use Rattle.mrt.specs.Rules.{Rule, Judgement, End, Skipped, SkippedSession, Refused, OfSession, judgement_of, Holds, FirstSays, place_of, IsCut, IsJudged}
 use Rattle.mrt.specs.Rules as r
 use Rattle.mrt.specs.Capture.{Piece, Other, OtherEnds, Shown, octets_of, judgement_of_piece, IsPiece, ArePieces, last_after, last_of, joined, records_of, IsStop}
 use Rattle.mrt.specs.Capture.{Spells, IsFirstFault}

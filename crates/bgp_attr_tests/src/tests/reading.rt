@@ -1,6 +1,7 @@
 //! The path that attributes say (RFC 4271, 5; RFC 6793, 4.2.3).
 
 use super::SegmentKind::{Sequence, Set};
+use super::writing::is_written;
 use super::*;
 use linked_list_allocator::LocalHeap;
 
@@ -366,5 +367,47 @@ fn are_read(alloc: Global, field: &[u8]) -> bool {
 fn ample_memory_for_the_greatest_values(rt: HostRuntime) -> Result<(), Fail> {
     let field = greatest_values(rt.alloc())?;
     assert!(rt; are_read(rt.alloc(), &field));
+    Ok(())
+}
+
+/// An ORIGIN, an empty AS_PATH, and 5461 large communities of which no two are equal: 65532 octets,
+/// as many as a value may have.
+fn most_large_communities(alloc: Global) -> Result<Vec<u8>, AllocError> {
+    let front: &[u8] = &[0x40, 1, 1, 0, 0x40, 2, 0, 0xd0, 32, 0xff, 0xfc];
+    let mut field = Vec::from_slice(alloc, front)?;
+    for number in 0..5461u16 {
+        field.extend_from_slice(&[0, 0, 0xfd, 0xea, 0, 0, 0, 1, 0, 0])?;
+        field.extend_from_slice(&number.to_be_bytes())?;
+    }
+    Ok(field)
+}
+
+/// The last of them: 65002:1:5460.
+const LAST: LargeCommunity = LargeCommunity {
+    global_administrator: 65002,
+    local_data_part_1: 1,
+    local_data_part_2: 5460,
+};
+
+/// Whether a path with as many large communities as there may be is read whole, and is written.
+fn are_most_read_and_written(alloc: Global, field: &[u8]) -> bool {
+    match read_path(alloc, WIDE, &FirstAttrs::new(field), HOP) {
+        Ok(path) => {
+            let read = path.parts().large_communities.as_slice();
+            let mut out = Vec::new(alloc);
+            // ORIGIN 4, AS_PATH 3, NEXT_HOP 7, LARGE_COMMUNITY 4 and 65532 octets
+            read.len() == 5461
+                && read.last() == Some(&LAST)
+                && is_written(WIDE, &path, &mut out)
+                && out.len() == 4 + 3 + 7 + 4 + 65532
+        }
+        Err(_) => false,
+    }
+}
+
+#[test]
+fn ample_memory_for_the_most_large_communities(rt: HostRuntime) -> Result<(), Fail> {
+    let field = most_large_communities(rt.alloc())?;
+    assert!(rt; are_most_read_and_written(rt.alloc(), &field));
     Ok(())
 }

@@ -236,25 +236,37 @@ fn ample_memory_for_the_longest_as_paths(rt: HostRuntime) -> Result<(), Fail> {
 }
 
 /// Whether a path whose lists are as long as these are is copied.
-fn is_long_path_copied(heap: &LocalHeap, numbers: &[u32], wide: &[u64]) -> bool {
+fn is_long_path_copied(
+    heap: &LocalHeap,
+    numbers: &[u32],
+    wide: &[u64],
+    large: &[LargeCommunity],
+) -> bool {
     let row = Row {
         segments: &LONGEST,
         communities: numbers,
         room: numbers.len(),
         cluster_list: numbers,
         extended_communities: wide,
-        large_communities: &[],
+        large_communities: large,
         multi_exit_disc: 7,
     };
     is_copied_or_shared(heap, &row)
 }
+
+const GREATEST: LargeCommunity = LargeCommunity {
+    global_administrator: u32::MAX,
+    local_data_part_1: u32::MAX,
+    local_data_part_2: u32::MAX,
+};
 
 #[test]
 fn ample_memory_for_the_greatest_values(rt: HostRuntime) -> Result<(), Fail> {
     let heap = LocalHeap::new(rt.alloc(), AMPLE)?;
     let numbers = vec![in rt.alloc(); u32::MAX; 16383]?;
     let wide = vec![in rt.alloc(); u64::MAX; 8191]?;
-    assert!(rt; is_long_path_copied(&heap, &numbers, &wide));
+    let large = vec![in rt.alloc(); GREATEST; 5461]?;
+    assert!(rt; is_long_path_copied(&heap, &numbers, &wide, &large));
     Ok(())
 }
 

@@ -1,4 +1,3 @@
-use Rattle.bgp_path.specs.declared.large_community.LargeCommunity.{LargeCommunity}
 use Rattle.bgp_attr.specs.LargeCommunities.{large_community_octets}
 use Rattle.bgp_attr.proofs.Filled.{filled_all, filled_more, filled_room}
 use Rattle.bgp_attr.proofs.large_communities.put_large_communities.Goals as goal

@@ -1,5 +1,4 @@
-use Rattle.std.proofs.Common.{ℕ, None, IfSome, get_or, refl}
-use Rattle.bgp_attr.specs.declared.field.Attr.{Attr}
+use Rattle.std.proofs.Common.{refl}
 use Rattle.bgp_attr.proofs.FirstNoted.{none_at}
 use Rattle.bgp_attr.proofs.first.FirstAttrs.none.Goals as goal
 

@@ -1,4 +1,4 @@
-use Rattle.std.proofs.Common.{List, [], ◌∷◌, ◌++◌, refl, sym, ap, subst, ◌∙◌}
+use Rattle.std.proofs.Common.{[], ◌∷◌, ◌++◌, refl, ap, ◌∙◌}
 use Rattle.bgp_judge.proofs.PlainStanding.{fresh_list, one_apart}
 use Rattle.bgp_judge.proofs.plain.PlainTrackerTracker.start.Goals as goal
 
