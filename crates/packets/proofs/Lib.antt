@@ -1,0 +1,15 @@
+pub mod Advancing
+pub mod BlockPlaces
+pub mod Endings
+pub mod Exits
+pub mod Filled
+pub mod Kept
+pub mod Longer
+pub mod OneReading
+pub mod Options
+pub mod Placing
+pub mod Refusing
+pub mod SomeReading
+pub mod StartPlaces
+pub mod Taken
+pub mod Ticks

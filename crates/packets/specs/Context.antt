@@ -1,0 +1,12 @@
+-- How the octets at a place of a recording are to be read, by what stands before them.
+use Rattle.std.specs.Prelude.{ℕ, List}
+use Rattle.packets.specs.declared.order.Order.{Order}
+use Rattle.packets.specs.declared.blocks.Interface.{Interface}
+
+-- At the start of the file; as packets of pcap, with numbers of this order and of links of this
+-- type; as blocks of pcapng, with numbers of this order, where these interfaces were described in
+-- the section.
+pub data Context : Type 0 where
+  Start : Context
+  Packets : Order → ℕ → Context
+  Blocks : Order → List Interface → Context

@@ -1,0 +1,8 @@
+//! Tests of `packets`: files made by hand, for each rule and each refusal; octet by octet; reads
+//! that fail; refused memory.
+//!
+//! They stand in a crate of their own, since a crate with tests is proved twice.
+#![tactic(auto)]
+
+#[cfg(test)]
+mod tests;

@@ -1,0 +1,15 @@
+pub mod Fault
+pub mod Given
+pub mod Passed
+pub mod Places
+pub mod History
+pub mod Refusals
+pub mod Sent
+pub mod Directions
+pub mod Connections
+pub mod Gatherings
+pub mod Choice
+pub mod Held
+pub mod Spelling
+pub mod Clock
+pub mod Congruence
