@@ -3,7 +3,8 @@
 use bgp_compact::CompactTracker;
 use bgp_open::Config;
 use bgp_prefix::Session;
-use bgp_tool::{Outcome, decode_opened, decode_opened_capture, judge_opened};
+use bgp_recording_tool::{FileOutcome, RecordingOptions, decode_file, judge_file};
+use bgp_tool::{Note, Outcome, decode_opened};
 use bgp_wire::Limit;
 use mrt::FromWrite;
 use std::alloc::Global;
@@ -30,12 +31,13 @@ pub fn decode<R: Files + Input + Print + Eprint + AllocGlobal>(
 pub fn decode_capture<R: Files + Input + Print + Eprint + AllocGlobal>(
     rt: &R,
     session: &Session,
+    recording: &RecordingOptions,
     file: &str,
 ) -> u8 {
     if file == "-" {
-        decode_capture_from(rt, session, file, Ok(rt.reader()))
+        decode_capture_from(rt, session, recording, file, Ok(rt.reader()))
     } else {
-        decode_capture_from(rt, session, file, open(rt, file))
+        decode_capture_from(rt, session, recording, file, open(rt, file))
     }
 }
 
@@ -43,12 +45,13 @@ pub fn decode_capture<R: Files + Input + Print + Eprint + AllocGlobal>(
 pub fn judge<R: Files + Input + Print + Eprint + AllocGlobal>(
     rt: &R,
     config: &Config,
+    recording: &RecordingOptions,
     file: &str,
 ) -> u8 {
     if file == "-" {
-        judge_from(rt, config, file, Ok(rt.reader()))
+        judge_from(rt, config, recording, file, Ok(rt.reader()))
     } else {
-        judge_from(rt, config, file, open(rt, file))
+        judge_from(rt, config, recording, file, open(rt, file))
     }
 }
 
@@ -66,42 +69,46 @@ fn decode_from<R: Print + Eprint + AllocGlobal, F: Read + Drop>(
     )
 }
 
-/// Decodes the capture that a file's reader gives.
+/// Decodes the capture or the recording that a file's reader gives.
 fn decode_capture_from<R: Print + Eprint + AllocGlobal, F: Read + Drop>(
     rt: &R,
     session: &Session,
+    recording: &RecordingOptions,
     file: &str,
     opened: io::Result<F>,
 ) -> u8 {
     let mut sink = FromWrite::new(io::writer(rt));
     let reader = buffered(rt, opened);
-    tell(
+    tell_all(
         rt,
-        &decode_opened_capture(rt.alloc(), session, file, reader, &mut sink),
+        &decode_file(rt.alloc(), session, recording, file, reader, &mut sink),
     )
 }
 
-/// Judges the capture that a file's reader gives.
+/// Judges the capture or the recording that a file's reader gives.
 fn judge_from<R: Print + Eprint + AllocGlobal, F: Read + Drop>(
     rt: &R,
     config: &Config,
+    recording: &RecordingOptions,
     file: &str,
     opened: io::Result<F>,
 ) -> u8 {
     let mut sink = FromWrite::new(io::writer(rt));
     let reader = buffered(rt, opened);
-    let outcome = judge_opened::<Global, CompactTracker<Global>, _, _>(
+    let outcome = judge_file::<Global, CompactTracker<Global>, _, _>(
         rt.alloc(),
         config,
+        recording,
         file,
         reader,
         &mut sink,
     );
-    tell(rt, &outcome)
+    tell_all(rt, &outcome)
 }
 
-/// Puts a buffer before the file of a capture, of which a record is asked for in two pieces.
-fn buffered<R: AllocGlobal, F: Read + Drop>(
+/// Puts a buffer before the file of a capture or a recording, of which a record or a packet is
+/// asked for in pieces.
+pub fn buffered<R: AllocGlobal, F: Read + Drop>(
     rt: &R,
     opened: io::Result<F>,
 ) -> io::Result<BufReader<F>> {
@@ -109,7 +116,7 @@ fn buffered<R: AllocGlobal, F: Read + Drop>(
 }
 
 /// Opens a file to read, and refuses a folder, which can be opened and not read.
-fn open<R: Files>(rt: &R, file: &str) -> io::Result<R::File> {
+pub fn open<R: Files>(rt: &R, file: &str) -> io::Result<R::File> {
     let opened = fs::open(rt, file)?;
     if opened.metadata()?.is_dir() {
         return Err(io::Error::from(io::ErrorKind::IsADirectory));
@@ -120,9 +127,26 @@ fn open<R: Files>(rt: &R, file: &str) -> io::Result<R::File> {
 /// Tells what there is to tell of a command's end, and answers its exit status.
 pub fn tell<R: Eprint>(rt: &R, outcome: &Outcome<'_>) -> u8 {
     if let Some(note) = outcome.note {
-        let _ = eprintln!(rt; "bgp: {note}");
+        tell_note(rt, &note);
     }
     outcome.status
+}
+
+/// Tells what there is to tell of the end of a command over a capture or a recording, and answers
+/// its exit status.
+fn tell_all<R: Eprint>(rt: &R, outcome: &FileOutcome<'_, Global>) -> u8 {
+    for remark in &outcome.remarks {
+        let _ = eprintln!(rt; "bgp: {remark}");
+    }
+    if let Some(note) = outcome.note {
+        tell_note(rt, &note);
+    }
+    outcome.status
+}
+
+/// Tells one sentence.
+pub fn tell_note<R: Eprint>(rt: &R, note: &Note<'_>) {
+    let _ = eprintln!(rt; "bgp: {note}");
 }
 
 /// Tells why standard output can't be written, unless a pipe was closed.

@@ -3,6 +3,7 @@
 #![tactic(auto)]
 
 mod devices;
+mod recordings;
 mod speaker;
 
 use bgp_tool::{Command, Status, command_line, words_status};
@@ -31,8 +32,29 @@ fn run<R: Files + Net + Clock + Env + Input + Print + Eprint + AllocGlobal, E: P
         Ok(Command::Decode { extended, file }) => {
             devices::decode(rt, Limit::with_extended(extended), file)
         }
-        Ok(Command::Capture { session, file }) => devices::decode_capture(rt, &session, file),
-        Ok(Command::Judge { config, file }) => devices::judge(rt, &config, file),
+        Ok(
+            Command::Capture {
+                session,
+                recording,
+                file,
+            },
+        ) => devices::decode_capture(rt, &session, &recording, file),
+        Ok(
+            Command::Judge {
+                config,
+                recording,
+                file,
+            },
+        ) => devices::judge(rt, &config, &recording, file),
+        Ok(
+            Command::Import {
+                session,
+                recording,
+                file,
+                out,
+            },
+        ) => recordings::import(rt, &session, &recording, file, out),
+        Ok(Command::List { port, file }) => recordings::list(rt, port, file),
         Ok(
             Command::Speak {
                 config,

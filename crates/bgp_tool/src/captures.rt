@@ -72,7 +72,7 @@ fn finish<W: Sink>(lines: &mut Lines<'_, W>, read: Result<(), CaptureFault>) -> 
 }
 
 /// Hands over the text, and answers the status, or that of a device where the sink failed.
-pub(crate) fn hand_over<W: Sink>(lines: &mut Lines<'_, W>, status: Status) -> Status
+pub fn hand_over<W: Sink>(lines: &mut Lines<'_, W>, status: Status) -> Status
     ensures writes { Writes lines.old lines.new [] }
     ensures none { lines.new.held.items ≡ [] }
     ensures told { (IsFalse lines.new.outlet.has_failed × (code_of result ≡ code_of status))

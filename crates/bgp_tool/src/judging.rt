@@ -26,7 +26,7 @@ fn status_of<A: Allocator>(verdict: &Verdict<A>) -> Status
 }
 
 /// Puts the text of what is answered of a capture, and answers its exit status.
-pub(crate) fn put_answer<W: Sink, A: Allocator>(
+pub fn put_answer<W: Sink, A: Allocator>(
     lines: &mut Lines<'_, W>,
     answer: &Result<Verdict<A>, CaptureFault>,
 ) -> Status

@@ -27,15 +27,16 @@ mod verdicts;
 mod words;
 
 pub use bgp_words::{Command, Speaking, Start, command_line};
-pub use captures::decode_capture;
+pub use captures::{decode_capture, hand_over};
 pub use decoding::decode_raw;
 pub use front::Form;
 pub use headline::{
     each_capture_has_one_verdict, each_drive_is_judged_yes, judge_capture, text_and_status,
 };
+pub use judging::put_answer;
 pub use laws::each_stream_has_one_text;
 pub use note::Note;
-pub use opened::{Outcome, decode_opened};
+pub use opened::{Outcome, decode_opened, unopened, unwritten};
 pub use opened_capture::decode_opened_capture;
 pub use opened_judging::judge_opened;
 pub use pair_end::{PairEnd, PairFault};

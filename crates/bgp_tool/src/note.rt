@@ -172,8 +172,8 @@ impl fmt::Display for Form {
     fn fmt<W: fmt::Write>(&self, f: &mut fmt::Formatter<W>) -> fmt::Result {
         f.write_str(match self {
             Form::Pcap | Form::Pcapng => {
-                "is a packet capture: cut the octets of one direction of a connection from it, as \
-                 Wireshark's \"Follow TCP Stream\" does, and save them raw"
+                "is a recording of packets: name one session of it, as in `bgp decode --mrt --peer \
+                 192.0.2.2 --local 192.0.2.1 FILE`; `bgp list FILE` tells the sessions"
             }
             Form::Mrt => {
                 "seems to be a capture of MRT records: name one session of it, as in `bgp decode \

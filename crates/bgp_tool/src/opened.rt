@@ -54,7 +54,7 @@ pub fn decode_opened<'a, R: Read + Drop, W: Write, A: Allocator + Copy>(
 }
 
 /// How a command ends whose file can't be opened: a device failed, or memory was refused.
-pub(crate) fn unopened<'a>(file: &'a str, error: ErrorKind) -> Outcome<'a>
+pub fn unopened<'a>(file: &'a str, error: ErrorKind) -> Outcome<'a>
     ensures is { IsUnopened file.entry error result }
     ensures statuses { result.status ≤ 5 }
 {
@@ -122,7 +122,7 @@ fn note_of<'a, R: Read, W: Write>(
 }
 
 /// What to tell of a sink that failed: nothing, where a pipe was closed.
-pub(crate) fn unwritten<'a, W: Write>(sink: &FromWrite<W>) -> Option<Note<'a>>
+pub fn unwritten<'a, W: Write>(sink: &FromWrite<W>) -> Option<Note<'a>>
     ensures { TellsWriter (writer_state sink.now) result }
 {
     match sink.last_error() {

@@ -7,14 +7,16 @@ use Rattle.bgp_open.specs.declared.config.Config.{Config}
 use Rattle.bgp_open.specs.declared.config.ConfigParts.{ConfigParts}
 use Rattle.bgp_open.specs.declared.families.Families.{Families}
 use Rattle.bgp_words.specs.Judge.{IsJudge, IsJudgeLine, IsJudgeOf}
+use Rattle.bgp_words.specs.Recording.{AreRecordingOptions, usual_recording}
+use Rattle.bgp_words.specs.declared.recording.RecordingOptions.{RecordingOptions}
 use Rattle.bgp_words.specs.Spelled.{IsUsed, Names, NamesBy, NamesJudge}
-use Rattle.bgp_words.specs.Values.{IsFamiliesText, IsHoldText, IsPositiveText}
+use Rattle.bgp_words.specs.Values.{IsFamiliesText, IsHoldText, IsPortText, IsPositiveText, IsSecondsText}
 use Rattle.bgp_words.specs.Words.{program_words}
 use Rattle.bgp_words.specs.declared.words.Command.{Command}
-use Rattle.bgp_words.specs.declared.words.Command.TheVariants.{Decode, Capture, Judge, Speak, Pair}
+use Rattle.bgp_words.specs.declared.words.Command.TheVariants.{Decode, Capture, Judge, Import, List as Listing, Speak, Pair}
 use Rattle.bgp_words.proofs.NamedCommand.{two_names}
 use Rattle.bgp_words.proofs.PlainWords.{plain}
-use Rattle.bgp_words.proofs.SpelledJudge.{AreJudged, faultless, file_found, found_rows, named_judge, parts_found, parts_told}
+use Rattle.bgp_words.proofs.SpelledJudge.{AreJudged, faultless, file_found, found_rows, named_judge, parts_found, parts_told, usual_found, usual_told}
 
 -- the values of what isn't told
 ninety : IsHoldText (codes "90") 90
@@ -29,6 +31,12 @@ ninety = (
 
 two_hundred_forty : IsPositiveText (codes "240") 240
 two_hundred_forty = (search rules, omega arith, λ zero. absurd (omega (arith, zero)))
+
+port_179 : IsPortText (codes "179") 179
+port_179 = (search rules, omega arith, λ zero. absurd (omega (arith, zero)))
+
+seconds_10 : IsSecondsText (codes "10") 10
+seconds_10 = (search rules, omega arith)
 
 no_v6 : codes "v4" ≡ codes "v6" → ⊥
 no_v6 same = let bad : 52 ≡ 54 = ap (λ (t : Text). unwrap_or (slice_get t 1) 0) same in absurd (omega (arith, bad))
@@ -75,40 +83,55 @@ module _ (words : List Text) (parts : ConfigParts) (file : Text) (line : IsJudge
       (subst (IsPositiveText (codes "240")) (sym line.holds.1) two_hundred_forty)
       (inl (refl, line.families)) line.flags.0 line.flags.1
 
+  usual : AreRecordingOptions usual_recording rows
+  usual = usual_found line.name line.local_as line.peer_as line.local_id line.local line.peer file
+      (plain line.local_as line.no_flags.0) (plain line.peer_as line.no_flags.1) (plain line.local_id line.no_flags.2)
+      (plain line.local line.no_flags.3) (plain line.peer line.no_flags.4) (plain file line.no_flags.5)
+      port_179 seconds_10
+
+  is_usual : (recording : RecordingOptions) → AreRecordingOptions recording rows → recording ≡ usual_recording
+  is_usual recording are = usual_told line.name line.local_as line.peer_as line.local_id line.local line.peer file
+      (plain line.local_as line.no_flags.0) (plain line.peer_as line.no_flags.1) (plain line.local_id line.no_flags.2)
+      (plain line.local line.no_flags.3) (plain line.peer line.no_flags.4) (plain file line.no_flags.5) recording are
+
   of_judging : (command : Command) → NamesBy (codes "judge") rows command → IsJudgeOf words command
   of_judging (Decode extended f) is = two_names (codes "judge") (codes "decode") (λ e. omega (arith, e)) is.0
-  of_judging (Capture session f) is = two_names (codes "judge") (codes "decode") (λ e. omega (arith, e)) is.0
+  of_judging (Capture session recording f) is = two_names (codes "judge") (codes "decode") (λ e. omega (arith, e)) is.0
+  of_judging (Import session recording f out) is = two_names (codes "judge") (codes "import") (λ e. omega (arith, e)) is.0
+  of_judging (Listing port f) is = two_names (codes "judge") (codes "list") (λ e. omega (arith, e)) is.0
   of_judging (Speak config speaking f) is = two_names (codes "judge") (codes "speak") (λ e. omega (arith, e)) is.0
   of_judging (Pair f) is = two_names (codes "judge") (codes "pair") (λ e. omega (arith, e)) is.0
-  of_judging (Judge config f) is =
+  of_judging (Judge config recording f) is =
       let tells = parts_told line.name line.local_as line.peer_as line.local_id line.local line.peer file
       (plain line.local_as line.no_flags.0) (plain line.peer_as line.no_flags.1) (plain line.local_id line.no_flags.2)
-      (plain line.local line.no_flags.3) (plain line.peer line.no_flags.4) (plain file line.no_flags.5) config.parts is.1.0 in
-      subst (IsJudgeLine words config.parts) (same_Some _ _ (sym there ∙ is.1.1)) (record {
-        name = line.name;
-        local_as = line.local_as;
-        peer_as = line.peer_as;
-        local_id = line.local_id;
-        local = line.local;
-        peer = line.peer;
-        spelled = line.spelled;
-        no_flags = line.no_flags;
-        as_numbers = (tells.0, tells.1);
-        identifier = tells.2;
-        ends = (tells.3, tells.4);
-        refresh = tells.5;
-        extended = tells.6;
-        holds = (sym tells.7.0.1, sym tells.8.0.1);
-        families = only_v4 config.parts.families tells.9;
-        flags = (tells.10, tells.11);
-      })
+      (plain line.local line.no_flags.3) (plain line.peer line.no_flags.4) (plain file line.no_flags.5) config.parts is.1.0 in (
+        subst (IsJudgeLine words config.parts) (same_Some _ _ (sym there ∙ is.1.2)) (record {
+          name = line.name;
+          local_as = line.local_as;
+          peer_as = line.peer_as;
+          local_id = line.local_id;
+          local = line.local;
+          peer = line.peer;
+          spelled = line.spelled;
+          no_flags = line.no_flags;
+          as_numbers = (tells.0, tells.1);
+          identifier = tells.2;
+          ends = (tells.3, tells.4);
+          refresh = tells.5;
+          extended = tells.6;
+          holds = (sym tells.7.0.1, sym tells.8.0.1);
+          families = only_v4 config.parts.families tells.9;
+          flags = (tells.10, tells.11);
+        }),
+        is_usual recording is.1.1,
+      )
 
   pub judge_of_line : (command : Command) → Names (subcommand_of program_words words) command → IsJudgeOf words command
   judge_of_line command names = of_judging command (subst (λ u. Names u command) used names)
 
 -- such a line of a configuration names it
 pub names_judge : (words : List Text) (config : Config) (file : Text) → IsJudgeLine words config.parts file
-    → NamesJudge config file (subcommand_of program_words words)
+    → NamesJudge config usual_recording file (subcommand_of program_words words)
 names_judge words config file line =
-    subst (IsUsed (codes "judge") (IsJudge config file)) (sym (used words config.parts file line))
-    (refl, (are_parts words config.parts file line, there words config.parts file line))
+    subst (IsUsed (codes "judge") (IsJudge config usual_recording file)) (sym (used words config.parts file line))
+    (refl, (are_parts words config.parts file line, usual words config.parts file line, there words config.parts file line))

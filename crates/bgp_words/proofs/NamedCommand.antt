@@ -1,16 +1,20 @@
 -- The command that a parse met, by its name and its values.
-use Rattle.std.proofs.Common.{◌≡◌, ◌∙◌, ℕ, ◌<◌, ◌^◌, List, arith, Option, Some, None, option_map, sym, ap, subst, true, false, codes}
+use Rattle.std.proofs.Common.{◌≡◌, ◌∙◌, ℕ, ◌<◌, ◌^◌, Bool, List, arith, Option, Some, None, option_map, sym, ap, subst, true, false, codes}
 use Rattle.std.specs.Prelude.{IsSomeAnd, slice_get, unwrap_or}
 use Rattle.std.proofs.lemmas.Option.{none-some, same_Some}
 use Rattle.clap.specs.Words.{Row, Text, first_of}
-use Rattle.bgp_words.specs.Decode.{IsStream, IsDecodeOf}
+use Rattle.bgp_words.specs.Decode.{IsCapture, IsStream, IsDecodeOf}
+use Rattle.bgp_words.specs.Judge.{IsJudge}
 use Rattle.bgp_words.specs.Values.{IsTurnsText}
+use Rattle.bgp_words.specs.Import.{CanImport, IsImport, IsListing}
 use Rattle.bgp_words.specs.Speak.{CanSpeak, IsSpeak}
+use Rattle.bgp_words.specs.declared.recording.RecordingOptions.{RecordingOptions}
 use Rattle.bgp_words.specs.declared.speak.Speaking.{Speaking}
+use Rattle.bgp_prefix.specs.declared.session.Session.{Session}
 use Rattle.bgp_open.specs.declared.config.Config.{Config}
 use Rattle.bgp_words.specs.Spelled.{Names, NamesBy, NamesDecode}
 use Rattle.bgp_words.specs.declared.words.Command.{Command}
-use Rattle.bgp_words.specs.declared.words.Command.TheVariants.{Decode, Capture, Judge, Speak, Pair}
+use Rattle.bgp_words.specs.declared.words.Command.TheVariants.{Decode, Capture, Judge, Import, List as Listing, Speak, Pair}
 
 -- names that begin differently are two
 abbrev first : Text → ℕ
@@ -25,11 +29,13 @@ of_decode : (rows : List Row) (file : Text) (command : Command) → IsStream fal
 of_decode rows file (Decode extended name) is also =
     let (here, _mrt, _peer, _local, plain) = is in
     let (there, _mrt, _peer, _local, long) = also.1 in (long ∙ sym plain, same_Some _ _ (sym there ∙ here))
-of_decode rows file (Capture session name) is also =
+of_decode rows file (Capture session recording name) is also =
     let (_file, not_mrt, _peer, _local, _plain) = is in
-    let (_file, mrt, _peer, _local, _refresh, _long) = also.1 in
+    let (_file, mrt, _peer, _local, _refresh, _long, _recording) = also.1 in
     let bad : false ≡ true = sym not_mrt ∙ mrt in absurd (cc)
-of_decode rows file (Judge config name) is also = absurd (two_names (codes "decode") (codes "judge") (λ e. omega (arith, e)) also.0)
+of_decode rows file (Judge config recording name) is also = absurd (two_names (codes "decode") (codes "judge") (λ e. omega (arith, e)) also.0)
+of_decode rows file (Import session recording name out) is also = absurd (two_names (codes "decode") (codes "import") (λ e. omega (arith, e)) also.0)
+of_decode rows file (Listing port name) is also = absurd (two_names (codes "decode") (codes "list") (λ e. omega (arith, e)) also.0)
 of_decode rows file (Speak config speaking name) is also = absurd (two_names (codes "decode") (codes "speak") (λ e. omega (arith, e)) also.0)
 of_decode rows file (Pair name) is also = absurd (two_names (codes "decode") (codes "pair") (λ e. omega (arith, e)) also.0)
 
@@ -39,14 +45,61 @@ one_file None file command first second = absurd first
 one_file (Some p) file command first second =
     of_decode p.1 file command first.1 (subst (λ (name : Text). NamesBy name p.1 command) first.0 second)
 
--- where the values of `speak` are none, no command is spelled
+-- where the values of `decode` are none, no command is spelled
+pub none_decoded : (rows : List Row) → ((extended : Bool) (file : Text) → IsStream extended file rows → ⊥)
+    → ((session : Session) (recording : RecordingOptions) (file : Text) → IsCapture session recording file rows → ⊥)
+    → (command : Command) → NamesBy (codes "decode") rows command → ⊥
+none_decoded rows stream capture (Decode extended file) is = stream extended file.now is.1
+none_decoded rows stream capture (Capture session recording file) is = capture session recording file.now is.1
+none_decoded rows stream capture (Judge config recording file) is = two_names (codes "decode") (codes "judge") (λ e. omega (arith, e)) is.0
+none_decoded rows stream capture (Import session recording file out) is = two_names (codes "decode") (codes "import") (λ e. omega (arith, e)) is.0
+none_decoded rows stream capture (Listing port file) is = two_names (codes "decode") (codes "list") (λ e. omega (arith, e)) is.0
+none_decoded rows stream capture (Speak config speaking file) is = two_names (codes "decode") (codes "speak") (λ e. omega (arith, e)) is.0
+none_decoded rows stream capture (Pair file) is = two_names (codes "decode") (codes "pair") (λ e. omega (arith, e)) is.0
+
+-- the same of `judge`
+pub none_judged : (rows : List Row) → ((config : Config) (recording : RecordingOptions) (file : Text) → IsJudge config recording file rows → ⊥)
+    → (command : Command) → NamesBy (codes "judge") rows command → ⊥
+none_judged rows none (Decode extended file) is = two_names (codes "judge") (codes "decode") (λ e. omega (arith, e)) is.0
+none_judged rows none (Capture session recording file) is = two_names (codes "judge") (codes "decode") (λ e. omega (arith, e)) is.0
+none_judged rows none (Judge config recording file) is = none config recording file.now is.1
+none_judged rows none (Import session recording file out) is = two_names (codes "judge") (codes "import") (λ e. omega (arith, e)) is.0
+none_judged rows none (Listing port file) is = two_names (codes "judge") (codes "list") (λ e. omega (arith, e)) is.0
+none_judged rows none (Speak config speaking file) is = two_names (codes "judge") (codes "speak") (λ e. omega (arith, e)) is.0
+none_judged rows none (Pair file) is = two_names (codes "judge") (codes "pair") (λ e. omega (arith, e)) is.0
+
+-- of `speak`
 pub none_spoken : (rows : List Row) → ((config : Config) (speaking : Speaking) (file : Text) → IsSpeak config speaking file rows → ⊥)
     → (command : Command) → NamesBy (codes "speak") rows command → ⊥
 none_spoken rows none (Decode extended file) is = two_names (codes "speak") (codes "decode") (λ e. omega (arith, e)) is.0
-none_spoken rows none (Capture session file) is = two_names (codes "speak") (codes "decode") (λ e. omega (arith, e)) is.0
-none_spoken rows none (Judge config file) is = two_names (codes "speak") (codes "judge") (λ e. omega (arith, e)) is.0
+none_spoken rows none (Capture session recording file) is = two_names (codes "speak") (codes "decode") (λ e. omega (arith, e)) is.0
+none_spoken rows none (Judge config recording file) is = two_names (codes "speak") (codes "judge") (λ e. omega (arith, e)) is.0
+none_spoken rows none (Import session recording file out) is = two_names (codes "speak") (codes "import") (λ e. omega (arith, e)) is.0
+none_spoken rows none (Listing port file) is = two_names (codes "speak") (codes "list") (λ e. omega (arith, e)) is.0
 none_spoken rows none (Speak config speaking file) is = none config speaking file.now is.1
 none_spoken rows none (Pair file) is = two_names (codes "speak") (codes "pair") (λ e. omega (arith, e)) is.0
+
+-- of `import`
+pub none_imported : (rows : List Row) → ((session : Session) (recording : RecordingOptions) (file out : Text) → IsImport session recording file out rows → ⊥)
+    → (command : Command) → NamesBy (codes "import") rows command → ⊥
+none_imported rows none (Decode extended file) is = two_names (codes "import") (codes "decode") (λ e. omega (arith, e)) is.0
+none_imported rows none (Capture session recording file) is = two_names (codes "import") (codes "decode") (λ e. omega (arith, e)) is.0
+none_imported rows none (Judge config recording file) is = two_names (codes "import") (codes "judge") (λ e. omega (arith, e)) is.0
+none_imported rows none (Import session recording file out) is = none session recording file.now out.now is.1
+none_imported rows none (Listing port file) is = two_names (codes "import") (codes "list") (λ e. omega (arith, e)) is.0
+none_imported rows none (Speak config speaking file) is = two_names (codes "import") (codes "speak") (λ e. omega (arith, e)) is.0
+none_imported rows none (Pair file) is = two_names (codes "import") (codes "pair") (λ e. omega (arith, e)) is.0
+
+-- and of `list`
+pub none_listed : (rows : List Row) → ((port : ℕ) (file : Text) → IsListing port file rows → ⊥)
+    → (command : Command) → NamesBy (codes "list") rows command → ⊥
+none_listed rows none (Decode extended file) is = two_names (codes "list") (codes "decode") (λ e. omega (arith, e)) is.0
+none_listed rows none (Capture session recording file) is = two_names (codes "list") (codes "decode") (λ e. omega (arith, e)) is.0
+none_listed rows none (Judge config recording file) is = two_names (codes "list") (codes "judge") (λ e. omega (arith, e)) is.0
+none_listed rows none (Import session recording file out) is = two_names (codes "list") (codes "import") (λ e. omega (arith, e)) is.0
+none_listed rows none (Listing port file) is = none port file.now is.1
+none_listed rows none (Speak config speaking file) is = two_names (codes "list") (codes "speak") (λ e. omega (arith, e)) is.0
+none_listed rows none (Pair file) is = two_names (codes "list") (codes "pair") (λ e. omega (arith, e)) is.0
 
 -- the command that was met, by its name and its rows
 pub met_command : {X : Type 0} (name_in : X → Text) (rows_in : X → List Row) (o : Option X) (name : Text) (rows : List Row)
@@ -63,11 +116,27 @@ few_turns (Some word) turns is = is.1
 
 can_by : (p : Text × List Row) (command : Command) → Names (Some p) command → CanSpeak command
 can_by p (Decode extended file) is = tt
-can_by p (Capture session file) is = tt
-can_by p (Judge config file) is = tt
+can_by p (Capture session recording file) is = tt
+can_by p (Judge config recording file) is = tt
+can_by p (Import session recording file out) is = tt
+can_by p (Listing port file) is = tt
 can_by p (Speak config speaking file) is = (is.1.1, few_turns (first_of (codes "turns") p.1) speaking.turns is.1.2.turns)
 can_by p (Pair file) is = tt
 
 pub can_speak : (used : Option (Text × List Row)) (command : Command) → Names used command → CanSpeak command
 can_speak None command is = absurd is
 can_speak (Some p) command is = can_by p command is
+
+-- what imports can do so
+can_import_by : (p : Text × List Row) (command : Command) → Names (Some p) command → CanImport command
+can_import_by p (Decode extended file) is = tt
+can_import_by p (Capture session recording file) is = tt
+can_import_by p (Judge config recording file) is = tt
+can_import_by p (Import session recording file out) is = (is.1.1, is.1.3)
+can_import_by p (Listing port file) is = tt
+can_import_by p (Speak config speaking file) is = tt
+can_import_by p (Pair file) is = tt
+
+pub can_import : (used : Option (Text × List Row)) (command : Command) → Names used command → CanImport command
+can_import None command is = absurd is
+can_import (Some p) command is = can_import_by p command is

@@ -1,4 +1,5 @@
--- Configurations' parts are the same where each field is; so is what `speak` is told.
+-- Configurations' parts are the same where each field is; so is what `speak` is told, and what is
+-- told of a recording.
 use Rattle.std.proofs.Common.{rules, ◌≡◌, ◌∙◌, Bool, List, Option, Some, None, Result, Ok, Err, sym, subst}
 use Rattle.std.specs.Prelude.{◌↔◌, IfNone, IfSome, IsOkAnd}
 use Rattle.std.specs.Option.{ok_or}
@@ -7,6 +8,7 @@ use Rattle.bgp_open.specs.Config.{IsConfig}
 use Rattle.bgp_open.specs.declared.config.Config.{Config}
 use Rattle.bgp_open.specs.declared.config.ConfigParts.{ConfigParts}
 use Rattle.bgp_words.specs.Settings.{AreParts}
+use Rattle.bgp_words.specs.declared.recording.RecordingOptions.{RecordingOptions}
 use Rattle.bgp_words.specs.declared.speak.Speaking.{Speaking}
 
 pub same_parts : (p q : ConfigParts) → p.local_as ≡ q.local_as → p.peer_as ≡ q.peer_as → p.local_id ≡ q.local_id
@@ -17,6 +19,10 @@ same_parts p q local_as peer_as local_id hold families as4 delay_open large_hold
 pub same_speaking : (p q : Speaking) → p.start ≡ q.start → p.next_hop4 ≡ q.next_hop4 → p.next_hop6 ≡ q.next_hop6
     → p.announce ≡ q.announce → p.turns ≡ q.turns → p.quiet ≡ q.quiet → p ≡ q
 same_speaking p q start next_hop4 next_hop6 announce turns quiet = search rules
+
+pub same_recording : (p q : RecordingOptions) → p.port ≡ q.port → p.local_port ≡ q.local_port → p.connection ≡ q.connection
+    → p.within ≡ q.within → p ≡ q
+same_recording p q port local_port connection within = search rules
 
 -- the configuration of parts that were read
 pub config_read : {E : Type 0} (rows : List Row) (refresh : Bool) (parts : ConfigParts)

@@ -1,5 +1,5 @@
 -- The words of `judge FILE` with the options that it has to have spell that command.
-use Rattle.std.proofs.Common.{◌≡◌, ◌∙◌, List, [], ◌∷◌, Some, None, refl, ap, ap₂, true, false, not, codes}
+use Rattle.std.proofs.Common.{◌≡◌, ◌∙◌, List, [], ◌∷◌, Some, None, refl, sym, ap, ap₂, true, false, not, codes}
 use Rattle.std.specs.Prelude.{fold, slice_get, unwrap_or}
 use Rattle.clap.specs.Words.{Kinds, Row, Rule, Text, fault_of, first_of, subcommand_of}
 use Rattle.clap.specs.Kinds.{or_else}
@@ -10,8 +10,11 @@ use Rattle.clap.proofs.OnLiterals.{clap_on_literals}
 use Rattle.bgp_prefix.specs.Notation.{IsAddressText}
 use Rattle.bgp_open.specs.declared.config.ConfigParts.{ConfigParts}
 use Rattle.bgp_words.specs.Words.{program_words}
-use Rattle.bgp_words.specs.Values.{IsFamiliesText, IsHoldText, IsIdentifierText, IsPositiveText, is_given}
+use Rattle.bgp_words.specs.Values.{IsFamiliesText, IsHoldText, IsIdentifierText, IsPortText, IsPositiveText, IsSecondsText, is_given}
 use Rattle.bgp_words.specs.Settings.{AreParts}
+use Rattle.bgp_words.specs.Recording.{AreRecordingOptions, usual_recording}
+use Rattle.bgp_words.specs.declared.recording.RecordingOptions.{RecordingOptions}
+use Rattle.bgp_words.proofs.SameParts.{same_recording}
 use Rattle.bgp_words.proofs.PlainWords.{IsPlainWord, Passes, met_plain, none_wrong, pass, pass_none}
 
 -- the parts of a configuration, as `judge` is told of them
@@ -189,3 +192,13 @@ module _ (name local_as peer_as local_id local peer file : Text) (local_as_plain
   pub file_found : first_of (codes "FILE") found_rows ≡ Some file
   unfolding clap_on_literals
   file_found = refl
+
+  -- what isn't told of a recording
+  pub usual_found : IsPortText (codes "179") 179 → IsSecondsText (codes "10") 10 → AreRecordingOptions usual_recording found_rows
+  unfolding clap_on_literals
+  usual_found port within = record { port = port; local_port = refl; connection = refl; within = within }
+
+  pub usual_told : (recording : RecordingOptions) → AreRecordingOptions recording found_rows → recording ≡ usual_recording
+  unfolding clap_on_literals
+  usual_told recording are =
+      same_recording recording usual_recording (sym are.port.0.1) are.local_port are.connection (sym are.within.0.1)

@@ -1,6 +1,6 @@
 -- Each row of words in which a value is at fault.
-use Rattle.std.proofs.Common.{◌≡◌, List, [], ◌∷◌, ◌++◌, Some, Result, Ok, Err, All, arith, refl, sym, subst, inr, codes}
-use Rattle.std.specs.Prelude.{IsErrAnd}
+use Rattle.std.proofs.Common.{◌≡◌, ℕ, List, [], ◌∷◌, ◌++◌, Option, Some, None, Result, Ok, Err, All, arith, refl, sym, subst, inr, codes}
+use Rattle.std.specs.Prelude.{IsErrAnd, IsSomeAnd}
 use Rattle.std.specs.Option.{option_map_or}
 use Rattle.std.proofs.lemmas.List.Elements.{All-cons, All-nil, All-weaker}
 use Rattle.std.proofs.lemmas.Option.{none-some}
@@ -9,15 +9,17 @@ use Rattle.clap.specs.declared.error.Error.{Error}
 use Rattle.clap.specs.declared.error.kind.ErrorKind.{ErrorKind}
 use Rattle.clap.specs.declared.error.kind.ErrorKind.TheVariants.{OutOfMemory}
 use Rattle.clap.proofs.OnLiterals.{clap_on_literals}
+use Rattle.bgp_words.specs.Recording.{AreRecordingOptions}
 use Rattle.bgp_words.specs.Speak.{AreOptions, IsStart}
+use Rattle.bgp_words.specs.Values.{IsPortText, IsPositiveText, IsValue}
 use Rattle.bgp_words.specs.Words.{program_words}
-use Rattle.bgp_words.specs.Spelled.{IsFault, Names, NamesBy, connect, listen, next_hop4, next_hop6, speak_with, value_rows}
+use Rattle.bgp_words.specs.Spelled.{IsFault, Names, connect, import_with, listen, next_hop4, next_hop6, speak_with, value_rows}
+use Rattle.bgp_words.specs.declared.recording.RecordingOptions.{RecordingOptions}
 use Rattle.bgp_words.specs.declared.speak.Speaking.{Speaking}
 use Rattle.bgp_words.specs.declared.speak.Start.{Start}
 use Rattle.bgp_words.specs.declared.speak.Start.TheVariants.{Connect, Listen}
 use Rattle.bgp_words.specs.declared.words.Command.{Command}
-use Rattle.bgp_words.specs.declared.words.Command.TheVariants.{Decode, Capture, Judge, Speak, Pair}
-use Rattle.bgp_words.proofs.NamedCommand.{two_names}
+use Rattle.bgp_words.proofs.NamedCommand.{none_imported, none_listed, none_spoken}
 
 -- what is found in a row
 abbrev found : Text → List Text → List Row
@@ -26,18 +28,35 @@ found name row = option_map_or (λ p. p.1) (subcommand_of program_words (name �
 abbrev LacksOptions : List Row → Type 0
 LacksOptions rows = (speaking : Speaking) → AreOptions speaking rows → ⊥
 
+abbrev LacksRecording : List Row → Type 0
+LacksRecording rows = (recording : RecordingOptions) → AreRecordingOptions recording rows → ⊥
+
+abbrev LacksPort : List Row → Type 0
+LacksPort rows = (port : ℕ) → IsValue IsPortText (codes "port") rows port → ⊥
+
+abbrev NamesNone : Text → List Text → Type 0
+NamesNone name row = (command : Command) → Names (subcommand_of program_words (name ∷ row)) command → ⊥
+
 -- nothing is named where `speak` is and its options are none
-no_speak : (rows : List Row) → LacksOptions rows → (command : Command) → NamesBy (codes "speak") rows command → ⊥
-no_speak rows none (Decode extended file) is = two_names (codes "speak") (codes "decode") (λ e. omega (arith, e)) is.0
-no_speak rows none (Capture session file) is = two_names (codes "speak") (codes "decode") (λ e. omega (arith, e)) is.0
-no_speak rows none (Judge config file) is = two_names (codes "speak") (codes "judge") (λ e. omega (arith, e)) is.0
-no_speak rows none (Speak config speaking file) is = none speaking is.1.2
-no_speak rows none (Pair file) is = two_names (codes "speak") (codes "pair") (λ e. omega (arith, e)) is.0
+no_speak : (name : Text) (row : List Text) → subcommand_of program_words (name ∷ row) ≡ Some (codes "speak", found name row)
+    → LacksOptions (found name row) → NamesNone name row
+no_speak name row names lacks command named =
+    none_spoken (found name row) (λ config speaking file is. lacks speaking is.2) command (subst (λ used. Names used command) names named)
+
+-- the same of `import` and of `list`
+no_import : (name : Text) (row : List Text) → subcommand_of program_words (name ∷ row) ≡ Some (codes "import", found name row)
+    → LacksRecording (found name row) → NamesNone name row
+no_import name row names lacks command named =
+    none_imported (found name row) (λ session recording file out is. lacks recording is.2) command (subst (λ used. Names used command) names named)
+
+no_list : (name : Text) (row : List Text) → subcommand_of program_words (name ∷ row) ≡ Some (codes "list", found name row)
+    → LacksPort (found name row) → NamesNone name row
+no_list name row names lacks command named =
+    none_listed (found name row) (λ port file is. lacks port is.0) command (subst (λ used. Names used command) names named)
 
 pub record IsValueRow (name : Text) (row : List Text) : Type 0 where
   pub passes : fault_of program_words (name ∷ row) ≡ []
-  pub names : subcommand_of program_words (name ∷ row) ≡ Some (codes "speak", found name row)
-  pub lacks : LacksOptions (found name row)
+  pub nothing : NamesNone name row
 
 abbrev hops : List Text
 hops = next_hop4 ++ next_hop6
@@ -57,6 +76,11 @@ unfolding clap_on_literals
 port_0 name (Connect port) is = is.0.2 (sym is.0.0.1)
 port_0 name (Listen port) is = is.0
 
+listen_0 : (name : Text) (start : Start) → IsStart start (found name (speak_with (listen (codes "0") ++ next_hop4 ++ next_hop6))) → ⊥
+unfolding clap_on_literals
+listen_0 name (Connect port) is = is.0
+listen_0 name (Listen port) is = is.0.2 (sym is.0.0.1)
+
 port_65536 : (name : Text) (start : Start) → IsStart start (found name (speak_with (connect (codes "65536") ++ next_hop4 ++ next_hop6))) → ⊥
 unfolding clap_on_literals
 port_65536 name (Connect port) is = omega (arith, is.0.0.1, is.0.1)
@@ -67,6 +91,34 @@ many_turns : (name : Text) → LacksOptions (found name (speak_with (connect (co
 unfolding clap_on_literals
 many_turns name speaking are = omega (arith, are.turns.0.1, are.turns.1)
 
+high_port : (name : Text) → LacksRecording (found name (import_with (codes "--port") (codes "65536")))
+unfolding clap_on_literals
+high_port name recording are = omega (arith, are.port.0.1, are.port.1)
+
+no_port_0 : (port : Option ℕ) → IsSomeAnd port (λ it. IsPortText (codes "0") it) → ⊥
+no_port_0 None is = is
+no_port_0 (Some port) is = is.2 (sym is.0.1)
+
+local_port_0 : (name : Text) → LacksRecording (found name (import_with (codes "--local-port") (codes "0")))
+unfolding clap_on_literals
+local_port_0 name recording are = no_port_0 recording.local_port are.local_port
+
+no_number_0 : (number : Option ℕ) → IsSomeAnd number (λ it. IsPositiveText (codes "0") it) → ⊥
+no_number_0 None is = is
+no_number_0 (Some number) is = is.2 (sym is.0.1)
+
+connection_0 : (name : Text) → LacksRecording (found name (import_with (codes "--connection") (codes "0")))
+unfolding clap_on_literals
+connection_0 name recording are = no_number_0 recording.connection are.connection
+
+many_seconds : (name : Text) → LacksRecording (found name (import_with (codes "--within") (codes "65536")))
+unfolding clap_on_literals
+many_seconds name recording are = omega (arith, are.within.0.1, are.within.1)
+
+list_port_0 : (name : Text) → LacksPort (found name (codes "list" ∷ codes "--port" ∷ codes "0" ∷ codes "a.pcap" ∷ []))
+unfolding clap_on_literals
+list_port_0 name port is = is.2 (sym is.0.1)
+
 -- one row after another
 abbrev AreRows : Text → List (List Text) → Type 0
 AreRows name [] = Unit {0}
@@ -76,17 +128,60 @@ all_rows : (name : Text) (rows : List (List Text)) → AreRows name rows → All
 all_rows name [] are = All-nil (IsValueRow name)
 all_rows name (row ∷ rows) are = All-cons (IsValueRow name) row rows are.0 (all_rows name rows are.1)
 
+speak_row : (name : Text) (options : List Text) → fault_of program_words (name ∷ speak_with options) ≡ []
+    → subcommand_of program_words (name ∷ speak_with options) ≡ Some (codes "speak", found name (speak_with options))
+    → LacksOptions (found name (speak_with options)) → IsValueRow name (speak_with options)
+speak_row name options passes names lacks =
+    record { passes = passes; nothing = no_speak name (speak_with options) names lacks }
+
+import_row : (name option value : Text) → fault_of program_words (name ∷ import_with option value) ≡ []
+    → subcommand_of program_words (name ∷ import_with option value) ≡ Some (codes "import", found name (import_with option value))
+    → LacksRecording (found name (import_with option value)) → IsValueRow name (import_with option value)
+import_row name option value passes names lacks =
+    record { passes = passes; nothing = no_import name (import_with option value) names lacks }
+
+rows_of_recordings : (name : Text) → AreRows name (
+    import_with (codes "--port") (codes "65536") ∷ import_with (codes "--local-port") (codes "0")
+    ∷ import_with (codes "--connection") (codes "0") ∷ import_with (codes "--within") (codes "65536")
+    ∷ (codes "list" ∷ codes "--port" ∷ codes "0" ∷ codes "a.pcap" ∷ []) ∷ [])
+unfolding clap_on_literals
+rows_of_recordings name = (
+  import_row name (codes "--port") (codes "65536") refl refl (high_port name),
+  (
+    import_row name (codes "--local-port") (codes "0") refl refl (local_port_0 name),
+    (
+      import_row name (codes "--connection") (codes "0") refl refl (connection_0 name),
+      (
+        import_row name (codes "--within") (codes "65536") refl refl (many_seconds name),
+        (
+          record {
+            passes = refl;
+            nothing = no_list name (codes "list" ∷ codes "--port" ∷ codes "0" ∷ codes "a.pcap" ∷ []) refl (list_port_0 name);
+          },
+          tt,
+        ),
+      ),
+    ),
+  ),
+)
+
 are_rows : (name : Text) → AreRows name value_rows
 unfolding clap_on_literals
 are_rows name = (
-  record { passes = refl; names = refl; lacks = λ speaking are. neither name speaking.start are.start },
+  speak_row name hops refl refl (λ speaking are. neither name speaking.start are.start),
   (
-    record { passes = refl; names = refl; lacks = λ speaking are. both name speaking.start are.start },
+    speak_row name (connect (codes "1179") ++ listen (codes "1180") ++ hops) refl refl (λ speaking are. both name speaking.start are.start),
     (
-      record { passes = refl; names = refl; lacks = λ speaking are. port_0 name speaking.start are.start },
+      speak_row name (connect (codes "0") ++ hops) refl refl (λ speaking are. port_0 name speaking.start are.start),
       (
-        record { passes = refl; names = refl; lacks = λ speaking are. port_65536 name speaking.start are.start },
-        (record { passes = refl; names = refl; lacks = many_turns name }, tt),
+        speak_row name (listen (codes "0") ++ hops) refl refl (λ speaking are. listen_0 name speaking.start are.start),
+        (
+          speak_row name (connect (codes "65536") ++ hops) refl refl (λ speaking are. port_65536 name speaking.start are.start),
+          (
+            speak_row name (connect (codes "1179") ++ next_hop4 ++ next_hop6 ++ codes "--turns" ∷ codes "9223372036854775808" ∷ []) refl refl (many_turns name),
+            rows_of_recordings name,
+          ),
+        ),
       ),
     ),
   ),
@@ -100,7 +195,7 @@ pub record NamesNothing (words : List Text) : Type 0 where
 nothing_named : (name : Text) (row : List Text) → IsValueRow name row → NamesNothing (name ∷ row)
 nothing_named name row is = record {
   passes = is.passes;
-  nothing = λ command names. no_speak (found name row) is.lacks command (subst (λ used. Names used command) is.names names);
+  nothing = is.nothing;
 }
 
 pub each_value : (words : List Text) (r : Result Command Error) (name : Text) (kind : ErrorKind) → (NamesNothing words → IsFault kind r)

@@ -1,4 +1,5 @@
--- The values of `judge`: what the local system is configured to do, the session, and a file.
+-- The values of `judge`: what the local system is configured to do, the session, what is told of a
+-- recording, and a file.
 use Rattle.std.specs.Prelude.{◌≡◌, true, false, not, List, [], ◌∷◌, Some, codes}
 use Rattle.clap.specs.Words.{Row, Text, first_of}
 use Rattle.bgp_prefix.specs.Notation.{IsAddressText}
@@ -6,16 +7,19 @@ use Rattle.bgp_open.specs.declared.config.Config.{Config}
 use Rattle.bgp_open.specs.declared.config.ConfigParts.{ConfigParts}
 use Rattle.bgp_words.specs.Values.{IsPositiveText, IsIdentifierText, IsNoFlag, is_given}
 use Rattle.bgp_words.specs.Settings.{AreParts}
+use Rattle.bgp_words.specs.Recording.{AreRecordingOptions, usual_recording}
+use Rattle.bgp_words.specs.declared.recording.RecordingOptions.{RecordingOptions}
 use Rattle.bgp_words.specs.declared.words.Command.{Command}
 use Rattle.bgp_words.specs.declared.words.Command.TheVariants.{Decode, Capture, Judge}
+use Rattle.bgp_words.specs.declared.words.Command.TheVariants.{Import, List as Listing}
 use Rattle.bgp_words.specs.declared.words.Command.TheVariants.{Speak, Pair}
 
 -- the values of `judge`: a configuration, and a file; `--no-refresh`: the local system offers no
 -- route refresh
-abbrev pub IsJudge : Config → Text → List Row → Type 0
-IsJudge config file rows =
+abbrev pub IsJudge : Config → RecordingOptions → Text → List Row → Type 0
+IsJudge config recording file rows =
     AreParts config.parts (not (is_given (codes "no-refresh") rows)) rows
-    × (first_of (codes "FILE") rows ≡ Some file)
+    × AreRecordingOptions recording rows × (first_of (codes "FILE") rows ≡ Some file)
 
 -- The words are `judge FILE` with just the options that it has to have, in this order, behind the
 -- program's name; each value is a word of its own, and no flag. What isn't told has its default.
@@ -40,10 +44,13 @@ pub record IsJudgeLine (words : List Text) (parts : ConfigParts) (file : Text) :
   pub families : parts.families ≡ record { v4 = true; v6 = false }
   pub flags : (parts.as4 ≡ true) × (parts.delay_open ≡ false)
 
--- the command is `judge` with what these words tell
+-- the command is `judge` with what these words tell, and nothing is told of a recording
 abbrev pub IsJudgeOf : List Text → Command → Type 0
 IsJudgeOf words (Decode extended file) = ⊥
-IsJudgeOf words (Capture session file) = ⊥
-IsJudgeOf words (Judge config file) = IsJudgeLine words config.parts file.now
+IsJudgeOf words (Capture session recording file) = ⊥
+IsJudgeOf words (Judge config recording file) =
+    IsJudgeLine words config.parts file.now × (recording ≡ usual_recording)
+IsJudgeOf words (Import session recording file out) = ⊥
+IsJudgeOf words (Listing port file) = ⊥
 IsJudgeOf words (Speak config speaking file) = ⊥
 IsJudgeOf words (Pair file) = ⊥

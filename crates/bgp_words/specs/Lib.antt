@@ -2,8 +2,10 @@ pub mod Words
 pub mod Options
 pub mod Values
 pub mod Settings
+pub mod Recording
 pub mod Decode
 pub mod Judge
+pub mod Import
 pub mod Speak
 pub mod Pair
 pub mod Spelled

@@ -6,7 +6,7 @@ use Rattle.bgp_words.specs.declared.options.Word.{Word}
 use Rattle.bgp_words.specs.declared.options.Word.TheVariants as words
 
 abbrev pub rule_by : Word → Rule
-rule_by (words.File help) = file_word
+rule_by (words.File name help) = file_word name.now
 rule_by (words.Flag name help) = flag_word name.now
 rule_by (words.Option name help) = option_word name.now
 rule_by (words.Required name help) = required_word name.now

@@ -1,6 +1,7 @@
 -- What `judge` and `speak` are told of a session and of its local system.
 use Rattle.std.specs.Prelude.{◌≡◌, Bool, not, List, codes}
 use Rattle.clap.specs.Words.{Row}
+use Rattle.bgp_prefix.specs.Address.{family_of}
 use Rattle.bgp_prefix.specs.Notation.{IsAddressText}
 use Rattle.bgp_prefix.specs.declared.session.Session.{Session}
 use Rattle.bgp_open.specs.declared.config.ConfigParts.{ConfigParts}
@@ -14,6 +15,10 @@ pub record IsSession (session : Session) (offers : Bool) (rows : List Row) : Typ
   pub local : IsValue IsAddressText (codes "local") rows session.local
   pub refresh : session.refresh ≡ offers
   pub extended : session.extended ≡ is_given (codes "extended") rows
+
+-- both addresses are of one family
+abbrev pub IsOfOneFamily : Session → Type 0
+IsOfOneFamily session = family_of session.peer ≡ family_of session.local
 
 -- the parts of a configuration; `--as2`: four-octet AS numbers aren't offered
 pub record AreParts (parts : ConfigParts) (offers : Bool) (rows : List Row) : Type 0 where

@@ -2,18 +2,17 @@
 -- announced, how long it lasts, and a file.
 use Rattle.std.specs.Prelude.{◌≡◌, ◌<◌, ◌^◌, false, List, Some, None, codes}
 use Rattle.clap.specs.Words.{Row, Text, first_of}
-use Rattle.bgp_prefix.specs.Address.{family_of}
 use Rattle.bgp_prefix.specs.Notation.{IsPrefixText}
-use Rattle.bgp_prefix.specs.declared.session.Session.{Session}
 use Rattle.bgp_open.specs.declared.config.Config.{Config}
 use Rattle.bgp_words.specs.Values.{IsNextHop4Text, IsNextHop6Text, IsOptional, IsPortText}
 use Rattle.bgp_words.specs.Values.{IsTurnsText, IsValue, is_given}
-use Rattle.bgp_words.specs.Settings.{AreParts}
+use Rattle.bgp_words.specs.Settings.{AreParts, IsOfOneFamily}
 use Rattle.bgp_words.specs.declared.speak.Speaking.{Speaking}
 use Rattle.bgp_words.specs.declared.speak.Start.{Start}
 use Rattle.bgp_words.specs.declared.speak.Start.TheVariants.{Connect, Listen}
 use Rattle.bgp_words.specs.declared.words.Command.{Command}
 use Rattle.bgp_words.specs.declared.words.Command.TheVariants.{Decode, Capture, Judge}
+use Rattle.bgp_words.specs.declared.words.Command.TheVariants.{Import, List as Listing}
 use Rattle.bgp_words.specs.declared.words.Command.TheVariants.{Speak, Pair}
 
 -- one of `--connect` and `--listen` is given, with this port
@@ -32,10 +31,6 @@ pub record AreOptions (speaking : Speaking) (rows : List Row) : Type 0 where
   pub turns : IsValue IsTurnsText (codes "turns") rows speaking.turns
   pub quiet : speaking.quiet ≡ is_given (codes "quiet") rows
 
--- both addresses are of one family
-abbrev pub IsOfOneFamily : Session → Type 0
-IsOfOneFamily session = family_of session.peer ≡ family_of session.local
-
 -- The values of `speak`: a configuration whose session has addresses of one family, its own
 -- options, and a file. Route refresh is never offered: `--no-refresh` changes nothing.
 abbrev pub IsSpeak : Config → Speaking → Text → List Row → Type 0
@@ -46,8 +41,10 @@ IsSpeak config speaking file rows =
 -- a command to speak can be done: both addresses are of one family, and turns can be counted
 abbrev pub CanSpeak : Command → Type 0
 CanSpeak (Decode extended file) = Unit {0}
-CanSpeak (Capture session file) = Unit {0}
-CanSpeak (Judge config file) = Unit {0}
+CanSpeak (Capture session recording file) = Unit {0}
+CanSpeak (Judge config recording file) = Unit {0}
+CanSpeak (Import session recording file out) = Unit {0}
+CanSpeak (Listing port file) = Unit {0}
 CanSpeak (Speak config speaking file) =
     IsOfOneFamily config.parts.session × (speaking.turns < 2 ^ 63)
 CanSpeak (Pair file) = Unit {0}

@@ -13,11 +13,14 @@ use Rattle.clap.specs.declared.error.kind.ErrorKind.TheVariants.{ValueValidation
 use Rattle.bgp_open.specs.declared.config.Config.{Config}
 use Rattle.bgp_words.specs.Decode.{IsStream, IsCapture, IsDecodeOf}
 use Rattle.bgp_words.specs.Judge.{IsJudge, IsJudgeOf}
+use Rattle.bgp_words.specs.Import.{IsImport, IsListing}
 use Rattle.bgp_words.specs.Speak.{IsSpeak}
 use Rattle.bgp_words.specs.Pair.{IsPair}
 use Rattle.bgp_words.specs.Words.{program_words}
+use Rattle.bgp_words.specs.declared.recording.RecordingOptions.{RecordingOptions}
 use Rattle.bgp_words.specs.declared.words.Command.{Command}
 use Rattle.bgp_words.specs.declared.words.Command.TheVariants.{Decode, Capture, Judge}
+use Rattle.bgp_words.specs.declared.words.Command.TheVariants.{Import, List as Listing}
 use Rattle.bgp_words.specs.declared.words.Command.TheVariants.{Speak, Pair}
 
 -- a command was named, and its values are such
@@ -28,16 +31,20 @@ IsUsed name values (Some used) = (used.0 ≡ name) × values used.1
 -- the name of a command
 abbrev pub name_of : Command → Text
 name_of (Decode extended file) = codes "decode"
-name_of (Capture session file) = codes "decode"
-name_of (Judge config file) = codes "judge"
+name_of (Capture session recording file) = codes "decode"
+name_of (Judge config recording file) = codes "judge"
+name_of (Import session recording file out) = codes "import"
+name_of (Listing port file) = codes "list"
 name_of (Speak config speaking file) = codes "speak"
 name_of (Pair file) = codes "pair"
 
 -- its values
 abbrev pub AreValuesOf : Command → List Row → Type 0
 AreValuesOf (Decode extended file) = IsStream extended file.now
-AreValuesOf (Capture session file) = IsCapture session file.now
-AreValuesOf (Judge config file) = IsJudge config file.now
+AreValuesOf (Capture session recording file) = IsCapture session recording file.now
+AreValuesOf (Judge config recording file) = IsJudge config recording file.now
+AreValuesOf (Import session recording file out) = IsImport session recording file.now out.now
+AreValuesOf (Listing port file) = IsListing port file.now
 AreValuesOf (Speak config speaking file) = IsSpeak config speaking file.now
 AreValuesOf (Pair file) = IsPair file.now
 
@@ -53,9 +60,9 @@ NamesBy name rows = Names (Some (name, rows))
 abbrev pub NamesDecode : Bool → Text → Option (Text × List Row) → Type 0
 NamesDecode extended file = IsUsed (codes "decode") (IsStream extended file)
 
--- `judge` was named, with this configuration and file
-abbrev pub NamesJudge : Config → Text → Option (Text × List Row) → Type 0
-NamesJudge config file = IsUsed (codes "judge") (IsJudge config file)
+-- `judge` was named, with this configuration, what is told of a recording, and this file
+abbrev pub NamesJudge : Config → RecordingOptions → Text → Option (Text × List Row) → Type 0
+NamesJudge config recording file = IsUsed (codes "judge") (IsJudge config recording file)
 
 -- the words spell the command: nothing is wrong with them, and they name it
 abbrev pub Spells : List Text → Command → Type 0
@@ -100,6 +107,20 @@ next_hop6 = codes "--next-hop6" ∷ codes "2001:db8::1" ∷ []
 abbrev pub announce : List Text
 announce = codes "--announce" ∷ codes "10.1.0.0/16" ∷ []
 
+abbrev pub turns : List Text
+turns = codes "--turns" ∷ codes "5" ∷ []
+
+-- `speak` with what it has to have, and then with these twice
+abbrev pub twice : List Text → List Text
+twice option =
+    speak_with (connect (codes "1179") ++ next_hop4 ++ next_hop6 ++ option ++ option)
+
+-- `import` with both addresses, one option more with its value, and two files
+abbrev pub import_with : Text → Text → List Text
+import_with option value =
+    codes "import" ∷ codes "--local" ∷ codes "192.0.2.1" ∷ codes "--peer" ∷ codes "192.0.2.2"
+    ∷ option ∷ value ∷ codes "a.pcap" ∷ codes "a.mrt" ∷ []
+
 -- Words after the program's name that spell no command: what they ask for, or lack.
 abbrev pub fault_rows : List (List Text × ErrorKind)
 fault_rows =
@@ -111,30 +132,48 @@ fault_rows =
     ∷ (codes "judge" ∷ [], MissingRequiredArgument)
     ∷ (codes "judge" ∷ codes "--help" ∷ [], DisplayHelp)
     ∷ (codes "judge" ∷ codes "-h" ∷ [], DisplayHelp)
+    ∷ (codes "import" ∷ [], MissingRequiredArgument)
+    ∷ (
+      codes "import" ∷ codes "--local" ∷ codes "192.0.2.1" ∷ codes "--peer" ∷ codes "192.0.2.2"
+          ∷ codes "a.pcap" ∷ [],
+      MissingRequiredArgument,
+    )
+    ∷ (codes "import" ∷ codes "--help" ∷ [], DisplayHelp)
+    ∷ (codes "import" ∷ codes "-h" ∷ [], DisplayHelp)
+    ∷ (codes "list" ∷ [], MissingRequiredArgument)
+    ∷ (codes "list" ∷ codes "--help" ∷ [], DisplayHelp)
+    ∷ (codes "list" ∷ codes "-h" ∷ [], DisplayHelp)
     ∷ (codes "speak" ∷ [], MissingRequiredArgument)
     ∷ (codes "speak" ∷ codes "--help" ∷ [], DisplayHelp)
     ∷ (codes "speak" ∷ codes "-h" ∷ [], DisplayHelp)
     ∷ (speak_with (connect (codes "1179") ++ next_hop6), MissingRequiredArgument)
     ∷ (speak_with (connect (codes "1179") ++ next_hop4), MissingRequiredArgument)
-    ∷ (
-      speak_with (connect (codes "1179") ++ next_hop4 ++ next_hop6 ++ announce ++ announce),
-      ArgumentConflict,
-    )
+    ∷ (twice announce, ArgumentConflict) ∷ (twice next_hop4, ArgumentConflict)
+    ∷ (twice next_hop6, ArgumentConflict) ∷ (twice (connect (codes "1179")), ArgumentConflict)
+    ∷ (twice (listen (codes "1179")), ArgumentConflict) ∷ (twice turns, ArgumentConflict)
+    ∷ (twice (codes "--quiet" ∷ []), ArgumentConflict)
     ∷ (codes "pair" ∷ [], MissingRequiredArgument)
     ∷ (codes "pair" ∷ codes "--help" ∷ [], DisplayHelp)
     ∷ (codes "pair" ∷ codes "-h" ∷ [], DisplayHelp)
     ∷ (codes "--version" ∷ [], DisplayVersion) ∷ (codes "-V" ∷ [], DisplayVersion) ∷ []
 
 -- Words after the program's name in which no word is at fault, and a value or what is given beside
--- it is: neither way to come to a connection, both, ports 0 and 65536, and 2 to the 63rd turns.
+-- it is: neither way to come to a connection, both, ports 0 and 65536, and 2 to the 63rd turns; of
+-- recordings ports 0 and 65536, connection 0, and 65536 seconds.
 abbrev pub value_rows : List (List Text)
 value_rows =
     speak_with (next_hop4 ++ next_hop6)
     ∷ speak_with (connect (codes "1179") ++ listen (codes "1180") ++ next_hop4 ++ next_hop6)
     ∷ speak_with (connect (codes "0") ++ next_hop4 ++ next_hop6)
+    ∷ speak_with (listen (codes "0") ++ next_hop4 ++ next_hop6)
     ∷ speak_with (connect (codes "65536") ++ next_hop4 ++ next_hop6)
     ∷ speak_with (connect (codes "1179") ++ next_hop4 ++ next_hop6
-    ++ codes "--turns" ∷ codes "9223372036854775808" ∷ []) ∷ []
+    ++ codes "--turns" ∷ codes "9223372036854775808" ∷ [])
+    ∷ import_with (codes "--port") (codes "65536")
+    ∷ import_with (codes "--local-port") (codes "0")
+    ∷ import_with (codes "--connection") (codes "0")
+    ∷ import_with (codes "--within") (codes "65536")
+    ∷ (codes "list" ∷ codes "--port" ∷ codes "0" ∷ codes "a.pcap" ∷ []) ∷ []
 
 -- an error of this kind, or memory was refused
 abbrev pub IsFault : ErrorKind → Result Command Error → Type 0

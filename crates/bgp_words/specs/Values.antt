@@ -31,6 +31,10 @@ IsPortText text port = IsNumberText text port × (port < 2 ^ 16) × (port ≢ 0)
 abbrev pub IsTurnsText : Text → ℕ → Type 0
 IsTurnsText text turns = IsNumberText text turns × (turns < 2 ^ 63)
 
+-- a count of seconds: a number of 16 bits
+abbrev pub IsSecondsText : Text → ℕ → Type 0
+IsSecondsText text seconds = IsNumberText text seconds × (seconds < 2 ^ 16)
+
 -- a BGP Identifier: an IPv4 address that isn't 0.0.0.0 (RFC 6286, 2.1)
 abbrev pub IsIdentifierText : Text → ℕ → Type 0
 IsIdentifierText text id = IsAddressText text (V4 id) × (id ≢ 0)

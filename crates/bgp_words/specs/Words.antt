@@ -4,9 +4,9 @@ use Rattle.std.specs.Prelude.{true, [], ◌∷◌, Some, codes}
 use Rattle.clap.specs.Words.{App, Rule, Text, new_app, new_rule, with_rule, with_subcommand}
 use Rattle.clap.specs.declared.builder.action.ArgAction.TheVariants.{SetTrue}
 
--- the file that a command reads
-abbrev pub file_word : Rule
-file_word = record (new_rule (codes "FILE")) { required = true }
+-- a file by its name
+abbrev pub file_word : Text → Rule
+file_word name = record (new_rule name) { required = true }
 
 -- a flag, and an option with a value
 abbrev pub flag_word : Text → Rule
@@ -22,12 +22,27 @@ required_word name = record (option_word name) { required = true }
 abbrev pub default_word : Text → Text → Rule
 default_word name value = record (option_word name) { defaults = value ∷ [] }
 
--- `decode FILE`, `decode --mrt --peer A --local A FILE`, each with `--extended` or without
+-- a command that names a file alone
+abbrev pub with_file : Text → App
+with_file name = with_rule (new_app name) (file_word (codes "FILE"))
+
+-- the options that are for recordings
+abbrev pub port_word : Rule
+port_word = default_word (codes "port") (codes "179")
+
+abbrev pub with_recording : App → App
+with_recording command =
+    with_rule (with_rule (with_rule (with_rule command port_word)
+    (option_word (codes "local-port"))) (option_word (codes "connection")))
+    (default_word (codes "within") (codes "10"))
+
+-- `decode FILE`, `decode --mrt --peer A --local A FILE`, each with `--extended` or without, and
+-- with the options that are for recordings
 abbrev pub decode_words : App
 decode_words =
-    with_rule (with_rule (with_rule (with_rule (with_rule (new_app (codes "decode")) file_word)
+    with_recording (with_rule (with_rule (with_rule (with_rule (with_file (codes "decode"))
     (flag_word (codes "mrt"))) (option_word (codes "peer"))) (option_word (codes "local")))
-    (flag_word (codes "extended"))
+    (flag_word (codes "extended")))
 
 -- the options that tell of a session and its local system: those that have to be given
 abbrev pub with_needs : App → App
@@ -49,13 +64,21 @@ with_choices command =
 abbrev pub with_settings : App → App
 with_settings command = with_choices (with_needs command)
 
--- a command that names a file alone
-abbrev pub with_file : Text → App
-with_file name = with_rule (new_app name) file_word
-
--- `judge FILE` with the options that tell of the session
+-- `judge FILE` with the options that tell of the session, and those that are for recordings
 abbrev pub judge_words : App
-judge_words = with_settings (with_file (codes "judge"))
+judge_words = with_recording (with_settings (with_file (codes "judge")))
+
+-- `import --local A --peer A FILE OUT`, with `--extended` or without, and with the options that are
+-- for recordings
+abbrev pub import_words : App
+import_words =
+    with_recording (with_rule (with_rule (with_rule (with_rule (with_file (codes "import"))
+    (file_word (codes "OUT"))) (required_word (codes "local"))) (required_word (codes "peer")))
+    (flag_word (codes "extended")))
+
+-- `list FILE`, with the port or without
+abbrev pub list_words : App
+list_words = with_rule (with_file (codes "list")) port_word
 
 -- the options of `speak` that `judge` hasn't
 abbrev pub with_speaking : App → App
@@ -74,10 +97,19 @@ speak_words = with_speaking (with_settings (with_file (codes "speak")))
 abbrev pub pair_words : App
 pair_words = with_file (codes "pair")
 
+-- the commands that read a file
+abbrev pub with_readers : App → App
+with_readers program =
+    with_subcommand (with_subcommand (with_subcommand (with_subcommand program
+    decode_words.top) judge_words.top) import_words.top) list_words.top
+
+-- the commands that speak
+abbrev pub with_speakers : App → App
+with_speakers program = with_subcommand (with_subcommand program speak_words.top) pair_words.top
+
 -- the program: it has a version, and one of its commands is wanted
 abbrev pub program_words : App
 program_words =
     let name = new_app (codes "bgp") in
     let top = record name.top { has_version = true; subcommand_required = true } in
-    with_subcommand (with_subcommand (with_subcommand (with_subcommand
-    (record name { top = top }) decode_words.top) judge_words.top) speak_words.top) pair_words.top
+    with_speakers (with_readers (record name { top = top }))

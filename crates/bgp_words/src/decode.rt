@@ -6,9 +6,11 @@ ghost use Rattle.clap.specs.declared.builder.command.Command.TheViews.{out-Comma
 ghost use Rattle.bgp_words.specs.Words.{decode_words};
 ghost use Rattle.bgp_words.specs.Decode.{IsStream, IsCapture};
 ghost use Rattle.bgp_words.specs.Spelled.{NamesBy};
+ghost use Rattle.bgp_words.specs.declared.recording.RecordingOptions.{RecordingOptions as Told};
 
 use crate::misfit::Misfit;
 use crate::options::{READ, Word, with_words};
+use crate::recording::{recording_of, with_recording};
 use crate::values::{address_of, has_flag, has_value, value_of};
 use crate::words::Command;
 use bgp_prefix::Session;
@@ -20,7 +22,7 @@ const LINES: &str = "\
 Exit status:
   0   all octets were whole messages, or the capture was read to its end; or help was asked for
   2   the stream ends inside a message
-  3   the stream stops being BGP, or the capture is refused
+  3   the stream stops being BGP, or the capture or the recording is refused
   4   memory was refused
   5   a file can't be opened or read, or output can't be written
   64  the command line is none that the program knows
@@ -50,6 +52,11 @@ decode --mrt prints one line a record of the session:
 and last, where it stops:
   capture refused: 1 Truncated at 36
                         the reason's number and name, and the offset of the record
+FILE of decode --mrt may be a recording, a packet capture as tcpdump -w writes it (pcap or pcapng):
+then the lines are those of the capture that bgp import makes of it, or
+  recording refused: 14 Missing at packet 7 received octet 49
+                        the reason's number and name, the packet's number from 1, and the octet's
+                        place in the stream from 0
 A dash stands for nothing.
 
 The manual is README.md, at the top of the repository.";
@@ -59,7 +66,7 @@ static WORDS: [Word<'static>; 5] = [
     READ,
     Word::Flag(
         "mrt",
-        "FILE is a capture of MRT records: prints those of one session",
+        "FILE is a capture of MRT records, or a recording: prints the records of one session",
     ),
     Word::Option("peer", "The address of the session's peer, with --mrt"),
     Word::Option(
@@ -80,7 +87,8 @@ pub(crate) fn decode_words<'a>(alloc: Global) -> Result<clap::Command<'a>, Alloc
     let decode = clap::Command::new(alloc, "decode")
         .about("Prints the BGP messages of a raw stream or of a capture, one a line")
         .after_help(LINES);
-    with_words(alloc, decode, &WORDS)
+    let decode = with_words(alloc, decode, &WORDS)?;
+    with_recording(alloc, decode)
 }
 
 /// The command that the values of `decode` are. The flag and both addresses are given, or none.
@@ -88,8 +96,8 @@ pub(crate) fn decode_of<'a>(decode: &ArgMatches<'a>) -> Result<Command<'a>, Misf
     ensures ok { IfOk result (NamesBy (codes "decode") (rows_of (found_of decode.now))) }
     ensures no_stream { IsErr result → (extended : Bool) (file : List ℕ) →
         IsStream extended file (rows_of (found_of decode.now)) → ⊥ }
-    ensures no_capture { IsErr result → (session : Session) (file : List ℕ) →
-        IsCapture session file (rows_of (found_of decode.now)) → ⊥ }
+    ensures no_capture { IsErr result → (session : Session) (recording : Told) (file : List ℕ) →
+        IsCapture session recording file (rows_of (found_of decode.now)) → ⊥ }
 {
     let file = value_of(decode, "FILE")?;
     let extended = has_flag(decode, "extended");
@@ -102,7 +110,12 @@ pub(crate) fn decode_of<'a>(decode: &ArgMatches<'a>) -> Result<Command<'a>, Misf
             refresh: false,
             extended,
         };
-        return Ok(Command::Capture { session, file });
+        let recording = recording_of(decode)?;
+        return Ok(Command::Capture {
+            session,
+            recording,
+            file,
+        });
     }
     if has_value(decode, "peer") || has_value(decode, "local") {
         return Err(Misfit::Missing { name: "mrt" });

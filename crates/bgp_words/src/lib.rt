@@ -8,15 +8,19 @@
 #![tactic(auto)]
 
 mod decode;
+mod import;
 mod judge;
+mod list;
 mod misfit;
 mod options;
 mod pair;
+mod recording;
 mod settings;
 mod speak;
 mod texts;
 mod values;
 mod words;
 
+pub use recording::RecordingOptions;
 pub use speak::{Speaking, Start};
 pub use words::{Command, command_line};

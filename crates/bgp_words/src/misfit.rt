@@ -26,6 +26,8 @@ pub(crate) enum Wanted {
     Prefix,
     /// A count of turns.
     Turns,
+    /// A count of seconds.
+    Seconds,
 }
 
 impl Display for Wanted {
@@ -41,6 +43,7 @@ impl Display for Wanted {
             Wanted::Ipv6 => "an IPv6 address, as 2001:db8::1",
             Wanted::Prefix => "a prefix, as 10.1.0.0/16 or 2001:db8:1::/48",
             Wanted::Turns => "a number from 0 to 9223372036854775807",
+            Wanted::Seconds => "a number of seconds from 0 to 65535",
         })
     }
 }
@@ -70,8 +73,10 @@ pub(crate) enum Misfit<'a> {
     NoStart,
     /// Both are.
     TwoStarts,
-    /// The two addresses of a session to speak in are of two families.
+    /// The two addresses of a session to speak in or to import are of two families.
     TwoFamilies,
+    /// They are one, and the port that tells the two ends apart isn't given.
+    OneAddress,
 }
 
 impl Display for Misfit<'_> {
@@ -99,6 +104,9 @@ impl Display for Misfit<'_> {
                     "--local and --peer want addresses of one family: both IPv4 or both IPv6",
                 )
             }
+            Misfit::OneAddress => f.write_str(
+                "where --local and --peer are one address, --local-port is wanted too",
+            ),
         }
     }
 }

@@ -13,8 +13,8 @@ use std::alloc::{AllocError, Global};
 /// A word that a command may have, with what help tells of it.
 #[derive(Clone, Copy)]
 pub(crate) enum Word<'a> {
-    /// Its file: the help.
-    File(&'a str),
+    /// A file: its name and its help.
+    File(&'a str, &'a str),
     /// A flag: its name and its help.
     Flag(&'a str, &'a str),
     /// An option with a value: its name and its help.
@@ -26,7 +26,7 @@ pub(crate) enum Word<'a> {
 }
 
 /// The file that a command reads.
-pub(crate) const READ: Word<'static> = Word::File("The file to read; - is standard input");
+pub(crate) const READ: Word<'static> = Word::File("FILE", "The file to read; - is standard input");
 
 /// The command with these words after its own.
 pub(crate) fn with_words<'a>(
@@ -65,7 +65,7 @@ fn arg_of<'a>(alloc: Global, word: Word<'a>) -> Arg<'a>
     ensures local { result.global ≡ false }
 {
     match word {
-        Word::File(help) => file(alloc, help),
+        Word::File(name, help) => file(alloc, name, help),
         Word::Flag(name, help) => flag(alloc, name, help),
         Word::Option(name, help) => option(alloc, name, help),
         Word::Required(name, help) => required(alloc, name, help),
@@ -73,12 +73,12 @@ fn arg_of<'a>(alloc: Global, word: Word<'a>) -> Arg<'a>
     }
 }
 
-/// The file of a command.
-fn file<'a>(alloc: Global, help: &'a str) -> Arg<'a>
-    ensures rule { rule_of result ≡ file_word }
+/// A file of a command, by its name.
+fn file<'a>(alloc: Global, name: &'a str, help: &'a str) -> Arg<'a>
+    ensures rule { rule_of result ≡ file_word name.entry.now }
     ensures local { result.global ≡ false }
 {
-    Arg::new(alloc, "FILE").required(true).help(help)
+    Arg::new(alloc, name).required(true).help(help)
 }
 
 /// A flag by its name.

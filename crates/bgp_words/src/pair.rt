@@ -43,6 +43,7 @@ The manual is README.md, at the top of the repository.";
 
 /// The file of `pair`.
 const CAPTURE: Word<'static> = Word::File(
+    "FILE",
     "The left end's capture to write; - is a file of that name",
 );
 

@@ -1,13 +1,13 @@
 //! What `judge` and `speak` are told of a session and of its local system.
 
-ghost use Rattle.std.specs.Prelude.{◌≡◌, ◌↔◌, IfOk, IsOkAnd, false};
+ghost use Rattle.std.specs.Prelude.{◌≡◌, ◌↔◌, IfOk, IsOkAnd, IsTrue, false};
 ghost use Rattle.clap.specs.Words.{app_of, found_of, rows_of};
 ghost use Rattle.clap.specs.declared.builder.command.Command.TheViews.{out-Command as fields_of};
 ghost use Rattle.bgp_prefix.specs.declared.session.Session.{Session as Ends};
 ghost use Rattle.bgp_open.specs.declared.config.Config.{Config as Configured};
 ghost use Rattle.bgp_open.specs.declared.config.ConfigParts.{ConfigParts as Parts};
 ghost use Rattle.bgp_words.specs.Words.{with_choices, with_needs, with_settings};
-ghost use Rattle.bgp_words.specs.Settings.{IsSession, AreParts};
+ghost use Rattle.bgp_words.specs.Settings.{IsSession, AreParts, IsOfOneFamily};
 
 use crate::misfit::Misfit;
 use crate::options::{Word, with_words};
@@ -112,8 +112,9 @@ fn parts_of<'a>(matches: &ArgMatches<'a>, refresh: bool) -> Result<ConfigParts, 
     })
 }
 
-/// The session that the values of a command name.
-fn session_of<'a>(matches: &ArgMatches<'a>, refresh: bool) -> Result<Session, Misfit<'a>>
+/// The session that the values of a command name, where the local system offers route refresh or
+/// not.
+pub(crate) fn session_of<'a>(matches: &ArgMatches<'a>, refresh: bool) -> Result<Session, Misfit<'a>>
     ensures { (session : Ends) → IsOkAnd result (λ it. it ≡ session)
         ↔ IsSession session refresh (rows_of (found_of matches.now)) }
 {
@@ -123,4 +124,11 @@ fn session_of<'a>(matches: &ArgMatches<'a>, refresh: bool) -> Result<Session, Mi
         refresh,
         extended: has_flag(matches, "extended"),
     })
+}
+
+/// Whether both addresses of a session are of one family.
+pub(crate) fn is_of_one_family(session: &Session) -> bool
+    ensures { IsTrue result ↔ IsOfOneFamily session.now }
+{
+    session.peer.family() == session.local.family()
 }

@@ -1,23 +1,23 @@
 //! The words of `speak`.
 
-ghost use Rattle.std.specs.Prelude.{◌≡◌, ◌↔◌, ℕ, List, IfOk, IsErr, IsOkAnd, IsTrue, false, codes};
+ghost use Rattle.std.specs.Prelude.{◌≡◌, ◌↔◌, ℕ, List, IfOk, IsErr, IsOkAnd, false, codes};
 ghost use Rattle.clap.specs.Words.{app_of, found_of, rows_of};
 ghost use Rattle.clap.specs.declared.builder.command.Command.TheViews.{out-Command as fields_of};
 ghost use Rattle.bgp_open.specs.declared.config.Config.{Config as Configured};
 ghost use Rattle.bgp_words.specs.Words.{speak_words, with_speaking};
-ghost use Rattle.bgp_words.specs.Speak.{AreOptions, IsOfOneFamily, IsSpeak, IsStart};
+ghost use Rattle.bgp_words.specs.Speak.{AreOptions, IsSpeak, IsStart};
 ghost use Rattle.bgp_words.specs.Spelled.{NamesBy};
 ghost use Rattle.bgp_words.specs.declared.speak.Speaking.{Speaking as Spoken};
 ghost use Rattle.bgp_words.specs.declared.speak.Start.{Start as Started};
 
 use crate::misfit::Misfit;
 use crate::options::{Word, with_word, with_words};
-use crate::settings::{config_of, with_settings};
+use crate::settings::{config_of, is_of_one_family, with_settings};
 use crate::values::{
     has_flag, has_value, next_hop4_of, next_hop6_of, port_of, prefix_of, turns_of, value_of,
 };
 use crate::words::Command;
-use bgp_prefix::{Prefix, Session};
+use bgp_prefix::Prefix;
 use clap::ArgMatches;
 use std::alloc::{AllocError, Global};
 
@@ -77,7 +77,7 @@ Exit status:
 The manual is README.md, at the top of the repository.";
 
 /// The file of `speak`.
-const CAPTURE: Word<'static> = Word::File("The capture to write; - is a file of that name");
+const CAPTURE: Word<'static> = Word::File("FILE", "The capture to write; - is a file of that name");
 
 /// The words of `speak` that `judge` hasn't.
 static WORDS: [Word<'static>; 7] = [
@@ -151,13 +151,6 @@ pub(crate) fn speak_of<'a>(speak: &ArgMatches<'a>) -> Result<Command<'a>, Misfit
         speaking,
         file,
     })
-}
-
-/// Whether both addresses of a session are of one family.
-fn is_of_one_family(session: &Session) -> bool
-    ensures { IsTrue result ↔ IsOfOneFamily session.now }
-{
-    session.peer.family() == session.local.family()
 }
 
 /// What the values of the options are that `judge` hasn't.

@@ -4,7 +4,7 @@ ghost use Rattle.std.specs.Prelude.{◌≡◌, ◌≢◌, ◌<◌, ◌^◌, ◌�
 ghost use Rattle.bgp_open.specs.Config.{IsBadHold};
 ghost use Rattle.bgp_open.specs.declared.families.Families.{Families as FamilySet};
 ghost use Rattle.bgp_words.specs.Values.{IsNumberText, IsPositiveText, IsHoldText};
-ghost use Rattle.bgp_words.specs.Values.{IsPortText, IsTurnsText};
+ghost use Rattle.bgp_words.specs.Values.{IsPortText, IsSecondsText, IsTurnsText};
 ghost use Rattle.bgp_words.specs.Values.{IsIdentifierText, IsFamiliesText};
 ghost use Rattle.bgp_words.specs.Values.{IsNextHop4Text, IsNextHop6Text};
 
@@ -80,6 +80,18 @@ pub(crate) fn read_turns(text: &str) -> Option<u64>
     let number = read_number(text)?;
     if number <= i64::MAX as u64 {
         Some(number)
+    } else {
+        None
+    }
+}
+
+/// Reads a count of seconds: 0 to 65535.
+pub(crate) fn read_seconds(text: &str) -> Option<u16>
+    ensures { (seconds : ℕ) → (result ≡ Some seconds) ↔ IsSecondsText text.now seconds }
+{
+    let number = read_number(text)?;
+    if number <= u16::MAX as u64 {
+        Some(number as u16)
     } else {
         None
     }

@@ -10,11 +10,12 @@ ghost use Rattle.bgp_open.specs.declared.families.Families.{Families as FamilySe
 ghost use Rattle.bgp_words.specs.Values.{IsValue, is_given, IsPositiveText, IsHoldText};
 ghost use Rattle.bgp_words.specs.Values.{IsIdentifierText, IsFamiliesText, IsOptional};
 ghost use Rattle.bgp_words.specs.Values.{IsNextHop4Text, IsNextHop6Text, IsPortText, IsTurnsText};
+ghost use Rattle.bgp_words.specs.Values.{IsSecondsText};
 
 use crate::misfit::{Misfit, Wanted};
 use crate::texts::{
     read_families, read_hold, read_identifier, read_next_hop4, read_next_hop6, read_port,
-    read_positive, read_turns,
+    read_positive, read_seconds, read_turns,
 };
 use bgp_open::Families;
 use bgp_prefix::{Address, Prefix, read_address, read_prefix};
@@ -112,6 +113,16 @@ pub(crate) fn port_of<'a>(matches: &ArgMatches<'a>, name: &'a str) -> Result<u16
     read_port(word).ok_or(Misfit::Value { name, word, wanted })
 }
 
+/// The count of seconds that an option names.
+pub(crate) fn seconds_of<'a>(matches: &ArgMatches<'a>, name: &'a str) -> Result<u16, Misfit<'a>>
+    ensures { (seconds : ℕ) → IsOkAnd result (λ it. it ≡ seconds)
+        ↔ IsValue IsSecondsText name.now (rows_of (found_of matches.now)) seconds }
+{
+    let word = value_of(matches, name)?;
+    let wanted = Wanted::Seconds;
+    read_seconds(word).ok_or(Misfit::Value { name, word, wanted })
+}
+
 /// The count of turns that an option names.
 pub(crate) fn turns_of<'a>(matches: &ArgMatches<'a>, name: &'a str) -> Result<u64, Misfit<'a>>
     ensures { (turns : ℕ) → IsOkAnd result (λ it. it ≡ turns)
@@ -156,6 +167,42 @@ pub(crate) fn prefix_of<'a>(
     let wanted = Wanted::Prefix;
     match read_prefix(word) {
         Some(prefix) => Ok(Some(prefix)),
+        None => Err(Misfit::Value { name, word, wanted }),
+    }
+}
+
+/// The TCP port that an option names, if it is given.
+pub(crate) fn optional_port_of<'a>(
+    matches: &ArgMatches<'a>,
+    name: &'a str,
+) -> Result<Option<u16>, Misfit<'a>>
+    ensures { (port : Maybe ℕ) → IsOkAnd result (λ it. it ≡ port)
+        ↔ IsOptional IsPortText name.now (rows_of (found_of matches.now)) port }
+{
+    let Some(word) = matches.get_str(name) else {
+        return Ok(None);
+    };
+    let wanted = Wanted::Port;
+    match read_port(word) {
+        Some(port) => Ok(Some(port)),
+        None => Err(Misfit::Value { name, word, wanted }),
+    }
+}
+
+/// The number of a connection that an option names, if it is given.
+pub(crate) fn connection_of<'a>(
+    matches: &ArgMatches<'a>,
+    name: &'a str,
+) -> Result<Option<usize>, Misfit<'a>>
+    ensures { (connection : Maybe ℕ) → IsOkAnd result (λ it. it ≡ connection)
+        ↔ IsOptional IsPositiveText name.now (rows_of (found_of matches.now)) connection }
+{
+    let Some(word) = matches.get_str(name) else {
+        return Ok(None);
+    };
+    let wanted = Wanted::Positive;
+    match read_positive(word) {
+        Some(number) => Ok(Some(number as usize)),
         None => Err(Misfit::Value { name, word, wanted }),
     }
 }

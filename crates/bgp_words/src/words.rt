@@ -3,18 +3,23 @@
 ghost use Rattle.std.specs.Prelude.{◌≡◌, ◌≢◌, ◌∷◌, ℕ, Bool, List, All, map, IfOk, IfErr, IsErr};
 ghost use Rattle.clap.specs.Words.{app_of, kind_of, subcommand_rows_of, IsAmong};
 ghost use Rattle.bgp_open.specs.declared.config.Config.{Config as Configured};
-ghost use Rattle.bgp_words.specs.Words.{program_words};
+ghost use Rattle.bgp_words.specs.Words.{program_words, with_readers, with_speakers};
 ghost use Rattle.bgp_words.specs.Decode.{IsDecode};
 ghost use Rattle.bgp_words.specs.Judge.{IsJudgeLine};
+ghost use Rattle.bgp_words.specs.Import.{CanImport};
 ghost use Rattle.bgp_words.specs.Speak.{CanSpeak};
 ghost use Rattle.bgp_words.specs.Spelled.{Names, NamesDecode, NamesJudge, Spells, word_faults};
 ghost use Rattle.bgp_words.specs.Spelled.{IsDecodeOrMemory, IsJudgeOrMemory, IsFault};
 ghost use Rattle.bgp_words.specs.Spelled.{fault_rows, value_rows};
+ghost use Rattle.bgp_words.specs.declared.recording.RecordingOptions.{RecordingOptions as Told};
 
 use crate::decode::{decode_of, decode_words};
+use crate::import::{import_of, import_words};
 use crate::judge::{judge_of, judge_words};
+use crate::list::{list_of, list_words};
 use crate::misfit::Misfit;
 use crate::pair::{pair_of, pair_words};
+use crate::recording::RecordingOptions;
 use crate::speak::{Speaking, speak_of, speak_words};
 use bgp_open::Config;
 use bgp_prefix::Session;
@@ -33,19 +38,43 @@ pub enum Command<'a> {
         /// The file's path, or `-` for standard input.
         file: &'a str,
     },
-    /// Print the records of one session in a capture, one a line.
+    /// Print the records of one session, one a line: those in a capture, or those that are made of
+    /// one connection in a recording.
     Capture {
         /// The session's ends, and whether the local system offers extended messages; it has no
         /// route refresh.
         session: Session,
+        /// What is told of the recording, if the file is one.
+        recording: RecordingOptions,
         /// The file's path, or `-` for standard input.
         file: &'a str,
     },
-    /// Judge one session in a capture.
+    /// Judge one session in a capture, or its connections in a recording.
     Judge {
         /// What the local system is configured to do, and the session's ends.
         config: Config,
+        /// What is told of the recording, if the file is one.
+        recording: RecordingOptions,
         /// The file's path, or `-` for standard input.
+        file: &'a str,
+    },
+    /// Make a capture of one connection in a recording.
+    Import {
+        /// The session's ends, and whether the local system offers extended messages; it has no
+        /// route refresh. The addresses are of one family.
+        session: Session,
+        /// What is told of the recording. The local port is, where both addresses are one.
+        recording: RecordingOptions,
+        /// The recording's path, or `-` for standard input.
+        file: &'a str,
+        /// The path of the capture to write, or `-` for standard output.
+        out: &'a str,
+    },
+    /// Print the connections in a recording, one a line.
+    List {
+        /// The port of the connections, which isn't 0.
+        port: u16,
+        /// The recording's path, or `-` for standard input.
         file: &'a str,
     },
     /// Speak with a peer over TCP, and write down the session as a capture.
@@ -69,36 +98,59 @@ pub enum Command<'a> {
 /// What help tells after the commands: the statuses.
 const STATUSES: &str = "\
 Exit status:
-  0   all octets were whole messages, or the capture was read to its end, or the verdict is yes,
-      or the session was spoken; or help or the version was asked for
+  0   all octets were whole messages, or the capture or the recording was read to its end, or the
+      verdict is yes, or the session was spoken; or help or the version was asked for
   1   the verdict is no, or the two of a pair don't come to a session
   2   the stream ends inside a message, or the verdict is unfinished
-  3   the stream stops being BGP, or the capture is refused
+  3   the stream stops being BGP, or the capture or the recording is refused
   4   memory was refused
   5   a file or a port can't be opened, a file can't be read, or output can't be written
   64  the command line is none that the program knows
 
-bgp decode --help, bgp judge --help, bgp speak --help and bgp pair --help tell what each prints,
-with examples.
+bgp COMMAND --help tells what a command prints, with examples.
 The manual is README.md, at the top of the repository.";
 
 /// What the program's words may be.
 fn program<'a>(alloc: Global) -> Result<clap::Command<'a>, AllocError>
     ensures { IfOk result (λ program. app_of program ≡ program_words) }
 {
+    let program = clap::Command::new(alloc, "bgp")
+        .version("0.1.0")
+        .about("Reads BGP-4 messages, captures and recordings, judges sessions, and speaks in one")
+        .after_help(STATUSES)
+        .subcommand_required(true);
+    let program = with_readers(alloc, program)?;
+    with_speakers(alloc, program)
+}
+
+/// The program with the commands that read a file.
+fn with_readers<'a>(
+    alloc: Global,
+    program: clap::Command<'a>,
+) -> Result<clap::Command<'a>, AllocError>
+    ensures { IfOk result (λ it. app_of it ≡ with_readers (app_of program.entry)) }
+{
     let decode = decode_words(alloc)?;
     let judge = judge_words(alloc)?;
-    let speak = speak_words(alloc)?;
-    let pair = pair_words(alloc)?;
-    clap::Command::new(alloc, "bgp")
-        .version("0.1.0")
-        .about("Reads BGP-4 messages and captures, judges sessions, and speaks in one")
-        .after_help(STATUSES)
-        .subcommand_required(true)
+    let import = import_words(alloc)?;
+    let list = list_words(alloc)?;
+    program
         .subcommand(decode)?
         .subcommand(judge)?
-        .subcommand(speak)?
-        .subcommand(pair)
+        .subcommand(import)?
+        .subcommand(list)
+}
+
+/// The program with the commands that speak.
+fn with_speakers<'a>(
+    alloc: Global,
+    program: clap::Command<'a>,
+) -> Result<clap::Command<'a>, AllocError>
+    ensures { IfOk result (λ it. app_of it ≡ with_speakers (app_of program.entry)) }
+{
+    let speak = speak_words(alloc)?;
+    let pair = pair_words(alloc)?;
+    program.subcommand(speak)?.subcommand(pair)
 }
 
 /// The command that the words spell, the program's own name first.
@@ -117,6 +169,7 @@ pub fn command_line<'a, S: AsStr>(alloc: Global, words: &'a [S]) -> Result<Comma
         IsJudgeLine (map S.text words.entry.now) config.parts file →
         IsJudgeOrMemory (map S.text words.entry.now) result }
     ensures speakable { IfOk result CanSpeak }
+    ensures importable { IfOk result CanImport }
     ensures rows { (name : List ℕ) → All (λ row. map S.text words.entry.now ≡ name ∷ row.0 →
         IsFault row.1 result) fault_rows }
     ensures values { (name : List ℕ) → All (λ row. map S.text words.entry.now ≡ name ∷ row →
@@ -134,8 +187,8 @@ fn named<'a>(matches: &ArgMatches<'a>) -> Result<Command<'a>, Misfit<'a>>
     ensures ok { IfOk result (Names (subcommand_rows_of matches.now)) }
     ensures no_stream { IsErr result → (extended : Bool) (file : List ℕ) →
         NamesDecode extended file (subcommand_rows_of matches.now) → ⊥ }
-    ensures no_judge { IsErr result → (config : Configured) (file : List ℕ) →
-        NamesJudge config file (subcommand_rows_of matches.now) → ⊥ }
+    ensures no_judge { IsErr result → (config : Configured) (recording : Told) (file : List ℕ) →
+        NamesJudge config recording file (subcommand_rows_of matches.now) → ⊥ }
     ensures none { IsErr result → (command : Command) →
         Names (subcommand_rows_of matches.now) command → ⊥ }
 {
@@ -144,6 +197,12 @@ fn named<'a>(matches: &ArgMatches<'a>) -> Result<Command<'a>, Misfit<'a>>
     }
     if let Some(judge) = matches.subcommand_matches("judge") {
         return judge_of(judge);
+    }
+    if let Some(import) = matches.subcommand_matches("import") {
+        return import_of(import);
+    }
+    if let Some(list) = matches.subcommand_matches("list") {
+        return list_of(list);
     }
     if let Some(speak) = matches.subcommand_matches("speak") {
         return speak_of(speak);
@@ -168,6 +227,8 @@ fn words_of<'a>(alloc: Global, matches: &ArgMatches<'_>) -> Result<clap::Command
     match matches.subcommand_name() {
         Some("decode") => decode_words(alloc)?.bin_name("bgp decode"),
         Some("judge") => judge_words(alloc)?.bin_name("bgp judge"),
+        Some("import") => import_words(alloc)?.bin_name("bgp import"),
+        Some("list") => list_words(alloc)?.bin_name("bgp list"),
         Some("speak") => speak_words(alloc)?.bin_name("bgp speak"),
         Some("pair") => pair_words(alloc)?.bin_name("bgp pair"),
         _ => program(alloc),

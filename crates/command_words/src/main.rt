@@ -5,6 +5,7 @@
 use bgp_open::{ConfigParts, Families};
 use bgp_prefix::{Address, Session};
 use bgp_tool::{Command, Speaking, Start, command_line, words_status};
+use bgp_words::RecordingOptions;
 use std::alloc::{AllocError, Global};
 use std::process::ExitCode;
 use std::rt::Files;
@@ -66,15 +67,44 @@ fn answer_to(alloc: Global, block: &str) -> io::Result<Answer> {
             let extended = extended_text(extended);
             format!(in alloc; "decode{extended} {file:?}")?
         }
-        Ok(Command::Capture { session, file }) => {
+        Ok(
+            Command::Capture {
+                session,
+                recording,
+                file,
+            },
+        ) => {
             let Session { peer, local, .. } = session;
             let extended = extended_text(session.extended);
-            format!(in alloc; "capture peer {peer} local {local}{extended} file {file:?}")?
+            let told = unusual_text(alloc, &recording)?;
+            format!(in alloc; "capture peer {peer} local {local}{extended}{told} file {file:?}")?
         }
-        Ok(Command::Judge { config, file }) => {
+        Ok(
+            Command::Judge {
+                config,
+                recording,
+                file,
+            },
+        ) => {
             let parts = parts_text(alloc, &config.parts)?;
-            format!(in alloc; "judge {parts} file {file:?}")?
+            let told = unusual_text(alloc, &recording)?;
+            format!(in alloc; "judge {parts}{told} file {file:?}")?
         }
+        Ok(
+            Command::Import {
+                session,
+                recording,
+                file,
+                out,
+            },
+        ) => {
+            let Session { peer, local, .. } = session;
+            let extended = extended_text(session.extended);
+            let told = recording_text(alloc, &recording)?;
+            let ends = format!(in alloc; "local {local} peer {peer}{extended}")?;
+            format!(in alloc; "import {ends} {told} file {file:?} out {out:?}")?
+        }
+        Ok(Command::List { port, file }) => format!(in alloc; "list port {port} file {file:?}")?,
         Ok(
             Command::Speak {
                 config,
@@ -99,6 +129,41 @@ fn answer_to(alloc: Global, block: &str) -> io::Result<Answer> {
 /// The word that says that extended messages are offered, after a blank.
 fn extended_text(extended: bool) -> &'static str {
     if extended { " extended" } else { "" }
+}
+
+/// What is told of a recording, each part after its name; a dash where nothing is told.
+fn recording_text(alloc: Global, recording: &RecordingOptions) -> Result<String, AllocError> {
+    let RecordingOptions {
+        port,
+        local_port,
+        connection,
+        within,
+    } = *recording;
+    let local_port = match local_port {
+        Some(port) => format!(in alloc; "{port}")?,
+        None => format!(in alloc; "-")?,
+    };
+    let connection = match connection {
+        Some(number) => format!(in alloc; "{number}")?,
+        None => format!(in alloc; "-")?,
+    };
+    let ports = format!(in alloc; "port {port} local-port {local_port}")?;
+    format!(in alloc; "{ports} connection {connection} within {within}")
+}
+
+/// What is told of a recording, after a blank; nothing where it is what stands where none is told.
+fn unusual_text(alloc: Global, recording: &RecordingOptions) -> Result<String, AllocError> {
+    let usual = RecordingOptions {
+        port: 179,
+        local_port: None,
+        connection: None,
+        within: 10,
+    };
+    if *recording == usual {
+        return format!(in alloc; "");
+    }
+    let told = recording_text(alloc, recording)?;
+    format!(in alloc; " {told}")
 }
 
 /// The parts of a configuration, each after its name.

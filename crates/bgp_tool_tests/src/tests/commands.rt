@@ -73,16 +73,16 @@ static NOTES: [(Note<'static>, &str); 15] = [
             file: "a.pcap",
             form: Form::Pcap,
         },
-        "a.pcap is a packet capture: cut the octets of one direction of a connection from it, \
-         as Wireshark's \"Follow TCP Stream\" does, and save them raw",
+        "a.pcap is a recording of packets: name one session of it, as in `bgp decode --mrt --peer \
+         192.0.2.2 --local 192.0.2.1 FILE`; `bgp list FILE` tells the sessions",
     ),
     (
         Note::NoStream {
             file: "a.pcapng",
             form: Form::Pcapng,
         },
-        "a.pcapng is a packet capture: cut the octets of one direction of a connection from \
-         it, as Wireshark's \"Follow TCP Stream\" does, and save them raw",
+        "a.pcapng is a recording of packets: name one session of it, as in `bgp decode --mrt --peer \
+         192.0.2.2 --local 192.0.2.1 FILE`; `bgp list FILE` tells the sessions",
     ),
     (
         Note::NoStream {

@@ -8,5 +8,9 @@ returns-clause-ok c =
     let config = c.in_ok-config.config in
     let rows = rows_of (found_of c.args.judge.now) in (
       refl,
-      (subst (λ (given : Bool). AreParts config.parts (not given) rows) c.has_flag.ensures ((c.in_ok-config.ensures config).0 refl), c.in_ok-file.ensures.ok),
+      (
+        subst (λ (given : Bool). AreParts config.parts (not given) rows) c.has_flag.ensures ((c.in_ok-config.ensures config).0 refl),
+        (c.in_ok-recording.ensures c.in_ok-recording.recording).0 refl,
+        c.in_ok-file.ensures.ok,
+      ),
     )

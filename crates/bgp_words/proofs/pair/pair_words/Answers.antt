@@ -9,7 +9,7 @@ pub returns-clause-words : goal.returns-clause-words
 returns-clause-words c =
     let named : app_of c.after_help-pair.result ≡ new_app (codes "pair") =
     ap app_of_fields c.after_help-pair.ensures ∙ ap app_of_fields c.about.ensures ∙ c.new.ensures.app in
-    IfOk-weaker c.with_word.result _ _ (λ pair adds. adds.is ∙ ap (λ (a : App). with_rule a file_word) named) c.with_word.ensures.words
+    IfOk-weaker c.with_word.result _ _ (λ pair adds. adds.is ∙ ap (λ (a : App). with_rule a (file_word (codes "FILE"))) named) c.with_word.ensures.words
 
 pub returns-clause-local : goal.returns-clause-local
 returns-clause-local c =

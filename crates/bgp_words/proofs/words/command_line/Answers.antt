@@ -3,10 +3,11 @@ use Rattle.clap.specs.Words.{App, Kinds, IsAmong, HasKind, fault_of, is_simple, 
 use Rattle.clap.specs.Kinds.{or_else}
 use Rattle.clap.specs.declared.error.kind.ErrorKind.TheVariants.{ValueValidation}
 use Rattle.bgp_words.specs.Words.{program_words}
+use Rattle.bgp_words.specs.Recording.{usual_recording}
 use Rattle.bgp_words.specs.Spelled.{Names, NamesDecode, NamesJudge}
 use Rattle.bgp_words.proofs.HandedOn.{handed_on, memory_handed_on, known_kind, only_memory, unspelled_handed_on, memory_is_unspelled, judge_memory_handed_on}
 use Rattle.bgp_words.proofs.JudgeLine.{judge_of_line, names_judge, spelled_right}
-use Rattle.bgp_words.proofs.NamedCommand.{can_speak, one_file}
+use Rattle.bgp_words.proofs.NamedCommand.{can_import, can_speak, one_file}
 use Rattle.bgp_words.proofs.SpelledDecode.{spelled_decode}
 use Rattle.bgp_words.proofs.ValueRows.{each_value, memory_handed}
 use Rattle.bgp_words.proofs.FaultRows.{each_row, fault_handed_on, memory_is_fault, no_row}
@@ -133,7 +134,7 @@ returns-clause-judge g c config file line =
     let words = map g.S.AsStr.text c.args.words.now in
     let app = c.in_ok-program.ensures in
     let subs = (c.in_ok-matches.ensures.matches (ap is_simple app)).1 ∙ ap (λ (a : App). subcommand_of a words) app in
-    absurd (c.in-Err.ensures.no_judge refl config file (subst (NamesJudge config file) (sym subs) (names_judge words config file line)))
+    absurd (c.in-Err.ensures.no_judge refl config usual_recording file (subst (NamesJudge config usual_recording file) (sym subs) (names_judge words config file line)))
 
 pub returns-in-Ok-clause-speakable : goal.returns-in-Ok-clause-speakable
 returns-in-Ok-clause-speakable g c = can_speak (subcommand_rows_of c.in_ok-matches.matches) c.in-Ok.command c.in-Ok.ensures.ok
@@ -169,3 +170,6 @@ returns-in_err-usage-in-Err-clause-values g c name =
 pub returns-clause-values : goal.returns-clause-values
 returns-clause-values g c name =
     each_value (map g.S.AsStr.text c.args.words.now) (Err c.in_ok-usage-in-Err.field-0) name ValueValidation (λ none. inl c.in_ok-usage-in-Err.ensures)
+
+pub returns-in-Ok-clause-importable : goal.returns-in-Ok-clause-importable
+returns-in-Ok-clause-importable g c = can_import (subcommand_rows_of c.in_ok-matches.matches) c.in-Ok.command c.in-Ok.ensures.ok

@@ -1,0 +1,111 @@
+#!/usr/bin/env python3
+"""Makes the recordings that `recordings.sh` measures: classic packet captures of raw IPv4, as
+tcpdump writes them, of one session between 192.0.2.1 (port 179, AS 65001) and 192.0.2.2 (AS 65002).
+
+    recordings.py updates COUNT     the peer announces so many prefixes, in an UPDATE each
+    recordings.py octets COUNT      the same, until the recording has so many octets
+    recordings.py others COUNT      one UPDATE, after so many octets of other hosts' packets
+
+It is written to standard output."""
+import struct
+import sys
+
+LOCAL, PEER = bytes.fromhex('c0000201'), bytes.fromhex('c0000202')
+PORTS = {LOCAL: 179, PEER: 40000}
+FIN, SYN, ACK = 1, 2, 16
+# What a segment has at the most: an Ethernet frame's 1500 octets, less both headers and a timestamp.
+ROOM = 1448
+
+write = sys.stdout.buffer.write
+
+
+def message(kind, body=b''):
+    return b'\xff' * 16 + struct.pack('>HB', 19 + len(body), kind) + body
+
+
+def open_message(number, identifier):
+    """An OPEN of both families and of a four-octet AS number."""
+    capabilities = bytes.fromhex('0104000100010104000200014104') + struct.pack('>I', number)
+    parameters = struct.pack('>BB', 2, len(capabilities)) + capabilities
+    body = struct.pack('>BHH', 4, number, 90) + identifier + bytes([len(parameters)]) + parameters
+    return message(1, body)
+
+
+def update(index):
+    """An UPDATE that announces the prefix of this number, of 24 bits and of 10.0.0.0/8 on."""
+    attributes = bytes.fromhex('400101004002060201' '0000fdea' '400304' 'c0000202')
+    prefix = struct.pack('>I', (10 << 16) + index)[1:]
+    return message(2, struct.pack('>HH', 0, len(attributes)) + attributes + b'\x18' + prefix)
+
+
+def packet(second, source, target, ports, sequence, acknowledged, flags, octets=b''):
+    """One packet of a file: its header, and an IPv4 datagram with a TCP segment."""
+    count = 40 + len(octets)
+    ip = struct.pack('>BBHHHBBH', 0x45, 0, count, 0, 0x4000, 64, 6, 0) + source + target
+    tcp = struct.pack('>HHIIBBHHH', *ports, sequence & 0xffffffff, acknowledged & 0xffffffff, 0x50,
+                      flags, 0xffff, 0, 0)
+    return struct.pack('<IIII', second, 0, count, count) + ip + tcp + octets
+
+
+class Session:
+    """Both systems' sequence numbers: the next one of each."""
+
+    def __init__(self):
+        self.next = {LOCAL: 5000, PEER: 1000}
+        self.second = 100
+        self.count = 0
+        self.sends(PEER, SYN)
+        self.sends(LOCAL, SYN | ACK)
+
+    def sends(self, source, flags, octets=b''):
+        target = PEER if source is LOCAL else LOCAL
+        acknowledged = self.next[target] if flags & ACK else 0
+        made = packet(self.second, source, target, (PORTS[source], PORTS[target]),
+                      self.next[source], acknowledged, flags, octets)
+        self.next[source] += len(octets) + (1 if flags & (SYN | FIN) else 0)
+        self.count += len(made)
+        write(made)
+
+    def begins(self):
+        self.sends(PEER, ACK, open_message(65002, PEER))
+        self.sends(LOCAL, ACK, open_message(65001, LOCAL) + message(4))
+        self.sends(PEER, ACK, message(4))
+
+    def hears(self, octets):
+        """Octets of the peer, acknowledged with every second segment."""
+        for index, at in enumerate(range(0, len(octets), ROOM)):
+            self.sends(PEER, ACK, octets[at:at + ROOM])
+            if index % 2:
+                self.sends(LOCAL, ACK)
+        self.sends(LOCAL, ACK)
+
+
+def others(octets):
+    """Packets between two other hosts, and of the session's hosts on another port."""
+    made = []
+    for index in range(16):
+        source, target = (LOCAL, PEER) if index % 4 == 3 else (b'\xc6\x33\x64\x07', PEER)
+        made.append(packet(100, source, target, (443, 50000), 7000 + index, 1, ACK,
+                           bytes([index]) * ROOM))
+    block = b''.join(made)
+    for _ in range(octets // len(block)):
+        write(block)
+
+
+def main(kind, count):
+    write(struct.pack('<IHHiIII', 0xa1b2c3d4, 2, 4, 0, 0, 262144, 101))
+    if kind == 'others':
+        others(count)
+        count = 1
+    session = Session()
+    session.begins()
+    index = 0
+    while (index if kind != 'octets' else session.count) < count:
+        # Some 10,000 octets at a time, a second after those before.
+        several = range(index, index + 200 if kind == 'octets' else min(index + 200, count))
+        session.second += 1
+        session.hears(b''.join(update(at % 65536 * 4 + at // 65536) for at in several))
+        index += len(several)
+
+
+main(sys.argv[1], int(sys.argv[2]))

@@ -1,0 +1,57 @@
+use Rattle.std.proofs.Common.{List, refl, sym, subst}
+use Rattle.std.specs.List.{AllByRecursion}
+use Rattle.bgp_wire.specs.Header.{limit_with}
+use Rattle.bgp_recording.specs.Recorded.{IsRecorded}
+use Rattle.bgp_recording.specs.declared.framing.Rest.{Rest}
+use Rattle.bgp_recording.specs.declared.entry.Entry.{Entry}
+use Rattle.bgp_import.specs.Captures.{CanBeWritten, IsCapture, put_off}
+use Rattle.bgp_import.specs.declared.note.Notes.{Notes}
+use Rattle.bgp_import.proofs.importing.import_gathered.Goals as goal
+
+pub returns-in-Err-clause-imports : goal.returns-in-Err-clause-imports
+returns-in-Err-clause-imports g c = λ packets segments taken holds. record {
+  nothing = refl;
+  why = rw c.in-Err.is at (c.records_of.ensures packets segments taken holds);
+}
+
+pub write_capture-requires-clause-writable : goal.write_capture-requires-clause-writable
+write_capture-requires-clause-writable g c =
+    let h = c.requires.holds in
+    let told = rw c.in-Ok.is at (c.records_of.ensures h.packets h.segments h.taken h.holds) in
+    subst (λ (es : List Entry). AllByRecursion (CanBeWritten c.args.import.now.selection.session) es) (sym c.as_slice.ensures.value) told.writable
+
+pub returns-in-Ok-write_capture-clause-imports : goal.returns-in-Ok-write_capture-clause-imports
+returns-in-Ok-write_capture-clause-imports g c = λ packets segments taken holds.
+    let import' = c.args.import.now in
+    let made = c.in-Ok.made in
+    let notes = c.notes_on.result in
+    let told = rw c.in-Ok.is at (c.records_of.ensures packets segments taken holds) in
+    let wrote = c.in-Ok-write_capture.ensures.ok in
+    let recorded = subst (λ (r : Rest). IsRecorded (limit_with import'.selection.session.extended) import'.within told.connection made.entries.items r notes.sent) (sym c.notes_on.ensures.received)
+    (subst (λ (r : Rest). IsRecorded (limit_with import'.selection.session.extended) import'.within told.connection made.entries.items made.received_rest r) (sym c.notes_on.ensures.sent) told.recorded) in
+    record {
+      capture = wrote.0;
+      captured = record {
+        connection = told.connection;
+        is_connection = record { segments = segments; taken = taken; answered = told.answered };
+        made = record { entries = made.entries.items; recorded = recorded; capture = subst (λ (es : List Entry). IsCapture c.args.import.now.selection.session es wrote.0) c.as_slice.ensures.value wrote.1; counts = c.notes_on.ensures.put_off };
+      };
+      written = wrote.2;
+    }
+
+pub returns-clause-imports : goal.returns-clause-imports
+returns-clause-imports g c = λ packets segments taken holds.
+    let made = c.in-Ok.made in
+    let told = rw c.in-Ok.is at (c.records_of.ensures packets segments taken holds) in
+    let wrote = c.in-Err-write_capture.ensures.err in
+    let notes : Notes = record { received = made.received_rest; sent = made.sent_rest; put_off = put_off 0 made.entries.items } in
+    record {
+      notes = notes;
+      capture = wrote.0;
+      captured = record {
+        connection = told.connection;
+        is_connection = record { segments = segments; taken = taken; answered = told.answered };
+        made = record { entries = made.entries.items; recorded = told.recorded; capture = subst (λ (es : List Entry). IsCapture c.args.import.now.selection.session es wrote.0) c.as_slice.ensures.value wrote.1; counts = refl };
+      };
+      begun = wrote.2;
+    }

@@ -1,0 +1,42 @@
+use Rattle.std.proofs.Common.{inl, inr, subst, reverse, length}
+use Rattle.bgp_wire.specs.declared.header.Limit.{Limit}
+use Rattle.bgp_recording.specs.Recorded.{IsRecorded}
+use Rattle.bgp_recording.proofs.Capturing.{made_are_writable}
+use Rattle.bgp_import.proofs.InOrder.{in_order}
+use Rattle.bgp_import.proofs.Telling.{are_covered, is_clocked, entries_written}
+use Rattle.bgp_import.proofs.importing.records_of.Goals as goal
+
+pub make_records-requires-clause-received : goal.make_records-requires-clause-received
+make_records-requires-clause-received g c =
+    let h = c.requires.holds in
+    let answered = rw c.in-Ok.is at (c.choose.ensures (reverse h.segments) (length h.packets) h.holds) in
+    (are_covered _ _ _ c.in-Ok.connection answered).0
+
+pub make_records-requires-clause-sent : goal.make_records-requires-clause-sent
+make_records-requires-clause-sent g c =
+    let h = c.requires.holds in
+    let answered = rw c.in-Ok.is at (c.choose.ensures (reverse h.segments) (length h.packets) h.holds) in
+    (are_covered _ _ _ c.in-Ok.connection answered).1
+
+pub returns-in-Err : goal.returns-in-Err
+returns-in-Err g c = λ packets segments taken holds.
+    inl (rw c.in-Err.is at (c.choose.ensures (reverse segments) (length packets) holds))
+
+pub returns-in-Ok-make_records : goal.returns-in-Ok-make_records
+returns-in-Ok-make_records g c = λ packets segments taken holds.
+    let session = c.args.import.now.selection.session in
+    let connection = c.in-Ok.connection in
+    let made = c.in-Ok-make_records.made in
+    let answered = rw c.in-Ok.is at (c.choose.ensures (reverse segments) (length packets) holds) in
+    let told = c.in-Ok-make_records.ensures.told (is_clocked (reverse segments) _ (length packets) connection (in_order _ packets segments taken) answered) in
+    let recorded = subst (λ (limit : Limit). IsRecorded limit c.args.import.now.within connection made.entries.items made.received_rest made.sent_rest) c.with_extended-limit.ensures told in
+    record {
+      connection = connection;
+      answered = answered;
+      recorded = recorded;
+      writable = entries_written session made.entries.items (made_are_writable session c.args.import.now.within connection made.entries.items made.received_rest made.sent_rest c.requires.families recorded);
+    }
+
+pub returns-in-Err-make_records : goal.returns-in-Err-make_records
+returns-in-Err-make_records g c = λ packets segments taken holds.
+    inr (c.no_memory.ensures (reverse segments) (length packets) holds)

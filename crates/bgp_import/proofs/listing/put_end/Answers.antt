@@ -1,0 +1,9 @@
+use Rattle.bgp_import.specs.ListText.{end_text}
+use Rattle.bgp_text.proofs.Pieces.{Joins, and_then}
+use Rattle.bgp_import.proofs.listing.put_end.Goals as goal
+
+pub returns : goal.returns
+unfolding end_text
+returns g c =
+    let law : Joins g.W.Sink = record { joined = g.met.W.Sink.joined } in
+    and_then law c.put_address.ensures (and_then law c.put.ensures c.put_decimal.ensures)

@@ -1,0 +1,12 @@
+-- In reading order.
+pub mod Refusals
+pub mod Selecting
+pub mod AsNumber
+pub mod Captures
+pub mod Notes
+pub mod ListText
+pub mod Importing
+pub mod Gathers
+pub mod Taking
+pub mod Imports
+pub mod Making

@@ -1,0 +1,33 @@
+//! From a recording of packets to captures of BGP sessions: the commands over recordings, as
+//! functions over any source and any sink.
+//!
+//! A recording is a file of packets; a capture is the MRT records of one session, in the order in
+//! which its local system may have handled the messages. `import_recording` makes the one of the
+//! other, `list_recording` lists the connections of a recording.
+//!
+//! ```text
+//! match import_recording(alloc, &import, &mut source, &mut sink) {
+//!     Ok(notes) => notes.in_order().into_iter().flatten().for_each(print),
+//!     Err(Stopped::Refused(refusal)) => print(refusal), // nothing is written
+//!     Err(Stopped::Unwritten) => print("the sink failed"),
+//! }
+//! ```
+#![tactic(auto)]
+
+mod capture;
+mod gathering;
+mod importing;
+mod listing;
+mod note;
+mod refusal;
+mod selection;
+mod sender;
+
+pub use capture::{notes_on, write_capture};
+pub use gathering::{Gathered, gather};
+pub use importing::{Import, Stopped, import_recording, records_of};
+pub use listing::{list_recording, put_opening, put_refusal};
+pub use note::{Note, Notes};
+pub use refusal::{Cause, Refusal};
+pub use selection::Selection;
+pub use sender::as_number;

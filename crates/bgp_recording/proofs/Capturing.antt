@@ -1,0 +1,187 @@
+-- The made records are such as a capture can hold.
+use Rattle.std.proofs.Common.{◌≡◌, ◌∙◌, ◌<◌, ◌≤◌, ◌+◌, ◌^◌, ◌==◌, ◌||◌, if◌then◌else◌, ℕ, Bool, true, false, List, [], ◌∷◌, ◌++◌, map, length, Option, None, Some, IsTrue, ap, subst, sym, refl, inl, inr, arith}
+use Rattle.std.proofs.lemmas.Bool.{cases_lt}
+use Rattle.std.specs.List.{AllByRecursion}
+use Rattle.byteorder.specs.Endian.{big_bytes}
+use Rattle.bgp_prefix.specs.Shown as shown
+use Rattle.bgp_prefix.specs.Shown.{ShownRecord, second_of}
+use Rattle.bgp_prefix.specs.declared.address.Address.{Address}
+use Rattle.bgp_prefix.specs.declared.address.Address.TheVariants.{V4, V6}
+use Rattle.bgp_prefix.specs.declared.session.Session.{Session}
+use Rattle.bgp_prefix.specs.Address.{family_of}
+use Rattle.bgp_wire.specs.declared.header.Limit.{Limit}
+use Rattle.bgp_wire.specs.declared.header.Limit.TheVariants.{Plain, Extended}
+use Rattle.bgp_wire.specs.declared.header.MessageType.{MessageType}
+use Rattle.bgp_wire.specs.Framing.{IsFrame}
+use Rattle.bgp_wire.specs.Header.{header_of, length_of, type_of, greatest_length, limit_with, IsSound}
+use Rattle.mrt.specs.Layout.{IsState}
+use Rattle.mrt.specs.Rules.{HasOtherLength, body_limit}
+use Rattle.streams.specs.declared.connection.Connection.{Connection}
+use Rattle.mrt.specs.Written.{IsWritable, CanBeCaptured, AreInOrder, address_octets, content_for, body_len}
+use Rattle.mrt.proofs.WrittenCapture.{captures_read_back}
+use Rattle.bgp_recording.specs.declared.entry.Entry.{Entry}
+use Rattle.bgp_recording.specs.declared.message.Message.{Message}
+use Rattle.bgp_recording.specs.Allowed.{Received, Sent, Ended, received_in, sent_in}
+use Rattle.bgp_recording.specs.Captured.{records_of, IsNoRefresh, CanBeNamed, MadeRecordsAreRead}
+use Rattle.bgp_recording.specs.Framed.{HasKind}
+use Rattle.bgp_recording.specs.declared.framing.Rest.{Rest}
+use Rattle.bgp_recording.specs.Recorded.{IsRecorded}
+use Rattle.bgp_recording.specs.Tells.{Numbered, numbered_of, Event, Passed, Changed, items_in, numbered_in, AreTimed}
+use Rattle.bgp_recording.specs.Tells as tells
+
+-- ---- messages
+
+-- the longest message of any type
+abbrev longest : Limit → ℕ
+longest Plain = 4096
+longest Extended = 65535
+
+longest_least : (limit : Limit) → 4096 ≤ longest limit
+longest_least Plain = omega arith
+longest_least Extended = omega arith
+
+greatest_longest : (limit : Limit) (kind : ℕ) → greatest_length limit kind ≤ longest limit
+greatest_longest Plain kind = omega arith
+greatest_longest Extended kind =
+    elim ((kind == 2) || (kind == 3)) as (λ (b : Bool). (if b then 65535 else 4096) ≤ 65535) [ true ↦ omega arith | false ↦ omega arith ]
+
+-- what a capture asks of a message
+record CanBeMessage (limit : Limit) (octets : List ℕ) : Type 0 where
+  long : 19 ≤ length octets
+  short : length octets ≤ longest limit
+  whole : ¬ HasOtherLength limit octets
+
+faulty_can : (limit : Limit) (octets : List ℕ) → length octets ≡ 19 → ¬ IsSound limit (header_of octets) → CanBeMessage limit octets
+faulty_can limit octets len faulty = record { long = omega (arith, len); short = omega (arith, len, longest_least limit); whole = λ h. faulty h.1 }
+
+sound_short : (limit : Limit) (header : List ℕ) → IsSound limit header → length_of header ≤ longest limit
+sound_short limit header sound =
+    elim (cases_lt (greatest_length limit (type_of header)) (length_of header)) [
+      | inl more ↦ absurd (sound 2 (big_bytes 2 (length_of header)) (inr (inl (refl, inr (inl more), refl))))
+      | inr enough ↦ omega (arith, enough, greatest_longest limit (type_of header))
+    ]
+
+frame_can : (limit : Limit) (octets : List ℕ) → IsFrame limit octets → CanBeMessage limit octets
+frame_can limit octets frame = record {
+  long = frame.header;
+  short = omega (arith, frame.whole, sound_short limit (header_of octets) frame.sound);
+  whole = λ h. h.2 (sym frame.whole);
+}
+
+kind_can : (limit : Limit) (m : Message) (kind : Option MessageType) → kind ≡ m.kind → HasKind limit m → CanBeMessage limit m.octets.now
+kind_can limit m None is h =
+    let g = subst (λ (k : Option MessageType). HasKind limit record { octets = m.octets; kind = k; packet = m.packet; second = m.second }) (sym is) h in
+    faulty_can limit m.octets.now g.0 g.1.1
+kind_can limit m (Some kind) is h =
+    let g = subst (λ (k : Option MessageType). HasKind limit record { octets = m.octets; kind = k; packet = m.packet; second = m.second }) (sym is) h in
+    frame_can limit m.octets.now g.0
+
+-- ---- records
+
+-- what a capture asks of a record, but for a ROUTE-REFRESH and the seconds
+abbrev CanBeRecord : Limit → ShownRecord → Type 0
+CanBeRecord limit (shown.Received second octets) = CanBeMessage limit octets
+CanBeRecord limit (shown.Sent second octets) = CanBeMessage limit octets
+CanBeRecord limit (shown.Changed second old new) = IsState old × IsState new
+
+address_short : (address : Address) → length (address_octets address) ≤ 16
+address_short (V4 number) = omega arith
+address_short (V6 number) = omega arith
+
+-- behind the AS numbers and two addresses
+body_fits : (extended : Bool) (count : ℕ) → count ≤ 44 + longest (limit_with extended) → count ≤ (if extended then 65583 else 8192)
+body_fits true count h = omega (arith, h)
+body_fits false count h = omega (arith, h)
+
+body_short : (session : Session) (record' : ShownRecord) → length (content_for record') ≤ longest (limit_with session.extended) → body_len session record' ≤ body_limit session
+unfolding body_limit
+body_short session record' h = body_fits session.extended (body_len session record') (omega (arith, address_short session.peer, address_short session.local, h))
+
+record_short : (session : Session) (record' : ShownRecord) → CanBeRecord (limit_with session.extended) record' → length (content_for record') ≤ longest (limit_with session.extended)
+record_short session (shown.Received second octets) can = can.short
+record_short session (shown.Sent second octets) can = can.short
+record_short session (shown.Changed second old new) can = omega (arith, longest_least (limit_with session.extended))
+
+writable : (session : Session) (record' : ShownRecord) → family_of session.peer ≡ family_of session.local → CanBeRecord (limit_with session.extended) record' → IsWritable session record'
+writable session record' family can = (family, body_short session record' (record_short session record' can))
+
+all_writable : (session : Session) (records : List ShownRecord) → family_of session.peer ≡ family_of session.local → AllByRecursion (CanBeRecord (limit_with session.extended)) records
+    → AllByRecursion (IsWritable session) records
+all_writable session [] family can = tt
+all_writable session (r ∷ rs) family can = (writable session r family can.0, all_writable session rs family can.1)
+
+captured : (session : Session) (record' : ShownRecord) → CanBeNamed session → CanBeRecord (limit_with session.extended) record' → second_of record' < 2 ^ 32
+    → (IsTrue session.refresh → IsNoRefresh record') → CanBeCaptured session record'
+captured session (shown.Received second octets) named can fits without = record {
+  writable = writable session (shown.Received second octets) named.family can;
+  fits = record { second = fits; states = tt; peer = named.peer; local = named.local };
+  allowed = ((can.long, without, can.whole), λ none. none);
+}
+captured session (shown.Sent second octets) named can fits without = record {
+  writable = writable session (shown.Sent second octets) named.family can;
+  fits = record { second = fits; states = tt; peer = named.peer; local = named.local };
+  allowed = ((can.long, without, can.whole), λ none. none);
+}
+captured session (shown.Changed second old new) named can fits without = record {
+  writable = writable session (shown.Changed second old new) named.family can;
+  fits = record { second = fits; states = (omega (arith, can.0.1), omega (arith, can.1.1)); peer = named.peer; local = named.local };
+  allowed = (can.0, can.1, λ none. none);
+}
+
+all_captured : (session : Session) (records : List ShownRecord) → CanBeNamed session → AllByRecursion (CanBeRecord (limit_with session.extended)) records
+    → AllByRecursion (λ r. second_of r < 2 ^ 32) records → (IsTrue session.refresh → AllByRecursion IsNoRefresh records) → AllByRecursion (CanBeCaptured session) records
+all_captured session [] named can fits without = tt
+all_captured session (r ∷ rs) named can fits without =
+    (captured session r named can.0 fits.0 (λ t. (without t).0), all_captured session rs named can.1 fits.1 (λ t. (without t).1))
+
+-- ---- events
+
+abbrev pub shown_in : List Numbered → List ShownRecord
+shown_in numbered = map (λ n. n.shown) numbered
+
+events_can : (limit : Limit) (events : List Event) → AllByRecursion (HasKind limit) (received_in (items_in events)) → AllByRecursion (HasKind limit) (sent_in (items_in events))
+    → tells.AreStates events → AllByRecursion (CanBeRecord limit) (shown_in (numbered_in events))
+events_can limit [] received sent states = tt
+events_can limit (Passed second (Received m) ∷ later) received sent states = (kind_can limit m m.kind refl received.0, events_can limit later received.1 sent states)
+events_can limit (Passed second (Sent m) ∷ later) received sent states = (kind_can limit m m.kind refl sent.0, events_can limit later received sent.1 states)
+events_can limit (Passed second (Ended e) ∷ later) received sent states = events_can limit later received sent states
+events_can limit (Changed packet second old new ∷ later) received sent states = ((states.0, states.1), events_can limit later received sent states.2)
+
+from_later : (least second : ℕ) (records : List ShownRecord) → least ≤ second → AreInOrder second records → AreInOrder least records
+from_later least second [] le h = tt
+from_later least second (r ∷ rs) le h = (omega (arith, le, h.0), h.1)
+
+events_order : (least : ℕ) (events : List Event) → AreTimed least events → AreInOrder least (shown_in (numbered_in events))
+events_order least [] h = tt
+events_order least (Passed second (Received m) ∷ later) h = (h.0, events_order second later h.2)
+events_order least (Passed second (Sent m) ∷ later) h = (h.0, events_order second later h.2)
+events_order least (Passed second (Ended e) ∷ later) h = from_later least second _ h.0 (events_order second later h.2)
+events_order least (Changed packet second old new ∷ later) h = (h.0, events_order second later h.1)
+
+same_records : (entries : List Entry) → shown_in (map numbered_of entries) ≡ records_of entries
+same_records [] = refl
+same_records (e ∷ es) = ap (λ rs. shown_in (numbered_of e ∷ []) ++ rs) (same_records es)
+
+pub events_are : (events : List Event) (entries : List Entry) → numbered_in events ≡ map numbered_of entries → shown_in (numbered_in events) ≡ records_of entries
+events_are events entries shown = ap (λ ns. shown_in ns) shown ∙ same_records entries
+
+made_can : (limit : Limit) (within : ℕ) (connection : Connection) (entries : List Entry) (received_rest sent_rest : Rest) → IsRecorded limit within connection entries received_rest sent_rest
+    → AllByRecursion (CanBeRecord limit) (records_of entries)
+made_can limit within connection entries received_rest sent_rest made =
+    let t = made.tells in
+    let kinds_received = subst (λ (ms : List Message). AllByRecursion (HasKind limit) ms) (sym t.allowed.of_received) made.heard.kinds in
+    let kinds_sent = subst (λ (ms : List Message). AllByRecursion (HasKind limit) ms) (sym t.allowed.of_sent) made.said.kinds in
+    subst (λ (rs : List ShownRecord). AllByRecursion (CanBeRecord limit) rs) (events_are t.events entries t.shown) (events_can limit t.events kinds_received kinds_sent t.states)
+
+-- what is made can be written, where both addresses are of one family
+pub made_are_writable : (session : Session) (within : ℕ) (connection : Connection) (entries : List Entry) (received_rest sent_rest : Rest) → family_of session.peer ≡ family_of session.local
+    → IsRecorded (limit_with session.extended) within connection entries received_rest sent_rest → AllByRecursion (IsWritable session) (records_of entries)
+made_are_writable session within connection entries received_rest sent_rest family made =
+    all_writable session (records_of entries) family (made_can (limit_with session.extended) within connection entries received_rest sent_rest made)
+
+pub made_are_read : MadeRecordsAreRead
+made_are_read session peer_as local_as within connection entries received_rest sent_rest named made fits without =
+    let t = made.tells in
+    let can = made_can (limit_with session.extended) within connection entries received_rest sent_rest made in
+    let order = subst (λ (rs : List ShownRecord). AreInOrder 0 rs) (events_are t.events entries t.shown) (events_order 0 t.events t.timed) in
+    captures_read_back session peer_as local_as (records_of entries) (all_captured session (records_of entries) named can fits without) order

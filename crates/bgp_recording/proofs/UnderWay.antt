@@ -1,0 +1,288 @@
+-- An order while it is made: whatever tells what is left, tells all behind the records so far.
+use Rattle.std.proofs.Common.{◌≡◌, ◌∙◌, ◌<◌, ◌≤◌, ◌+◌, ℕ, Bool, true, false, List, [], ◌∷◌, ◌++◌, Option, None, Some, IfSome, ap, subst, sym, refl, arith, map, max, length, append_assoc, append-nil}
+use Rattle.std.proofs.lemmas.List.{map-append}
+use Rattle.std.proofs.lemmas.Bool.{false≢true}
+use Rattle.std.proofs.Math.Nat.{le-max_left, le-max_right, max-le}
+use Rattle.std.specs.List.{AllByRecursion}
+use Rattle.bgp_prefix.specs.Shown as shown
+use Rattle.streams.specs.declared.connection.End.{End}
+use Rattle.bgp_recording.specs.declared.entry.Entry.{Entry}
+use Rattle.bgp_recording.specs.declared.message.Message.{Message}
+use Rattle.bgp_recording.specs.declared.ordering.Exchange.{Exchange}
+use Rattle.bgp_recording.specs.declared.pending.Turn.{Turn}
+use Rattle.bgp_recording.specs.declared.pending.Turn.TheVariants as turns
+use Rattle.bgp_recording.specs.Allowed.{ends_of}
+use Rattle.bgp_recording.specs.Leads.{Pending, LeadsReceived, LeadsSent, LeadsEnd, Leads, IsDone, MayKeep, own_of}
+use Rattle.bgp_recording.specs.Puts.{IsPut, numbered_with}
+use Rattle.bgp_recording.specs.Steps.{Making, ShowsReceived, ShowsSent, ShowsEnd, Shows, Steps, StepsOrEnds, Begins}
+use Rattle.bgp_recording.specs.Tells.{Numbered, numbered_of, Tells}
+use Rattle.bgp_recording.specs.Told.{IsClock, GoesBy, Rises, IsLast, AreClocked, IsTold, IsMade}
+use Rattle.bgp_recording.proofs.Orders.{before_all, before_end, not_later, in_time_all}
+use Rattle.bgp_recording.proofs.Telling.{tells_received, tells_sent, tells_end, tells_earlier, tells_changes}
+
+-- what is left goes by the clock
+abbrev pub IsOnTime : (ℕ → ℕ) → Pending → Type 0
+IsOnTime clock pending = AreClocked clock pending.received pending.sent pending.end
+
+-- whatever may follow the records so far
+abbrev pub Goes : ℕ → Exchange → Making → Type 0
+Goes within exchange making =
+    (rest : List Numbered) → Tells within making.last false making.pending.received making.pending.sent making.pending.end rest
+    → Tells within 0 false exchange.received.now exchange.sent.now exchange.end (map numbered_of making.entries ++ rest)
+
+pub record IsUnderWay (within : ℕ) (exchange : Exchange) (making : Making) : Type 0 where
+  pub clock : ℕ → ℕ
+  pub go_by : IsOnTime clock making.pending
+  pub ahead : AllByRecursion (λ s. making.last ≤ s.second) making.pending.sent
+  pub so_far : Goes within exchange making
+
+-- ---- what is left after a step
+
+tail_by : (P : Message → Type 0) (xs ys : List Message) (m : Message) → xs ≡ m ∷ ys → AllByRecursion P xs → P m × AllByRecursion P ys
+tail_by P xs ys m e h = subst (λ (zs : List Message). AllByRecursion P zs) e h
+
+tail_rises : (xs ys : List Message) (m : Message) → xs ≡ m ∷ ys → Rises xs → AllByRecursion (λ n. m.packet ≤ n.packet) ys × Rises ys
+tail_rises xs ys m e h = subst (λ (zs : List Message). Rises zs) e h
+
+last_tail : (xs ys : List Message) (m : Message) (end : Option End) → xs ≡ m ∷ ys → IfSome end (IsLast xs) → IfSome end (IsLast ys)
+last_tail xs ys m None e h = tt
+last_tail xs ys m (Some end) e h = λ own. (subst (λ (zs : List Message). AllByRecursion (λ m. m.packet ≤ end.packet) zs) e (h own)).1
+
+clocked_received : (clock : ℕ → ℕ) (old new : Pending) (r : Message) → LeadsReceived old r new → IsOnTime clock old → IsOnTime clock new
+clocked_received clock old new r leads h = record {
+  clocked = h.clocked;
+  received_by = (tail_by _ _ _ _ leads.received h.received_by).1;
+  sent_by = subst (λ (xs : List Message). AllByRecursion (GoesBy clock) xs) (sym leads.sent) h.sent_by;
+  end_by = subst (λ (e : Option End). IfSome e (λ e. e.second ≡ clock e.packet)) (sym leads.end) h.end_by;
+  received_rise = (tail_rises _ _ _ leads.received h.received_rise).1;
+  sent_rise = subst (λ (xs : List Message). Rises xs) (sym leads.sent) h.sent_rise;
+  sent_last = subst (λ (e : Option End). IfSome e (IsLast new.sent)) (sym leads.end)
+      (subst (λ (xs : List Message). IfSome old.end (IsLast xs)) (sym leads.sent) h.sent_last);
+}
+
+clocked_sent : (within : ℕ) (clock : ℕ → ℕ) (old new : Pending) (s : Message) → LeadsSent within old s new → IsOnTime clock old → IsOnTime clock new
+clocked_sent within clock old new s leads h = record {
+  clocked = h.clocked;
+  received_by = subst (λ (xs : List Message). AllByRecursion (GoesBy clock) xs) (sym leads.received) h.received_by;
+  sent_by = (tail_by _ _ _ _ leads.sent h.sent_by).1;
+  end_by = subst (λ (e : Option End). IfSome e (λ e. e.second ≡ clock e.packet)) (sym leads.end) h.end_by;
+  received_rise = subst (λ (xs : List Message). Rises xs) (sym leads.received) h.received_rise;
+  sent_rise = (tail_rises _ _ _ leads.sent h.sent_rise).1;
+  sent_last = subst (λ (e : Option End). IfSome e (IsLast new.sent)) (sym leads.end) (last_tail _ _ _ old.end leads.sent h.sent_last);
+}
+
+clocked_end : (within : ℕ) (clock : ℕ → ℕ) (old new : Pending) (e : End) → LeadsEnd within old e new → IsOnTime clock old → IsOnTime clock new
+clocked_end within clock old new e leads h = record {
+  clocked = h.clocked;
+  received_by = subst (λ (xs : List Message). AllByRecursion (GoesBy clock) xs) (sym leads.received) h.received_by;
+  sent_by = subst (λ (xs : List Message). AllByRecursion (GoesBy clock) xs) (sym leads.sent) tt;
+  end_by = subst (λ (o : Option End). IfSome o (λ e. e.second ≡ clock e.packet)) (sym leads.end_after) tt;
+  received_rise = subst (λ (xs : List Message). Rises xs) (sym leads.received) h.received_rise;
+  sent_rise = subst (λ (xs : List Message). Rises xs) (sym leads.sent) tt;
+  sent_last = subst (λ (o : Option End). IfSome o (IsLast new.sent)) (sym leads.end_after) tt;
+}
+
+-- ---- the records so far, and those of a step
+
+put_then : (second from to : ℕ) (n : Numbered) (before after : List Entry) (put : IsPut second from to n before after) (rest : List Numbered)
+    → map numbered_of before ++ (n ∷ (map numbered_of put.changes ++ rest)) ≡ map numbered_of after ++ rest
+put_then second from to n before after put rest =
+    sym (ap (λ (es : List Entry). map numbered_of es ++ rest) put.appended
+    ∙ ap (λ (ns : List Numbered). ns ++ rest) (map-append numbered_of before (put.entry ∷ put.changes))
+    ∙ append_assoc (map numbered_of before) (numbered_of put.entry ∷ map numbered_of put.changes) rest
+    ∙ ap (λ (m : Numbered). map numbered_of before ++ (m ∷ (map numbered_of put.changes ++ rest))) put.is)
+
+changed_then : (before after changes : List Entry) (rest : List Numbered) → after ≡ before ++ changes
+    → map numbered_of before ++ (map numbered_of changes ++ rest) ≡ map numbered_of after ++ rest
+changed_then before after changes rest e =
+    sym (ap (λ (es : List Entry). map numbered_of es ++ rest) e
+    ∙ ap (λ (ns : List Numbered). ns ++ rest) (map-append numbered_of before changes)
+    ∙ append_assoc (map numbered_of before) (map numbered_of changes) rest)
+
+-- seconds of what is still to be sent
+ahead_received : (clock : ℕ → ℕ) (r : Message) (last : ℕ) (ss : List Message) → IsClock clock → GoesBy clock r → AllByRecursion (GoesBy clock) ss
+    → AllByRecursion (λ s. r.packet < s.packet) ss → AllByRecursion (λ s. last ≤ s.second) ss → AllByRecursion (λ s. max r.second last ≤ s.second) ss
+ahead_received clock r last [] clocked by sent before h = tt
+ahead_received clock r last (s ∷ ss) clocked by sent before h = (
+  max-le (not_later clock r.packet r.second s.packet s.second clocked by sent.0 (omega (arith, before.0))) h.0,
+  ahead_received clock r last ss clocked by sent.1 before.1 h.1,
+)
+
+keeps_sent : (within : ℕ) (rs ss later : List Message) (s : Message) (end : Option End) → ss ≡ s ∷ later → MayKeep within rs (own_of ss end)
+    → MayKeep within rs (Some record { packet = s.packet; second = s.second })
+keeps_sent within rs ss later s end e h = subst (λ (xs : List Message). MayKeep within rs (own_of xs end)) e h
+
+keeps_end : (within : ℕ) (rs ss : List Message) (end : End) (o : Option End) → ss ≡ [] → o ≡ Some end → MayKeep within rs (own_of ss o)
+    → MayKeep within rs (Some record { packet = end.packet; second = end.second })
+keeps_end within rs ss end o e p h =
+    subst (λ (q : Option End). MayKeep within rs (own_of [] q)) p (subst (λ (xs : List Message). MayKeep within rs (own_of xs o)) e h)
+
+from_first : (clock : ℕ → ℕ) (packet second : ℕ) (ss : List Message) → IsClock clock → second ≡ clock packet → AllByRecursion (GoesBy clock) ss
+    → AllByRecursion (λ s. packet ≤ s.packet) ss → AllByRecursion (λ s. second ≤ s.second) ss
+from_first clock packet second [] clocked by sent first = tt
+from_first clock packet second (s ∷ ss) clocked by sent first =
+    (not_later clock packet second s.packet s.second clocked by sent.0 first.0, from_first clock packet second ss clocked by sent.1 first.1)
+
+-- ---- the steps
+
+after_received : (within : ℕ) (exchange : Exchange) (old new : Making) (r : Message) → LeadsReceived old.pending r new.pending → ShowsReceived old r new
+    → IsUnderWay within exchange old → IsUnderWay within exchange new
+after_received within exchange old new r leads shows h =
+    let before = before_all r old.pending.sent old.pending.end leads.before h.go_by.sent_rise in
+    let ended = before_end r old.pending.sent old.pending.end leads.before h.go_by.sent_last in
+    let by = (tail_by _ _ _ _ leads.received h.go_by.received_by).0 in
+    record {
+      clock = h.clock;
+      go_by = clocked_received h.clock old.pending new.pending r leads h.go_by;
+      ahead = subst (λ (n : ℕ). AllByRecursion (λ s. n ≤ s.second) new.pending.sent) (sym shows.second)
+          (subst (λ (xs : List Message). AllByRecursion (λ s. max r.second old.last ≤ s.second) xs) (sym leads.sent)
+          (ahead_received h.clock r old.last old.pending.sent h.go_by.clocked by h.go_by.sent_by before h.ahead));
+      so_far = λ rest tells.
+          let after : Tells within new.last false new.pending.received old.pending.sent old.pending.end rest =
+          subst (λ (o : Option End). Tells within new.last false new.pending.received old.pending.sent o rest) leads.end
+          (subst (λ (xs : List Message). Tells within new.last false new.pending.received xs new.pending.end rest) leads.sent tells) in
+          let with_changes = tells_changes within new.last true new.pending.received old.pending.sent old.pending.end (map numbered_of shows.put.changes) rest shows.put.each after in
+          let changes = map numbered_of shows.put.changes ++ rest in
+          let all = numbered_with r.packet (shown.Received new.last r.octets.now) ∷ changes in
+          let with_it = tells_received within old.last new.last false r new.pending.received old.pending.sent old.pending.end changes before ended
+          (omega (arith, le-max_right r.second old.last, shows.second)) (omega (arith, le-max_left r.second old.last, shows.second)) with_changes in
+          subst (λ (ns : List Numbered). Tells within 0 false exchange.received.now exchange.sent.now exchange.end ns)
+          (put_then new.last old.state new.state _ old.entries new.entries shows.put rest)
+          (h.so_far all (subst (λ (xs : List Message). Tells within old.last false xs old.pending.sent old.pending.end all) (sym leads.received) with_it));
+    }
+
+after_sent : (within : ℕ) (exchange : Exchange) (old new : Making) (s : Message) → LeadsSent within old.pending s new.pending → ShowsSent old s new
+    → IsUnderWay within exchange old → IsUnderWay within exchange new
+after_sent within exchange old new s leads shows h =
+    let by = tail_by _ _ _ _ leads.sent h.go_by.sent_by in
+    let rises = tail_rises _ _ _ leads.sent h.go_by.sent_rise in
+    let le = (tail_by _ _ _ _ leads.sent h.ahead).0 in
+    let in_time = in_time_all within h.clock record { packet = s.packet; second = s.second } old.pending.received h.go_by.clocked by.0 h.go_by.received_by h.go_by.received_rise
+    (keeps_sent within old.pending.received old.pending.sent new.pending.sent s old.pending.end leads.sent leads.in_time) in
+    record {
+      clock = h.clock;
+      go_by = clocked_sent within h.clock old.pending new.pending s leads h.go_by;
+      ahead = subst (λ (n : ℕ). AllByRecursion (λ t. n ≤ t.second) new.pending.sent) (sym shows.second)
+          (from_first h.clock s.packet s.second new.pending.sent h.go_by.clocked by.0 by.1 rises.0);
+      so_far = λ rest tells.
+          let after : Tells within new.last false old.pending.received new.pending.sent old.pending.end rest =
+          subst (λ (o : Option End). Tells within new.last false old.pending.received new.pending.sent o rest) leads.end
+          (subst (λ (xs : List Message). Tells within new.last false xs new.pending.sent new.pending.end rest) leads.received tells) in
+          let with_changes = tells_changes within new.last true old.pending.received new.pending.sent old.pending.end (map numbered_of shows.put.changes) rest shows.put.each after in
+          let changes = map numbered_of shows.put.changes ++ rest in
+          let all = numbered_with s.packet (shown.Sent new.last s.octets.now) ∷ changes in
+          let with_it = tells_sent within old.last new.last false s old.pending.received new.pending.sent old.pending.end changes in_time
+          (omega (arith, le, shows.second)) shows.second with_changes in
+          subst (λ (ns : List Numbered). Tells within 0 false exchange.received.now exchange.sent.now exchange.end ns)
+          (put_then new.last old.state new.state _ old.entries new.entries shows.put rest)
+          (h.so_far all (subst (λ (xs : List Message). Tells within old.last false old.pending.received xs old.pending.end all) (sym leads.sent) with_it));
+    }
+
+after_end : (within : ℕ) (exchange : Exchange) (old new : Making) (e : End) → LeadsEnd within old.pending e new.pending → ShowsEnd old e new
+    → IsUnderWay within exchange old → IsUnderWay within exchange new
+after_end within exchange old new e leads shows h =
+    let by : e.second ≡ h.clock e.packet = subst (λ (o : Option End). IfSome o (λ e. e.second ≡ h.clock e.packet)) leads.end_before h.go_by.end_by in
+    let in_time = in_time_all within h.clock record { packet = e.packet; second = e.second } old.pending.received h.go_by.clocked by h.go_by.received_by h.go_by.received_rise
+    (keeps_end within old.pending.received old.pending.sent e old.pending.end leads.sent_before leads.end_before leads.in_time) in
+    record {
+      clock = h.clock;
+      go_by = clocked_end within h.clock old.pending new.pending e leads h.go_by;
+      ahead = subst (λ (xs : List Message). AllByRecursion (λ s. new.last ≤ s.second) xs) (sym leads.sent) tt;
+      so_far = λ rest tells.
+          let after : Tells within new.last false old.pending.received [] None rest =
+          subst (λ (o : Option End). Tells within new.last false old.pending.received [] o rest) leads.end_after
+          (subst (λ (xs : List Message). Tells within new.last false old.pending.received xs new.pending.end rest) leads.sent
+          (subst (λ (xs : List Message). Tells within new.last false xs new.pending.sent new.pending.end rest) leads.received tells)) in
+          let with_changes = tells_changes within new.last true old.pending.received [] None (map numbered_of shows.changes) rest shows.each after in
+          let all = map numbered_of shows.changes ++ rest in
+          let with_it = tells_end within old.last new.last false e old.pending.received all in_time
+          (omega (arith, le-max_right e.second old.last, shows.second)) (omega (arith, le-max_left e.second old.last, shows.second)) with_changes in
+          subst (λ (ns : List Numbered). Tells within 0 false exchange.received.now exchange.sent.now exchange.end ns)
+          (changed_then old.entries new.entries shows.changes rest shows.appended)
+          (h.so_far all (subst (λ (o : Option End). Tells within old.last false old.pending.received old.pending.sent o all) (sym leads.end_before)
+          (subst (λ (xs : List Message). Tells within old.last false old.pending.received xs (Some e) all) (sym leads.sent_before) with_it)));
+    }
+
+by_turn : (within : ℕ) (exchange : Exchange) (old new : Making) (turn : Turn) → Leads within old.pending turn new.pending → Shows old turn new
+    → IsUnderWay within exchange old → IsUnderWay within exchange new
+by_turn within exchange old new (turns.Received r) leads shows h = after_received within exchange old new r leads shows h
+by_turn within exchange old new (turns.Sent s) leads shows h = after_sent within exchange old new s leads shows h
+by_turn within exchange old new (turns.End e) leads shows h = after_end within exchange old new e leads shows h
+
+pub steps_on : (within : ℕ) (exchange : Exchange) (old new : Making) → Steps within old new → IsUnderWay within exchange old → IsUnderWay within exchange new
+steps_on within exchange old new steps h = by_turn within exchange old new steps.turn steps.leads steps.shows h
+
+pub begins_under_way : (within : ℕ) (exchange : Exchange) (making : Making) → Begins exchange making → IsTold exchange → IsUnderWay within exchange making
+begins_under_way within exchange making begun told =
+    let ahead : AllByRecursion (λ s. exchange.second ≤ s.second) exchange.sent.now =
+    from_first told.clock exchange.packet exchange.second exchange.sent.now told.go_by.clocked told.begins told.go_by.sent_by told.first in
+    record {
+      clock = told.clock;
+      go_by =
+          subst (λ (o : Option End). AreClocked told.clock making.pending.received making.pending.sent o) (sym begun.end)
+          (subst (λ (xs : List Message). AreClocked told.clock making.pending.received xs exchange.end) (sym begun.sent)
+          (subst (λ (xs : List Message). AreClocked told.clock xs exchange.sent.now exchange.end) (sym begun.received) told.go_by));
+      ahead = subst (λ (n : ℕ). AllByRecursion (λ s. n ≤ s.second) making.pending.sent) (sym begun.last)
+          (subst (λ (xs : List Message). AllByRecursion (λ s. exchange.second ≤ s.second) xs) (sym begun.sent) ahead);
+      so_far = λ rest tells.
+          let all : Tells within exchange.second false exchange.received.now exchange.sent.now exchange.end rest =
+          subst (λ (n : ℕ). Tells within n false exchange.received.now exchange.sent.now exchange.end rest) begun.last
+          (subst (λ (o : Option End). Tells within making.last false exchange.received.now exchange.sent.now o rest) begun.end
+          (subst (λ (xs : List Message). Tells within making.last false exchange.received.now xs making.pending.end rest) begun.sent
+          (subst (λ (xs : List Message). Tells within making.last false xs making.pending.sent making.pending.end rest) begun.received tells))) in
+          tells_earlier within exchange.second exchange.received.now exchange.sent.now exchange.end _
+          (tells_changes within exchange.second false exchange.received.now exchange.sent.now exchange.end (map numbered_of making.entries) rest begun.each all);
+    }
+
+nothing_tells : (within last : ℕ) (rs ss : List Message) (end : Option End) → rs ≡ [] → ss ≡ [] → end ≡ None → Tells within last false rs ss end []
+nothing_tells within last rs ss end p q r = record {
+  events = [];
+  allowed = record { of_received = sym p; of_sent = sym q; of_end = sym (ap ends_of r); each = tt };
+  shown = refl;
+  timed = tt;
+  beside = tt;
+  states = tt;
+}
+
+pub all_made : (within : ℕ) (exchange : Exchange) (making : Making) → IsDone making.pending → IsUnderWay within exchange making → IsMade within exchange making.entries
+all_made within exchange making done h =
+    subst (λ (ns : List Numbered). Tells within 0 false exchange.received.now exchange.sent.now exchange.end ns) (append-nil (map numbered_of making.entries))
+    (h.so_far [] (nothing_tells within making.last making.pending.received making.pending.sent making.pending.end done.received done.sent done.end))
+
+-- ---- by what a step answers
+
+pub steps_where : (within : ℕ) (exchange : Exchange) (old new : Making) (more : Bool) → more ≡ true → StepsOrEnds within old more new → IsUnderWay within exchange old
+    → IsUnderWay within exchange new
+steps_where within exchange old new true is steps h = steps_on within exchange old new steps h
+steps_where within exchange old new false is steps h = absurd (false≢true is)
+
+pub made_where : (within : ℕ) (exchange : Exchange) (old new inside : Making) (more : Bool) → more ≡ false → StepsOrEnds within old more new → inside ≡ new
+    → IsUnderWay within exchange old → IsMade within exchange inside.entries
+made_where within exchange old new inside true is ends view h = absurd (false≢true (sym is))
+made_where within exchange old new inside false is ends view h =
+    subst (λ (m : Making). IsMade within exchange m.entries) (sym (view ∙ ends.1)) (all_made within exchange old ends.0 h)
+
+-- ---- each step leaves less
+
+-- how much is left
+abbrev pub left_in : Pending → ℕ
+left_in pending = length pending.received + length pending.sent + length (ends_of pending.end)
+
+fewer : (old new : Pending) (turn : Turn) (within : ℕ) → Leads within old turn new → left_in new < left_in old
+fewer old new (turns.Received r) within leads =
+    omega (arith, ap length leads.received, ap length leads.sent, ap (λ (o : Option End). length (ends_of o)) leads.end)
+fewer old new (turns.Sent s) within leads =
+    omega (arith, ap length leads.received, ap length leads.sent, ap (λ (o : Option End). length (ends_of o)) leads.end)
+fewer old new (turns.End e) within leads =
+    omega (
+      arith,
+      ap length leads.received,
+      ap length leads.sent,
+      ap length leads.sent_before,
+      ap (λ (o : Option End). length (ends_of o)) leads.end_before,
+      ap (λ (o : Option End). length (ends_of o)) leads.end_after,
+    )
+
+pub leaves_less : (within : ℕ) (old new : Making) (more : Bool) → more ≡ true → StepsOrEnds within old more new → left_in new.pending < left_in old.pending
+leaves_less within old new true is steps = fewer old.pending new.pending steps.turn within steps.leads
+leaves_less within old new false is steps = absurd (false≢true is)

@@ -1,0 +1,44 @@
+-- The made records as a capture.
+use Rattle.std.specs.Prelude.{◌≡◌, ◌<◌, ◌^◌, ℕ, List, map, IsTrue}
+use Rattle.std.specs.List.{AllByRecursion}
+use Rattle.bgp_prefix.specs.Address.{family_of, IsAddress}
+use Rattle.bgp_prefix.specs.Shown.{ShownRecord, Received, Sent, Changed, second_of}
+use Rattle.bgp_prefix.specs.declared.session.Session.{Session}
+use Rattle.bgp_wire.specs.Header.{limit_with}
+use Rattle.mrt.specs.Capture.{Spells}
+use Rattle.mrt.specs.Reader.{shown_of}
+use Rattle.mrt.specs.Rules.{IsRouteRefresh}
+use Rattle.mrt.specs.Written.{capture_octets}
+use Rattle.streams.specs.declared.connection.Connection.{Connection}
+use Rattle.bgp_recording.specs.declared.entry.Entry.{Entry}
+use Rattle.bgp_recording.specs.declared.framing.Rest.{Rest}
+use Rattle.bgp_recording.specs.Recorded.{IsRecorded}
+
+abbrev pub records_of : List Entry → List ShownRecord
+records_of entries = map (λ entry. shown_of entry.record) entries
+
+-- its message isn't a ROUTE-REFRESH
+abbrev pub IsNoRefresh : ShownRecord → Type 0
+IsNoRefresh (Received second octets) = ¬ IsRouteRefresh octets
+IsNoRefresh (Sent second octets) = ¬ IsRouteRefresh octets
+IsNoRefresh (Changed second old new) = Unit {0}
+
+-- Both addresses are of one family, and the numbers fit their fields.
+pub record CanBeNamed (session : Session) : Type 0 where
+  pub family : family_of session.peer ≡ family_of session.local
+  pub peer : IsAddress session.peer
+  pub local : IsAddress session.local
+
+-- The records that tell a connection, its messages framed at the session's limit, read back as just
+-- these, by whatever AS numbers they are written; unless the session may have a ROUTE-REFRESH, and
+-- there is one.
+abbrev pub MadeRecordsAreRead : Type 0
+MadeRecordsAreRead =
+    (session : Session) (peer_as local_as within : ℕ) (connection : Connection)
+    (entries : List Entry) (received_rest sent_rest : Rest) →
+    CanBeNamed session →
+    IsRecorded (limit_with session.extended) within connection entries received_rest sent_rest →
+    AllByRecursion (λ shown. second_of shown < 2 ^ 32) (records_of entries) →
+    (IsTrue session.refresh → AllByRecursion IsNoRefresh (records_of entries)) →
+    Spells session (capture_octets session peer_as local_as (records_of entries))
+    (records_of entries)

@@ -1,0 +1,93 @@
+-- What is left to be ordered, and what may stand next.
+use Rattle.std.specs.Prelude.{◌≡◌, ◌<◌, ◌≤◌, ◌+◌, ℕ, List, [], ◌∷◌, drop}
+use Rattle.std.specs.Prelude.{Option, None, Some, IfSome}
+use Rattle.bgp_recording.specs.declared.message.Message.{Message}
+use Rattle.streams.specs.declared.connection.End.{End}
+use Rattle.bgp_recording.specs.declared.pending.Moment.{Moment}
+use Rattle.bgp_recording.specs.declared.pending.Pending.{Pending as Slices}
+use Rattle.bgp_recording.specs.declared.pending.Turn.{Turn}
+use Rattle.bgp_recording.specs.declared.pending.Turn.TheVariants as turns
+
+-- what is left of each direction, and the end where it is still to come
+pub record Pending : Type 0 where
+  pub received : List Message
+  pub sent : List Message
+  pub end : Option End
+
+abbrev pub pending_of : Slices → Pending
+pending_of slices = record {
+  received = drop slices.place.received slices.received.now;
+  sent = drop slices.place.sent slices.sent.now;
+  end = slices.end;
+}
+
+-- the packet of what the local system shows next: of its next message, or else of the end
+abbrev pub own_of : List Message → Option End → Option Moment
+own_of (message ∷ later) end = Some record { packet = message.packet; second = message.second }
+own_of [] (Some end) = Some record { packet = end.packet; second = end.second }
+own_of [] None = None
+
+-- a received message came by a packet before that one
+abbrev pub IsBeforeOwn : Moment → Message → Type 0
+IsBeforeOwn own message = message.packet < own.packet
+
+-- it didn't come before that packet, or not more than so many seconds before it
+abbrev pub IsInTime : ℕ → Moment → Message → Type 0
+IsInTime within own message = message.packet < own.packet → own.second ≤ message.second + within
+
+-- a received message is left, and it came before what the local system shows next
+abbrev pub MayTake : List Message → Option Moment → Type 0
+MayTake [] own = ⊥
+MayTake (message ∷ later) own = IfSome own (λ moment. IsBeforeOwn moment message)
+
+-- no received message is left, or the local system shows something, and the message is in time
+abbrev pub MayKeep : ℕ → List Message → Option Moment → Type 0
+MayKeep within [] own = Unit {0}
+MayKeep within (message ∷ later) None = ⊥
+MayKeep within (message ∷ later) (Some moment) = IsInTime within moment message
+
+abbrev pub TakesReceived : Pending → Type 0
+TakesReceived pending = MayTake pending.received (own_of pending.sent pending.end)
+
+abbrev pub TakesOwn : ℕ → Pending → Type 0
+TakesOwn within pending = MayKeep within pending.received (own_of pending.sent pending.end)
+
+-- a received message stands next, and this is left then
+pub record LeadsReceived (old : Pending) (message : Message) (new : Pending) : Type 0 where
+  pub received : old.received ≡ message ∷ new.received
+  pub sent : new.sent ≡ old.sent
+  pub end : new.end ≡ old.end
+  pub before : IfSome (own_of old.sent old.end) (λ own. IsBeforeOwn own message)
+
+-- a sent one
+pub record LeadsSent (within : ℕ) (old : Pending) (message : Message) (new : Pending)
+    : Type 0 where
+  pub received : new.received ≡ old.received
+  pub sent : old.sent ≡ message ∷ new.sent
+  pub end : new.end ≡ old.end
+  pub in_time : TakesOwn within old
+
+-- the end
+pub record LeadsEnd (within : ℕ) (old : Pending) (end : End) (new : Pending) : Type 0 where
+  pub received : new.received ≡ old.received
+  pub sent_before : old.sent ≡ []
+  pub sent : new.sent ≡ []
+  pub end_before : old.end ≡ Some end
+  pub end_after : new.end ≡ None
+  pub in_time : TakesOwn within old
+
+abbrev pub Leads : ℕ → Pending → Turn → Pending → Type 0
+Leads within old (turns.Received message) new = LeadsReceived old message new
+Leads within old (turns.Sent message) new = LeadsSent within old message new
+Leads within old (turns.End end) new = LeadsEnd within old end new
+
+-- nothing is left
+pub record IsDone (pending : Pending) : Type 0 where
+  pub received : pending.received ≡ []
+  pub sent : pending.sent ≡ []
+  pub end : pending.end ≡ None
+
+-- what stands next, or that nothing is left
+abbrev pub LeadsOrEnds : ℕ → Pending → Option Turn → Pending → Type 0
+LeadsOrEnds within old None new = IsDone old × (new ≡ old)
+LeadsOrEnds within old (Some turn) new = Leads within old turn new

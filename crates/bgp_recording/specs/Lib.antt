@@ -1,0 +1,17 @@
+-- In reading order.
+pub mod First
+pub mod States
+pub mod Allowed
+pub mod Tells
+pub mod Told
+pub mod Leads
+pub mod Givers
+pub mod Framed
+pub mod Gathered
+pub mod Recorded
+pub mod Captured
+pub mod Changes
+pub mod Moves
+pub mod Puts
+pub mod Steps
+pub mod Joined

@@ -1,0 +1,112 @@
+//! The records of a connection.
+
+ghost use Rattle.std.specs.Prelude.{◌≡◌, IfOk};
+ghost use Rattle.bgp_recording.specs.Givers.{own_end};
+ghost use Rattle.bgp_recording.specs.Gathered.{IsCovered, IsClocked, IsHeard, IsSaid};
+ghost use Rattle.bgp_recording.specs.Moves.{ShowMoves};
+ghost use Rattle.bgp_recording.specs.Recorded.{IsRecorded};
+ghost use Rattle.bgp_recording.specs.Captured.{records_of};
+ghost use Rattle.bgp_recording.specs.Changes.{ShowStates, opened_state};
+
+use crate::entry::Entry;
+use crate::framing::{Direction, Framed, Rest, split_messages};
+use crate::givers::{earliest, latest};
+use crate::ordering::{Exchange, made_entries};
+use crate::pending::Moment;
+use bgp_wire::Limit;
+use std::alloc::{AllocError, Allocator, Global};
+use streams::{Connection, End, Side, Stream};
+
+/// The records of a connection, and what is left of its streams.
+#[derive(Debug, Drop)]
+pub struct Recording<'a, A: Allocator = Global> {
+    /// The records, in the made order.
+    pub entries: Vec<Entry<'a>, A>,
+    /// What is left of the octets that the local system received.
+    pub received_rest: Rest,
+    /// What is left of those that it sent.
+    pub sent_rest: Rest,
+}
+
+/// The end, where it is the local system's own.
+fn own_end(end: Option<End>) -> Option<Moment>
+    ensures { result ≡ own_end end }
+{
+    let end = end?;
+    match end.side {
+        Side::Local => Some(Moment {
+            packet: end.packet,
+            second: end.second,
+        }),
+        Side::Peer => None,
+    }
+}
+
+/// The messages that the local system received, each with the packet by which it came.
+fn received_messages<'a, A: Allocator + Copy>(
+    alloc: A,
+    limit: Limit,
+    stream: &Stream<'a>,
+) -> Result<Framed<'a, A>, AllocError>
+    requires { IsCovered stream.now }
+    ensures { IfOk result (λ framed. IsHeard limit stream.now framed.messages.items framed.rest) }
+{
+    let givers = latest(alloc, stream.runs)?;
+    let framed = split_messages(alloc, limit, stream.octets, &givers, Direction::Received)?;
+    Ok(framed)
+}
+
+/// Those that it sent, each with the packet by which it is known to have been made.
+fn sent_messages<'a, A: Allocator + Copy>(
+    alloc: A,
+    limit: Limit,
+    stream: &Stream<'a>,
+    end: Option<End>,
+) -> Result<Framed<'a, A>, AllocError>
+    requires { IsCovered stream.now }
+    ensures { IfOk result (λ framed.
+        IsSaid limit stream.now end framed.messages.items framed.rest) }
+{
+    let givers = earliest(alloc, stream.runs, own_end(end))?;
+    let framed = split_messages(alloc, limit, stream.octets, &givers, Direction::Sent)?;
+    Ok(framed)
+}
+
+/// The records that tell a connection whose packets' seconds don't fall, its messages framed at
+/// this limit. The order is allowed where a received message is handled within so many seconds
+/// after it came. The session begins in Idle, and each change of state is from where the one before
+/// it led; none is left out to which the messages alone lead.
+pub fn make_records<'a, A: Allocator + Copy>(
+    alloc: A,
+    connection: &Connection<'a>,
+    limit: Limit,
+    within: u16,
+) -> Result<Recording<'a, A>, AllocError>
+    requires received { IsCovered connection.now.received }
+    requires sent { IsCovered connection.now.sent }
+    // Where the packets' seconds don't fall, the records tell the connection.
+    ensures told { IfOk result (λ made. IsClocked connection.now → IsRecorded limit within
+        connection.now made.entries.items made.received_rest made.sent_rest) }
+    ensures states { IfOk result (λ made. ShowStates connection.now.second
+        (opened_state connection.now.opened_by) (records_of made.entries.items)) }
+    // A change to which a message leads isn't left out.
+    ensures moves { IfOk result (λ made. ShowMoves limit
+        connection.now made.entries.items made.received_rest made.sent_rest) }
+{
+    let received = received_messages(alloc, limit, &connection.received)?;
+    let sent = sent_messages(alloc, limit, &connection.sent, connection.end)?;
+    let exchange = Exchange {
+        opened_by: connection.opened_by,
+        packet: connection.packet,
+        second: connection.second,
+        received: &received.messages,
+        sent: &sent.messages,
+        end: connection.end,
+    };
+    let entries = made_entries(alloc, exchange, within)?;
+    Ok(Recording {
+        entries,
+        received_rest: received.rest,
+        sent_rest: sent.rest,
+    })
+}

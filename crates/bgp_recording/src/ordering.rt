@@ -1,0 +1,226 @@
+//! The made order (one of those that are allowed), and the records that tell the session in it.
+
+ghost use Rattle.std.specs.Prelude.{◌≡◌, IfOk, OnOk};
+ghost use Rattle.bgp_recording.specs.Captured.{records_of};
+ghost use Rattle.bgp_recording.specs.Changes.{ShowStates, opened_state};
+ghost use Rattle.bgp_recording.specs.Moves.{AreMoved};
+ghost use Rattle.bgp_recording.specs.States.{HasSession, state_number};
+ghost use Rattle.bgp_recording.specs.Told.{IsTold, IsMade};
+ghost use Rattle.bgp_recording.specs.Steps.{ShowsReceived, ShowsSent, ShowsEnd, Begins};
+ghost use Rattle.bgp_recording.specs.Steps.{StepsOrEnds};
+
+use crate::entry::Entry;
+use crate::message::Message;
+use crate::pending::{Pending, Place, Turn};
+use crate::putting::{Shown, put_change, put_message};
+use crate::standing::Standing;
+use crate::state::State;
+use crate::waiting::Foresight;
+use bgp_prefix::Seconds;
+use mrt::Record;
+use std::alloc::{AllocError, Allocator};
+use std::marker::Model;
+use streams::{End, Side};
+
+/// What packets tell of a session.
+#[derive(Clone, Copy, Debug, PartialEq, Eq)]
+pub struct Exchange<'l, 'a> {
+    /// Who opened the connection.
+    pub opened_by: Side,
+    /// The connection's first packet, counted from 1.
+    pub packet: u64,
+    /// The second of that packet.
+    pub second: Seconds,
+    /// The messages that the local system received, in their order.
+    pub received: &'l [Message<'a>],
+    /// Those that it sent.
+    pub sent: &'l [Message<'a>],
+    /// The end of the connection, where there is one.
+    pub end: Option<End>,
+}
+
+/// An order while it is made.
+#[derive(Drop)]
+struct Making<'l, 'a, A: Allocator> {
+    entries: Vec<Entry<'a>, A>,
+    /// What isn't in it yet.
+    pending: Pending<'l, 'a>,
+    standing: Standing,
+    /// The second of the last record.
+    last: Seconds,
+}
+
+impl<'l, 'a, A: Allocator> Model for Making<'l, 'a, A> {
+    ghost use Rattle.bgp_recording.specs.Leads.{pending_of};
+    ghost use Rattle.bgp_recording.specs.States.{state_number};
+    ghost use Rattle.bgp_recording.specs.Steps.{Making as TheMaking};
+
+    ghost Value = { TheMaking };
+
+    ghost view = { λ f. record {
+      pending = pending_of f.pending;
+      last = f.last;
+      state = state_number f.standing.state;
+      entries = f.entries.items;
+    } };
+}
+
+impl<'l, 'a, A: Allocator> Making<'l, 'a, A> {
+    /// Whether the next received message waits.
+    fn waits(&self, foresight: &Foresight) -> bool {
+        let Some(message) = self.pending.next_received() else {
+            return false;
+        };
+        let next = self.pending.next_sent();
+        let why = foresight.reason(self.standing, self.pending.place, message, next);
+        foresight.waits(why, self.pending.place, next)
+    }
+
+    /// Whether the answer to the next received message is the next one that is sent.
+    fn is_answered(&self, foresight: &Foresight) -> bool {
+        let Some(message) = self.pending.next_received() else {
+            return false;
+        };
+        let next = self.pending.next_sent();
+        foresight.is_answered(self.standing.state, self.pending.place, message, next)
+    }
+
+    /// Appends a received message, whose answer is the next one sent or not.
+    fn put_received(&mut self, message: Message<'a>, is_answered: bool) -> Result<(), AllocError>
+        ensures ok { OnOk result (ShowsReceived self.old message.entry self.new) }
+        ensures pending { self.new.pending ≡ self.old.pending }
+    {
+        let second = message.second.max(self.last);
+        let old = self.standing.state;
+        self.standing = self.standing.after_received(&message, is_answered);
+        self.last = second;
+        let entry = Entry {
+            packet: message.packet,
+            record: Record::In(second, message.octets),
+        };
+        put_message(&mut self.entries, entry, second, old, self.standing.state)?;
+        Ok(())
+    }
+
+    /// Appends a sent message.
+    fn put_sent(&mut self, message: Message<'a>) -> Result<(), AllocError>
+        ensures ok { OnOk result (ShowsSent self.old message.entry self.new) }
+        ensures pending { self.new.pending ≡ self.old.pending }
+    {
+        let second = message.second;
+        let old = self.standing.state;
+        self.standing = self.standing.after_sent(&message);
+        self.last = second;
+        let entry = Entry {
+            packet: message.packet,
+            record: Record::Out(second, message.octets),
+        };
+        put_message(&mut self.entries, entry, second, old, self.standing.state)?;
+        Ok(())
+    }
+
+    /// Appends what the end changes: from OpenSent a connection is awaited again, until a message
+    /// that is left shows that it isn't.
+    fn put_end(&mut self, end: End) -> Result<(), AllocError>
+        ensures ok { OnOk result (ShowsEnd self.old end self.new) }
+        ensures pending { self.new.pending ≡ self.old.pending }
+    {
+        let shown = Shown {
+            packet: end.packet,
+            second: end.second.max(self.last),
+        };
+        let old = self.standing.state;
+        let new = old.at_end();
+        let is_left = self.pending.next_received().is_some();
+        let last = new.with_left(is_left);
+        self.standing.state = last;
+        self.last = shown.second;
+        put_change(&mut self.entries, shown, old, new)?;
+        put_change(&mut self.entries, shown, new, last)?;
+        Ok(())
+    }
+
+    /// Appends what stands next, and tells whether anything did.
+    fn step(&mut self, foresight: &Foresight, within: u16) -> Result<bool, AllocError>
+        ensures { IfOk result (λ more. StepsOrEnds within self.old more self.new) }
+    {
+        let waits = self.waits(foresight);
+        let is_answered = self.is_answered(foresight);
+        let Some(turn) = self.pending.next(within, waits) else {
+            return Ok(false);
+        };
+        match turn {
+            Turn::Received(message) => self.put_received(message, is_answered)?,
+            Turn::Sent(message) => self.put_sent(message)?,
+            Turn::End(end) => self.put_end(end)?,
+        }
+        Ok(true)
+    }
+}
+
+/// The state before the own OPEN: the local system connects, or awaits its peer.
+fn opening_state(opened_by: Side) -> State
+    ensures before { ¬ HasSession (state_number result) }
+    ensures number { state_number result ≡ opened_state opened_by }
+{
+    match opened_by {
+        Side::Local => State::Connect,
+        Side::Peer => State::Active,
+    }
+}
+
+/// Begins with the change from Idle to what comes before the own OPEN.
+fn begun<'l, 'a, A: Allocator>(
+    alloc: A,
+    exchange: Exchange<'l, 'a>,
+) -> Result<Making<'l, 'a, A>, AllocError>
+    ensures { IfOk result (λ making. Begins exchange.entry making) }
+{
+    let state = opening_state(exchange.opened_by);
+    let mut entries = Vec::new(alloc);
+    let shown = Shown {
+        packet: exchange.packet,
+        second: exchange.second,
+    };
+    put_change(&mut entries, shown, State::Idle, state)?;
+    Ok(Making {
+        entries,
+        pending: Pending {
+            received: exchange.received,
+            sent: exchange.sent,
+            end: exchange.end,
+            place: Place {
+                received: 0,
+                sent: 0,
+            },
+        },
+        standing: Standing {
+            state,
+            is_answering: false,
+        },
+        last: exchange.second,
+    })
+}
+
+/// The records of the made order: one that is allowed where a received message is handled within so
+/// many seconds after it came, if what packets tell goes by a clock. The session begins in Idle,
+/// and each change of state is from where the one before it led; none is left out to which the
+/// messages alone lead.
+pub fn made_entries<'a, A: Allocator>(
+    alloc: A,
+    exchange: Exchange<'_, 'a>,
+    within: u16,
+) -> Result<Vec<Entry<'a>, A>, AllocError>
+    ensures told { IfOk result (λ entries. IsTold exchange.entry
+        → IsMade within exchange.entry entries.items) }
+    ensures states { IfOk result (λ entries. ShowStates exchange.entry.second
+        (opened_state exchange.entry.opened_by) (records_of entries.items)) }
+    // A change to which a message leads isn't left out.
+    ensures moves { IfOk result (λ entries.
+        AreMoved (records_of entries.items) 1 exchange.entry.received.now exchange.entry.sent.now) }
+{
+    let foresight = Foresight::new(exchange.received, exchange.sent);
+    let mut making = begun(alloc, exchange)?;
+    while making.step(&foresight, within)? {}
+    Ok(making.entries)
+}

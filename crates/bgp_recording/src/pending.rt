@@ -1,0 +1,150 @@
+//! What is left to be ordered, and what stands next.
+
+ghost use Rattle.std.specs.Prelude.{◌≡◌, ◌<◌, ◌+◌, ◌↔◌, [], IsTrue, IsFalse};
+ghost use Rattle.std.specs.Prelude.{IfSome, IfNone};
+ghost use Rattle.bgp_recording.specs.Leads.{own_of, pending_of, IsBeforeOwn, IsInTime};
+ghost use Rattle.bgp_recording.specs.First.{IsFirst};
+ghost use Rattle.bgp_recording.specs.Leads.{TakesReceived, TakesOwn, LeadsOrEnds};
+
+use crate::message::Message;
+use bgp_prefix::Seconds;
+use streams::End;
+
+/// A packet of the recording, and its second.
+#[derive(Clone, Copy)]
+pub(crate) struct Moment {
+    pub(crate) packet: u64,
+    pub(crate) second: Seconds,
+}
+
+/// What stands next in the order.
+#[derive(Clone, Copy)]
+pub(crate) enum Turn<'a> {
+    Received(Message<'a>),
+    Sent(Message<'a>),
+    End(End),
+}
+
+/// How many messages of each direction stand in the order already.
+#[derive(Clone, Copy)]
+pub(crate) struct Place {
+    pub(crate) received: usize,
+    pub(crate) sent: usize,
+}
+
+/// What isn't in the order yet: of each direction the messages from a place on, and the end where
+/// it is still to come.
+#[derive(Clone, Copy)]
+pub(crate) struct Pending<'l, 'a> {
+    pub(crate) received: &'l [Message<'a>],
+    pub(crate) sent: &'l [Message<'a>],
+    pub(crate) end: Option<End>,
+    pub(crate) place: Place,
+}
+
+/// Whether what came at this second is overdue at that one.
+fn is_overdue(came: Seconds, within: u16, second: Seconds) -> bool
+    ensures { IsTrue result ↔ (came + within < second) }
+{
+    u64::from(came) + u64::from(within) < u64::from(second)
+}
+
+/// Whether a received message is taken before what the local system shows next.
+fn is_taken(message: &Message<'_>, own: Moment, within: u16, waits: bool) -> bool
+    ensures taken { IsTrue result → IsBeforeOwn own message.now }
+    ensures kept { IsFalse result → IsInTime within own message.now }
+{
+    if message.packet >= own.packet {
+        return false;
+    }
+    is_overdue(message.second, within, own.second) || !waits
+}
+
+impl<'l, 'a> Pending<'l, 'a> {
+    /// The next message received.
+    pub(crate) fn next_received(&self) -> Option<&'l Message<'a>>
+        ensures some { IfSome result (λ message.
+            IsFirst (pending_of self.entry.now).received message.now) }
+        ensures none { IfNone result ((pending_of self.entry.now).received ≡ []) }
+    {
+        self.received.get(self.place.received)
+    }
+
+    /// The next message sent.
+    pub(crate) fn next_sent(&self) -> Option<&'l Message<'a>>
+        ensures some { IfSome result (λ message.
+            IsFirst (pending_of self.entry.now).sent message.now) }
+        ensures none { IfNone result ((pending_of self.entry.now).sent ≡ []) }
+    {
+        self.sent.get(self.place.sent)
+    }
+
+    /// The packet of what the local system shows next: of its next message, or where none is left
+    /// of the end.
+    fn own(&self) -> Option<Moment>
+        ensures { result ≡ own_of (pending_of self.now).sent self.now.end }
+    {
+        if let Some(message) = self.next_sent() {
+            return Some(Moment {
+                packet: message.packet,
+                second: message.second,
+            });
+        }
+        let end = self.end?;
+        Some(Moment {
+            packet: end.packet,
+            second: end.second,
+        })
+    }
+
+    /// Whether a received message is next, which waits or not.
+    fn takes_received(&self, within: u16, waits: bool) -> bool
+        ensures taken { IsTrue result → TakesReceived (pending_of self.now) }
+        ensures kept { IsFalse result → TakesOwn within (pending_of self.now) }
+    {
+        let Some(message) = self.next_received() else {
+            return false;
+        };
+        let Some(own) = self.own() else {
+            return true;
+        };
+        is_taken(message, own, within, waits)
+    }
+
+    /// Takes the next received message away.
+    fn pop_received(&mut self, within: u16) -> Option<Turn<'a>>
+        requires { TakesReceived (pending_of self.old) }
+        ensures { LeadsOrEnds within (pending_of self.old) result (pending_of self.new) }
+    {
+        let message = *self.next_received()?;
+        self.place.received += 1;
+        Some(Turn::Received(message))
+    }
+
+    /// Takes the next sent message away, or where none is left the end.
+    fn pop_own(&mut self, within: u16) -> Option<Turn<'a>>
+        requires { TakesOwn within (pending_of self.old) }
+        ensures { LeadsOrEnds within (pending_of self.old) result (pending_of self.new) }
+    {
+        if let Some(message) = self.next_sent() {
+            let message = *message;
+            self.place.sent += 1;
+            return Some(Turn::Sent(message));
+        }
+        let end = self.end?;
+        self.end = None;
+        Some(Turn::End(end))
+    }
+
+    /// Takes away what stands next, where the next received message waits or not: `None` where
+    /// nothing is left.
+    pub(crate) fn next(&mut self, within: u16, waits: bool) -> Option<Turn<'a>>
+        ensures { LeadsOrEnds within (pending_of self.old) result (pending_of self.new) }
+    {
+        if self.takes_received(within, waits) {
+            self.pop_received(within)
+        } else {
+            self.pop_own(within)
+        }
+    }
+}

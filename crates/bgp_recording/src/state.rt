@@ -1,0 +1,52 @@
+//! States of a session (RFC 4271, 8.2.2), as a capture numbers them (RFC 6396, 4.4.1).
+
+ghost use Rattle.std.specs.Prelude.{◌≡◌};
+ghost use Rattle.mrt.specs.Layout.{IsState};
+ghost use Rattle.bgp_recording.specs.States.{state_number, HasSession};
+
+/// A state of the session.
+#[derive(Clone, Copy, Debug, PartialEq, Eq)]
+pub enum State {
+    Idle = 1,
+    Connect = 2,
+    Active = 3,
+    OpenSent = 4,
+    OpenConfirm = 5,
+    Established = 6,
+}
+
+impl State {
+    /// The state's number.
+    pub fn number(self) -> u16
+        ensures number { result ≡ state_number self }
+        ensures known { IsState result }
+    {
+        self as u16
+    }
+
+    /// Whether a connection is tried or awaited, and no OPEN was sent.
+    pub(crate) fn is_before_open(self) -> bool {
+        matches!(self, State::Connect | State::Active)
+    }
+
+    /// Whether both OPENs are agreed on.
+    pub(crate) fn has_link(self) -> bool {
+        matches!(self, State::OpenConfirm | State::Established)
+    }
+
+    /// The state after the end of the connection: from OpenSent a connection is awaited again
+    /// (RFC 4271, 8.2.2).
+    pub(crate) fn at_end(self) -> State
+        ensures { ¬ HasSession (state_number result) }
+    {
+        match self {
+            State::OpenSent => State::Active,
+            _ => State::Idle,
+        }
+    }
+
+    /// The state after the end, where messages are left or not: they were never read.
+    pub(crate) fn with_left(self, is_left: bool) -> State {
+        if is_left { State::Idle } else { self }
+    }
+}

@@ -1,0 +1,140 @@
+-- What is put of connections one after another, and of a recording.
+use Rattle.std.proofs.Common.{◌≡◌, ◌∙◌, ◌++◌, ◌+◌, ℕ, suc, List, [], Some, Bool, refl, sym, ap, subst, inl, inr, append-nil, append_assoc, max, codes, arith}
+use Rattle.packets.specs.Packet.{Recorded}
+use Rattle.streams.specs.Passed.{Segment}
+use Rattle.streams.specs.declared.connection.Opening.{Opening}
+use Rattle.mrt.specs.declared.sink.Sink as sinks
+use Rattle.bgp_open.specs.declared.config.Config.{Config}
+use Rattle.bgp_text.specs.Lines.{Writes}
+use Rattle.bgp_text.specs.declared.lines.Lines.{Lines}
+use Rattle.bgp_text.proofs.Pieces.{Joins, and_then, nothing_yet}
+use Rattle.bgp_import.specs.Gathers.{HasReadAll, IsStopped, failures_by}
+use Rattle.bgp_import.specs.ListText.{opening_text}
+use Rattle.bgp_import.specs.Refusals.{refusal_line}
+use Rattle.bgp_import.specs.declared.importing.Import.{Import}
+use Rattle.bgp_import.specs.declared.refusal.Refusal.{Refusal}
+use Rattle.bgp_recording_tool.specs.declared.remark.Remark.{Remark}
+use Rattle.bgp_recording_tool.specs.Connections.{AddsTold, IsTold, IsOpening, AreTold, HasSeveral, AllAreTold}
+use Rattle.bgp_recording_tool.specs.Judging.{Puts, TellsRecording}
+use Rattle.bgp_recording_tool.specs.Told.{Told, told_text, told_status, refused_status}
+
+module _ {T : Type 0} {sink : sinks.Ghosts T} (law : Joins sink) (a b c : Lines T sink) (r s t : List Remark) where
+  -- what was put tells another thing, too
+  pub put_as : {P Q : List ℕ → ℕ → List Remark → Type 0} (status : ℕ)
+      → ((text : List ℕ) (own : List Remark) → P text status own → Q text status own) → Puts a b r s status P → Puts a b r s status Q
+  put_as status so puts = record {
+    text = puts.text;
+    own = puts.own;
+    wrote = puts.wrote;
+    added = puts.added;
+    holds = so puts.text puts.own puts.holds;
+  }
+
+  module _ (config : Config) (wanted : Import) (packets : List Recorded) (segments : List Segment) where
+    -- one connection more
+    pub one_more : (n before status : ℕ) (opening : Opening) (told : Told) → Puts a b r s before (AreTold config wanted packets segments n)
+        → IsOpening config wanted packets segments (suc n) opening
+        → AddsTold s t (IsTold config wanted packets segments (Some (suc n)) told)
+        → Writes b c (opening_text config.parts.session opening ++ (codes "\n" ++ told_text told))
+        → status ≡ max before (told_status told)
+        → Puts a c r t status (AreTold config wanted packets segments (suc n))
+    one_more n before status opening told so_far opens adds wrote is = record {
+      text = so_far.text ++ (opening_text config.parts.session opening ++ (codes "\n" ++ told_text told));
+      own = so_far.own ++ adds.own;
+      wrote = and_then law so_far.wrote wrote;
+      added = adds.added ∙ ap (λ (x : List Remark). x ++ adds.own) so_far.added ∙ append_assoc r so_far.own adds.own;
+      holds = record {
+        earlier = so_far.text;
+        least = before;
+        others = so_far.own;
+        before = so_far.holds;
+        opening = opening;
+        opens = opens;
+        told = told;
+        own = adds.own;
+        is_told = adds.is_told;
+        prints = refl;
+        tells = is;
+        remarked = refl;
+      };
+    }
+
+    pub one_more_at : (n number before status : ℕ) (opening : Opening) (told : Told) → number ≡ suc n
+        → Puts a b r s before (AreTold config wanted packets segments n)
+        → IsOpening config wanted packets segments number opening
+        → AddsTold s t (IsTold config wanted packets segments (Some number) told)
+        → Writes b c (opening_text config.parts.session opening ++ (codes "\n" ++ told_text told))
+        → status ≡ max before (told_status told)
+        → Puts a c r t status (AreTold config wanted packets segments number)
+    one_more_at n number before status opening told next so_far opens adds wrote is =
+        (subst
+        (λ (k : ℕ). IsOpening config wanted packets segments k opening
+        → AddsTold s t (IsTold config wanted packets segments (Some k) told)
+        → Puts a c r t status (AreTold config wanted packets segments k))
+        (sym next)
+        (λ o adds'. one_more n before status opening told so_far o adds' wrote is))
+        opens adds
+
+    -- the one that is meant
+    pub one_meant : (status : ℕ) (told : Told) → ¬ HasSeveral config wanted packets segments
+        → AddsTold r s (IsTold config wanted packets segments wanted.connection told) → Writes a b (told_text told)
+        → status ≡ told_status told
+        → Puts a b r s status (AllAreTold config wanted packets segments)
+    one_meant status told alone adds wrote is = record {
+      text = told_text told;
+      own = adds.own;
+      wrote = wrote;
+      added = adds.added;
+      holds = inr (alone, record { told = told; is_told = adds.is_told; prints = refl; tells = is });
+    }
+
+-- before the first connection nothing is put
+pub none_put : {T : Type 0} (sink : sinks.Ghosts T) → ((x : T) → sink.takes x x []) → (a : Lines T sink) (r : List Remark)
+    (config : Config) (wanted : Import) (packets : List Recorded) (segments : List Segment)
+    → Puts a a r r 0 (AreTold config wanted packets segments 0)
+none_put sink nothing a r config wanted packets segments = record {
+  text = [];
+  own = [];
+  wrote = nothing_yet sink nothing a.outlet a.held.items;
+  added = sym (append-nil r);
+  holds = (refl, refl, refl);
+}
+
+-- ---- a recording
+
+same_count : (old new : ℕ) → new ≡ old + 0 → new ≡ old
+same_count old new is = omega (arith, is)
+
+module _ {S T : Type 0} {sink : sinks.Ghosts T} (gives : S → S → List ℕ → Type 0) (has_ended : S → Bool) (failures : S → ℕ)
+    (config : Config) (wanted : Import) (old new : S) (a b : Lines T sink) (r s : List Remark) (status : ℕ) where
+  -- it was read to its end
+  pub was_read : (octets : List ℕ) (packets : List Recorded) (segments : List Segment)
+      → HasReadAll gives has_ended wanted.selection old new octets packets segments → failures new ≡ failures old + 0
+      → Puts a b r s status (AllAreTold config wanted packets segments)
+      → Puts a b r s status (TellsRecording gives has_ended failures config wanted old new)
+  was_read octets packets segments all counted puts = record {
+    text = puts.text;
+    own = puts.own;
+    wrote = puts.wrote;
+    added = puts.added;
+    holds = inl record {
+      octets = octets;
+      packets = packets;
+      segments = segments;
+      all = all;
+      told = puts.holds;
+      counted = same_count (failures old) (failures new) counted;
+    };
+  }
+
+  -- it is refused
+  pub was_refused : (refusal : Refusal) → IsStopped gives has_ended wanted.selection old new refusal
+      → failures new ≡ failures old + failures_by refusal → Writes a b (refusal_line refusal) → status ≡ refused_status refusal → s ≡ r
+      → Puts a b r s status (TellsRecording gives has_ended failures config wanted old new)
+  was_refused refusal stopped counted wrote is same = record {
+    text = refusal_line refusal;
+    own = [];
+    wrote = wrote;
+    added = same ∙ sym (append-nil r);
+    holds = inr record { refusal = refusal; stopped = stopped; prints = refl; tells = is; none = refl; counted = counted };
+  }

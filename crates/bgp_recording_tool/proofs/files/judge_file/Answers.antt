@@ -1,0 +1,52 @@
+use Rattle.std.proofs.Common.{◌∙◌, ◌+◌, ℕ, sym, ap, subst, inl, inr}
+use Rattle.mrt.specs.FromWrite.{writer_state}
+use Rattle.bgp_tool.specs.declared.opened.Outcome.{Outcome}
+use Rattle.bgp_tool.specs.OpenedJudging.{JudgesOpened}
+use Rattle.bgp_recording_tool.specs.Files.{peeked_remaining}
+use Rattle.bgp_recording_tool.proofs.Outcomes.{same_outcome}
+use Rattle.bgp_recording_tool.proofs.files.judge_file.Goals as goal
+
+-- a capture
+pub returns-then-not-is_recording-clause-judged : goal.returns-then-not-is_recording-clause-judged
+returns-then-not-is_recording-clause-judged g c =
+    let outcome = c.without_remarks-then-not-is_recording in
+    rw c.in-Ok.is
+    (record {
+      peeked = c.new-peeked.result;
+      is_peeked = c.new-peeked.ensures;
+      is = inr (
+        sym c.if-not-is_recording.ensures,
+        subst
+            (λ (o : Outcome). JudgesOpened (peeked_remaining g.R.Read.remaining) g.W.Write.contents c.args.config.now c.args.file c.new-peeked.result
+            (writer_state c.args.sink.now) (writer_state c.judge_opened-outcome.new.sink) o)
+            (same_outcome c.judge_opened-outcome.result outcome.result.status outcome.result.note outcome.ensures.status outcome.ensures.note)
+            c.judge_opened-outcome.ensures.judged,
+        outcome.ensures.remarks,
+      );
+    })
+
+-- a recording
+pub returns-clause-judged : goal.returns-clause-judged
+returns-clause-judged g c =
+    let note = c.told-note.ensures in
+    let before = c.failures-failures.ensures in
+    rw c.in-Ok.is
+    (record {
+      peeked = c.new-peeked.result;
+      is_peeked = c.new-peeked.ensures;
+      is = inl (
+        sym c.if-not-is_recording.ensures,
+        record {
+          begun = c.new-source.result;
+          read = c.judge_recording-judged.new.source;
+          fresh = c.new-source.ensures;
+          is_read = c.judge_recording-judged.ensures;
+          told = record {
+            writer = λ more. note.writer (more ∙ ap (λ (n : ℕ). n + 1) (sym before));
+            quiet = λ same status. note.quiet (same ∙ sym before) status;
+            memory = λ same status. note.memory (same ∙ sym before) status;
+            reader = λ same status. note.reader (same ∙ sym before) status;
+          };
+        },
+      );
+    })

@@ -1,0 +1,100 @@
+-- What judging tells of the connections of a session, in a recording that was read to its end.
+use Rattle.std.specs.Prelude.{◌≡◌, ◌<◌, ◌⊎◌, ◌++◌, ℕ, zero, suc, List, [], Option, None, Some}
+use Rattle.std.specs.Prelude.{length, reverse, max, codes}
+use Rattle.packets.specs.Packet.{Recorded}
+use Rattle.streams.specs.Choice.{IsAnswered, OpensAs, numbered_one}
+use Rattle.streams.specs.Connections.{numbered}
+use Rattle.streams.specs.Passed.{Segment}
+use Rattle.streams.specs.declared.connection.Connection.{Connection}
+use Rattle.streams.specs.declared.connection.Opening.{Opening}
+use Rattle.bgp_open.specs.declared.config.Config.{Config}
+use Rattle.bgp_import.specs.Importing.{IsMadeOf}
+use Rattle.bgp_import.specs.ListText.{opening_text}
+use Rattle.bgp_import.specs.Making.{IsTurnedDown}
+use Rattle.bgp_import.specs.declared.importing.Import.{Import}
+use Rattle.bgp_import.specs.declared.note.Notes.{Notes}
+use Rattle.bgp_import.specs.declared.refusal.Refusal.{Refusal}
+use Rattle.bgp_recording_tool.specs.declared.remark.Remark.{Remark}
+use Rattle.bgp_recording_tool.specs.Answers.{IsAnswerOn}
+use Rattle.bgp_recording_tool.specs.Remarks.{remarks_on}
+use Rattle.bgp_recording_tool.specs.Told.{Told, Judged, Unread, Refused, told_text, told_status}
+
+-- something was added to what is told of connections
+pub record AddsTold (old new : List Remark) (IsTold : List Remark → Type 0) : Type 0 where
+  pub own : List Remark
+  pub added : new ≡ old ++ own
+  pub is_told : IsTold own
+
+-- One connection more is told of, under its line: what was told before it stands before it, and the
+-- status is the greater one.
+pub record HasOneMore (Before : List ℕ → ℕ → List Remark → Type 0)
+    (IsOpening : Opening → Type 0) (IsTold : Told → List Remark → Type 0)
+    (line_of : Opening → List ℕ) (text : List ℕ) (status : ℕ) (remarks : List Remark)
+    : Type 0 where
+  pub earlier : List ℕ
+  pub least : ℕ
+  pub others : List Remark
+  pub before : Before earlier least others
+  pub opening : Opening
+  pub opens : IsOpening opening
+  pub told : Told
+  pub own : List Remark
+  pub is_told : IsTold told own
+  pub prints : text ≡ earlier ++ (line_of opening ++ (codes "\n" ++ told_text told))
+  pub tells : status ≡ max least (told_status told)
+  pub remarked : remarks ≡ others ++ own
+
+-- The session's packets have these segments, none of which is refused.
+module _ (config : Config) (wanted : Import) (packets : List Recorded) (segments : List Segment)
+  where
+    -- the capture that is made of the connection with this number, or of the only one, is judged
+    pub record IsJudged (number : Option ℕ) (told : Told) (remarks : List Remark) : Type 0 where
+      pub connection : Connection
+      pub octets : List ℕ
+      pub notes : Notes
+      pub chosen : IsAnswered number (length packets) (numbered (reverse segments)) connection
+      pub made : IsMadeOf wanted connection octets notes
+      pub answer : IsAnswerOn config octets told
+      pub remarked : remarks ≡ remarks_on connection.number made.entries notes told
+
+    -- or it is refused, or memory was refused
+    pub record IsNotJudged (number : Option ℕ) (refusal : Refusal) (remarks : List Remark)
+        : Type 0 where
+      pub turned_down : IsTurnedDown number packets segments refusal
+      pub none : remarks ≡ []
+
+    abbrev pub IsTold : Option ℕ → Told → List Remark → Type 0
+    IsTold number (Judged verdict) remarks = IsJudged number (Judged verdict) remarks
+    IsTold number (Unread fault) remarks = IsJudged number (Unread fault) remarks
+    IsTold number (Refused refusal) remarks = IsNotJudged number refusal remarks
+
+    -- it is told of with this text and this status
+    pub record IsToldAs (number : Option ℕ) (text : List ℕ) (status : ℕ) (remarks : List Remark)
+        : Type 0 where
+      pub told : Told
+      pub is_told : IsTold number told remarks
+      pub prints : text ≡ told_text told
+      pub tells : status ≡ told_status told
+
+    -- how the connection with this number was opened
+    abbrev pub IsOpening : ℕ → Opening → Type 0
+    IsOpening number opening =
+        (opening.number ≡ number)
+        × OpensAs (numbered_one (numbered (reverse segments)) number) opening
+
+    -- the first so many connections are told of, each from Idle on
+    abbrev pub AreTold : ℕ → List ℕ → ℕ → List Remark → Type 0
+    AreTold zero text status remarks = (text ≡ []) × (status ≡ 0) × (remarks ≡ [])
+    AreTold (suc count) text status remarks =
+        HasOneMore (AreTold count) (IsOpening (suc count)) (IsTold (Some (suc count)))
+        (opening_text config.parts.session) text status remarks
+
+    -- none is named, and several hold octets
+    abbrev pub HasSeveral : Type 0
+    HasSeveral = (wanted.connection ≡ None) × (1 < length (numbered (reverse segments)))
+
+    -- then each is told of, and else the one that is meant
+    abbrev pub AllAreTold : List ℕ → ℕ → List Remark → Type 0
+    AllAreTold text status remarks =
+        (HasSeveral × AreTold (length (numbered (reverse segments))) text status remarks)
+        ⊎ ((¬ HasSeveral) × IsToldAs wanted.connection text status remarks)

@@ -1,0 +1,89 @@
+-- What judging a recording reads, writes and answers.
+use Rattle.std.specs.Prelude.{◌≡◌, ◌+◌, ◌++◌, ◌⊎◌, ℕ, Bool, List, [], ◌∷◌, None, Some}
+use Rattle.packets.specs.Packet.{Recorded}
+use Rattle.streams.specs.Passed.{Segment}
+use Rattle.bgp_open.specs.declared.config.Config.{Config}
+use Rattle.mrt.specs.declared.sink.Sink as sinks
+use Rattle.bgp_text.specs.Lines.{Writes}
+use Rattle.bgp_text.specs.declared.lines.Lines.{Lines}
+use Rattle.bgp_tool.specs.Answer.{IsWritten}
+use Rattle.bgp_import.specs.Gathers.{HasReadAll, IsStopped, failures_by}
+use Rattle.bgp_import.specs.Refusals.{refusal_line}
+use Rattle.bgp_import.specs.declared.importing.Import.{Import}
+use Rattle.bgp_import.specs.declared.refusal.Refusal.{Refusal}
+use Rattle.bgp_recording_tool.specs.declared.judging.Judged.{Judged}
+use Rattle.bgp_words.specs.declared.recording.RecordingOptions.{RecordingOptions}
+use Rattle.bgp_recording_tool.specs.declared.remark.Remark.{Remark}
+use Rattle.bgp_recording_tool.specs.Connections.{AllAreTold}
+use Rattle.bgp_recording_tool.specs.Options.{IsMisfit, import_of}
+use Rattle.bgp_recording_tool.specs.Told.{refused_status}
+
+-- A text was put, its exit status is answered, and this was added to what is told of connections;
+-- and something holds of the three.
+pub record Puts {T : Type 0} {sink : sinks.Ghosts T} (lines lines' : Lines T sink)
+    (remarks remarks' : List Remark) (status : ℕ) (Holds : List ℕ → ℕ → List Remark → Type 0)
+    : Type 0 where
+  pub text : List ℕ
+  pub own : List Remark
+  pub wrote : Writes lines lines' text
+  pub added : remarks' ≡ remarks ++ own
+  pub holds : Holds text status own
+
+-- The source goes from `old` to `new`. The members are the source's.
+module _ {S : Type 0} (gives : S → S → List ℕ → Type 0) (has_ended : S → Bool) (failures : S → ℕ)
+    (config : Config) (wanted : Import) (old new : S) where
+  -- it was read to its end, and this is told of the session's connections
+  pub record TellsConnections (text : List ℕ) (status : ℕ) (remarks : List Remark) : Type 0 where
+    pub octets : List ℕ
+    pub packets : List Recorded
+    pub segments : List Segment
+    pub all : HasReadAll gives has_ended wanted.selection old new octets packets segments
+    pub told : AllAreTold config wanted packets segments text status remarks
+    pub counted : failures new ≡ failures old
+
+  -- or it is refused
+  pub record TellsRefusal (text : List ℕ) (status : ℕ) (remarks : List Remark) : Type 0 where
+    pub refusal : Refusal
+    pub stopped : IsStopped gives has_ended wanted.selection old new refusal
+    pub prints : text ≡ refusal_line refusal
+    pub tells : status ≡ refused_status refusal
+    pub none : remarks ≡ []
+    -- one failure more, where a device failed
+    pub counted : failures new ≡ failures old + failures_by refusal
+
+  abbrev pub TellsRecording : List ℕ → ℕ → List Remark → Type 0
+  TellsRecording text status remarks =
+      TellsConnections text status remarks ⊎ TellsRefusal text status remarks
+
+-- This is told of a recording; all of its text was written, if the sink didn't fail, and then the
+-- status is its own; and else a beginning, and the status is 5.
+pub record JudgesMeant {S T : Type 0} (gives : S → S → List ℕ → Type 0) (has_ended : S → Bool)
+    (takes : T → T → List ℕ → Type 0) (source_failures : S → ℕ) (failures : T → ℕ)
+    (config : Config) (wanted : Import) (source source' : S) (sink sink' : T) (status : ℕ)
+    (remarks : List Remark) : Type 0 where
+  pub text : List ℕ
+  pub code : ℕ
+  pub told : TellsRecording gives has_ended source_failures config wanted source source' text code
+      remarks
+  pub written : IsWritten takes failures text code sink sink' status
+
+-- No recording can be meant: nothing is read and nothing written, and it is told why, if there is
+-- memory for that.
+pub record IsUnmeant {S T : Type 0} (wanted : Import) (source source' : S) (sink sink' : T)
+    (status : ℕ) (remarks : List Remark) : Type 0 where
+  pub remark : Remark
+  pub misfit : IsMisfit wanted (Some remark)
+  pub unread : source' ≡ source
+  pub unwritten : sink' ≡ sink
+  pub tells : ((status ≡ 64) × (remarks ≡ remark ∷ [])) ⊎ ((status ≡ 4) × (remarks ≡ []))
+
+abbrev pub JudgesRecording : {S T X : Type 0} → (S → S → List ℕ → Type 0) → (S → Bool)
+    → (T → T → List ℕ → Type 0) → (S → ℕ) → (T → ℕ) → Config → RecordingOptions → S → S → T → T
+    → Judged X → Type 0
+JudgesRecording gives has_ended takes source_failures failures config options source source'
+    sink sink' judged =
+    let wanted = import_of config.parts.session options in
+    IsUnmeant wanted source source' sink sink' judged.status judged.remarks.items
+    ⊎ (IsMisfit wanted None
+    × JudgesMeant gives has_ended takes source_failures failures config wanted source source'
+    sink sink' judged.status judged.remarks.items)

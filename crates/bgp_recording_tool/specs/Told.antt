@@ -1,0 +1,63 @@
+-- What is answered of a connection in a recording, its text and its exit status.
+use Rattle.std.specs.Prelude.{ℕ, List, Result, Ok, Err}
+use Rattle.mrt.specs.declared.fault.CaptureFault.{CaptureFault}
+use Rattle.bgp_judge.specs.Verdict.{VerdictValue, Yes, No, Unfinished, verdict_value}
+use Rattle.bgp_judge.specs.declared.verdict.Verdict.{Verdict}
+use Rattle.bgp_text.specs.Capture.{refused_line}
+use Rattle.bgp_tool.specs.CaptureDecoding.{status_by}
+use Rattle.bgp_tool.specs.VerdictText.{yes_text, no_line, unfinished_line}
+use Rattle.bgp_import.specs.Refusals.{refusal_line, cause_of}
+use Rattle.bgp_import.specs.declared.refusal.Cause.{Cause}
+use Rattle.bgp_import.specs.declared.refusal.Cause.TheVariants as causes
+use Rattle.bgp_import.specs.declared.refusal.Refusal.{Refusal}
+
+pub data Told : Type 0 where
+  -- the verdict on the capture that is made of it
+  Judged : VerdictValue → Told
+  -- why a reader refuses that capture: a ROUTE-REFRESH, or memory
+  Unread : CaptureFault → Told
+  -- why no capture is made of it
+  Refused : Refusal → Told
+
+-- ---- its text
+
+abbrev pub value_text : VerdictValue → List ℕ
+value_text (Yes ends) = yes_text ends
+value_text (No count) = no_line count
+value_text Unfinished = unfinished_line
+
+abbrev pub told_text : Told → List ℕ
+told_text (Judged verdict) = value_text verdict
+told_text (Unread fault) = refused_line fault.kind fault.offset
+told_text (Refused refusal) = refusal_line refusal
+
+-- ---- its exit status
+
+abbrev pub value_status : VerdictValue → ℕ
+value_status (Yes ends) = 0
+value_status (No count) = 1
+value_status Unfinished = 2
+
+abbrev pub cause_status : Cause → ℕ
+cause_status causes.Recording = 3
+cause_status causes.Memory = 4
+cause_status causes.Device = 5
+
+-- of a recording that is refused
+abbrev pub refused_status : Refusal → ℕ
+refused_status refusal = cause_status (cause_of refusal)
+
+abbrev pub told_status : Told → ℕ
+told_status (Judged verdict) = value_status verdict
+told_status (Unread fault) = status_by fault.kind
+told_status (Refused refusal) = refused_status refusal
+
+-- ---- what is told by an answer
+
+abbrev pub told_of : {X : Type 0} → Result (Verdict X) CaptureFault → Told
+told_of (Ok verdict) = Judged (verdict_value verdict)
+told_of (Err fault) = Unread fault
+
+abbrev pub told_by : {X : Type 0} → Result (Result (Verdict X) CaptureFault) Refusal → Told
+told_by (Ok answer) = told_of answer
+told_by (Err refusal) = Refused refusal

@@ -1,0 +1,173 @@
+//! Files that are recordings or captures: what stands between a file and the commands.
+
+ghost use Rattle.std.specs.Prelude.{◌≡◌, ◌<◌, ◌≤◌, ◌+◌, ◌^◌, ◌⊎◌, [], None, Some, IfOk, IfErr};
+ghost use Rattle.std.specs.IoError.{error_kind};
+ghost use Rattle.mrt.specs.FromRead.{reader_state};
+ghost use Rattle.mrt.specs.FromWrite.{writer_state};
+ghost use Rattle.bgp_tool.specs.Opened.{IsUnopened, TellsWriter};
+ghost use Rattle.bgp_tool.specs.declared.note.Note.TheVariants as notes;
+ghost use Rattle.bgp_recording_tool.specs.Files.{DecodesFile, JudgesFile};
+
+use crate::decoding::decode_recording;
+use crate::headline::judge_recording;
+use crate::peeked::Peeked;
+use crate::remark::Remark;
+use bgp_judge::Tracker;
+use bgp_open::Config;
+use bgp_prefix::Session;
+use bgp_tool::{Note, Outcome, decode_opened_capture, judge_opened, unopened, unwritten};
+use bgp_words::RecordingOptions;
+use mrt::{FromRead, FromWrite, Sink};
+use std::alloc::Allocator;
+use std::io;
+use std::io::{Read, Write};
+
+/// How a command over a file ended that is a recording or a capture.
+#[derive(Drop)]
+pub struct FileOutcome<'a, A: Allocator> {
+    /// The exit status.
+    pub status: u8,
+    /// What there is to tell of a recording's connections, in their order: to be told first.
+    pub remarks: Vec<Remark, A>,
+    /// What went wrong, if anything did.
+    pub note: Option<Note<'a>>,
+}
+
+/// An outcome with nothing to tell of connections.
+fn without_remarks<'a, A: Allocator + Copy>(alloc: A, outcome: Outcome<'a>) -> FileOutcome<'a, A>
+    ensures status { result.status ≡ outcome.entry.status }
+    ensures note { result.note ≡ outcome.entry.note }
+    ensures remarks { result.remarks.items ≡ [] }
+{
+    FileOutcome {
+        status: outcome.status,
+        remarks: Vec::new(alloc),
+        note: outcome.note,
+    }
+}
+
+/// What to tell of a recording whose reading ended with this status, where the sink took all of its
+/// text.
+fn note_of<'a, R: Read>(status: u8, file: &'a str, source: &FromRead<R>) -> Option<Note<'a>>
+    ensures quiet { ((status < 4) ⊎ (5 < status)) → result ≡ None }
+    ensures memory { status ≡ 4 → result
+        ≡ Some (notes.OutOfMemory file.entry (reader_state source.now).given) }
+    ensures reader { status ≡ 5 → result ≡ Some (notes.Unread file.entry
+        (reader_state source.now).given (reader_state source.now).last_error) }
+{
+    let octet = source.given();
+    match status {
+        4 => Some(Note::OutOfMemory { file, octet }),
+        5 => Some(Note::Unread {
+            file,
+            octet,
+            error: source.last_error(),
+        }),
+        _ => None,
+    }
+}
+
+/// What to tell of a recording that was read from a source, with this status, into a sink which had
+/// failed so often before.
+fn told<'a, R: Read, W: Write>(
+    status: u8,
+    file: &'a str,
+    source: &FromRead<R>,
+    sink: &FromWrite<W>,
+    failures: u64,
+) -> Option<Note<'a>>
+    ensures writer { (writer_state sink.now).failures ≡ failures + 1
+        → TellsWriter (writer_state sink.now) result }
+    ensures quiet { (writer_state sink.now).failures ≡ failures
+        → ((status < 4) ⊎ (5 < status)) → result ≡ None }
+    ensures memory { (writer_state sink.now).failures ≡ failures → status ≡ 4 → result
+        ≡ Some (notes.OutOfMemory file.entry (reader_state source.now).given) }
+    ensures reader { (writer_state sink.now).failures ≡ failures → status ≡ 5 → result
+        ≡ Some (notes.Unread file.entry (reader_state source.now).given
+        (reader_state source.now).last_error) }
+{
+    if sink.failures() > failures {
+        return unwritten(sink);
+    }
+    note_of(status, file, source)
+}
+
+/// Judges a file that a reader gives, if it could be opened: a recording, as
+/// [`judge_recording`](crate::judge_recording) does, or else a capture, as
+/// [`judge_opened`](bgp_tool::judge_opened) does. Its first four octets tell which it is. A closed
+/// pipe is status 5 and not told.
+///
+/// The reader is asked for few octets at a time: put a buffer before a file.
+pub fn judge_file<'a, A: Allocator + Copy, T: Tracker<A>, R: Read + Drop, W: Write>(
+    alloc: A,
+    config: &Config,
+    options: &RecordingOptions,
+    file: &'a str,
+    opened: io::Result<R>,
+    sink: &mut FromWrite<W>,
+) -> FileOutcome<'a, A>
+    requires { (writer_state sink.old).failures < 2 ^ 63 }
+    ensures judged { IfOk opened (λ reader. JudgesFile R.remaining W.contents options.now
+        file.entry reader sink.old sink.new result config.now) }
+    ensures unopened { IfErr opened (λ error. IsUnopened file.entry (error_kind error)
+        (record { status = result.status; note = result.note })
+        × (result.remarks.items ≡ []) × (sink.new ≡ sink.old)) }
+{
+    let peeked = match opened {
+        Ok(reader) => Peeked::new(reader),
+        Err(error) => return without_remarks(alloc, unopened(file, error.kind())),
+    };
+    if !peeked.is_recording() {
+        let outcome = judge_opened::<A, T, _, W>(alloc, config, file, Ok(peeked), sink);
+        return without_remarks(alloc, outcome);
+    }
+    let mut source = FromRead::new(peeked);
+    let failures = sink.failures();
+    let judged = judge_recording::<A, T, _, _>(alloc, config, options, &mut source, sink);
+    let note = told(judged.status, file, &source, sink, failures);
+    FileOutcome {
+        status: judged.status,
+        remarks: judged.remarks,
+        note,
+    }
+}
+
+/// Decodes a file that a reader gives, if it could be opened: a recording, as
+/// [`decode_recording`](crate::decode_recording) does, or else a capture, as
+/// [`decode_opened_capture`](bgp_tool::decode_opened_capture) does. Its first four octets tell
+/// which it is. A closed pipe is status 5 and not told.
+///
+/// The reader is asked for few octets at a time: put a buffer before a file.
+pub fn decode_file<'a, A: Allocator + Copy, R: Read + Drop, W: Write>(
+    alloc: A,
+    session: &Session,
+    options: &RecordingOptions,
+    file: &'a str,
+    opened: io::Result<R>,
+    sink: &mut FromWrite<W>,
+) -> FileOutcome<'a, A>
+    requires { (writer_state sink.old).failures < 2 ^ 63 }
+    ensures decoded { IfOk opened (λ reader. DecodesFile R.remaining W.contents options.now
+        file.entry reader sink.old sink.new result session.now) }
+    ensures unopened { IfErr opened (λ error. IsUnopened file.entry (error_kind error)
+        (record { status = result.status; note = result.note })
+        × (result.remarks.items ≡ []) × (sink.new ≡ sink.old)) }
+{
+    let peeked = match opened {
+        Ok(reader) => Peeked::new(reader),
+        Err(error) => return without_remarks(alloc, unopened(file, error.kind())),
+    };
+    if !peeked.is_recording() {
+        let outcome = decode_opened_capture(alloc, session, file, Ok(peeked), sink);
+        return without_remarks(alloc, outcome);
+    }
+    let mut source = FromRead::new(peeked);
+    let failures = sink.failures();
+    let judged = decode_recording(alloc, session, options, &mut source, sink);
+    let note = told(judged.status, file, &source, sink, failures);
+    FileOutcome {
+        status: judged.status,
+        remarks: judged.remarks,
+        note,
+    }
+}

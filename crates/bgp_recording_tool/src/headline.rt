@@ -1,0 +1,95 @@
+//! The page to show: what judging a recording promises, and what a yes is worth.
+
+ghost use Rattle.std.specs.Prelude.{◌<◌, ◌^◌};
+ghost use Rattle.bgp_recording_tool.specs.Headline.{EachEndIsShown};
+ghost use Rattle.bgp_recording_tool.specs.Judging.{JudgesRecording};
+
+use crate::judging::{Judged, judge_source, misfit};
+use crate::options::{import_of, misfit_of};
+use bgp_judge::Tracker;
+use bgp_open::Config;
+use bgp_recording::made_records_are_read;
+use bgp_text::Lines;
+use bgp_tool::hand_over;
+use bgp_words::RecordingOptions;
+use mrt::{Sink, Source, each_capture_has_one_reading};
+use std::alloc::Allocator;
+
+/// Judges the session of a recording that a source gives: whether the messages in its packets are
+/// those of a run of the session machine (RFC 4271, 8.2.2), under this configuration.
+///
+/// Packets don't tell when the local system read a message, and what came may have waited. So one
+/// order is made in which it may have handled them, and the capture of that is judged, as
+/// [`judge_capture`](bgp_tool::judge_capture) does. What a yes is worth says
+/// [`each_end_is_shown`]; a no is about this one order, and another may be a yes.
+///
+/// It judges the connection that is named, or the only one; where there are several and none is
+/// named, each, under a line that names it. It writes the text of each verdict, or `recording
+/// refused: NUMBER NAME at packet N`, and answers the greatest exit status of its connections:
+///
+/// * 0: `yes`, and each possible end with its routes, and no other.
+/// * 1: `no at record N` of the made capture; a remark tells the packet that shows the record.
+/// * 2: `unfinished`: the recording stops within what the local system had to do.
+/// * 3: the recording is refused, or the made capture is, for a ROUTE-REFRESH.
+/// * 4: memory was refused.
+/// * 5: a device failed.
+/// * 64: no recording can be meant, as a remark tells: the session's addresses are of two families,
+///   or one, and the local system's port isn't named. Nothing is read or written then.
+///
+/// A recording holds its packets one at a time; of the session it holds each connection's streams,
+/// and of one connection the made capture besides.
+pub fn judge_recording<A: Allocator + Copy, T: Tracker<A>, R: Source, W: Sink>(
+    alloc: A,
+    config: &Config,
+    options: &RecordingOptions,
+    source: &mut R,
+    sink: &mut W,
+) -> Judged<A>
+    requires source { R.failures source.old < 2 ^ 63 }
+    requires sink { W.failures sink.old < 2 ^ 63 }
+    ensures { JudgesRecording R.gives R.has_ended W.takes R.failures W.failures config.now
+        options.now source.old source.new sink.old sink.new result }
+{
+    let import = import_of(&config.parts.session, options);
+    if let Some(remark) = misfit_of(&import) {
+        return misfit(alloc, remark);
+    }
+    let mut remarks = Vec::new(alloc);
+    let mut lines = Lines::new(sink);
+    let status = judge_source::<A, T, R, W>(
+        alloc,
+        config,
+        &import,
+        source,
+        &mut lines,
+        &mut remarks,
+    );
+    let status = hand_over(&mut lines, status);
+    // No effect: it ends the loan of the sink.
+    lines.into_sink();
+    Judged {
+        status: status.code(),
+        remarks,
+    }
+}
+
+/// Law: what a yes on a recording is worth.
+///
+/// For each end that is listed there is a run of the session machine that ends so, with just these
+/// routes, and that explains the packets: it hears each message that the peer sent, and sends each
+/// that the local system sent, but for the octets that a remark tells to be left. Nothing is
+/// handled before it came; nothing that was on the wire before is moved after it; and nothing waits
+/// longer than the patience, 10 seconds unless told (`IsRecorded` of bgp_recording).
+///
+/// No promise rests on the rules of waiting, by which one of the allowed orders is chosen: with any
+/// others that keep to these limits the law is the same, and only a no or an unfinished could
+/// become a yes, or the other way round.
+///
+/// It rests on the packets: that the recorder missed none, that the file has them in the order in
+/// which they passed, by a clock that is right, and that what was recorded is what arrived.
+pub fn each_end_is_shown()
+    ensures { EachEndIsShown }
+{
+    each_capture_has_one_reading();
+    made_records_are_read();
+}

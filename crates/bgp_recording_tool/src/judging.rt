@@ -1,0 +1,172 @@
+//! `bgp judge` of a recording.
+
+ghost use Rattle.std.specs.Prelude.{◌≡◌, ◌<◌, ◌⊎◌, ◌∷◌, [], List, length, reverse, max};
+ghost use Rattle.packets.specs.Packet.{Recorded};
+ghost use Rattle.streams.specs.Connections.{numbered};
+ghost use Rattle.streams.specs.Passed.{Segment};
+ghost use Rattle.bgp_text.specs.Lines.{Writes};
+ghost use Rattle.bgp_tool.specs.Status.{code_of};
+ghost use Rattle.bgp_import.specs.Gathers.{HoldsSession};
+ghost use Rattle.bgp_import.specs.Making.{HoldsTaken};
+ghost use Rattle.bgp_import.specs.Selecting.{AreTaken};
+ghost use Rattle.bgp_recording_tool.specs.Connections.{AreTold, AllAreTold};
+ghost use Rattle.bgp_recording_tool.specs.Judging.{TellsRecording, Puts};
+ghost use Rattle.bgp_recording_tool.specs.Options.{IsOneFamily};
+ghost use Rattle.bgp_recording_tool.specs.Told.{refused_status, told_by, told_status, told_text};
+
+use crate::answering::{Answer, answer_to};
+use crate::remark::{Remark, add_remarks};
+use bgp_import::{Cause, Gathered, Import, Refusal, gather, put_opening, put_refusal};
+use bgp_judge::Tracker;
+use bgp_open::Config;
+use bgp_text::Lines;
+use bgp_tool::{Status, put_answer};
+use mrt::{Sink, Source};
+use std::alloc::Allocator;
+
+/// How judging a recording ended.
+#[derive(Drop)]
+pub struct Judged<A: Allocator> {
+    /// The exit status.
+    pub status: u8,
+    /// What there is to tell of the connections, in their order.
+    pub remarks: Vec<Remark, A>,
+}
+
+/// The exit status of a recording that is refused.
+pub(crate) fn status_of(refusal: Refusal) -> Status
+    ensures { code_of result ≡ refused_status refusal }
+{
+    match refusal.cause() {
+        Cause::Recording => Status::Refused,
+        Cause::Memory => Status::Memory,
+        Cause::Device => Status::Device,
+    }
+}
+
+/// The greater of two exit statuses.
+fn greater(status: Status, other: Status) -> Status
+    ensures { code_of result ≡ max (code_of status) (code_of other) }
+{
+    if status.code() < other.code() {
+        other
+    } else {
+        status
+    }
+}
+
+/// Puts what is answered of a connection, and answers its exit status.
+fn put_told<A: Allocator, W: Sink>(
+    lines: &mut Lines<'_, W>,
+    answer: &Result<Answer<A>, Refusal>,
+) -> Status
+    ensures writes { Writes lines.old lines.new (told_text (told_by answer.now)) }
+    ensures status { code_of result ≡ told_status (told_by answer.now) }
+{
+    match answer {
+        Ok(answer) => put_answer(lines, answer),
+        Err(refusal) => {
+            put_refusal(lines, *refusal);
+            status_of(*refusal)
+        }
+    }
+}
+
+/// Judges each connection that holds octets, under a line that names it, and answers the greatest
+/// exit status.
+fn judge_each<A: Allocator + Copy, T: Tracker<A>, W: Sink>(
+    alloc: A,
+    config: &Config,
+    import: &Import,
+    gathered: &Gathered<A>,
+    lines: &mut Lines<'_, W>,
+    remarks: &mut Vec<Remark, A>,
+) -> Status
+    requires family { IsOneFamily import.now.selection.session }
+    requires holds { HoldsTaken import.now.selection gathered.now }
+    ensures { (packets : List Recorded) (segments : List Segment)
+        → AreTaken import.now.selection 0 packets segments
+        → HoldsSession (reverse segments) (length packets) gathered.now
+        → Puts lines.old lines.new remarks.old.items remarks.new.items (code_of result)
+        (AreTold config.now import.now packets segments
+        (length (numbered (reverse segments)))) }
+{
+    let mut status = Status::Done;
+    for index in 0..gathered.count() {
+        let number = index + 1;
+        let Some(opening) = gathered.opening(number) else {
+            unreachable!();
+        };
+        put_opening(lines, &config.parts.session, opening);
+        lines.put(b"\n");
+        let answer = answer_to::<A, T>(alloc, config, import, gathered, Some(number), remarks);
+        status = greater(status, put_told(lines, &answer));
+    }
+    status
+}
+
+/// Judges the connection that is named or the only one, or where there are several each.
+fn judge_gathered<A: Allocator + Copy, T: Tracker<A>, W: Sink>(
+    alloc: A,
+    config: &Config,
+    import: &Import,
+    gathered: &Gathered<A>,
+    lines: &mut Lines<'_, W>,
+    remarks: &mut Vec<Remark, A>,
+) -> Status
+    requires family { IsOneFamily import.now.selection.session }
+    requires holds { HoldsTaken import.now.selection gathered.now }
+    ensures { (packets : List Recorded) (segments : List Segment)
+        → AreTaken import.now.selection 0 packets segments
+        → HoldsSession (reverse segments) (length packets) gathered.now
+        → Puts lines.old lines.new remarks.old.items remarks.new.items (code_of result)
+        (AllAreTold config.now import.now packets segments) }
+{
+    if import.connection.is_none() && gathered.count() > 1 {
+        return judge_each::<A, T, W>(alloc, config, import, gathered, lines, remarks);
+    }
+    let answer = answer_to::<A, T>(alloc, config, import, gathered, import.connection, remarks);
+    put_told(lines, &answer)
+}
+
+/// Judges what is read of a recording.
+pub(crate) fn judge_source<A: Allocator + Copy, T: Tracker<A>, R: Source, W: Sink>(
+    alloc: A,
+    config: &Config,
+    import: &Import,
+    source: &mut R,
+    lines: &mut Lines<'_, W>,
+    remarks: &mut Vec<Remark, A>,
+) -> Status
+    requires family { IsOneFamily import.now.selection.session }
+    requires failures { R.failures source.old < u64.MAX }
+    ensures { Puts lines.old lines.new remarks.old.items remarks.new.items (code_of result)
+        (TellsRecording R.gives R.has_ended R.failures config.now import.now
+        source.old source.new) }
+{
+    match gather(alloc, &import.selection, source) {
+        Ok(gathered) => {
+            judge_gathered::<A, T, W>(alloc, config, import, &gathered, lines, remarks)
+        }
+        Err(refusal) => {
+            put_refusal(lines, refusal);
+            status_of(refusal)
+        }
+    }
+}
+
+/// How a command over a recording ends where none can be meant, and why.
+pub(crate) fn misfit<A: Allocator + Copy>(alloc: A, remark: Remark) -> Judged<A>
+    ensures { ((result.status ≡ 64) × (result.remarks.items ≡ remark ∷ []))
+        ⊎ ((result.status ≡ 4) × (result.remarks.items ≡ [])) }
+{
+    let mut remarks = Vec::new(alloc);
+    let status = match add_remarks(&mut remarks, &[Some(remark)]) {
+        Ok(()) => Status::Usage,
+        Err(_) => Status::Memory,
+    };
+    Judged {
+        status: status.code(),
+        remarks,
+    }
+}

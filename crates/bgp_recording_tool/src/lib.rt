@@ -1,0 +1,32 @@
+//! The commands of the program `bgp` over recordings of packets, each as one function over sources
+//! and sinks, or over a file that is a recording or a capture.
+//!
+//! A recording is a file of packets; a capture is the MRT records of one session (RFC 6396). What
+//! is judged or decoded is the capture that `bgp_import` makes of a connection in the recording:
+//!
+//! ```text
+//! let judged =
+//!     judge_recording::<_, CompactTracker<_>, _, _>(alloc, &config, &options, source, sink);
+//! for remark in judged.remarks.iter() {
+//!     eprintln!(rt; "bgp: {remark}")?;
+//! }
+//! ```
+#![tactic(auto)]
+
+mod answering;
+mod decoding;
+mod files;
+mod headline;
+mod judging;
+mod octets;
+mod options;
+mod peeked;
+mod remark;
+
+pub use bgp_words::RecordingOptions;
+pub use decoding::decode_recording;
+pub use files::{FileOutcome, decode_file, judge_file};
+pub use headline::{each_end_is_shown, judge_recording};
+pub use judging::Judged;
+pub use options::import_of;
+pub use remark::Remark;

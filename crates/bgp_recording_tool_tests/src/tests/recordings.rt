@@ -1,0 +1,144 @@
+//! A recording of two connections.
+
+use super::*;
+use bgp_recording_tool::{Remark, decode_recording};
+use linked_list_allocator::LocalHeap;
+use mrt::SourceUpset;
+use std::num::NonZeroUsize;
+
+/// Whether the recording is judged so with these options.
+fn is_judged(alloc: Global, options: &RecordingOptions, text: &str, status: u8) -> bool {
+    let Ok(octets) = recording(alloc) else {
+        return false;
+    };
+    match judged(alloc, alloc, options, &mut MemSource::new(octets)) {
+        Some((written, judged)) => written.as_slice() == text.as_bytes() && judged.status == status,
+        None => false,
+    }
+}
+
+#[test]
+fn each_connection_is_judged_under_its_line(rt: HostRuntime) {
+    assert!(rt; is_judged(rt.alloc(), &OPTIONS, JUDGED, 3));
+    let first = RecordingOptions {
+        connection: Some(1),
+        ..OPTIONS
+    };
+    assert!(rt; is_judged(rt.alloc(), &first, "yes\nend Idle disabled -\n", 0));
+}
+
+/// What decoding the recording prints, and its status.
+fn decoded(alloc: Global, options: &RecordingOptions) -> Option<(Vec<u8>, u8)> {
+    let mut source = MemSource::new(recording(alloc).ok()?);
+    let mut sink = MemSink::new(alloc);
+    let decoded = decode_recording(alloc, &SESSION, options, &mut source, &mut sink);
+    Some((sink.into_octets(), decoded.status))
+}
+
+/// Whether decoding the recording prints what begins so, and answers this status.
+fn is_decoded(alloc: Global, options: &RecordingOptions, front: &str, status: u8) -> bool {
+    match decoded(alloc, options) {
+        Some((text, answered)) => {
+            text.as_slice().starts_with(front.as_bytes()) && answered == status
+        }
+        None => false,
+    }
+}
+
+#[test]
+fn one_connection_is_decoded(rt: HostRuntime) {
+    let several = "recording refused: 11 Several at packet 4\n";
+    assert!(rt; is_decoded(rt.alloc(), &OPTIONS, several, 3));
+    let first = RecordingOptions {
+        connection: Some(1),
+        ..OPTIONS
+    };
+    assert!(rt;
+        is_decoded(
+            rt.alloc(),
+            &first,
+            "@100 change 1 3\n@100 received open ",
+            0
+        )
+    );
+}
+
+/// What judging the recording answers where the read of this number fails: whether that is told, or
+/// `None` where something else is answered.
+fn fails_at(alloc: Global, call: u64) -> Option<bool> {
+    let pieces = NonZeroUsize::new(40)?;
+    let mut source = MemSource::new(recording(alloc).ok()?)
+        .in_pieces_of(pieces)
+        .upset_at(call, SourceUpset::Fail);
+    let (text, judged) = judged(alloc, alloc, &OPTIONS, &mut source)?;
+    let told = b"recording refused: 16 Device at packet ";
+    match judged.status {
+        5 => text.as_slice().starts_with(told).then_some(true),
+        3 => (text.as_slice() == JUDGED.as_bytes()).then_some(false),
+        _ => None,
+    }
+}
+
+#[test]
+fn a_read_that_fails_is_told(rt: HostRuntime) {
+    let mut failed = 0u32;
+    for call in 0..40 {
+        let told = fails_at(rt.alloc(), call);
+        assert!(rt; told.is_some(), "{call}");
+        if told == Some(true) {
+            failed = failed.saturating_add(1);
+        }
+    }
+    // The recording has 298 octets, which are asked for in pieces of at most 40.
+    assert!(rt; (8..40).contains(&failed), "{failed}");
+}
+
+/// Whether the recording is judged with a heap of this size, or memory is refused; `None` where
+/// something else is answered.
+fn judged_over(alloc: Global, size: usize) -> Option<bool> {
+    let heap = LocalHeap::new(alloc, size).ok()?;
+    let mut source = MemSource::new(recording(alloc).ok()?);
+    let (text, judged) = judged(&heap, alloc, &OPTIONS, &mut source)?;
+    match judged.status {
+        4 => Some(false),
+        3 => (text.as_slice() == JUDGED.as_bytes()).then_some(true),
+        _ => None,
+    }
+}
+
+#[test]
+fn memory_that_is_refused_is_told(rt: HostRuntime) {
+    let (mut refused, mut done) = (false, false);
+    for steps in 1..100 {
+        let answer = judged_over(rt.alloc(), 8192 * steps);
+        assert!(rt; answer.is_some(), "{steps}");
+        done = answer == Some(true);
+        refused = refused || !done;
+    }
+    assert!(rt; refused && done);
+}
+
+/// What is remarked where a session of these addresses is judged, with nothing written.
+fn misfit(alloc: Global, session: Session) -> Option<Remark> {
+    let mut source = MemSource::new(recording(alloc).ok()?);
+    let mut sink = MemSink::new(alloc);
+    let decoded = decode_recording(alloc, &session, &OPTIONS, &mut source, &mut sink);
+    if decoded.status != 64 || !sink.octets().is_empty() || source.given() > 0 {
+        return None;
+    }
+    decoded.remarks.first().copied()
+}
+
+#[test]
+fn no_recording_is_read_of_one_address_or_two_families(rt: HostRuntime) {
+    let one = Session {
+        peer: SESSION.local,
+        ..SESSION
+    };
+    assert!(rt; misfit(rt.alloc(), one) == Some(Remark::OneAddress));
+    let two = Session {
+        peer: Address::V6(1),
+        ..SESSION
+    };
+    assert!(rt; misfit(rt.alloc(), two) == Some(Remark::TwoFamilies));
+}

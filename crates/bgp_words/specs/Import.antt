@@ -1,0 +1,41 @@
+-- The values of `import`: the session, what is told of the recording, and two files; and those of
+-- `list`.
+use Rattle.std.specs.Prelude.{◌≡◌, ◌≢◌, ◌⊎◌, ℕ, true, false, List, Option, Some, is_some, codes}
+use Rattle.clap.specs.Words.{Row, Text, first_of}
+use Rattle.bgp_prefix.specs.declared.session.Session.{Session}
+use Rattle.bgp_words.specs.Values.{IsPortText, IsValue}
+use Rattle.bgp_words.specs.Settings.{IsOfOneFamily, IsSession}
+use Rattle.bgp_words.specs.Recording.{AreRecordingOptions}
+use Rattle.bgp_words.specs.declared.recording.RecordingOptions.{RecordingOptions}
+use Rattle.bgp_words.specs.declared.words.Command.{Command}
+use Rattle.bgp_words.specs.declared.words.Command.TheVariants.{Decode, Capture, Judge}
+use Rattle.bgp_words.specs.declared.words.Command.TheVariants.{Import, List as Listing}
+use Rattle.bgp_words.specs.declared.words.Command.TheVariants.{Speak, Pair}
+
+-- the ends of a session can be told apart in a recording: their addresses differ, or the local
+-- system's port is known
+abbrev pub AreApart : Session → Option ℕ → Type 0
+AreApart session local_port = (session.peer ≢ session.local) ⊎ (is_some local_port ≡ true)
+
+-- The values of `import`. A TCP connection is of one family; the session has no route refresh.
+abbrev pub IsImport : Session → RecordingOptions → Text → Text → List Row → Type 0
+IsImport session recording file out rows =
+    IsSession session false rows × IsOfOneFamily session × AreRecordingOptions recording rows
+    × AreApart session recording.local_port
+    × (first_of (codes "FILE") rows ≡ Some file) × (first_of (codes "OUT") rows ≡ Some out)
+
+-- the values of `list`: the port of the connections, and a file
+abbrev pub IsListing : ℕ → Text → List Row → Type 0
+IsListing port file rows =
+    IsValue IsPortText (codes "port") rows port × (first_of (codes "FILE") rows ≡ Some file)
+
+-- a command to import can be done: its session is of one family, and its ends can be told apart
+abbrev pub CanImport : Command → Type 0
+CanImport (Decode extended file) = Unit {0}
+CanImport (Capture session recording file) = Unit {0}
+CanImport (Judge config recording file) = Unit {0}
+CanImport (Import session recording file out) =
+    IsOfOneFamily session × AreApart session recording.local_port
+CanImport (Listing port file) = Unit {0}
+CanImport (Speak config speaking file) = Unit {0}
+CanImport (Pair file) = Unit {0}

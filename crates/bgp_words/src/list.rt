@@ -1,0 +1,66 @@
+//! The words of `list`.
+
+ghost use Rattle.std.specs.Prelude.{◌≡◌, ℕ, List, IfOk, IsErr, false, codes};
+ghost use Rattle.clap.specs.Words.{app_of, found_of, rows_of};
+ghost use Rattle.clap.specs.declared.builder.command.Command.TheViews.{out-Command as fields_of};
+ghost use Rattle.bgp_words.specs.Words.{list_words};
+ghost use Rattle.bgp_words.specs.Import.{IsListing};
+ghost use Rattle.bgp_words.specs.Spelled.{NamesBy};
+
+use crate::misfit::Misfit;
+use crate::options::{READ, with_word};
+use crate::recording::PORT;
+use crate::values::{port_of, value_of};
+use crate::words::Command;
+use clap::ArgMatches;
+use std::alloc::{AllocError, Global};
+
+/// What help tells after the words of `list`: what it prints, and the statuses.
+const LISTED: &str = "\
+list tells which connections at --port a recording holds, for whoever doesn't know the addresses.
+FILE is a packet capture, as tcpdump -w writes it (pcap or pcapng). A line is one of these, in the
+order of first packets:
+  connection 1 from 192.0.2.2 40000 to 192.0.2.1 179 at 1500000000 octets 114 84
+                        its number between its two addresses, which --connection of judge, decode
+                        and import takes; who opened it, from which port; to whom, at which port;
+                        the second of its first packet; how many octets each of both sent
+  connection 2 from 192.0.2.2 40001 to 192.0.2.1 179 at 1500000060 refused 14 Missing at packet 7
+                        its octets aren't whole: the reason's number and name, and the packet's
+                        number from 1
+  session 192.0.2.1 192.0.2.2 refused 7 Fragment at packet 4
+                        a packet between two addresses can't be read, and it doesn't tell its ports
+and last, where the file can't be read on:
+  recording refused: 2 Truncated at packet 9
+                        the reason's number and name, and the packet's number
+
+Exit status:
+  0   the recording was read to its end; or help was asked for
+  3   the recording is refused
+  4   memory was refused
+  5   a file can't be opened or read, or output can't be written
+  64  the command line is none that the program knows
+
+The manual is README.md, at the top of the repository.";
+
+/// What the words of `list` may be.
+pub(crate) fn list_words<'a>(alloc: Global) -> Result<clap::Command<'a>, AllocError>
+    ensures words { IfOk result (λ list. app_of list ≡ list_words) }
+    ensures local { IfOk result (λ list. (fields_of list).has_globals ≡ false) }
+{
+    let list = clap::Command::new(alloc, "list")
+        .about("Lists the connections in a recording of packets")
+        .after_help(LISTED);
+    let list = with_word(alloc, list, READ)?;
+    with_word(alloc, list, PORT)
+}
+
+/// The command that the values of `list` are.
+pub(crate) fn list_of<'a>(list: &ArgMatches<'a>) -> Result<Command<'a>, Misfit<'a>>
+    ensures ok { IfOk result (NamesBy (codes "list") (rows_of (found_of list.now))) }
+    ensures err { IsErr result → (port : ℕ) (file : List ℕ) →
+        IsListing port file (rows_of (found_of list.now)) → ⊥ }
+{
+    let port = port_of(list, "port")?;
+    let file = value_of(list, "FILE")?;
+    Ok(Command::List { port, file })
+}

@@ -1,0 +1,78 @@
+//! What the commands that read a recording of packets are told of it.
+
+ghost use Rattle.std.specs.Prelude.{◌≡◌, ◌↔◌, IfOk, IsOkAnd, false};
+ghost use Rattle.clap.specs.Words.{app_of, found_of, rows_of};
+ghost use Rattle.clap.specs.declared.builder.command.Command.TheViews.{out-Command as fields_of};
+ghost use Rattle.bgp_words.specs.Words.{with_recording};
+ghost use Rattle.bgp_words.specs.Recording.{AreRecordingOptions};
+ghost use Rattle.bgp_words.specs.declared.recording.RecordingOptions.{RecordingOptions as Told};
+
+use crate::misfit::Misfit;
+use crate::options::{Word, with_words};
+use crate::values::{connection_of, optional_port_of, port_of, seconds_of};
+use clap::ArgMatches;
+use std::alloc::{AllocError, Global};
+
+/// What is told of a recording besides its session.
+#[derive(Clone, Copy, Debug, PartialEq, Eq)]
+pub struct RecordingOptions {
+    /// The port on which BGP is awaited, 179 (RFC 4271, 2) unless told: each connection of the
+    /// session has it at one of its ends. It isn't 0.
+    pub port: u16,
+    /// The local system's port, where only its connections at that port are meant. It isn't 0.
+    pub local_port: Option<u16>,
+    /// The number of the connection that is meant, from 1: `None` for each, or for the only one.
+    pub connection: Option<usize>,
+    /// How many seconds after it came a received message is handled at the latest.
+    pub within: u16,
+}
+
+/// The port of a session in a recording.
+pub(crate) const PORT: Word<'static> = Word::Default(
+    "port",
+    "179",
+    "The session's TCP port in a recording: 1 to 65535",
+);
+
+/// The words that are for recordings alone.
+static WORDS: [Word<'static>; 4] = [
+    PORT,
+    Word::Option(
+        "local-port",
+        "The local system's port in a recording: only its connections there are meant",
+    ),
+    Word::Option(
+        "connection",
+        "The number of the connection in a recording that is meant, as bgp list tells it",
+    ),
+    Word::Default(
+        "within",
+        "10",
+        "How many seconds a received message of a recording may wait: 0 to 65535",
+    ),
+];
+
+/// The command with the words that are for recordings after its own.
+pub(crate) fn with_recording<'a>(
+    alloc: Global,
+    command: clap::Command<'a>,
+) -> Result<clap::Command<'a>, AllocError>
+    ensures words { IfOk result (λ it. app_of it ≡ with_recording (app_of command.entry)) }
+    ensures local { (fields_of command.entry).has_globals ≡ false →
+        IfOk result (λ it. (fields_of it).has_globals ≡ false) }
+{
+    with_words(alloc, command, &WORDS)
+}
+
+/// What the values of a command tell of a recording.
+pub(crate) fn recording_of<'a>(matches: &ArgMatches<'a>) -> Result<RecordingOptions, Misfit<'a>>
+    ensures { (recording : Told) → IsOkAnd result (λ it. it ≡ recording)
+        ↔ AreRecordingOptions recording (rows_of (found_of matches.now)) }
+{
+    Ok(RecordingOptions {
+        port: port_of(matches, "port")?,
+        local_port: optional_port_of(matches, "local-port")?,
+        connection: connection_of(matches, "connection")?,
+        within: seconds_of(matches, "within")?,
+    })
+}

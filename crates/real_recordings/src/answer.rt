@@ -1,0 +1,108 @@
+//! What a command over a recording answers, told as a case tells it.
+
+ghost use Rattle.std.specs.Prelude.{◌<◌};
+ghost use Rattle.mrt.specs.MemSource.{source_state};
+
+use crate::case::{Case, malformed};
+use crate::words::{import_of, port_of};
+use bgp_import::{Cause, Stopped, import_recording, list_recording};
+use mrt::{MemSink, MemSource};
+use std::alloc::{AllocError, Global};
+use std::fmt::Write;
+use std::io;
+use std::num::NonZeroUsize;
+
+/// The lines of the answer to a case, whose recording is read so many octets at a time at the most.
+pub(crate) fn answer_to(alloc: Global, case: &Case<'_>, most: NonZeroUsize) -> io::Result<String> {
+    let recording = Vec::from_slice(alloc, case.recording.as_slice())?;
+    let mut source = MemSource::new(recording).in_pieces_of(most);
+    match case.words.split(' ').next() {
+        Some("import") => import(alloc, case.words, &mut source),
+        Some("list") => list(alloc, case.words, &mut source),
+        _ => Err(malformed()),
+    }
+}
+
+/// The exit status of a command that doesn't end well.
+pub(crate) fn status_of(stopped: Stopped) -> u8 {
+    match stopped {
+        Stopped::Refused(refusal) => match refusal.cause() {
+            Cause::Recording => 3,
+            Cause::Memory => 4,
+            Cause::Device => 5,
+        },
+        Stopped::Unwritten => 5,
+    }
+}
+
+/// Appends what is told.
+fn add<T: std::fmt::Display + Drop>(text: &mut String, piece: T) -> io::Result<()> {
+    match write!(text, "{piece}") {
+        Ok(()) => Ok(()),
+        Err(_) => Err(io::Error::from(AllocError)),
+    }
+}
+
+/// What `bgp import` answers.
+fn import(alloc: Global, words: &str, source: &mut MemSource) -> io::Result<String>
+    requires { (source_state source.old).failures < u64.MAX }
+{
+    let Some(import) = import_of(words) else {
+        return Err(malformed());
+    };
+    let mut sink = MemSink::new(alloc);
+    let mut text = String::new(alloc);
+    match import_recording(alloc, &import, source, &mut sink) {
+        Ok(notes) => {
+            add(&mut text, "status 0")?;
+            for note in notes.in_order().into_iter().flatten() {
+                add(&mut text, "\nnote ")?;
+                add(&mut text, note)?;
+            }
+            add(&mut text, "\ncapture ")?;
+        }
+        Err(stopped) => {
+            add(&mut text, "status ")?;
+            add(&mut text, status_of(stopped))?;
+            if let Stopped::Refused(refusal) = stopped {
+                add(&mut text, "\nrefusal ")?;
+                add(&mut text, refusal)?;
+            }
+        }
+    }
+    add_hex(alloc, &mut text, sink.octets())?;
+    Ok(text)
+}
+
+/// Appends octets in hexadecimal.
+fn add_hex(alloc: Global, text: &mut String, octets: &[u8]) -> io::Result<()> {
+    let digits = hex::encode(alloc, octets)?;
+    text.push_str(digits.as_str())?;
+    Ok(())
+}
+
+/// What `bgp list` answers.
+fn list(alloc: Global, words: &str, source: &mut MemSource) -> io::Result<String>
+    requires { (source_state source.old).failures < u64.MAX }
+{
+    let Some(port) = port_of(words) else {
+        return Err(malformed());
+    };
+    let mut sink = MemSink::new(alloc);
+    let listed = list_recording(alloc, port, source, &mut sink);
+    let status = match listed {
+        Ok(()) => 0,
+        Err(stopped) => status_of(stopped),
+    };
+    let mut text = String::new(alloc);
+    add(&mut text, "status ")?;
+    add(&mut text, status)?;
+    let Ok(lines) = String::from_utf8(sink.into_octets()) else {
+        return Err(malformed());
+    };
+    for line in lines.as_str().lines() {
+        add(&mut text, "\n> ")?;
+        add(&mut text, line)?;
+    }
+    Ok(text)
+}

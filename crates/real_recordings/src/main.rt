@@ -1,0 +1,74 @@
+//! Imports, lists and judges recordings whose answers are known from elsewhere: from a program that
+//! was written apart from this one.
+//!
+//! `cases.txt` has packet captures made at random and by hand, with the capture that is made of
+//! each or why it is refused, and lists. `sessions` has recordings of real sessions between five
+//! daemons, each listed and judged from both ends, by the plain tracker and by the compact one.
+#![tactic(auto)]
+
+mod answer;
+mod case;
+mod session;
+mod words;
+
+use answer::answer_to;
+use case::read_case;
+use session::compare_sessions;
+use std::num::NonZeroUsize;
+use std::process::ExitCode;
+use std::rt::Files;
+use std::{fs, io};
+
+fn main(rt: HostRuntime) -> ExitCode {
+    match compare_all(&rt) {
+        Ok(true) => ExitCode::SUCCESS,
+        Ok(false) => ExitCode::FAILURE,
+        Err(error) => {
+            let _ = eprintln!(rt; "{error}");
+            ExitCode::FAILURE
+        }
+    }
+}
+
+/// Prints what is not so, and how much was compared. Answers whether all is so.
+fn compare_all<R: Files + Print + AllocGlobal>(rt: &R) -> io::Result<bool> {
+    let cases = compare_cases(rt)?;
+    let sessions = compare_sessions(rt)?;
+    Ok(cases && sessions)
+}
+
+/// Prints each case that is not so, and then how many there were. Answers whether all are so.
+fn compare_cases<R: Files + Print + AllocGlobal>(rt: &R) -> io::Result<bool> {
+    let table = fs::read_to_string(rt, "cases.txt")?;
+    let mut cases = 0u64;
+    let mut all = true;
+    for block in table.split("\n\n") {
+        let block = block.trim_end();
+        if block.is_empty() {
+            continue;
+        }
+        cases = cases.saturating_add(1);
+        all &= compare_case(rt, block)?;
+    }
+    println!(rt; "cases.txt: {cases} cases")?;
+    Ok(all)
+}
+
+/// Prints a case if it is not so, read at once or octet by octet. Answers whether it is so.
+fn compare_case<R: Files + Print + AllocGlobal>(rt: &R, block: &str) -> io::Result<bool> {
+    let case = read_case(rt.alloc(), block)?;
+    for most in [NonZeroUsize::MAX, NonZeroUsize::MIN] {
+        let answer = answer_to(rt.alloc(), &case, most)?;
+        if answer.as_str() != case.answer {
+            println!(rt;
+                "case {} is not so: {}\n{}\nand not\n{}\n",
+                case.name,
+                case.words,
+                answer.as_str(),
+                case.answer
+            )?;
+            return Ok(false);
+        }
+    }
+    Ok(true)
+}
