@@ -65,7 +65,7 @@ fn is_so<R: Files + AllocGlobal>(rt: &R, name: &str, status: u8) -> io::Result<b
     for word in args.lines() {
         words.push(if word == "{}" { capture.as_str() } else { word })?;
     }
-    let Ok(Command::Judge { config, file }) = command_line(alloc, words.as_slice()) else {
+    let Ok(Command::Judge { config, file, .. }) = command_line(alloc, words.as_slice()) else {
         return Ok(false);
     };
     let octets = fs::read(rt, file)?;
