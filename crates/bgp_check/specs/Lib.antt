@@ -1,0 +1,14 @@
+pub mod Alike
+pub mod Wider
+pub mod Stretch
+pub mod Opens
+pub mod Another
+pub mod Configurations
+pub mod Settings
+pub mod Widest
+pub mod Without
+pub mod Exist
+pub mod OwnFaults
+pub mod Cut
+pub mod Ends
+pub mod Over

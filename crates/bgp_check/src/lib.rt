@@ -1,0 +1,19 @@
+//! Whether an end of a session kept to the standard, where its settings aren't known: they are read
+//! off the OPEN that it sent, and what an OPEN doesn't say is left free. A verdict holds over all
+//! configurations under which the OPEN is the end's own, and one or two judgings find it.
+//!
+//! Laws say why two are enough. They speak of a stretch of a session: its records from one that
+//! leaves Idle to the next one that does.
+#![tactic(auto)]
+
+mod laws;
+mod own_fault;
+
+pub use laws::{
+    a_session_is_cut_without_loss, a_wider_configuration_has_its_runs,
+    another_peer_is_refused_alike, own_faults_are_all, stretches_begin_as_the_session_does,
+    widest_configurations_are_enough, widest_configurations_exist,
+    widest_configurations_have_the_same_ends, widest_configurations_make_the_verdict,
+    widest_configurations_without_open_are_enough,
+};
+pub use own_fault::OwnFault;
