@@ -25,7 +25,7 @@ use Rattle.bgp_machine.specs.Going as going
 use Rattle.bgp_machine.specs.Heard.{Hears}
 use Rattle.bgp_machine.specs.Listed.{IsStep, MakesChanges, changes_of, no_changes, routes_turn, turn_of}
 use Rattle.bgp_machine.specs.Lists.{Has}
-use Rattle.bgp_machine.specs.Run.{End, Run}
+use Rattle.bgp_machine.specs.Run.{End, IsComplete, Run, end_of}
 use Rattle.bgp_machine.specs.State.{RoutesTurn, Turn, Kept, Cleared, Given, fresh_state, fsm_of, link_at, renewed}
 use Rattle.bgp_machine.specs.Want.{wants_of}
 use Rattle.bgp_machine.proofs.Moves.{after_no_changes}
@@ -96,6 +96,14 @@ told_link config words table records base link stand of is e =
     let d = is.some.0 in
     (each_as_told config records (free_member base.head table d).state
     (free_run config (IsMember words table) records (free_member base.head table d) stand (is.to table of d is.some.1) (refl, refl))).link link e
+
+-- nothing is owed where there is a base: a run ends there
+pub base_ends : (config : Config) (words : Words) (table : Routes) (records : List ShownRecord) (base : Base) → StandFor config (IsMember words table) records
+    → IsTableOf words table → IsBase words base → (e : End) × IsComplete config records e
+base_ends config words table records base stand of is =
+    let d = is.some.0 in
+    let m = free_member base.head table d in
+    (end_of m.state, (m.state, free_run config (IsMember words table) records m stand (is.to table of d is.some.1) (refl, refl), refl))
 
 -- ---- which changes are made
 

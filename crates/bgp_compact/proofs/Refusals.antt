@@ -12,6 +12,7 @@ use Rattle.bgp_machine.specs.declared.fsm.Fsm.TheVariants as fsms
 use Rattle.bgp_machine.specs.declared.state.Head.{Head}
 use Rattle.bgp_machine.specs.declared.state.Head.TheVariants.{Idle, Connect, Active, OpenSent, OpenConfirm, Established}
 use Rattle.bgp_machine.specs.Listed.{TakesMemory as HeadTakesMemory, changes_of}
+use Rattle.bgp_machine.specs.Run.{End, IsComplete}
 use Rattle.bgp_machine.specs.State.{fsm_of, link_at}
 use Rattle.bgp_rib.specs.Routes.{Routes}
 use Rattle.bgp_judge.specs.Next.{Opens}
@@ -22,7 +23,7 @@ use Rattle.bgp_compact.specs.Memory.{BaseTakesMemory, TakesMemory}
 use Rattle.bgp_compact.specs.Standing.{Stands}
 use Rattle.bgp_compact.specs.Steps.{AreMade}
 use Rattle.bgp_compact.specs.Table.{MayApply}
-use Rattle.bgp_compact.proofs.Making.{opened_outcome, told_link}
+use Rattle.bgp_compact.proofs.Making.{base_ends, opened_outcome, told_link}
 use Rattle.bgp_compact.proofs.Ways.{given_then, hidden_gives, up_head}
 
 -- ---- what holds anyway
@@ -45,20 +46,22 @@ late_takes_none head (Sent u octets) down takes = takes
 late_takes_none head (Changed u x y) down takes = takes
 
 -- what the list takes memory for is what was told
-takes_as_told : (config : Config) (t : Told) (head : Head) (octets : List ℕ) → fsm_of head ≡ t.fsm → ((own : Link) → link_at head ≡ Some own → own ≡ link_told config t)
-    → HeadTakesMemory head octets → (t.fsm ≡ fsms.Established) × (¬ IsOnlyReset (link_told config t) octets)
-takes_as_told config t Idle octets name linked takes = absurd takes
-takes_as_told config t (Connect d) octets name linked takes = absurd takes
-takes_as_told config t (Active d) octets name linked takes = absurd takes
-takes_as_told config t (OpenSent timer) octets name linked takes = absurd takes
-takes_as_told config t (OpenConfirm own timer) octets name linked takes = absurd takes
-takes_as_told config t (Established own timer) octets name linked takes = (sym name, subst (λ (v : Link). ¬ IsOnlyReset v octets) (linked own refl) takes)
+takes_as_told : (config : Config) (t : Told) (P : Type 0) (head : Head) (octets : List ℕ) → fsm_of head ≡ t.fsm → ((own : Link) → link_at head ≡ Some own → own ≡ link_told config t)
+    → P → HeadTakesMemory head octets → (t.fsm ≡ fsms.Established) × (¬ IsOnlyReset (link_told config t) octets) × P
+takes_as_told config t P Idle octets name linked ends takes = absurd takes
+takes_as_told config t P (Connect d) octets name linked ends takes = absurd takes
+takes_as_told config t P (Active d) octets name linked ends takes = absurd takes
+takes_as_told config t P (OpenSent timer) octets name linked ends takes = absurd takes
+takes_as_told config t P (OpenConfirm own timer) octets name linked ends takes = absurd takes
+takes_as_told config t P (Established own timer) octets name linked ends takes =
+    (sym name, subst (λ (v : Link). ¬ IsOnlyReset v octets) (linked own refl) takes, ends)
 
 pub base_takes : (config : Config) (words : Words) (table : Routes) (records : List ShownRecord) (r : ShownRecord) → Stands config words table records → BaseTakesMemory words r
     → TakesMemory config records r
 base_takes config words table records (Received u octets) stands takes =
-    takes_as_told config (told records) takes.0.head octets (takes.1.name ∙ stands.shown_is)
-    (λ own e. told_link config words table records takes.0 own stands.stand stands.is_table takes.1 e) takes.2
+    takes_as_told config (told records) ((e : End) × IsComplete config records e) takes.0.head octets (takes.1.name ∙ stands.shown_is)
+    (λ own e. told_link config words table records takes.0 own stands.stand stands.is_table takes.1 e)
+    (base_ends config words table records takes.0 stands.stand stands.is_table takes.1) takes.2
 base_takes config words table records (Sent u octets) stands takes = takes.2
 base_takes config words table records (Changed u x y) stands takes = takes.2
 
@@ -84,8 +87,9 @@ changes_take config words table records (Received u octets) given stands made is
       let h = up_head k.0.head up in
       let may : MayApply config h.0 octets (changes_of given) =
       opened_outcome config h.0 h.1 u octets x.0 x.1 x.2 (changes_of given) x.3 (subst (λ (v : Head). Opens config v (Received u octets) x.0 x.1 x.2) h.2 x.4) x.5 in
-      takes_as_told config (told records) k.0.head octets (k.1.name ∙ stands.shown_is)
+      takes_as_told config (told records) ((e : End) × IsComplete config records e) k.0.head octets (k.1.name ∙ stands.shown_is)
       (λ own e. told_link config words table records k.0 own stands.stand stands.is_table k.1 e)
+      (base_ends config words table records k.0 stands.stand stands.is_table k.1)
       (subst (λ (v : Head). HeadTakesMemory v octets) (sym h.2) (applied_not_only config h.0 octets (changes_of given) may))
 ]
 changes_take config words table records (Sent u octets) given stands made is = elim made [

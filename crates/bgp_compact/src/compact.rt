@@ -93,6 +93,8 @@ impl<A: Allocator + Copy> Tracker<A> for CompactTracker<A> {
     ghost stands_for = { λ tracker config records.
         TrackerStands tracker.config tracker.words tracker.table config records };
 
+    ghost may_lack = { λ config records shown. TakesMemory config records shown };
+
     /// A tracker that stands for no record. It takes no memory.
     fn start(alloc: A, config: &Config) -> Result<CompactTracker<A>, AllocError>
         ensures start { IfOk result (λ tracker.
@@ -108,8 +110,8 @@ impl<A: Allocator + Copy> Tracker<A> for CompactTracker<A> {
         })
     }
 
-    /// Takes one record more, as every tracker. Only an UPDATE received in Established that may be
-    /// applied takes memory.
+    /// Takes one record more, as every tracker. Only an UPDATE takes memory that is received in
+    /// Established, while nothing is owed, and that may be applied.
     fn take(&mut self, shown: &Record<'_>) -> Result<bool, AllocError>
         ensures alive { (config : TheConfig) (records : List ShownRecord)
             → TrackerStands self.old.config self.old.words self.old.table config records
@@ -133,6 +135,21 @@ impl<A: Allocator + Copy> Tracker<A> for CompactTracker<A> {
         follow(&mut self.table, &left)?;
         self.words = left.words;
         Ok(is_alive(left.words))
+    }
+
+    /// Whether it may take the record, as every tracker. It takes memory where `take` does, alone.
+    fn may_take(&self, shown: &Record<'_>) -> Result<bool, AllocError>
+        ensures may { (config : TheConfig) (records : List ShownRecord)
+            → TrackerStands self.now.config self.now.words self.now.table config records
+            → IfOk result (λ may. IsTrue may
+            ↔ Begins config (records ++ shown_of shown.now ∷ [])) }
+        ensures memory { (config : TheConfig) (records : List ShownRecord)
+            → TrackerStands self.now.config self.now.words self.now.table config records
+            → OnErr result (TakesMemory config records (shown_of shown.now)) }
+    {
+        each_owed_want_can_be_met();
+        let after = after_record(self.alloc, &self.config, self.words, shown)?;
+        Ok(is_alive(after.words))
     }
 
     fn ends(&self) -> Result<Vec<End<A>, A>, AllocError> {

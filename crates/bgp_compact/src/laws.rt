@@ -1,14 +1,17 @@
 //! Laws: contracts of functions that do nothing.
 
-ghost use Rattle.std.specs.Prelude.{◌<◌, ◌≤◌, ◌+◌};
+ghost use Rattle.std.specs.Prelude.{◌<◌, ◌≤◌, ◌+◌, length};
 ghost use Rattle.std.specs.Mem.{type_size};
 ghost use Rattle.std.specs.contracts.alloc.Global.{the_row as global_row};
 ghost use Rattle.bgp_open.specs.contracts.config.Config.{the_row as config_row};
 ghost use Rattle.bgp_rib.specs.contracts.rib_in.RibIn.{the_row as table_row};
 ghost use Rattle.bgp_compact.specs.contracts.compact.CompactTracker.{the_row as tracker_row};
 ghost use Rattle.bgp_compact.specs.contracts.words.Words.{the_row as words_row};
+ghost use Rattle.bgp_compact.specs.Memory.{IsNeverImpossible};
 ghost use Rattle.bgp_compact.specs.Table.{EachRunEndsWithTheTable, RecordsMakeOneTable};
 
+use bgp_judge::impossible_only_where_owed;
+use bgp_open::{Config, Link};
 use std::alloc::{Allocator, Global};
 
 /// Law: a tracker over the program's own allocator takes at most 256 octets, whatever it took: its
@@ -37,3 +40,17 @@ pub fn records_make_one_table()
 pub fn each_run_ends_with_the_table()
     ensures { EachRunEndsWithTheTable }
 {}
+
+/// Law: a tracker lacks memory at no record at which the verdict is no. So no body of it can answer
+/// that memory was refused in a no's place. From a header's length on, on the link that the records
+/// tell.
+pub fn memory_is_lacked_at_no_impossible_record<A: Allocator + Copy>(
+    alloc: A,
+    config: &Config,
+    link: &Link,
+    octets: &[u8],
+)
+    ensures { 19 ≤ length octets.now → IsNeverImpossible config.now link.now octets.now }
+{
+    impossible_only_where_owed(alloc, config, link, octets);
+}

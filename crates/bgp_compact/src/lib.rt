@@ -15,4 +15,7 @@ mod taking;
 mod words;
 
 pub use compact::CompactTracker;
-pub use laws::{each_run_ends_with_the_table, records_make_one_table, trackers_have_a_fixed_size};
+pub use laws::{
+    each_run_ends_with_the_table, memory_is_lacked_at_no_impossible_record, records_make_one_table,
+    trackers_have_a_fixed_size,
+};

@@ -13,10 +13,11 @@ use Rattle.bgp_judge.specs.Judging.{EndsBy, IsJudged, IsRefusal, Judges, ReadsAl
 use Rattle.bgp_judge.specs.Verdict.{IsVerdict}
 use Rattle.bgp_judge.proofs.CaptureSoFar.{spelled}
 
-module _ {S : Type 0} (gives : S → S → List ℕ → Type 0) (has_ended : S → Bool) (config : Config) (source new : S) where
+module _ {S : Type 0} (gives : S → S → List ℕ → Type 0) (has_ended : S → Bool) (config : Config) (source new : S)
+    (may_lack : Config → List ShownRecord → ShownRecord → Type 0) where
   -- nothing was read
   pub unstarted : (reader : ReaderState) (fault : CaptureFault) → reader ≡ fresh_reader → fault ≡ record { kind = kinds.Memory; offset = 0 } → gives source source []
-      → ReadsWith gives config.parts.session source source reader (Some fault) (λ given. IsRefusal given has_ended config source source fault)
+      → ReadsWith gives config.parts.session source source reader (Some fault) (λ given. IsRefusal given has_ended config source source may_lack fault)
   unstarted reader fault fresh is nothing = (
     record {
       pieces = [];
@@ -38,10 +39,10 @@ module _ {S : Type 0} (gives : S → S → List ℕ → Type 0) (has_ended : S �
   )
 
   module _ (stands : Config → List ShownRecord → Type 0) (last : ℕ) (impossible : Option ℕ)
-      (reads : ReadsAll gives has_ended config source new stands last impossible) where
+      (reads : ReadsAll gives has_ended config source new may_lack stands last impossible) where
     -- all was read
     pub unlisted : (fault : CaptureFault) → fault ≡ record { kind = kinds.Memory; offset = last } → Begins config (records_of reads.pieces)
-        → IsRefusal gives has_ended config source new fault
+        → IsRefusal gives has_ended config source new may_lack fault
     unlisted fault is begins = inr (inr (record {
       pieces = reads.pieces;
       rest = [];
@@ -81,19 +82,21 @@ judged_so P Q one other ends (by, to) so = (
 )
 
 -- a fault is handed on
-pub fault_handed_on : {S X : Type 0} (gives : S → S → List ℕ → Type 0) (has_ended : S → Bool) (config : Config) (source new : S) (reader : ReaderState)
+pub fault_handed_on : {S X : Type 0} (gives : S → S → List ℕ → Type 0) (has_ended : S → Bool) (config : Config) (source new : S)
+    (may_lack : Config → List ShownRecord → ShownRecord → Type 0) (reader : ReaderState)
     (answer : Result (Verdict X) CaptureFault) (fault : CaptureFault) → IsErrAnd answer (λ (y : CaptureFault). y ≡ fault)
-    → ReadsWith gives config.parts.session source new reader (Some fault) (λ given. IsRefusal given has_ended config source new fault)
-    → ReadsWith gives config.parts.session source new reader (fault_in answer) (λ given. Judges given has_ended config source new answer)
-fault_handed_on gives has_ended config source new reader (Ok verdict) fault is reads = absurd is
-fault_handed_on gives has_ended config source new reader (Err other) fault is reads =
-    subst (λ (f : CaptureFault). ReadsWith gives config.parts.session source new reader (Some f) (λ given. IsRefusal given has_ended config source new f)) (sym is) reads
+    → ReadsWith gives config.parts.session source new reader (Some fault) (λ given. IsRefusal given has_ended config source new may_lack fault)
+    → ReadsWith gives config.parts.session source new reader (fault_in answer) (λ given. Judges given has_ended config source new may_lack answer)
+fault_handed_on gives has_ended config source new may_lack reader (Ok verdict) fault is reads = absurd is
+fault_handed_on gives has_ended config source new may_lack reader (Err other) fault is reads =
+    subst (λ (f : CaptureFault). ReadsWith gives config.parts.session source new reader (Some f) (λ given. IsRefusal given has_ended config source new may_lack f)) (sym is) reads
 
 -- what is judged of octets that were given is judged of what was given
-module _ {S : Type 0} (has_ended : S → Bool) (config : Config) (source new : S) (just gives : S → S → List ℕ → Type 0)
+module _ {S : Type 0} (has_ended : S → Bool) (config : Config) (source new : S)
+    (may_lack : Config → List ShownRecord → ShownRecord → Type 0) (just gives : S → S → List ℕ → Type 0)
     (given : (octets : List ℕ) → just source new octets → gives source new octets) where
-  pub judges_given : {X : Type 0} (answer : Result (Verdict X) CaptureFault) → Judges just has_ended config source new answer
-      → Judges gives has_ended config source new answer
+  pub judges_given : {X : Type 0} (answer : Result (Verdict X) CaptureFault) → Judges just has_ended config source new may_lack answer
+      → Judges gives has_ended config source new may_lack answer
   judges_given (Ok verdict) is = record {
     octets = is.octets;
     records = is.records;
@@ -127,10 +130,11 @@ module _ {S : Type 0} (has_ended : S → Bool) (config : Config) (source new : S
     place = is.place;
   })
 
-pub judges_read : {S X : Type 0} (gives : S → S → List ℕ → Type 0) (has_ended : S → Bool) (config : Config) (source new : S) (reader : ReaderState)
+pub judges_read : {S X : Type 0} (gives : S → S → List ℕ → Type 0) (has_ended : S → Bool) (config : Config) (source new : S)
+    (may_lack : Config → List ShownRecord → ShownRecord → Type 0) (reader : ReaderState)
     (answer : Result (Verdict X) CaptureFault)
-    → ReadsWith gives config.parts.session source new reader (fault_in answer) (λ given. Judges given has_ended config source new answer)
-    → Judges gives has_ended config source new answer
-judges_read gives has_ended config source new reader answer (by, ends) =
-    judges_given has_ended config source new (λ from to octets. octets ≡ joined by.pieces ++ by.rest) gives
+    → ReadsWith gives config.parts.session source new reader (fault_in answer) (λ given. Judges given has_ended config source new may_lack answer)
+    → Judges gives has_ended config source new may_lack answer
+judges_read gives has_ended config source new may_lack reader answer (by, ends) =
+    judges_given has_ended config source new may_lack (λ from to octets. octets ≡ joined by.pieces ++ by.rest) gives
     (λ octets is. subst (λ (o : List ℕ). gives source new o) (sym is) by.gave) answer by.holds

@@ -49,7 +49,8 @@ spelled config pieces each = record {
 module _ {S : Type 0} (gives : S → S → List ℕ → Type 0) (has_ended : S → Bool)
     (gives_joined : (a b c : S) (xs ys : List ℕ) → gives a b xs → gives b c ys → gives a c (xs ++ ys))
     (count : S → ℕ) (counted : (a b : S) (xs : List ℕ) → gives a b xs → count b ≡ count a + length xs)
-    (config : Config) (source : S) where
+    (config : Config) (source : S)
+    (may_lack : Config → List ShownRecord → ShownRecord → Type 0) where
   -- what was read from the source, and its records
   pub record SoFar (now : S) (state : ReaderState) (records : List ShownRecord) : Type 0 where
     pub pieces : List Piece
@@ -164,7 +165,7 @@ module _ {S : Type 0} (gives : S → S → List ℕ → Type 0) (has_ended : S �
   -- to the end
   pub reads_all : (now next : S) (state after : ReaderState) (records : List ShownRecord) (stands : Config → List ShownRecord → Type 0) (impossible : Option ℕ)
       → SoFar now state records → IsAt stands config records impossible → Ends gives has_ended config.parts.session now next state after
-      → ReadsWith gives config.parts.session source next after None (λ given. ReadsAll given has_ended config source next stands after.place impossible)
+      → ReadsWith gives config.parts.session source next after None (λ given. ReadsAll given has_ended config source next may_lack stands after.place impossible)
   reads_all now next state after records stands impossible so_far at ends =
       let pieces = so_far.pieces ++ ends.skipped in
       let each = behind now state records so_far ends.skipped ends.pieces in (
@@ -208,7 +209,7 @@ module _ {S : Type 0} (gives : S → S → List ℕ → Type 0) (has_ended : S �
   -- a fault of the reader behind these pieces, of which just these octets were given
   refused_behind : (now next : S) (state after : ReaderState) (records : List ShownRecord) (fault : CaptureFault) (so_far : SoFar now state records)
       → (fails : Fails gives has_ended config.parts.session now next state after fault)
-      → IsRefusal (λ from to octets. octets ≡ joined (so_far.pieces ++ fails.skipped) ++ fails.rest) has_ended config source next fault
+      → IsRefusal (λ from to octets. octets ≡ joined (so_far.pieces ++ fails.skipped) ++ fails.rest) has_ended config source next may_lack fault
   refused_behind now next state after records fault so_far fails =
       let pieces = so_far.pieces ++ fails.skipped in
       let each = behind now state records so_far fails.skipped fails.pieces in
@@ -257,7 +258,7 @@ module _ {S : Type 0} (gives : S → S → List ℕ → Type 0) (has_ended : S �
   -- to a fault of the reader
   pub refused : (now next : S) (state after : ReaderState) (records : List ShownRecord) (fault : CaptureFault) → SoFar now state records
       → Fails gives has_ended config.parts.session now next state after fault
-      → ReadsWith gives config.parts.session source next after (Some fault) (λ given. IsRefusal given has_ended config source next fault)
+      → ReadsWith gives config.parts.session source next after (Some fault) (λ given. IsRefusal given has_ended config source next may_lack fault)
   refused now next state after records fault so_far fails = (
     record {
       pieces = so_far.pieces ++ fails.skipped;
@@ -274,10 +275,10 @@ module _ {S : Type 0} (gives : S → S → List ℕ → Type 0) (has_ended : S �
 
   -- to a record that the tracker has no memory for
   pub untaken : (now next : S) (state after : ReaderState) (records : List ShownRecord) (shown : ShownRecord) (fault : CaptureFault) → SoFar now state records
-      → Begins config records → Answers gives has_ended config.parts.session now next state after shown
+      → Begins config records → may_lack config records shown → Answers gives has_ended config.parts.session now next state after shown
       → fault ≡ record { kind = kinds.Memory; offset = after.place }
-      → ReadsWith gives config.parts.session source next after (Some fault) (λ given. IsRefusal given has_ended config source next fault)
-  untaken now next state after records shown fault so_far begins answer is =
+      → ReadsWith gives config.parts.session source next after (Some fault) (λ given. IsRefusal given has_ended config source next may_lack fault)
+  untaken now next state after records shown fault so_far begins lacks answer is =
       let pieces = so_far.pieces ++ answer.skipped in
       let more = answer.skipped ++ Shown answer.octets ∷ [] in
       let all = joined_chain so_far.pieces more ∙ ap (λ (o : List ℕ). joined so_far.pieces ++ o) (joined_more answer.skipped (Shown answer.octets))
@@ -301,6 +302,8 @@ module _ {S : Type 0} (gives : S → S → List ℕ → Type 0) (has_ended : S �
             place = inr (inl (
               subst (λ (l : Option ℕ). IsPiece config.parts.session l (Shown answer.octets)) (last_behind now state records so_far answer.skipped) piece.0,
               subst (λ (r : List ShownRecord). Begins config r) (sym (shown_behind now state records so_far answer.skipped answer.only)) begins,
+              subst (λ (x : ShownRecord). may_lack config (records_of pieces) x) (sym answer.shown)
+                  (subst (λ (r : List ShownRecord). may_lack config r shown) (sym (shown_behind now state records so_far answer.skipped answer.only)) lacks),
             ));
           }));
         },

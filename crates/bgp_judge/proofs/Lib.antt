@@ -13,4 +13,5 @@ pub mod Verdicts
 pub mod CaptureSoFar
 pub mod CaptureEnds
 pub mod Telling
+pub mod Receiving
 pub mod OneVerdict

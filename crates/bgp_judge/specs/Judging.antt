@@ -7,7 +7,7 @@ use Rattle.bgp_prefix.specs.declared.session.Session.{Session}
 use Rattle.bgp_open.specs.declared.config.Config.{Config}
 use Rattle.bgp_machine.specs.Run.{Begins}
 use Rattle.mrt.specs.Capture.{Piece, Shown, ArePieces, IsBegun, IsFirstFault, IsPiece, Spells}
-use Rattle.mrt.specs.Capture.{joined, last_of, records_of}
+use Rattle.mrt.specs.Capture.{joined, last_of, records_of, shown_of}
 use Rattle.mrt.specs.ReadBy.{ReadBy}
 use Rattle.mrt.specs.Reader.{ReaderState}
 use Rattle.mrt.specs.declared.fault.CaptureFault.{CaptureFault}
@@ -46,27 +46,31 @@ module _ {S : Type 0} (gives : S → S → List ℕ → Type 0) (has_ended : S �
     pub offset : fault.offset ≡ length (joined pieces)
     pub begun : IsBegun config.parts.session rest
 
-  -- Memory was refused: before anything was read; or at a record of the session or at the end, and
-  -- then the records before begin a run.
-  pub record LacksMemory (fault : CaptureFault) : Type 0 where
-    pub pieces : List Piece
-    pub rest : List ℕ
-    pub gave : gives old new (joined pieces ++ rest)
-    pub each : ArePieces config.parts.session None pieces
-    pub kind : fault.kind ≡ kinds.Memory
-    pub offset : fault.offset ≡ length (joined pieces)
-    pub place : ((pieces ≡ []) × (rest ≡ []))
-        ⊎ (IsPiece config.parts.session (last_of None pieces) (Shown rest)
-        × Begins config (records_of pieces))
-        ⊎ ((rest ≡ []) × IsTrue (has_ended new) × Begins config (records_of pieces))
+  -- A tracker may lack memory for one record more by `may_lack`: under a configuration, after these
+  -- records.
+  module _ (may_lack : Config → List ShownRecord → ShownRecord → Type 0) where
+    -- Memory was refused: before anything was read; or at a record of the session for which the
+    -- tracker may lack it, or at the end, and then the records before begin a run.
+    pub record LacksMemory (fault : CaptureFault) : Type 0 where
+      pub pieces : List Piece
+      pub rest : List ℕ
+      pub gave : gives old new (joined pieces ++ rest)
+      pub each : ArePieces config.parts.session None pieces
+      pub kind : fault.kind ≡ kinds.Memory
+      pub offset : fault.offset ≡ length (joined pieces)
+      pub place : ((pieces ≡ []) × (rest ≡ []))
+          ⊎ (IsPiece config.parts.session (last_of None pieces) (Shown rest)
+          × Begins config (records_of pieces)
+          × may_lack config (records_of pieces) (shown_of rest))
+          ⊎ ((rest ≡ []) × IsTrue (has_ended new) × Begins config (records_of pieces))
 
-  -- why there is no verdict
-  abbrev pub IsRefusal : CaptureFault → Type 0
-  IsRefusal fault = IsRefusedFor fault ⊎ HasFailed fault ⊎ LacksMemory fault
+    -- why there is no verdict
+    abbrev pub IsRefusal : CaptureFault → Type 0
+    IsRefusal fault = IsRefusedFor fault ⊎ HasFailed fault ⊎ LacksMemory fault
 
-  abbrev pub Judges : {X : Type 0} → Result (Verdict X) CaptureFault → Type 0
-  Judges (Ok verdict) = IsJudged verdict
-  Judges (Err fault) = IsRefusal fault
+    abbrev pub Judges : {X : Type 0} → Result (Verdict X) CaptureFault → Type 0
+    Judges (Ok verdict) = IsJudged verdict
+    Judges (Err fault) = IsRefusal fault
 
 -- the fault that is answered, if one is
 abbrev pub fault_in : {X : Type 0} → Result X CaptureFault → Option CaptureFault
@@ -96,7 +100,8 @@ IsAt stands config records (Some count) =
 
 -- a capture was read to its end, or as far as a fault
 module _ {S : Type 0} (gives : S → S → List ℕ → Type 0) (has_ended : S → Bool) (config : Config)
-    (old new : S) (stands : Config → List ShownRecord → Type 0) (last : ℕ) where
+    (old new : S) (may_lack : Config → List ShownRecord → ShownRecord → Type 0)
+    (stands : Config → List ShownRecord → Type 0) (last : ℕ) where
   pub record ReadsAll (impossible : Option ℕ) : Type 0 where
     pub pieces : List Piece
     pub gave : gives old new (joined pieces)
@@ -107,4 +112,4 @@ module _ {S : Type 0} (gives : S → S → List ℕ → Type 0) (has_ended : S �
 
   abbrev pub Follows : Result (Option ℕ) CaptureFault → Type 0
   Follows (Ok impossible) = ReadsAll impossible
-  Follows (Err fault) = IsRefusal gives has_ended config old new fault
+  Follows (Err fault) = IsRefusal gives has_ended config old new may_lack fault

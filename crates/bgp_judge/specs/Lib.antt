@@ -8,4 +8,5 @@ pub mod Ends
 pub mod Verdict
 pub mod Judging
 pub mod Told
+pub mod Receiving
 pub mod Plain

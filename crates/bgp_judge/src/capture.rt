@@ -36,7 +36,7 @@ fn follow<A: Allocator + Copy, T: Tracker<A>, S: Source>(
     requires failures { S.failures source.old < u64.MAX }
     ensures follows { ReadsWith S.gives config.now.parts.session source.old source.new reader.new
         (fault_in result)
-        (λ gives. Follows gives S.has_ended config.now source.old source.new
+        (λ gives. Follows gives S.has_ended config.now source.old source.new T.may_lack
         (T.stands_for tracker.new) reader.new.place result) }
     ensures failures { S.failures source.new ≡ S.failures source.old + failures_of result }
 {
@@ -66,15 +66,16 @@ fn follow<A: Allocator + Copy, T: Tracker<A>, S: Source>(
 ///
 /// A fault's offset is that of the first octet of the record in which it was found. Faults 1 to 8
 /// are what is wrong in the octets; 9, `Device`, is answered where the source failed; and 10,
-/// `Memory`, where memory was refused: at offset 0 to begin with, at a record's offset where the
-/// tracker takes it, at the capture's length where the ends are listed.
+/// `Memory`, where memory was refused: at offset 0 to begin with, at the offset of a record for
+/// which the tracker may lack it, at the capture's length where the ends are listed.
 pub fn judge<A: Allocator + Copy, T: Tracker<A>, S: Source>(
     alloc: A,
     config: &Config,
     source: &mut S,
 ) -> Result<Verdict<A>, CaptureFault>
     requires { S.failures source.old < u64.MAX }
-    ensures judged { Judges S.gives S.has_ended config.now source.old source.new result }
+    ensures judged { Judges S.gives S.has_ended config.now source.old source.new T.may_lack
+        result }
     ensures failures { S.failures source.new ≡ S.failures source.old + failures_of result }
 {
     let mut reader = Reader::new(alloc);
@@ -93,7 +94,7 @@ pub fn judge_with<A: Allocator + Copy, T: Tracker<A>, S: Source>(
     requires failures { S.failures source.old < u64.MAX }
     ensures judged { ReadsWith S.gives config.now.parts.session source.old source.new reader.new
         (fault_in result)
-        (λ gives. Judges gives S.has_ended config.now source.old source.new result) }
+        (λ gives. Judges gives S.has_ended config.now source.old source.new T.may_lack result) }
     ensures failures { S.failures source.new ≡ S.failures source.old + failures_of result }
 {
     let started: Result<T, _> = T::start(alloc, config);

@@ -39,8 +39,8 @@ pub(crate) fn verdict_of<A: Allocator + Copy, T: Tracker<A>>(
     }
 }
 
-/// Lets the tracker take one record more, behind so many, if none of them is impossible. Answers
-/// the first impossible one.
+/// Lets the tracker take one record more, after so many, if none of them is impossible. Answers
+/// the first impossible one. Memory is refused where the tracker may lack it, alone.
 pub(crate) fn advance<A: Allocator + Copy, T: Tracker<A>>(
     tracker: &mut T,
     impossible: Option<u64>,
@@ -52,6 +52,9 @@ pub(crate) fn advance<A: Allocator + Copy, T: Tracker<A>>(
         → IfOk result (IsAt (T.stands_for tracker.new) config
         (records ++ shown_of shown.now ∷ [])) }
     ensures err { OnErr result (impossible ≡ None) }
+    ensures memory { (config : TheConfig) (records : List ShownRecord)
+        → IsAt (T.stands_for tracker.old) config records impossible
+        → OnErr result (T.may_lack config records (shown_of shown.now)) }
 {
     if impossible.is_some() {
         return Ok(impossible);

@@ -27,7 +27,8 @@ pub use capture::{judge, judge_with};
 pub use end::End;
 pub use judging::judge_records;
 pub use laws::{
-    one_end_for_each_disabled_set, records_have_just_one_verdict, records_tell_the_state,
+    each_message_has_a_step, impossible_only_where_owed, one_end_for_each_disabled_set,
+    records_have_just_one_verdict, records_tell_the_state,
 };
 pub use opening::{OpenedSteps, list_openings, openings};
 pub use plain::PlainTracker;

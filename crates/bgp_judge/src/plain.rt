@@ -34,6 +34,9 @@ impl<A: Allocator + Copy> Tracker<A> for PlainTracker<A> {
         (tracker.config ≡ config) × StandFor config (Among tracker.members.items) records
         × AreApart tracker.members.items };
 
+    // It copies its members at each record.
+    ghost may_lack = { λ config records shown. Unit {0} };
+
     fn start(alloc: A, config: &Config) -> Result<PlainTracker<A>, AllocError> {
         let mut members = Vec::new(alloc);
         members.push(PlainMember::fresh(alloc))?;
@@ -50,6 +53,12 @@ impl<A: Allocator + Copy> Tracker<A> for PlainTracker<A> {
         let alive = has_some(next.as_slice());
         self.members = next;
         Ok(alive)
+    }
+
+    fn may_take(&self, shown: &Record<'_>) -> Result<bool, AllocError> {
+        each_owed_want_can_be_met();
+        let members = next_members(self.alloc, &self.config, self.members.as_slice(), shown)?;
+        Ok(has_some(members.as_slice()))
     }
 
     fn ends(&self) -> Result<Vec<End<A>, A>, AllocError> {

@@ -17,13 +17,16 @@ pub trait Tracker<A: Allocator + Copy>: Drop {
     /// For which configuration and which records it stands, by what it holds now.
     ghost stands_for: { Self → TheConfig → List ShownRecord → Type 0 };
 
+    /// After which records, under a configuration, it may lack memory for one record more.
+    ghost may_lack: { TheConfig → List ShownRecord → ShownRecord → Type 0 };
+
     /// A tracker that stands for no record.
     fn start(alloc: A, config: &Config) -> Result<Self, AllocError>
         ensures { IfOk result (λ tracker. stands_for tracker config.now []) };
 
     /// Takes one record more, and answers whether the records begin a run of the session machine.
-    /// Where they don't, nothing more is said of the tracker. Refused for memory, it stands for
-    /// what it stood for.
+    /// Where they don't, nothing more is said of the tracker. Refused for memory, which is where
+    /// it may lack it alone, it stands for what it stood for.
     fn take(&mut self, shown: &Record<'_>) -> Result<bool, AllocError>
         ensures alive { (config : TheConfig) (records : List ShownRecord)
             → stands_for self.old config records
@@ -35,7 +38,21 @@ pub trait Tracker<A: Allocator + Copy>: Drop {
             → stands_for self.new config (records ++ shown_of shown.now ∷ [])) }
         ensures err { (config : TheConfig) (records : List ShownRecord)
             → stands_for self.old config records
-            → OnErr result (stands_for self.new config records) };
+            → OnErr result (stands_for self.new config records) }
+        ensures memory { (config : TheConfig) (records : List ShownRecord)
+            → stands_for self.old config records
+            → OnErr result (may_lack config records (shown_of shown.now)) };
+
+    /// Whether the records with this one after them begin a run: what `take` would answer. The
+    /// tracker stays as it is.
+    fn may_take(&self, shown: &Record<'_>) -> Result<bool, AllocError>
+        ensures may { (config : TheConfig) (records : List ShownRecord)
+            → stands_for self.now config records
+            → IfOk result (λ may. IsTrue may
+            ↔ Begins config (records ++ shown_of shown.now ∷ [])) }
+        ensures memory { (config : TheConfig) (records : List ShownRecord)
+            → stands_for self.now config records
+            → OnErr result (may_lack config records (shown_of shown.now)) };
 
     /// All ends of the runs that show just the records, none twice, in the order of their disabled
     /// families: none, IPv4, IPv6, both.

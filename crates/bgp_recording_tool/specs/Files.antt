@@ -4,6 +4,7 @@ use Rattle.std.specs.Prelude.{◌≡◌, ◌<◌, ◌+◌, ◌||◌, ◌⊎◌, 
 use Rattle.std.specs.Prelude.{Option, None, Some, IsSome, IsTrue, IsFalse}
 use Rattle.std.specs.Borrow.{Bor}
 use Rattle.std.specs.Io.KnownBytes.{Consumes, IsAtEnd, prepend_known}
+use Rattle.bgp_prefix.specs.Shown.{ShownRecord}
 use Rattle.bgp_open.specs.declared.config.Config.{Config}
 use Rattle.bgp_prefix.specs.declared.session.Session.{Session}
 use Rattle.mrt.specs.FromRead.{ReaderState, fresh_reader, reader_state, Gives}
@@ -81,13 +82,13 @@ module _ {R W X : Type 0} (remaining : R → Option (List ℕ)) (contents : W �
   abbrev pub TakesWritten : FromWrite W → FromWrite W → List ℕ → Type 0
   TakesWritten from to octets = Takes contents (writer_state from) (writer_state to) octets
 
-  abbrev pub JudgesFile : Config → Type 0
-  JudgesFile config = ReadsFile remaining file reader old new outcome
+  abbrev pub JudgesFile : Config → (Config → List ShownRecord → ShownRecord → Type 0) → Type 0
+  JudgesFile config may_lack = ReadsFile remaining file reader old new outcome
       (λ from to. JudgesRecording GivesRead (λ source. (reader_state source).has_ended)
       TakesWritten (λ source. (reader_state source).failures)
       (λ sink. (writer_state sink).failures) config options from to old new
       (record { status = outcome.status; remarks = outcome.remarks }))
-      (λ peeked. JudgesOpened (peeked_remaining remaining) contents config file peeked
+      (λ peeked. JudgesOpened (peeked_remaining remaining) contents config may_lack file peeked
       (writer_state old) (writer_state new)
       (record { status = outcome.status; note = outcome.note }))
 

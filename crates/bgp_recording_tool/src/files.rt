@@ -108,7 +108,7 @@ pub fn judge_file<'a, A: Allocator + Copy, T: Tracker<A>, R: Read + Drop, W: Wri
 ) -> FileOutcome<'a, A>
     requires { (writer_state sink.old).failures < 2 ^ 63 }
     ensures judged { IfOk opened (λ reader. JudgesFile R.remaining W.contents options.now
-        file.entry reader sink.old sink.new result config.now) }
+        file.entry reader sink.old sink.new result config.now T.may_lack) }
     ensures unopened { IfErr opened (λ error. IsUnopened file.entry (error_kind error)
         (record { status = result.status; note = result.note })
         × (result.remarks.items ≡ []) × (sink.new ≡ sink.old)) }

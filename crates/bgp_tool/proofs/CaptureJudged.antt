@@ -1,5 +1,6 @@
 -- A capture's judging that began with a fresh text, told by what the sink took.
 use Rattle.std.proofs.Common.{◌≡◌, ◌∙◌, ◌⊎◌, ◌+◌, ◌++◌, ◌≤◌, ℕ, List, [], Bool, IsTrue, IsFalse, arith, refl, sym, ap, subst, inl, inr, map, Option, Result, Ok, Err}
+use Rattle.bgp_prefix.specs.Shown.{ShownRecord}
 use Rattle.bgp_open.specs.declared.config.Config.{Config}
 use Rattle.mrt.specs.declared.fault.CaptureFault.{CaptureFault}
 use Rattle.mrt.specs.declared.fault.FaultKind.{FaultKind}
@@ -22,15 +23,15 @@ use Rattle.bgp_tool.specs.Judging.{TellsVerdict, TellsFault, JudgesCapture}
 use Rattle.bgp_tool.specs.OpenedJudging.{fault_told}
 
 module _ {R : Type 0} (gives : R → R → List ℕ → Type 0) (has_ended : R → Bool) (counts : R → ℕ) (config : Config)
-    (source source' : R) where
+    (source source' : R) (may_lack : Config → List ShownRecord → ShownRecord → Type 0) where
   same_count : counts source' ≡ counts source + 0 → counts source' ≡ counts source
   same_count counted = omega arith
 
   -- what is answered is told by its text and status
-  pub tells : {X : Type 0} (answer : Result (Verdict X) CaptureFault) → Judges gives has_ended config source source' answer
+  pub tells : {X : Type 0} (answer : Result (Verdict X) CaptureFault) → Judges gives has_ended config source source' may_lack answer
       → counts source' ≡ counts source + failures_of answer
       → TellsVerdict gives has_ended counts config source source' (answer_text answer) (answer_status answer)
-      ⊎ TellsFault gives has_ended counts config source source' (answer_text answer) (answer_status answer)
+      ⊎ TellsFault gives has_ended counts config source source' may_lack (answer_text answer) (answer_status answer)
   tells (Ok (Yes ends)) judged counted = inl record {
     octets = judged.octets;
     records = judged.records;
@@ -86,14 +87,14 @@ module _ {R : Type 0} (gives : R → R → List ℕ → Type 0) (has_ended : R �
 
 -- and so is the judging, where its text was written
 module _ {R W : Type 0} (takes : W → W → List ℕ → Type 0) (failures : W → ℕ) (gives : R → R → List ℕ → Type 0) (has_ended : R → Bool) (counts : R → ℕ)
-    (config : Config) (source source' : R) (sink sink' : W) where
-  pub judges_capture : {X : Type 0} (answer : Result (Verdict X) CaptureFault) (status : ℕ) → Judges gives has_ended config source source' answer
+    (config : Config) (source source' : R) (may_lack : Config → List ShownRecord → ShownRecord → Type 0) (sink sink' : W) where
+  pub judges_capture : {X : Type 0} (answer : Result (Verdict X) CaptureFault) (status : ℕ) → Judges gives has_ended config source source' may_lack answer
       → counts source' ≡ counts source + failures_of answer → IsWritten takes failures (answer_text answer) (answer_status answer) sink sink' status
-      → JudgesCapture gives has_ended takes counts failures config source source' sink sink' status
+      → JudgesCapture gives has_ended takes counts failures config source source' may_lack sink sink' status
   judges_capture answer status judged counted wrote = record {
     text = answer_text answer;
     code = answer_status answer;
-    answer = tells gives has_ended counts config source source' answer judged counted;
+    answer = tells gives has_ended counts config source source' may_lack answer judged counted;
     written = wrote.written;
     left = wrote.left;
     took = wrote.took;
@@ -102,9 +103,10 @@ module _ {R W : Type 0} (takes : W → W → List ℕ → Type 0) (failures : W 
   }
 
 -- Of a source that is seen as another, what was judged is judged of that one.
-module _ {F R : Type 0} (view : F → R) (has_ended : R → Bool) (config : Config) (source source' : F) (octets : List ℕ) where
-  viewed : {X : Type 0} (answer : Result (Verdict X) CaptureFault) → Judges (λ from to some. some ≡ octets) (λ state. has_ended (view state)) config source source' answer
-      → Judges (λ from to some. some ≡ octets) has_ended config (view source) (view source') answer
+module _ {F R : Type 0} (view : F → R) (has_ended : R → Bool) (config : Config) (source source' : F)
+    (may_lack : Config → List ShownRecord → ShownRecord → Type 0) (octets : List ℕ) where
+  viewed : {X : Type 0} (answer : Result (Verdict X) CaptureFault) → Judges (λ from to some. some ≡ octets) (λ state. has_ended (view state)) config source source' may_lack answer
+      → Judges (λ from to some. some ≡ octets) has_ended config (view source) (view source') may_lack answer
   viewed (Ok verdict) is = record {
     octets = is.octets;
     records = is.records;
@@ -140,11 +142,12 @@ module _ {F R : Type 0} (view : F → R) (has_ended : R → Bool) (config : Conf
 
 -- And it is told of just the octets of which a reader of captures knows all pieces.
 module _ {F R W : Type 0} (view : F → R) (takes : W → W → List ℕ → Type 0) (failures : W → ℕ) (gives : R → R → List ℕ → Type 0)
-    (has_ended : R → Bool) (counts : R → ℕ) (config : Config) (source source' : F) (sink sink' : W) where
+    (has_ended : R → Bool) (counts : R → ℕ) (config : Config) (source source' : F)
+    (may_lack : Config → List ShownRecord → ShownRecord → Type 0) (sink sink' : W) where
   told_in : {X : Type 0} (given : R → R → List ℕ → Type 0) (answer : Result (Verdict X) CaptureFault)
-      → (judged : Judges given has_ended config (view source) (view source') answer)
+      → (judged : Judges given has_ended config (view source) (view source') may_lack answer)
       → (counted : counts (view source') ≡ counts (view source) + failures_of answer)
-      → fault_in answer ≡ fault_told (tells given has_ended counts config (view source) (view source') answer judged counted)
+      → fault_in answer ≡ fault_told (tells given has_ended counts config (view source) (view source') may_lack answer judged counted)
   unfolding tells
   told_in given (Ok (Yes ends)) judged counted = refl
   told_in given (Ok (No count)) judged counted = refl
@@ -153,22 +156,22 @@ module _ {F R W : Type 0} (view : F → R) (takes : W → W → List ℕ → Typ
 
   pub judges_read : {X : Type 0} (reader : ReaderState) (answer : Result (Verdict X) CaptureFault) (status : ℕ)
       → ReadsWith (λ from to some. gives (view from) (view to) some) config.parts.session source source' reader (fault_in answer)
-      (λ given. Judges given (λ state. has_ended (view state)) config source source' answer)
+      (λ given. Judges given (λ state. has_ended (view state)) config source source' may_lack answer)
       → counts (view source') ≡ counts (view source) + failures_of answer
       → IsWritten takes failures (answer_text answer) (answer_status answer) sink sink' status
       → (read : ReadBy gives config.parts.session (view source) (view source') reader
-      (λ given. JudgesCapture given has_ended takes counts failures config (view source) (view source') sink sink' status))
+      (λ given. JudgesCapture given has_ended takes counts failures config (view source) (view source') may_lack sink sink' status))
       × EndsBy read.pieces read.rest (fault_told read.holds.answer)
   unfolding judges_capture
   judges_read reader answer status (by, ends) counted wrote =
-      let judged = viewed view has_ended config source source' (joined by.pieces ++ by.rest) answer by.holds in (
+      let judged = viewed view has_ended config source source' may_lack (joined by.pieces ++ by.rest) answer by.holds in (
         record {
           pieces = by.pieces;
           rest = by.rest;
           knows = by.knows;
           gave = by.gave;
           each = by.each;
-          holds = judges_capture takes failures (λ from to some. some ≡ joined by.pieces ++ by.rest) has_ended counts config (view source) (view source') sink sink' answer status
+          holds = judges_capture takes failures (λ from to some. some ≡ joined by.pieces ++ by.rest) has_ended counts config (view source) (view source') may_lack sink sink' answer status
               judged counted wrote;
         },
         subst (λ (f : Option CaptureFault). EndsBy by.pieces by.rest f) (told_in (λ from to some. some ≡ joined by.pieces ++ by.rest) answer judged counted) ends,

@@ -1,5 +1,6 @@
 -- The judging of both ends' captures, told by what the sink took.
 use Rattle.std.proofs.Common.{◌≡◌, ◌∙◌, ◌⊎◌, ◌+◌, ◌≤◌, ℕ, Bool, List, IsTrue, IsFalse, inl, inr, arith, max, Result}
+use Rattle.bgp_prefix.specs.Shown.{ShownRecord}
 use Rattle.bgp_open.specs.declared.config.Config.{Config}
 use Rattle.mrt.specs.declared.fault.CaptureFault.{CaptureFault}
 use Rattle.mrt.specs.Progress.{failures_of}
@@ -24,19 +25,20 @@ max_below m n first second = omega arith
 
 module _ {L R W : Type 0} (left_gives : L → L → List ℕ → Type 0) (left_ended : L → Bool) (left_failures : L → ℕ) (left_config : Config) (left left' : L)
     (right_gives : R → R → List ℕ → Type 0) (right_ended : R → Bool) (right_failures : R → ℕ) (right_config : Config) (right right' : R)
+    (may_lack : Config → List ShownRecord → ShownRecord → Type 0)
     (takes : W → W → List ℕ → Type 0) (failures : W → ℕ) (sink sink' : W) where
   pub judges_pair : {X : Type 0} (one other : Result (Verdict X) CaptureFault) (status : ℕ)
-      → Judges left_gives left_ended left_config left left' one → left_failures left' ≡ left_failures left + failures_of one
-      → Judges right_gives right_ended right_config right right' other → right_failures right' ≡ right_failures right + failures_of other
+      → Judges left_gives left_ended left_config left left' may_lack one → left_failures left' ≡ left_failures left + failures_of one
+      → Judges right_gives right_ended right_config right right' may_lack other → right_failures right' ≡ right_failures right + failures_of other
       → IsWritten takes failures (pair_text (answer_text one) (answer_text other)) (max (answer_status one) (answer_status other)) sink sink' status
-      → JudgesPair left_gives left_ended left_failures left_config left left' right_gives right_ended right_failures right_config right right' takes failures
+      → JudgesPair left_gives left_ended left_failures left_config left left' right_gives right_ended right_failures right_config right right' may_lack takes failures
       sink sink' status
   judges_pair one other status judged counted judged' counted' wrote = record {
     left_text = answer_text one;
     left_code = answer_status one;
     right_text = answer_text other;
     right_code = answer_status other;
-    left_answer = tells left_gives left_ended left_failures left_config left left' one judged counted;
-    right_answer = tells right_gives right_ended right_failures right_config right right' other judged' counted';
+    left_answer = tells left_gives left_ended left_failures left_config left left' may_lack one judged counted;
+    right_answer = tells right_gives right_ended right_failures right_config right right' may_lack other judged' counted';
     printed = wrote;
   }

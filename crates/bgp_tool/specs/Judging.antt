@@ -44,9 +44,9 @@ module _ (config : Config) (records : List ShownRecord) (text : List ℕ) (statu
 
 -- What is told of the octets that a source gave from one state to another.
 module _ {R : Type 0} (gives : R → R → List ℕ → Type 0) (has_ended : R → Bool)
-    (failures : R → ℕ) (config : Config) (source source' : R) (text : List ℕ) (status : ℕ) where
+    (failures : R → ℕ) (config : Config) (source source' : R) where
   -- the source was read to its end, its octets spell records, and this is the verdict on them
-  pub record TellsVerdict : Type 0 where
+  pub record TellsVerdict (text : List ℕ) (status : ℕ) : Type 0 where
     pub octets : List ℕ
     pub records : List ShownRecord
     pub gave : gives source source' octets
@@ -55,12 +55,14 @@ module _ {R : Type 0} (gives : R → R → List ℕ → Type 0) (has_ended : R �
     pub says : SaysVerdict config records text status
     pub counted : failures source' ≡ failures source
 
-  -- the octets have this first fault; or the source failed, or memory was refused, at this place
-  pub record TellsFault : Type 0 where
+  -- The octets have this first fault; or the source failed, or memory was refused, at this place:
+  -- at a record only where the tracker may lack it.
+  pub record TellsFault (may_lack : Config → List ShownRecord → ShownRecord → Type 0)
+      (text : List ℕ) (status : ℕ) : Type 0 where
     pub fault : CaptureFault
     pub why : IsRefusedFor gives has_ended config source source' fault
         ⊎ HasFailed gives has_ended config source source' fault
-        ⊎ LacksMemory gives has_ended config source source' fault
+        ⊎ LacksMemory gives has_ended config source source' may_lack fault
     pub prints : text ≡ refused_line fault.kind fault.offset
     pub tells : status ≡ status_by fault.kind
     -- one failure more, where that is the fault
@@ -70,11 +72,13 @@ module _ {R : Type 0} (gives : R → R → List ℕ → Type 0) (has_ended : R �
 -- the status is its own; and else a beginning, and the status is 5.
 pub record JudgesCapture {R W : Type 0} (gives : R → R → List ℕ → Type 0) (has_ended : R → Bool)
     (takes : W → W → List ℕ → Type 0) (source_failures : R → ℕ) (failures : W → ℕ)
-    (config : Config) (source source' : R) (sink sink' : W) (status : ℕ) : Type 0 where
+    (config : Config) (source source' : R)
+    (may_lack : Config → List ShownRecord → ShownRecord → Type 0) (sink sink' : W) (status : ℕ)
+    : Type 0 where
   pub text : List ℕ
   pub code : ℕ
   pub answer : TellsVerdict gives has_ended source_failures config source source' text code
-      ⊎ TellsFault gives has_ended source_failures config source source' text code
+      ⊎ TellsFault gives has_ended source_failures config source source' may_lack text code
   pub written : List ℕ
   pub left : List ℕ
   pub took : takes sink sink' written

@@ -3,6 +3,7 @@
 use Rattle.std.specs.Prelude.{◌⊎◌, ℕ, Bool, List, Option, None, Some}
 use Rattle.std.proofs.Common.{inl, inr}
 use Rattle.std.specs.Borrow.{Bor}
+use Rattle.bgp_prefix.specs.Shown.{ShownRecord}
 use Rattle.bgp_open.specs.declared.config.Config.{Config}
 use Rattle.mrt.specs.FromRead.{ReaderState, fresh_reader, Gives}
 use Rattle.mrt.specs.FromWrite.{WriterState, Takes}
@@ -16,16 +17,18 @@ use Rattle.bgp_tool.specs.OpenedCapture.{TellsCapture}
 
 -- the fault that is told, if it isn't a verdict
 abbrev pub fault_told : {R : Type 0} {gives : R → R → List ℕ → Type 0} {has_ended : R → Bool}
-    {failures : R → ℕ} {config : Config} {source source' : R} {text : List ℕ} {status : ℕ}
+    {failures : R → ℕ} {config : Config} {source source' : R}
+    {may_lack : Config → List ShownRecord → ShownRecord → Type 0} {text : List ℕ} {status : ℕ}
     → TellsVerdict gives has_ended failures config source source' text status
-    ⊎ TellsFault gives has_ended failures config source source' text status → Option CaptureFault
+    ⊎ TellsFault gives has_ended failures config source source' may_lack text status → Option CaptureFault
 fault_told (inl tells) = None
 fault_told (inr tells) = Some tells.fault
 
 -- From one state of a writer to another a reader's octets were judged, from a source that had given
 -- nothing, and it is told how that ended.
 pub record JudgesOpened {R W : Type 0} (remaining : R → Option (List ℕ))
-    (contents : W → Option (List ℕ)) (config : Config) (file : Bor (List ℕ)) (reader : R)
+    (contents : W → Option (List ℕ)) (config : Config)
+    (may_lack : Config → List ShownRecord → ShownRecord → Type 0) (file : Bor (List ℕ)) (reader : R)
     (old new : WriterState W) (outcome : Outcome) : Type 0 where
   pub source : ReaderState R
   pub found : records.ReaderState
@@ -33,6 +36,6 @@ pub record JudgesOpened {R W : Type 0} (remaining : R → Option (List ℕ))
   pub judged : ReadBy (Gives remaining) config.parts.session (fresh_reader reader) source found
       (λ gives. JudgesCapture gives (λ state. state.has_ended) (Takes contents)
       (λ state. state.failures) (λ state. state.failures) config (fresh_reader reader) source
-      old new outcome.status)
+      may_lack old new outcome.status)
   pub ends : EndsBy judged.pieces judged.rest (fault_told judged.holds.answer)
   pub told : TellsCapture file source found old new outcome.status outcome.note

@@ -70,6 +70,7 @@ pub record JudgesPair {L R W : Type 0}
     (left_config : Config) (left left' : L)
     (right_gives : R → R → List ℕ → Type 0) (right_ended : R → Bool) (right_failures : R → ℕ)
     (right_config : Config) (right right' : R)
+    (may_lack : Config → List ShownRecord → ShownRecord → Type 0)
     (takes : W → W → List ℕ → Type 0) (failures : W → ℕ) (sink sink' : W)
     (status : ℕ) : Type 0 where
   pub left_text : List ℕ
@@ -78,11 +79,13 @@ pub record JudgesPair {L R W : Type 0}
   pub right_code : ℕ
   pub left_answer :
       TellsVerdict left_gives left_ended left_failures left_config left left' left_text left_code
-      ⊎ TellsFault left_gives left_ended left_failures left_config left left' left_text left_code
+      ⊎ TellsFault left_gives left_ended left_failures left_config left left' may_lack left_text
+      left_code
   pub right_answer :
       TellsVerdict right_gives right_ended right_failures right_config right right' right_text
       right_code
-      ⊎ TellsFault right_gives right_ended right_failures right_config right right' right_text
+      ⊎ TellsFault right_gives right_ended right_failures right_config right right' may_lack
+      right_text
       right_code
   pub printed : IsWritten takes failures (pair_text left_text right_text)
       (max left_code right_code) sink sink' status

@@ -35,7 +35,8 @@ use std::alloc::Allocator;
 /// Where the octets spell none, also after an impossible record, it writes `capture refused:
 /// NUMBER NAME at OFFSET` of their first fault, and answers 3; where memory was refused 4, and
 /// where the source failed 5. Where the sink failed, a beginning of that text is written, and the
-/// status is 5.
+/// status is 5. At a record memory is refused only where the tracker may lack it
+/// ([`Tracker`](bgp_judge::Tracker), `may_lack`).
 ///
 /// It rests on the contract of [`Tracker`] alone, and so holds with every tracker.
 pub fn judge_capture<A: Allocator + Copy, T: Tracker<A>, R: Source, W: Sink>(
@@ -47,7 +48,7 @@ pub fn judge_capture<A: Allocator + Copy, T: Tracker<A>, R: Source, W: Sink>(
     requires source { R.failures source.old < 2 ^ 63 }
     requires sink { W.failures sink.old < 2 ^ 63 }
     ensures { JudgesCapture R.gives R.has_ended W.takes R.failures W.failures config.now
-        source.old source.new sink.old sink.new result }
+        source.old source.new T.may_lack sink.old sink.new result }
 {
     let answer = judge::<A, T, R>(alloc, config, source);
     write_answer(sink, &answer)

@@ -31,7 +31,7 @@ pub fn judge_opened<'a, A: Allocator + Copy, T: Tracker<A>, R: Read + Drop, W: W
 ) -> Outcome<'a>
     requires { (writer_state sink.old).failures < 2 ^ 63 }
     ensures judged { IfOk opened (λ reader. JudgesOpened R.remaining W.contents config.now
-        file.entry reader (writer_state sink.old) (writer_state sink.new) result) }
+        T.may_lack file.entry reader (writer_state sink.old) (writer_state sink.new) result) }
     ensures unopened { IfErr opened (λ error. IsUnopened file.entry (error_kind error) result
         × (writer_state sink.new ≡ writer_state sink.old)) }
     ensures statuses { result.status ≤ 5 }
@@ -51,7 +51,7 @@ fn judge_reader<'a, A: Allocator + Copy, T: Tracker<A>, R: Read + Drop, W: Write
     sink: &mut FromWrite<W>,
 ) -> Outcome<'a>
     requires { (writer_state sink.old).failures < 2 ^ 63 }
-    ensures judged { JudgesOpened R.remaining W.contents config.now file.entry reader
+    ensures judged { JudgesOpened R.remaining W.contents config.now T.may_lack file.entry reader
         (writer_state sink.old) (writer_state sink.new) result }
     ensures statuses { result.status ≤ 5 }
 {

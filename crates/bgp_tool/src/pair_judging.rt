@@ -83,7 +83,7 @@ pub fn judge_pair<A: Allocator + Copy, T: Tracker<A>, L: Source, R: Source, W: S
     ensures judges { JudgesPair
         L.gives L.has_ended L.failures left_config.now left.old left.new
         R.gives R.has_ended R.failures right_config.now right.old right.new
-        W.takes W.failures sink.old sink.new result }
+        T.may_lack W.takes W.failures sink.old sink.new result }
     ensures statuses { result ≤ 5 }
 {
     let one = judge::<A, T, L>(alloc, left_config, left);

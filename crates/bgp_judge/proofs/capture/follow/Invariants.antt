@@ -7,7 +7,7 @@ use Rattle.bgp_judge.proofs.capture.follow.Given as goal
 -- what was read so far, and how far the tracker has come with it
 abbrev pub invariant-loop-shown : goal.invariant-loop-shown
 invariant-loop-shown g l = record {
-  so_far : (records : List ShownRecord) × SoFar g.S.Source.gives g.S.Source.has_ended g.met.S.Source.joined g.S.Source.given_count g.met.S.Source.counted l.config l.fn.source l.source l.reader records × IsAt (g.T.Tracker.stands_for l.tracker) l.config records l.impossible × (length records ≡ l.count);
+  so_far : (records : List ShownRecord) × SoFar g.S.Source.gives g.S.Source.has_ended g.met.S.Source.joined g.S.Source.given_count g.met.S.Source.counted l.config l.fn.source g.T.Tracker.may_lack l.source l.reader records × IsAt (g.T.Tracker.stands_for l.tracker) l.config records l.impossible × (length records ≡ l.count);
   few : l.count ≤ l.reader.passed;
   one_source : l.reader.passed ≤ g.S.Source.given_count l.source;
   calm : g.S.Source.failures l.source ≡ g.S.Source.failures l.fn.source;

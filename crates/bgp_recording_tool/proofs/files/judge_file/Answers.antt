@@ -17,7 +17,7 @@ returns-then-not-is_recording-clause-judged g c =
       is = inr (
         sym c.if-not-is_recording.ensures,
         subst
-            (λ (o : Outcome). JudgesOpened (peeked_remaining g.R.Read.remaining) g.W.Write.contents c.args.config.now c.args.file c.new-peeked.result
+            (λ (o : Outcome). JudgesOpened (peeked_remaining g.R.Read.remaining) g.W.Write.contents c.args.config.now g.T.Tracker.may_lack c.args.file c.new-peeked.result
             (writer_state c.args.sink.now) (writer_state c.judge_opened-outcome.new.sink) o)
             (same_outcome c.judge_opened-outcome.result outcome.result.status outcome.result.note outcome.ensures.status outcome.ensures.note)
             c.judge_opened-outcome.ensures.judged,

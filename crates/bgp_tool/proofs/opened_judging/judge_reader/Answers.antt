@@ -22,10 +22,10 @@ returns-clause-judged g c =
     let (judged, ends) = subst
     (λ (s : ReaderState _). (read : ReadBy (Gives g.R.Read.remaining) c.args.config.now.parts.session s last found
     (λ gives. JudgesCapture gives (λ state. state.has_ended) (Takes g.W.Write.contents) (λ state. state.failures) (λ state. state.failures)
-    c.args.config.now s last old new status)) × EndsBy read.pieces read.rest (fault_told read.holds.answer))
+    c.args.config.now s last g.T.Tracker.may_lack old new status)) × EndsBy read.pieces read.rest (fault_told read.holds.answer))
     fresh
     (judges_read reader_state (Takes g.W.Write.contents) (λ state. state.failures) (Gives g.R.Read.remaining) (λ state. state.has_ended) (λ state. state.failures)
-    c.args.config.now c.new-source.result c.judge_with-answer.new.source old new found c.judge_with-answer.result status c.judge_with-answer.ensures.judged
+    c.args.config.now c.new-source.result c.judge_with-answer.new.source g.T.Tracker.may_lack old new found c.judge_with-answer.result status c.judge_with-answer.ensures.judged
     c.judge_with-answer.ensures.failures
     (record { written = wrote.written; left = wrote.left; took = wrote.took; begun = wrote.begun; all = wrote.all })) in record {
       source = last;
