@@ -1,6 +1,6 @@
 -- What is told of a connection that is held.
 use Rattle.std.proofs.Common.{◌≡◌, ◌<◌, ◌≤◌, ◌+◌, ◌∙◌, ℕ, Some, None, Option, cond, List, [], ◌∷◌, refl, sym, ap, arith, length, subst}
-use Rattle.std.specs.Option.{option_or, unwrap_or}
+use Rattle.std.specs.Option.{option_or, unwrap_or, is_none}
 use Rattle.std.specs.BTreeMap.{get}
 use Rattle.std.specs.List.{AllByRecursion}
 use Rattle.std.proofs.lemmas.List.Elements.{recursion_from_All}
@@ -16,10 +16,10 @@ use Rattle.streams.specs.declared.direction.Direction.{Direction}
 use Rattle.streams.specs.declared.gathering.Gathering.{Gathering}
 use Rattle.streams.specs.Given.{known_at, total}
 use Rattle.streams.specs.Passed.{Segment}
-use Rattle.streams.specs.History.{next_of, fin_of}
-use Rattle.streams.specs.Refusals.{missing_of}
-use Rattle.streams.specs.Sent.{missing, is_fin, first_shown}
-use Rattle.streams.specs.Directions.{Holds, missing_in, first_above}
+use Rattle.streams.specs.History.{start_of, next_of, fin_of}
+use Rattle.streams.specs.Refusals.{half_of, missing_of}
+use Rattle.streams.specs.Sent.{half_shown, missing, is_fin, first_shown}
+use Rattle.streams.specs.Directions.{Holds, half_in, missing_in, first_above}
 use Rattle.streams.specs.Connections.{opener_of}
 use Rattle.streams.specs.Gatherings.{HoldsConnection, refusal_in, Shows, Opens}
 use Rattle.streams.specs.Held.{IsOne}
@@ -35,6 +35,17 @@ missing_is side segments d holds =
     ∙ ap (λ (o : Option ℕ). cond (is_fin (fin_of side segments) n) o (first_above d.shown.items n)) (holds.shown (n + 1))
     ∙ ap (λ (o : Option ℕ). cond (is_fin (fin_of side segments) n) (first_shown side segments (n + 1)) o) (holds.shown n)
     ∙ ap (λ (k : ℕ). cond (is_fin (fin_of side segments) k) (first_shown side segments (k + 1)) (first_shown side segments k)) (next_is side segments d holds)
+
+half_is : {Z : Type 0} (side : Side) (segments : List Segment) (d : Direction Z) (start : Option ℕ) → Holds side segments d → start ≡ start_of side segments → half_in start d ≡ half_shown side segments
+half_is side segments d start holds is =
+    ap (λ (o : Option ℕ). cond (is_none o) d.acknowledged_by None) is
+    ∙ ap (λ (o : Option ℕ). cond (is_none (start_of side segments)) o None) holds.acknowledged_by
+
+halves_are : {Z : Type 0} (segments : List Segment) (g : Gathering Z) → HoldsConnection segments g → Holds Peer segments g.received → Holds Local segments g.sent
+    → half_of (half_in g.peer_start g.received) (half_in g.local_start g.sent) ≡ half_of (half_shown Peer segments) (half_shown Local segments)
+halves_are segments g holds received sent =
+    ap (λ (o : Option ℕ). half_of o (half_in g.local_start g.sent)) (half_is Peer segments g.received g.peer_start received holds.peer_start)
+    ∙ ap (λ (o : Option ℕ). half_of (half_shown Peer segments) o) (half_is Local segments g.sent g.local_start sent holds.local_start)
 
 rest_is : {Z : Type 0} (segments : List Segment) (g : Gathering Z) → Holds Peer segments g.received → Holds Local segments g.sent
     → missing_of (missing_in g.received) (missing_in g.sent) (length g.received.gathered.octets.items) (length g.sent.gathered.octets.items)
@@ -52,8 +63,13 @@ either (Some x) one other h = refl
 -- the refusal of what is held is that of the segments
 refusal_is : {Z : Type 0} (segments : List Segment) (g : Gathering Z) → HoldsConnection segments g → refusal_in g ≡ refusal_of segments
 refusal_is segments g holds =
-    either g.fault _ _ (λ none. rest_is segments g (holds.received none) (holds.sent none))
-    ∙ ap (λ (f : Option Fault). option_or f (missing_of (missing Peer segments) (missing Local segments) (next_of Peer segments) (next_of Local segments))) holds.fault
+    let missed = missing_of (missing_in g.received) (missing_in g.sent) (length g.received.gathered.octets.items) (length g.sent.gathered.octets.items) in
+    let half = half_of (half_shown Peer segments) (half_shown Local segments) in
+    let lacks = missing_of (missing Peer segments) (missing Local segments) (next_of Peer segments) (next_of Local segments) in
+    either g.fault (option_or (half_of (half_in g.peer_start g.received) (half_in g.local_start g.sent)) missed) (option_or half lacks) (λ none.
+    ap (λ (f : Option Fault). option_or f missed) (halves_are segments g holds (holds.received none) (holds.sent none))
+    ∙ ap (option_or half) (rest_is segments g (holds.received none) (holds.sent none)))
+    ∙ ap (λ (f : Option Fault). option_or f (option_or half lacks)) holds.fault
 
 pub refused_is : {Z : Type 0} (segments : List Segment) (g : Gathering Z) → IsOne segments g → refusal_in g ≡ refusal_of segments
 refused_is [] g one = absurd one

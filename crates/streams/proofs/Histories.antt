@@ -1,5 +1,5 @@
 -- What a direction holds is what the connection's segments tell of it.
-use Rattle.std.proofs.Common.{◌≡◌, ◌<◌, ◌≤◌, ◌+◌, ◌∙◌, ℕ, Some, None, Option, Bool, true, false, cond, nat_lt, List, [], ◌∷◌, refl, sym, ap, arith, zero, suc, inl, inr, length, max, ◌||◌, ◌&&◌, subst}
+use Rattle.std.proofs.Common.{◌≡◌, ◌<◌, ◌≤◌, ◌+◌, ◌∙◌, ℕ, Some, None, Option, Bool, true, false, cond, nat_lt, List, [], ◌∷◌, refl, sym, ap, arith, zero, suc, inl, inr, length, max, not, ◌||◌, ◌&&◌, subst}
 use Rattle.std.specs.Option.{option_or, is_some, is_none}
 use Rattle.std.proofs.lemmas.Bool.{cases_lt}
 use Rattle.streams.specs.declared.passed.Side.{Side}
@@ -12,7 +12,7 @@ use Rattle.streams.specs.Passed.{Segment, giver_of, is_side, other_side}
 use Rattle.streams.specs.Places.{Piece, after}
 use Rattle.streams.specs.History.{start_of, count_of, first_hole, given_by, given_of, next_of, piece_in, placed, end_in, end_of, fin_of, has_rst}
 use Rattle.streams.specs.Refusals.{octet_conflict, fin_conflict, after_reset, conflict_at}
-use Rattle.streams.specs.Sent.{first_shown, shown_by_acknowledgment}
+use Rattle.streams.specs.Sent.{first_shown, shown_by_acknowledgment, acknowledges, first_acknowledged}
 use Rattle.streams.specs.Directions.{Adds, Acknowledges, Holds, piece_faults, fin_faults, rst_faults, shown_by_own}
 use Rattle.streams.specs.declared.gathered.Giver.{Giver}
 use Rattle.streams.proofs.Pieces.{piece_past}
@@ -130,6 +130,15 @@ pub shown_other : (s : Segment) (side : Side) (before : List Segment) (place : �
 unfolding first_shown
 shown_other s side before place e = ap (λ (t : Bool). option_or (first_shown side before place) (cond (nat_lt place (cond t (shown_by_own s (placed s before)) (shown_by_acknowledgment (start_of side before) (next_of side before) s.acknowledgment s.rst))) (Some s.packet) None)) e
 
+-- what is acknowledged of a side, once a segment of it, and one of the other side has come
+acknowledged_own : (s : Segment) (before : List Segment) → first_acknowledged s.sender (s ∷ before) ≡ first_acknowledged s.sender before
+acknowledged_own s before =
+    ap (λ (t : Bool). option_or (first_acknowledged s.sender before) (cond (not t && acknowledges s) (Some s.packet) None)) (own_side s.sender)
+    ∙ none_more (first_acknowledged s.sender before)
+
+pub acknowledged_more : (s : Segment) (side : Side) (before : List Segment) → is_side s.sender side ≡ false → first_acknowledged side (s ∷ before) ≡ option_or (first_acknowledged side before) (cond (acknowledges s) (Some s.packet) None)
+acknowledged_more s side before e = ap (λ (t : Bool). option_or (first_acknowledged side before) (cond (not t && acknowledges s) (Some s.packet) None)) e
+
 -- a direction that has taken a segment of its side
 pub added : {Z : Type 0} (s : Segment) (before : List Segment) (old new : Direction Z) → Holds s.sender before old
     → Adds s (piece_in s (start_of s.sender (s ∷ before)) (length old.gathered.octets.items)) old new
@@ -156,11 +165,12 @@ added s before old new holds adds =
           ∙ ap (λ o. option_or o (cond (nat_lt place (shown_by_own s (piece_in s start (length old.gathered.octets.items)))) (Some s.packet) None)) (holds.shown place)
           ∙ ap (λ (p : Piece). option_or (first_shown s.sender before place) (cond (nat_lt place (shown_by_own s p)) (Some s.packet) None)) piece
           ∙ sym (shown_more s before place);
+      acknowledged_by = adds.acknowledged_by ∙ holds.acknowledged_by ∙ sym (acknowledged_own s before);
     }
 
 -- a direction that has taken what a segment of the other side acknowledges
 pub acknowledged : {Z : Type 0} (s : Segment) (side : Side) (before : List Segment) (old new : Direction Z) → is_side s.sender side ≡ false → Holds side before old
-    → Acknowledges s.packet (shown_by_acknowledgment (start_of side before) (length old.gathered.octets.items) s.acknowledgment s.rst) old new
+    → Acknowledges s (shown_by_acknowledgment (start_of side before) (length old.gathered.octets.items) s.acknowledgment s.rst) old new
     → Holds side (s ∷ before) new
 acknowledged s side before old new e holds acks =
     let n = next_is side before old holds in
@@ -176,6 +186,7 @@ acknowledged s side before old new e holds acks =
           ∙ ap (λ o. option_or o (cond (nat_lt place (shown_by_acknowledgment (start_of side before) (length old.gathered.octets.items) s.acknowledgment s.rst)) (Some s.packet) None)) (holds.shown place)
           ∙ ap (λ (k : ℕ). option_or (first_shown side before place) (cond (nat_lt place (shown_by_acknowledgment (start_of side before) k s.acknowledgment s.rst)) (Some s.packet) None)) n
           ∙ sym (shown_other s side before place e);
+      acknowledged_by = acks.acknowledged_by ∙ ap (λ o. option_or o (cond (acknowledges s) (Some s.packet) None)) holds.acknowledged_by ∙ sym (acknowledged_more s side before e);
     }
 
 -- the first refusal of a segment's piece

@@ -16,5 +16,6 @@ pub mod Holes
 pub mod Standing
 pub mod Spelled
 pub mod Unspelled
+pub mod Whole
 pub mod Clocked
 pub mod Congruent

@@ -15,8 +15,8 @@ use Rattle.streams.specs.Given.{piece_at, first_conflict, contradicts, octet_of,
 use Rattle.streams.specs.Passed.{Segment, giver_of, is_side}
 use Rattle.streams.specs.Places.{Piece, after}
 use Rattle.streams.specs.History.{start_of, given_of, next_of, placed, end_in, end_of, fin_of}
-use Rattle.streams.specs.Refusals.{cut, time_back, no_start, octet_conflict, fin_conflict, conflict_at, other_fin, early_fin, fault_at, first_fault, missing_of}
-use Rattle.streams.specs.Sent.{shown_by_acknowledgment, first_shown, is_fin, missing}
+use Rattle.streams.specs.Refusals.{cut, time_back, no_start, octet_conflict, fin_conflict, conflict_at, other_fin, early_fin, fault_at, first_fault, half_of, missing_of}
+use Rattle.streams.specs.Sent.{shown_by_acknowledgment, first_shown, is_fin, half_shown, missing}
 use Rattle.streams.specs.Directions.{shown_by_own}
 use Rattle.streams.specs.Choice.{IsStreamOf, refusal_of, numbered_one, Tells, IsAnswered}
 use Rattle.streams.specs.Spelling.{Stands, AllStand, AcknowledgeBelow, Spell, Agrees, fin_count}
@@ -372,7 +372,8 @@ streams_spelled : (segments : List Segment) (connection : Connection) → refusa
 streams_spelled [] connection fine tells = absurd tells
 streams_spelled (s ∷ before) connection fine tells =
     let parts = neither (first_fault (s ∷ before)) _ fine in
-    let none = none_missing (missing Peer (s ∷ before)) (missing Local (s ∷ before)) (next_of Peer (s ∷ before)) (next_of Local (s ∷ before)) parts.1 in (
+    let end = neither (half_of (half_shown Peer (s ∷ before)) (half_shown Local (s ∷ before))) _ parts.1 in
+    let none = none_missing (missing Peer (s ∷ before)) (missing Local (s ∷ before)) (next_of Peer (s ∷ before)) (next_of Local (s ∷ before)) end.1 in (
       stream_spelled Peer (s ∷ before) connection.received parts.0 none.0 tells.received,
       stream_spelled Local (s ∷ before) connection.sent parts.0 none.1 tells.sent,
     )

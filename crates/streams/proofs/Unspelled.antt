@@ -12,8 +12,8 @@ use Rattle.streams.specs.Given.{piece_at, first_conflict, first_new, contradicts
 use Rattle.streams.specs.Passed.{Segment, giver_of}
 use Rattle.streams.specs.Places.{Piece, after}
 use Rattle.streams.specs.History.{start_of, given_of, next_of, placed, end_in, end_of, fin_of, has_rst}
-use Rattle.streams.specs.Refusals.{cut, time_back, no_start, octet_conflict, fin_conflict, after_reset, conflict_at, other_fin, early_fin, fault_at, first_fault, missing_of}
-use Rattle.streams.specs.Sent.{first_shown, is_fin, missing}
+use Rattle.streams.specs.Refusals.{cut, time_back, no_start, octet_conflict, fin_conflict, after_reset, conflict_at, other_fin, early_fin, fault_at, first_fault, half_of, missing_of}
+use Rattle.streams.specs.Sent.{first_shown, is_fin, half_shown, missing}
 use Rattle.streams.specs.Choice.{refusal_of}
 use Rattle.streams.specs.Spelling.{Stands, AllStand, AcknowledgeBelow, Spell, SpellNone, Agrees, IsOtherOctet, IsOtherFin, IsEarlyFin, IsConflict, IsFirstHole, fin_count}
 use Rattle.streams.proofs.Histories.{given_other, end_other}
@@ -355,6 +355,12 @@ conflict_unspelled segments packet side place is stream spell =
     let stand : AllStand side (is.s ∷ is.before) stream = earlier_stand side is.later (is.s ∷ is.before) stream all in
     no_place is.s is.before place stream is.contradicts (subst (λ (t : Side). AllStand t (is.s ∷ is.before) stream) (sym is.is_sender) stand)
 
+half_no : (test : Fault → Bool) (received sent : Option ℕ) → ((p : ℕ) → test (faults.NoStart p) ≡ false) → IsNo test (half_of received sent)
+half_no test None None a fault h = absurd (none-some fault h)
+half_no test (Some p) None a fault h = ap test (sym (same_Some (faults.NoStart p) fault h)) ∙ a p
+half_no test None (Some q) a fault h = ap test (sym (same_Some (faults.NoStart q) fault h)) ∙ a q
+half_no test (Some p) (Some q) a fault h = ap test (sym (same_Some (faults.NoStart (min p q)) fault h)) ∙ a (min p q)
+
 missing_no : (test : Fault → Bool) (received sent : Option ℕ) (r s : ℕ) → ((p : ℕ) → test (faults.Missing p Peer r) ≡ false) → ((p : ℕ) → test (faults.Missing p Local s) ≡ false)
     → IsNo test (missing_of received sent r s)
 missing_no test None None r s a b fault h = absurd (none-some fault h)
@@ -368,11 +374,12 @@ missing_no test (Some p) (Some q) r s a b fault h = elim (cases_Bool (nat_lt q p
 pub conflict_is_first : (segments : List Segment) (packet : ℕ) (side : Side) (place : ℕ) → refusal_of segments ≡ Some (faults.Conflict packet side place) → IsConflict segments packet side place × SpellNone side segments
 conflict_is_first segments packet side place h =
     let fault = faults.Conflict packet side place in
-    elim (either_gives (first_fault segments) (missing_of (missing Peer segments) (missing Local segments) (next_of Peer segments) (next_of Local segments)) fault h) [
+    elim (either_gives (first_fault segments) (option_or (half_of (half_shown Peer segments) (half_shown Local segments)) (missing_of (missing Peer segments) (missing Local segments) (next_of Peer segments) (next_of Local segments))) fault h) [
       | inl is ↦
           let first = first_clash segments packet side place is in
           (first, conflict_unspelled segments packet side place first)
-      | inr end ↦ absurd (both_ways true (missing_no is_conflict (missing Peer segments) (missing Local segments) (next_of Peer segments) (next_of Local segments) (λ p. refl) (λ p. refl) fault end.1) refl)
+      | inr end ↦ absurd (both_ways true (or_no is_conflict _ _ (half_no is_conflict (half_shown Peer segments) (half_shown Local segments) (λ p. refl))
+          (missing_no is_conflict (missing Peer segments) (missing Local segments) (next_of Peer segments) (next_of Local segments) (λ p. refl) (λ p. refl)) fault end.1) refl)
     ]
 
 -- no rule of a segment tells that something is missing
@@ -454,13 +461,22 @@ nothing_missing side segments stream spell =
           ∙ nothing_shown side segments stream (n + 1) spell.stand (subst (AcknowledgeBelow side segments) q spell.acknowledged) (omega (arith, size))
     ]
 
+-- nor does half a connection
+past_half : (received sent : Option ℕ) (more : Option Fault) (packet : ℕ) (side : Side) (place : ℕ) → option_or (half_of received sent) more ≡ Some (faults.Missing packet side place) → more ≡ Some (faults.Missing packet side place)
+past_half received sent more packet side place h =
+    let fault = faults.Missing packet side place in
+    elim (either_gives (half_of received sent) more fault h) [
+      | inl is ↦ absurd (both_ways true (half_no is_missing received sent (λ p. refl) fault is) refl)
+      | inr end ↦ end.1
+    ]
+
 pub missing_is_first : (segments : List Segment) (packet : ℕ) (side : Side) (place : ℕ) → refusal_of segments ≡ Some (faults.Missing packet side place) → IsFirstHole side segments place × SpellNone side segments
 missing_is_first segments packet side place h =
     let fault = faults.Missing packet side place in
-    elim (either_gives (first_fault segments) (missing_of (missing Peer segments) (missing Local segments) (next_of Peer segments) (next_of Local segments)) fault h) [
+    elim (either_gives (first_fault segments) (option_or (half_of (half_shown Peer segments) (half_shown Local segments)) (missing_of (missing Peer segments) (missing Local segments) (next_of Peer segments) (next_of Local segments))) fault h) [
       | inl is ↦ absurd (both_ways true (first_no_missing segments fault is) refl)
       | inr end ↦
-          let is = of_missing segments (missing Peer segments) (missing Local segments) packet side place refl refl end.1 in (
+          let is = of_missing segments (missing Peer segments) (missing Local segments) packet side place refl refl (past_half (half_shown Peer segments) (half_shown Local segments) _ packet side place end.1) in (
             record {
               below = λ p lt. below_next side segments p (omega (arith, lt, is.at));
               lacks = ap (given_of side segments) is.at ∙ next_lacks side segments;

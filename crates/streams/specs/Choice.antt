@@ -14,8 +14,8 @@ use Rattle.streams.specs.declared.passed.Side.TheVariants.{Local, Peer}
 use Rattle.streams.specs.Given.{known_at, total}
 use Rattle.streams.specs.Passed.{Segment}
 use Rattle.streams.specs.History.{given_of, next_of}
-use Rattle.streams.specs.Refusals.{first_fault, missing_of}
-use Rattle.streams.specs.Sent.{missing}
+use Rattle.streams.specs.Refusals.{first_fault, half_of, missing_of}
+use Rattle.streams.specs.Sent.{half_shown, missing}
 use Rattle.streams.specs.Connections.{first_in, opener_of, end_of_connection}
 
 -- the first packet of a connection
@@ -33,11 +33,13 @@ chosen_of None last_packet (connection ∷ []) = Ok 1
 chosen_of None last_packet (connection ∷ second ∷ more) =
     Err (faults.Several (first_packet second))
 
--- the refusal of a connection: the first of its segments', or else at its end
+-- the refusal of a connection: the first of its segments', or else at its end: of half a
+-- connection, or of what is missing
 abbrev pub refusal_of : List Segment → Option Fault
-refusal_of segments = option_or (first_fault segments) (missing_of
-    (missing Peer segments) (missing Local segments)
-    (next_of Peer segments) (next_of Local segments))
+refusal_of segments = option_or (first_fault segments)
+    (option_or (half_of (half_shown Peer segments) (half_shown Local segments))
+    (missing_of (missing Peer segments) (missing Local segments)
+    (next_of Peer segments) (next_of Local segments)))
 
 -- the stream is the octets given from the first on, up to the first that isn't, by the packets that
 -- gave them first: none of its runs is empty

@@ -2,7 +2,7 @@
 use Rattle.std.specs.Prelude.{ℕ, List, [], ◌∷◌, Option, Some, None, cond, nat_lt, length}
 use Rattle.streams.specs.declared.placing.Piece.{Piece as HeldPiece}
 use Rattle.std.specs.Prelude.{Bool, ◌≡◌, ◌≤◌, ◌+◌, ◌||◌, max}
-use Rattle.std.specs.Option.{option_or, option_map}
+use Rattle.std.specs.Option.{option_or, option_map, is_none}
 use Rattle.streams.specs.declared.direction.Shown.{Shown}
 use Rattle.streams.specs.declared.direction.Direction.{Direction}
 use Rattle.streams.specs.declared.gathered.Given.{Given}
@@ -10,6 +10,7 @@ use Rattle.streams.specs.declared.passed.Side.{Side}
 use Rattle.streams.specs.Given.{IsSound, given_at, piece_at, size, first_conflict, first_new}
 use Rattle.streams.specs.History.{given_of, count_of, end_of, fin_of, has_rst, end_in}
 use Rattle.streams.specs.Sent.{first_shown, shown_by_piece, is_fin}
+use Rattle.streams.specs.Sent.{acknowledges, first_acknowledged}
 use Rattle.streams.specs.declared.fault.Fault.{Fault}
 use Rattle.streams.specs.declared.fault.Fault.TheVariants as faults
 use Rattle.streams.specs.Passed.{Segment, giver_of}
@@ -60,16 +61,20 @@ pub record Adds {Z : Type 0} (s : Segment) (piece : Piece) (old new : Direction 
   pub shown : (place : ℕ) → first_above new.shown.items place
       ≡ option_or (first_above old.shown.items place)
       (cond (nat_lt place (shown_by_own s piece)) (Some s.packet) None)
+  pub acknowledged_by : new.acknowledged_by ≡ old.acknowledged_by
 
 -- a direction has taken what a segment of the other side acknowledges
-pub record Acknowledges {Z : Type 0} (packet below : ℕ) (old new : Direction Z) : Type 0 where
-  pub gathered : new.gathered ≡ old.gathered
-  pub end : new.end ≡ old.end
-  pub fin : new.fin ≡ old.fin
-  pub rst : new.has_rst ≡ old.has_rst
-  pub shown : (place : ℕ) → first_above new.shown.items place
-      ≡ option_or (first_above old.shown.items place)
-      (cond (nat_lt place below) (Some packet) None)
+pub record Acknowledges {Z : Type 0} (s : Segment) (below : ℕ) (old new : Direction Z) : Type 0
+  where
+    pub gathered : new.gathered ≡ old.gathered
+    pub end : new.end ≡ old.end
+    pub fin : new.fin ≡ old.fin
+    pub rst : new.has_rst ≡ old.has_rst
+    pub shown : (place : ℕ) → first_above new.shown.items place
+        ≡ option_or (first_above old.shown.items place)
+        (cond (nat_lt place below) (Some s.packet) None)
+    pub acknowledged_by : new.acknowledged_by
+        ≡ option_or old.acknowledged_by (cond (acknowledges s) (Some s.packet) None)
 
 -- a direction holds what the segments of a connection tell of it
 pub record Holds {Z : Type 0} (side : Side) (segments : List Segment) (direction : Direction Z)
@@ -82,6 +87,11 @@ pub record Holds {Z : Type 0} (side : Side) (segments : List Segment) (direction
   pub rst : direction.has_rst ≡ has_rst side segments
   pub shown : (place : ℕ) → first_above direction.shown.items place
       ≡ first_shown side segments place
+  pub acknowledged_by : direction.acknowledged_by ≡ first_acknowledged side segments
+
+-- the first packet that acknowledges what a side sent without a SYN
+abbrev pub half_in : {Z : Type 0} → Option ℕ → Direction Z → Option ℕ
+half_in start d = cond (is_none start) d.acknowledged_by None
 
 -- the first packet that shows an octet which is missing
 abbrev pub missing_in : {Z : Type 0} → Direction Z → Option ℕ

@@ -13,9 +13,9 @@ use Rattle.streams.specs.declared.connection.Opening.{Opening}
 use Rattle.streams.specs.Given.{IsSound, given_at}
 use Rattle.streams.specs.Passed.{Segment, is_side}
 use Rattle.streams.specs.History.{start_of, piece_in}
-use Rattle.streams.specs.Refusals.{cut, first_fault, missing_of}
+use Rattle.streams.specs.Refusals.{cut, first_fault, half_of, missing_of}
 use Rattle.streams.specs.Sent.{shown_by_acknowledgment}
-use Rattle.streams.specs.Directions.{Holds, piece_faults, Adds, Acknowledges, missing_in}
+use Rattle.streams.specs.Directions.{Holds, piece_faults, Adds, Acknowledges, half_in, missing_in}
 use Rattle.streams.specs.Connections.{opener_of, end_of_connection, has_octets, has_data}
 use Rattle.streams.specs.Connections.{opener_by, end_by}
 
@@ -93,7 +93,7 @@ noted s start g = record g {
 pub record Gathers {Z : Type 0} (s : Segment) (start other : Option ℕ)
     (own acknowledged own' acknowledged' : Direction Z) : Type 0 where
   pub adds : Adds s (piece_in s start (length own.gathered.octets.items)) own own'
-  pub acknowledges : Acknowledges s.packet (shown_by_acknowledgment other
+  pub acknowledges : Acknowledges s (shown_by_acknowledgment other
       (length acknowledged.gathered.octets.items) s.acknowledgment s.rst)
       acknowledged acknowledged'
 
@@ -111,8 +111,10 @@ start_with start s = option_or start (cond s.syn (Some s.sequence) None)
 
 -- the refusal of what is held
 abbrev pub refusal_in : {Z : Type 0} → Gathering Z → Option Fault
-refusal_in g = option_or g.fault (missing_of (missing_in g.received) (missing_in g.sent)
-    (length g.received.gathered.octets.items) (length g.sent.gathered.octets.items))
+refusal_in g = option_or g.fault
+    (option_or (half_of (half_in g.peer_start g.received) (half_in g.local_start g.sent))
+    (missing_of (missing_in g.received) (missing_in g.sent)
+    (length g.received.gathered.octets.items) (length g.sent.gathered.octets.items)))
 
 -- what of a connection is told without its streams
 pub record Opens {Z : Type 0} (n : ℕ) (g : Gathering Z) (opening : Opening) : Type 0 where

@@ -11,5 +11,6 @@ pub mod Gatherings
 pub mod Choice
 pub mod Held
 pub mod Spelling
+pub mod Wholeness
 pub mod Clock
 pub mod Congruence

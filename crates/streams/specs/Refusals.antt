@@ -67,6 +67,14 @@ unfoldable pub first_fault : List Segment → Option Fault
 first_fault [] = None
 first_fault (s ∷ before) = option_or (first_fault before) (fault_at s before)
 
+-- the refusal of half a connection, at the first packet that acknowledges what a side sent whose SYN
+-- isn't in it: the peer's or the local system's
+abbrev pub half_of : Option ℕ → Option ℕ → Option Fault
+half_of None None = None
+half_of (Some packet) None = Some (faults.NoStart packet)
+half_of None (Some packet) = Some (faults.NoStart packet)
+half_of (Some received) (Some sent) = Some (faults.NoStart (min received sent))
+
 -- the refusal at the end, of packets that show octets which the received and the sent stream lack:
 -- the lesser packet's, of one packet the received stream's. Both streams' first holes are told
 abbrev pub missing_of : Option ℕ → Option ℕ → ℕ → ℕ → Option Fault

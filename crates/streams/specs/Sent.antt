@@ -1,8 +1,8 @@
 -- What is known to have been sent: what stands below an octet given, below the FIN, or is
 -- acknowledged by a segment of the other side without RST.
 use Rattle.std.specs.Prelude.{ℕ, ◌+◌, ◌-◌, List, [], ◌∷◌, Option, Some, None, cond, Bool}
-use Rattle.std.specs.Prelude.{true, false, ◌||◌, nat_lt, nat_eq, length}
-use Rattle.std.specs.Option.{option_or}
+use Rattle.std.specs.Prelude.{true, false, not, ◌||◌, ◌&&◌, nat_lt, nat_eq, length}
+use Rattle.std.specs.Option.{option_or, is_some, is_none}
 use Rattle.streams.specs.declared.passed.Side.{Side}
 use Rattle.streams.specs.Passed.{Segment, is_side}
 use Rattle.streams.specs.Places.{Piece, after, acknowledged}
@@ -43,3 +43,18 @@ abbrev pub missing : Side → List Segment → Option ℕ
 missing side segments = cond (is_fin (fin_of side segments) (next_of side segments))
     (first_shown side segments (next_of side segments + 1))
     (first_shown side segments (next_of side segments))
+
+-- a segment acknowledges what the other side sent: it has an ACK, and no RST
+abbrev pub acknowledges : Segment → Bool
+acknowledges s = is_some s.acknowledgment && not s.rst
+
+-- the first packet of the other side that acknowledges what the side sent
+abbrev pub first_acknowledged : Side → List Segment → Option ℕ
+first_acknowledged side [] = None
+first_acknowledged side (s ∷ before) = option_or (first_acknowledged side before)
+    (cond (not (is_side s.sender side) && acknowledges s) (Some s.packet) None)
+
+-- the same, of a side whose SYN isn't in the connection: half of it is in the recording
+abbrev pub half_shown : Side → List Segment → Option ℕ
+half_shown side segments =
+    cond (is_none (start_of side segments)) (first_acknowledged side segments) None

@@ -11,7 +11,7 @@ ghost use Rattle.streams.specs.Places.{after};
 ghost use Rattle.streams.specs.History.{piece_in, end_in};
 ghost use Rattle.streams.specs.Refusals.{other_fin, early_fin};
 ghost use Rattle.streams.specs.Sent.{shown_by_piece, shown_by_acknowledgment};
-ghost use Rattle.streams.specs.Directions.{piece_value, first_above, piece_faults, missing_in};
+ghost use Rattle.streams.specs.Directions.{piece_value, first_above, piece_faults, half_in, missing_in};
 ghost use Rattle.streams.specs.Directions.{Adds, Acknowledges, Holds};
 
 use crate::fault::Fault;
@@ -38,6 +38,8 @@ pub struct Direction<A: Allocator> {
     has_rst: bool,
     /// The packets that showed more than those before them.
     shown: Vec<Shown, A>,
+    /// The first packet of the other side that acknowledges what this one sent.
+    acknowledged_by: Option<u64>,
 }
 
 /// All octets below this place were shown.
@@ -85,6 +87,7 @@ impl<A: Allocator + Copy> Direction<A> {
             fin: None,
             has_rst: false,
             shown: Vec::new(alloc),
+            acknowledged_by: None,
         }
     }
 
@@ -179,7 +182,7 @@ impl<A: Allocator + Copy> Direction<A> {
     /// Takes what a segment of the other side acknowledges. The start is the sequence number of
     /// this side's SYN.
     pub fn acknowledge(&mut self, passed: &Passed<'_>, start: Option<u32>) -> Result<(), AllocError>
-        ensures { OnOk result (Acknowledges passed.now.packet
+        ensures { OnOk result (Acknowledges (segment_of passed.now)
             (shown_by_acknowledgment start (length self.old.gathered.octets.items)
             passed.now.acknowledgment passed.now.rst)
             self.old self.new) }
@@ -187,13 +190,25 @@ impl<A: Allocator + Copy> Direction<A> {
         if passed.rst {
             return Ok(());
         }
-        if let Some(start) = start
-            && let Some(number) = passed.acknowledgment
-        {
-            let below = acknowledged(start, self.gathered.known(), number);
-            note(&mut self.shown, below, passed.packet)?;
+        if let Some(number) = passed.acknowledgment {
+            self.acknowledged_by = self.acknowledged_by.or(Some(passed.packet));
+            if let Some(start) = start {
+                let below = acknowledged(start, self.gathered.known(), number);
+                note(&mut self.shown, below, passed.packet)?;
+            }
         }
         Ok(())
+    }
+
+    /// The first packet that acknowledges what this side sent, where it has no SYN: the start is
+    /// the sequence number of that.
+    pub fn half(&self, start: Option<u32>) -> Option<u64>
+        ensures { result ≡ half_in start self.now }
+    {
+        match start {
+            Some(_) => None,
+            None => self.acknowledged_by,
+        }
     }
 
     /// The first packet that shows that an octet was sent which isn't given: the first such octet

@@ -24,7 +24,8 @@ pub enum Fault {
     /// Several connections hold octets, and none was named: at the first packet of the second.
     #[error("there are several connections (packet {packet})")]
     Several { packet: u64 },
-    /// A segment has data or a FIN, and its side had no SYN.
+    /// A segment has data or a FIN, and its side had no SYN; or a segment acknowledges what the
+    /// other side sent, whose SYN isn't in the connection: half of it is in the recording.
     #[error("the recording doesn't have the start of a connection (packet {packet})")]
     NoStart { packet: u64 },
     /// An octet was given before with another value, or stands after the FIN; or a FIN stands

@@ -6,6 +6,8 @@ ghost use Rattle.std.specs.Option.{option_or};
 ghost use Rattle.streams.specs.Given.{IsSound};
 ghost use Rattle.streams.specs.Passed.{Segment, segment_of, other_side};
 ghost use Rattle.streams.specs.Connections.{begins, has_ports, end_by, opener_by};
+ghost use Rattle.streams.specs.Directions.{half_in, missing_in};
+ghost use Rattle.streams.specs.Refusals.{half_of, missing_of};
 ghost use Rattle.streams.specs.Gatherings.{IsOf, HoldsConnection, AreSound};
 ghost use Rattle.streams.specs.Gatherings.{gathering_faults, start_in, start_with};
 ghost use Rattle.streams.specs.Gatherings.{noted, HasGathered, refusal_in, Opens, Shows};
@@ -223,14 +225,38 @@ impl<A: Allocator + Copy> Gathering<A> {
         Ok(())
     }
 
-    /// The refusal of the connection, if there is one: the first of its segments', or of what was
-    /// sent and isn't given.
+    /// The refusal of the connection, if there is one: the first of its segments', or of half a
+    /// connection, or of what was sent and isn't given.
     pub fn refusal(&self) -> Option<Fault>
         ensures { result ≡ refusal_in self.now }
     {
-        if self.fault.is_some() {
-            return self.fault;
+        self.fault.or(self.half().or(self.missing()))
+    }
+
+    /// The refusal of half a connection: what a side sent is acknowledged, and its SYN isn't in the
+    /// connection.
+    fn half(&self) -> Option<Fault>
+        ensures { result ≡ half_of (half_in self.now.peer_start self.now.received)
+            (half_in self.now.local_start self.now.sent) }
+    {
+        match (
+            self.received.half(self.peer_start),
+            self.sent.half(self.local_start),
+        ) {
+            (None, None) => None,
+            (Some(packet), None) | (None, Some(packet)) => Some(Fault::NoStart { packet }),
+            (Some(received), Some(sent)) => Some(Fault::NoStart {
+                packet: received.min(sent),
+            }),
         }
+    }
+
+    /// The refusal of what was sent and isn't given.
+    fn missing(&self) -> Option<Fault>
+        ensures { result ≡ missing_of (missing_in self.now.received) (missing_in self.now.sent)
+            (length self.now.received.gathered.octets.items)
+            (length self.now.sent.gathered.octets.items) }
+    {
         match (self.received.missing(), self.sent.missing()) {
             (None, None) => None,
             (Some(packet), None) => Some(self.lacks_received(packet)),

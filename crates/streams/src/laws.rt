@@ -2,6 +2,7 @@
 
 ghost use Rattle.streams.specs.Spelling.{SpellAtMostOne, AnsweredIsSpelled, ConflictIsFirst};
 ghost use Rattle.streams.specs.Spelling.{MissingIsFirst};
+ghost use Rattle.streams.specs.Wholeness.{AnsweredIsWhole};
 ghost use Rattle.streams.specs.Clock.{AnsweredIsClocked};
 ghost use Rattle.streams.specs.Congruence.{PlacesAreUnique};
 
@@ -37,4 +38,10 @@ pub fn missing_octets_are_the_first()
 /// segments were taken in the order of their packets (`specs/Clock`).
 pub fn answered_connections_are_clocked()
     ensures { AnsweredIsClocked }
+{}
+
+/// Law: half a connection is never answered: what a segment of one acknowledges was sent by a side
+/// whose SYN is in the connection (`specs/Wholeness`).
+pub fn answered_connections_are_whole()
+    ensures { AnsweredIsWhole }
 {}

@@ -31,7 +31,8 @@ pub use connection::{Connection, End, Opening, Run, Stream};
 pub use connections::Connections;
 pub use fault::Fault;
 pub use laws::{
-    answered_connections_are_clocked, answered_streams_are_spelled, conflicts_are_the_first,
-    missing_octets_are_the_first, places_are_unique, segments_spell_at_most_one_stream,
+    answered_connections_are_clocked, answered_connections_are_whole, answered_streams_are_spelled,
+    conflicts_are_the_first, missing_octets_are_the_first, places_are_unique,
+    segments_spell_at_most_one_stream,
 };
 pub use passed::{Passed, Side};

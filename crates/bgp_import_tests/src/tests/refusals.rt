@@ -37,6 +37,19 @@ const SYN: [u8; 56] = [
     0x50, 0x02, 0xff, 0xff, 0x00, 0x00, 0x00, 0x00, // header of 20 octets, flags
 ];
 
+/// The local system's SYN, which acknowledges the peer's: its sequence number is 2 to the 32nd less
+/// 1.
+const ANSWER: [u8; 56] = [
+    // second, fraction, octets kept and on the wire
+    0x64, 0x00, 0x00, 0x00, 0x00, 0x00, 0x00, 0x00, 0x28, 0x00, 0x00, 0x00,
+    // IPv4: total length, no fragment, TCP
+    0x28, 0x00, 0x00, 0x00, 0x45, 0x00, 0x00, 0x28, 0x00, 0x00, 0x40, 0x00, 0x40, 0x06, 0x00, 0x00,
+    0xc0, 0x00, 0x02, 0x01, 0xc0, 0x00, 0x02, 0x02, // addresses
+    0x00, 0xb3, 0x9c, 0x40, // ports
+    0xff, 0xff, 0xff, 0xff, 0x00, 0x00, 0x03, 0xe9, // sequence and acknowledgment number
+    0x50, 0x12, 0xff, 0xff, 0x00, 0x00, 0x00, 0x00, // header of 20 octets, flags
+];
+
 /// The first octet of the peer's stream, 255.
 const FIRST: [u8; 57] = [
     // second, fraction, octets kept and on the wire
@@ -221,7 +234,7 @@ static PACKETS: [(Pieces, PacketFault, u64); 4] = [
 ];
 
 /// Files without a connection that can be told.
-static CONNECTIONS: [(Pieces, Fault); 9] = [
+static CONNECTIONS: [(Pieces, Fault); 10] = [
     (&[&HEADER, &SYN, &CUT], Fault::Cut { packet: 2 }),
     (&[&HEADER, &SYN, &EARLY], Fault::TimeBack { packet: 2 }),
     (&[&HEADER], Fault::NoConnection { packet: 0 }),
@@ -231,6 +244,7 @@ static CONNECTIONS: [(Pieces, Fault); 9] = [
         Fault::Several { packet: 3 },
     ),
     (&[&HEADER, &FIRST], Fault::NoStart { packet: 1 }),
+    (&[&HEADER, &SYN, &FIRST], Fault::NoStart { packet: 2 }),
     (
         &[&HEADER, &SYN, &FIRST, &OTHER_FIRST],
         Fault::Conflict {
@@ -240,9 +254,9 @@ static CONNECTIONS: [(Pieces, Fault); 9] = [
         },
     ),
     (
-        &[&HEADER, &SYN, &SECOND],
+        &[&HEADER, &SYN, &ANSWER, &SECOND],
         Fault::Missing {
-            packet: 2,
+            packet: 3,
             from: Side::Peer,
             place: 0,
         },
@@ -299,8 +313,8 @@ fn each_refusal_of_a_connection(rt: HostRuntime) {
     }
 }
 
-/// Two packets that are a connection, and one that is none.
-pub(crate) static WHOLE: [&[u8]; 4] = [&HEADER, &SYN, &FIRST, &SYN];
+/// Three packets that are a connection.
+pub(crate) static WHOLE: [&[u8]; 4] = [&HEADER, &SYN, &ANSWER, &FIRST];
 
 /// Whether the failure of a read is told at this packet, and nothing is written.
 fn is_device_told(alloc: Global, call: u64, packet: u64) -> bool {
@@ -309,7 +323,7 @@ fn is_device_told(alloc: Global, call: u64, packet: u64) -> bool {
 }
 
 /// How many octets stand before each packet's end, and before the file's.
-static ENDS: [u64; 4] = [80, 137, 193, 194];
+static ENDS: [u64; 4] = [80, 136, 193, 194];
 
 /// The packet that is read at a call, if one is.
 fn packet_at(call: u64) -> u64 {

@@ -24,7 +24,7 @@ pub struct Case {
     pub wanted: Wanted,
 }
 
-pub static CASES: [Case; 37] = [
+pub static CASES: [Case; 40] = [
     Case {
         name: "in order",
         rows: &[T1, T2, T3, T4, T5, T6, T7, T8, T9],
@@ -176,6 +176,30 @@ pub static CASES: [Case; 37] = [
         local_start: 5000,
         number: None,
         wanted: Wanted::Refused(Fault::NoStart { packet: 3 }),
+    },
+    Case {
+        name: "the peer's segments alone",
+        rows: &[T1, T3, T4, T7, T8],
+        peer_start: 1000,
+        local_start: 5000,
+        number: None,
+        wanted: Wanted::Refused(Fault::NoStart { packet: 2 }),
+    },
+    Case {
+        name: "the local system's segments alone",
+        rows: &[T2, T5, T6, T9],
+        peer_start: 1000,
+        local_start: 5000,
+        number: None,
+        wanted: Wanted::Refused(Fault::NoStart { packet: 1 }),
+    },
+    Case {
+        name: "one direction that lacks a segment",
+        rows: &[T1, T3, T4, T8],
+        peer_start: 1000,
+        local_start: 5000,
+        number: None,
+        wanted: Wanted::Refused(Fault::NoStart { packet: 2 }),
     },
     Case {
         name: "a segment is cut",
