@@ -1,4 +1,4 @@
-/* The baseline of routes.sh: the routes of crates/full_table in the balanced tree of the C
+/* The baseline of routes.sh: the routes of crates/bench_loads in the balanced tree of the C
  * library (tsearch), a node and an entry of malloc for each, put, withdrawn and listed in the same
  * order. */
 #include <search.h>

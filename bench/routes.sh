@@ -13,13 +13,13 @@
 # large. The tree of the C library, with one route to a node, waits more often.
 #
 # Wants bash, coreutils, sed, cc and the program that `rt run` built in
-# crates/full_table/out/full_table. Prints figures; it is no test.
+# crates/bench_loads/out/bench_loads. Prints figures; it is no test.
 set -euo pipefail
 
 here=$(cd "$(dirname "$0")" && pwd)
-program=${1:-$here/../crates/full_table/out/full_table}
+program=${1:-$here/../crates/bench_loads/out/bench_loads}
 [[ -x $program ]] ||
-    { echo "build the program first: (cd crates/full_table && rt run)" >&2; exit 1; }
+    { echo "build the program first: (cd crates/bench_loads && rt run -- speaker)" >&2; exit 1; }
 
 work=$(mktemp -d)
 trap 'rm -rf "$work"' EXIT
@@ -44,16 +44,16 @@ least() { for run in 1 2 3; do figure "$2" "$work/$1.$run"; done | sort -n | hea
 # Microseconds as milliseconds.
 ms() { printf '%d.%d ms' $(($1 / 1000)) $(($1 % 1000 / 100)); }
 
-"$program" 1 1 1 > "$work/empty"
+"$program" routes 1 1 1 > "$work/empty"
 empty=$(figure VmHWM: "$work/empty")
 echo "cores: $(nproc), no routes: $empty KiB"
 for v4 in 10000 100000 1000000; do
     size=("$v4" $((v4 / 5)) $((v4 / 5)))
     routes=$((v4 + v4 / 5))
     thrice tree "$work/tree" "${size[@]}"
-    thrice table "$program" "${size[@]}"
-    thrice ascending "$program" "${size[@]}" sorted
-    "$program" "${size[@]}" shared > "$work/shared"
+    thrice table "$program" routes "${size[@]}"
+    thrice ascending "$program" routes "${size[@]}" sorted
+    "$program" routes "${size[@]}" shared > "$work/shared"
     alone=$(figure VmHWM: "$work/shared")
     echo "$routes routes: read $(ms "$(least table read)")," \
         "apply $(ms "$(least table apply)"), list $(ms "$(least table list)")," \

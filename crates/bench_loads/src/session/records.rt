@@ -1,7 +1,7 @@
 //! A session from its first record to its last.
 
-use crate::feed::Feed;
-use crate::recorder::Recorder;
+use super::feed::Feed;
+use super::recorder::Recorder;
 use bgp_wire::vectors::{
     ADMINISTRATIVE_SHUTDOWN, KEEPALIVE, MP_REACH_FOR_IPV4, MP_REACH_TRANSITIVE, OPEN_A, OPEN_B,
 };
@@ -16,7 +16,7 @@ pub(crate) enum Ending {
     GoesOn,
     /// The peer ends it.
     Ended,
-    /// It goes on, behind two UPDATEs for each of which its family may be disabled or not
+    /// It goes on, after two UPDATEs for each of which its family may be disabled or not
     /// (RFC 4760, 7), so that the records leave four ends.
     Several,
 }
@@ -26,7 +26,7 @@ pub(crate) enum Ending {
 pub(crate) struct Wish {
     /// How many prefixes the table has.
     pub(crate) prefixes: u32,
-    /// How many records there are behind the table.
+    /// How many records there are after the table.
     pub(crate) further: u32,
     pub(crate) ending: Ending,
 }

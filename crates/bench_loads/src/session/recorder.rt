@@ -1,6 +1,7 @@
 //! The records of one session, written to a sink.
 
 use crate::parties::{LOCAL_AS, PEER_AS, SESSION};
+use crate::refused;
 use bgp_prefix::Seconds;
 use mrt::{Record, Sink, is_writable, write_record};
 use std::io;
@@ -44,7 +45,7 @@ impl<S: Sink> Recorder<S> {
     /// Writes a record.
     fn record(&mut self, shown: &Record<'_>) -> io::Result<()> {
         if self.sink.failures() == u64::MAX || !is_writable(&SESSION, shown) {
-            return Err(io::Error::from(io::ErrorKind::InvalidInput));
+            return Err(refused());
         }
         self.records = self.records.saturating_add(1);
         match write_record(&mut self.sink, &SESSION, PEER_AS, LOCAL_AS, shown) {

@@ -1,33 +1,20 @@
-//! Puts routes into a table, in changes of the size of an UPDATE and in no order, takes a tenth of
-//! them away and puts them again, and lists all. In the gate it does so with a small table; given
-//! words, as by `bench/routes.sh`, with one of that size, and tells how long it took.
-#![tactic(auto)]
+//! Routes that are put into a table, in changes of the size of an UPDATE; a tenth of them is taken
+//! away and put again, and all are listed.
 
 mod feed;
 
-use bgp_open::{Config, ConfigParts, Families, Link, negotiate, read_open};
+use crate::parties::local_link;
+use crate::{broken, number_of};
+use bgp_open::Link;
 use bgp_path::Path;
-use bgp_prefix::{Address, Prefix, Session};
+use bgp_prefix::Prefix;
 use bgp_rib::RibIn;
 use bgp_update::{Changes, read_update};
-use bgp_wire::vectors::OPEN_B;
 use feed::Feed;
 use std::alloc::Global;
-use std::process::ExitCode;
-use std::rt::{Clock, Env, Files};
+use std::rt::{Clock, Files};
 use std::time::{Duration, Instant};
-use std::{env, fs, io};
-
-fn main(rt: HostRuntime) -> ExitCode {
-    match run(&rt) {
-        Ok(true) => ExitCode::SUCCESS,
-        Ok(false) => ExitCode::FAILURE,
-        Err(error) => {
-            let _ = eprintln!(rt; "{error}");
-            ExitCode::FAILURE
-        }
-    }
-}
+use std::{fs, io};
 
 /// The sizes that are asked for, and whether any is; and whether all routes are to share a path.
 #[derive(Clone, Copy)]
@@ -37,15 +24,15 @@ struct Wish {
     is_shared: bool,
 }
 
-/// What the program's words wish: numbers of prefixes of each family and of paths, and then
-/// `sorted` for prefixes that ascend, and any other word for one path.
-fn wishes<R: Env + AllocGlobal>(rt: &R) -> io::Result<Wish> {
+/// What the words wish: numbers of prefixes of each family and of paths, and then `sorted` for
+/// prefixes that ascend, and any other word for one path.
+fn wished(words: &[String]) -> io::Result<Wish> {
     let mut numbers = [1000, 200, 200];
     let (mut is_sorted, mut is_shared, mut is_measured) = (false, false, false);
-    for (place, word) in env::args(rt)?.skip(1).enumerate() {
+    for (place, word) in words.iter().enumerate() {
         match numbers.get_mut(place) {
             Some(number) => {
-                *number = number_of(word.as_str())?;
+                *number = number_of(word)?;
                 is_measured = true;
             }
             None if word.as_str() == "sorted" => is_sorted = true,
@@ -60,21 +47,16 @@ fn wishes<R: Env + AllocGlobal>(rt: &R) -> io::Result<Wish> {
     })
 }
 
-/// The number that a word spells.
-fn number_of(word: &str) -> io::Result<u32> {
-    match word.parse::<u32>() {
-        Ok(number) => Ok(number),
-        Err(_) => Err(io::Error::from(io::ErrorKind::InvalidInput)),
-    }
-}
-
-/// Answers whether the listing had each route, in order.
-fn run<R: Files + Env + Clock + Print + AllocGlobal>(rt: &R) -> io::Result<bool> {
-    let wish = wishes(rt)?;
-    let link = link()?;
+/// Puts the routes that the words wish, 1,200 if there are none, and tells how long it took if there
+/// are any. Answers whether the listing had each route, in order.
+pub(crate) fn fill_routes<R: Files + Clock + Print + AllocGlobal>(
+    rt: &R,
+    words: &[String],
+) -> io::Result<bool> {
+    let wish = wished(words)?;
     let mut table = Timed {
         routes: RibIn::new(rt.alloc()),
-        link,
+        link: local_link()?,
         reading: Duration::ZERO,
         time: Duration::ZERO,
     };
@@ -119,30 +101,6 @@ fn print_times<R: Files + Print + AllocGlobal>(
     )
 }
 
-/// What the OPENs of AS 65001 and AS 65002 settle: AS numbers of four octets, and both families.
-fn link() -> io::Result<Link> {
-    let config = Config::new(ConfigParts {
-        local_as: 65001,
-        peer_as: 65002,
-        local_id: 0xc000_0201,
-        hold: 90,
-        families: Families { v4: true, v6: true },
-        as4: true,
-        delay_open: false,
-        large_hold: 240,
-        session: Session {
-            peer: Address::V4(0xc000_0202),
-            local: Address::V4(0xc000_0201),
-            refresh: false,
-            extended: false,
-        },
-    });
-    let (Some(config), Ok(open)) = (config, read_open(&OPEN_B)) else {
-        return Err(io::Error::from(io::ErrorKind::InvalidData));
-    };
-    Ok(negotiate(&config, &open))
-}
-
 /// Routes, and the time that changing them took.
 #[derive(Drop)]
 struct Timed {
@@ -157,7 +115,7 @@ struct Timed {
 fn changes_of(alloc: Global, link: &Link, octets: &[u8]) -> io::Result<Changes> {
     match read_update(alloc, link, octets)?.changes {
         Some(changes) => Ok(changes),
-        None => Err(io::Error::from(io::ErrorKind::InvalidData)),
+        None => Err(broken()),
     }
 }
 

@@ -1,7 +1,8 @@
 //! What a made-up peer announces: groups of prefixes, and their changes.
 
-use crate::addresses::{Walk, below};
-use crate::paths::made_path;
+use super::addresses::{Walk, below};
+use super::paths::made_path;
+use crate::{broken, refused};
 use bgp_open::Link;
 use bgp_path::Path;
 use bgp_prefix::{Family, Prefix};
@@ -37,7 +38,7 @@ fn announcement<'a>(prefixes: &'a [Prefix], path: &'a Path) -> Update<'a> {
 fn put(link: &Link, update: &Update<'_>, message: &mut Vec<u8>) -> io::Result<()> {
     match write_update(link, update, message) {
         Ok(()) => Ok(()),
-        Err(_) => Err(io::Error::from(io::ErrorKind::InvalidData)),
+        Err(_) => Err(broken()),
     }
 }
 
@@ -82,7 +83,7 @@ impl Feed {
         let count = below(&mut self.random, 8).saturating_add(1);
         for _ in 0..count.min(most) {
             let Some(prefix) = self.walk.prefix(&mut self.random) else {
-                return Err(io::Error::from(io::ErrorKind::InvalidInput));
+                return Err(refused());
             };
             prefixes.push(prefix)?;
         }
@@ -126,7 +127,7 @@ impl Feed {
         let withdraws = below(&mut self.random, 4) == 0 && self.withdrawn.is_none();
         let path = made_path(alloc, &mut self.random)?;
         let Some(prefixes) = self.groups.get(place) else {
-            return Err(io::Error::from(io::ErrorKind::InvalidInput));
+            return Err(refused());
         };
         if withdraws {
             self.withdrawn = Some(place);

@@ -1,8 +1,9 @@
 //! UPDATEs that announce a prefix each.
 
 use crate::broken;
+use crate::paths::{Attributes, path_of};
 use bgp_open::Link;
-use bgp_path::{AsPath, Items, NextHop, Origin, Path, PathParts, Segment, SegmentKind};
+use bgp_path::{Origin, Path};
 use bgp_prefix::{Address, Family, Prefix};
 use bgp_update_writer::{Update, write_update};
 use std::alloc::{AllocError, Global};
@@ -20,36 +21,16 @@ pub(crate) fn prefixes_of(alloc: Global, count: u32) -> io::Result<Vec<Prefix>> 
     Ok(prefixes)
 }
 
-/// A sequence of one AS number.
-fn as_path_of(alloc: Global, number: u32) -> Result<AsPath, AllocError> {
-    let mut as_path = AsPath::new(alloc);
-    let numbers = Vec::from_slice(alloc, &[number])?;
-    if let Some(segment) = Segment::new(SegmentKind::Sequence, numbers) {
-        as_path.push(segment)?;
-    }
-    Ok(as_path)
-}
-
 /// ORIGIN, AS_PATH of one AS and NEXT_HOP.
-pub(crate) fn path_of(alloc: Global, number: u32, next_hop: u32) -> Result<Path, AllocError> {
-    let as_path = as_path_of(alloc, number)?;
-    Path::new(
-        alloc,
-        PathParts {
-            origin: Origin::Igp,
-            as_path,
-            next_hop: NextHop::V4(next_hop),
-            multi_exit_disc: None,
-            local_pref: None,
-            atomic_aggregate: false,
-            aggregator: None,
-            communities: Items::new(alloc),
-            originator_id: None,
-            cluster_list: Items::new(alloc),
-            extended_communities: Items::new(alloc),
-            large_communities: Items::new(alloc),
-        },
-    )
+pub(crate) fn plain_path(alloc: Global, number: u32, next_hop: u32) -> Result<Path, AllocError> {
+    let attributes = Attributes {
+        origin: Origin::Igp,
+        numbers: Vec::from_slice(alloc, &[number])?,
+        next_hop,
+        metric: None,
+        communities: Vec::new(alloc),
+    };
+    path_of(alloc, attributes)
 }
 
 /// The UPDATEs that announce the prefixes one by one, joined.

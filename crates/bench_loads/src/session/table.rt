@@ -2,12 +2,12 @@
 
 ghost use Rattle.std.specs.Prelude.{◌<◌};
 
-use crate::parties::{SESSION, link_of, local_config};
+use crate::broken;
+use crate::parties::{SESSION, local_link};
 use bgp_open::Link;
 use bgp_rib::RibIn;
 use bgp_update::read_update;
 use bgp_wire::MessageType;
-use bgp_wire::vectors::OPEN_B;
 use mrt::{FromRead, Reader, Record, Source};
 use std::alloc::Global;
 use std::io::BufReader;
@@ -41,7 +41,7 @@ fn apply_all<S: Source>(
             Ok(Some(Record::Change(_, _, 1))) => routes.clear(),
             Ok(Some(_)) => {}
             Ok(None) => break,
-            Err(_) => return Err(io::Error::from(io::ErrorKind::InvalidData)),
+            Err(_) => return Err(broken()),
         }
     }
     Ok(())
@@ -51,7 +51,7 @@ fn apply_all<S: Source>(
 pub(crate) fn table_of<S: Source>(alloc: Global, source: &mut S) -> io::Result<RibIn>
     requires { S.failures source.old < u64.MAX }
 {
-    let link = link_of(&local_config()?, &OPEN_B)?;
+    let link = local_link()?;
     let mut routes = RibIn::new(alloc);
     apply_all(alloc, &link, source, &mut routes)?;
     Ok(routes)

@@ -1,63 +1,44 @@
 //! What a speaker's core costs: it hears UPDATEs that announce a prefix each, beside judging what
-//! it showed; and it announces prefixes, beside writing the same UPDATEs. In the gate there are a
-//! hundred of each; with a word, as from `bench/speaker.sh`, as many as it says, and the times are
-//! printed.
-#![tactic(auto)]
+//! it showed; and it announces prefixes, beside writing the same UPDATEs.
 
-mod parties;
 mod updates;
 
+use crate::parties::{
+    LOCAL_ADDRESS, LOCAL_AS, PEER_ADDRESS, PEER_AS, local_config, local_link, peer_link,
+};
+use crate::{broken, number_of, refused};
 use bgp_compact::CompactTracker;
 use bgp_judge::{Verdict, judge};
 use bgp_open::Config;
 use bgp_prefix::{Prefix, Seconds};
 use bgp_speaker::{Input, Run, Shown, drive};
-use bgp_wire::vectors::{KEEPALIVE, OPEN_A, OPEN_B};
+use bgp_wire::vectors::{KEEPALIVE, OPEN_B};
 use mrt::{MemSink, MemSource, Record, Sink, is_writable, write_record};
-use parties::{HOP_4, HOP_6, LOCAL_AS, PEER_ADDRESS, PEER_AS, config_of, link_of};
 use std::alloc::{AllocError, Global};
-use std::process::ExitCode;
-use std::rt::{Clock, Env};
+use std::io;
+use std::rt::Clock;
 use std::time::{Duration, Instant};
-use std::{env, io};
-use updates::{path_of, prefixes_of, written};
+use updates::{plain_path, prefixes_of, written};
 
 /// How many octets an UPDATE has that announces an IPv4 prefix of 24 bits by a path of one AS
 /// number of four octets: a header of 19, both lengths, three attributes of 20 and 4 octets.
 const UPDATE_LENGTH: usize = 47;
 
-fn main(rt: HostRuntime) -> ExitCode {
-    match run(&rt) {
-        Ok(true) => ExitCode::SUCCESS,
-        Ok(false) => ExitCode::FAILURE,
-        Err(error) => {
-            let _ = eprintln!(rt; "{error}");
-            ExitCode::FAILURE
-        }
-    }
-}
+/// The local system's IPv6 next hop, 2001:db8::1.
+const HOP_6: u128 = 0x2001_0db8_0000_0000_0000_0000_0000_0001;
 
-/// A failure of what has to succeed.
-pub(crate) fn broken() -> io::Error {
-    io::Error::from(io::ErrorKind::InvalidData)
-}
-
-/// How many prefixes the program's word asks for, if there is one.
-fn asked<R: Env + AllocGlobal>(rt: &R) -> io::Result<Option<u32>> {
-    match env::args(rt)?.nth(1) {
-        Some(word) => match word.as_str().parse::<u32>() {
-            Ok(count) => Ok(Some(count)),
-            Err(_) => Err(io::Error::from(io::ErrorKind::InvalidInput)),
-        },
-        None => Ok(None),
-    }
-}
-
-/// Answers whether each part came to what it has to.
-fn run<R: Env + Clock + Print + AllocGlobal>(rt: &R) -> io::Result<bool> {
-    let asked = asked(rt)?;
-    let is_timed = asked.is_some();
-    let prefixes = prefixes_of(rt.alloc(), asked.unwrap_or(100))?;
+/// Hears and announces as many prefixes as the word asks for, a hundred if there is none, and tells
+/// how long it took if there is one. Answers whether each part came to what it has to.
+pub(crate) fn load_speaker<R: Clock + Print + AllocGlobal>(
+    rt: &R,
+    words: &[String],
+) -> io::Result<bool> {
+    let (count, is_timed) = match words {
+        [] => (100, false),
+        [count] => (number_of(count)?, true),
+        _ => return Err(refused()),
+    };
+    let prefixes = prefixes_of(rt.alloc(), count)?;
     let is_heard = hear(rt, prefixes.as_slice(), is_timed)?;
     let is_announced = announce(rt, prefixes.as_slice(), is_timed)?;
     Ok(is_heard && is_announced)
@@ -83,7 +64,7 @@ fn driven<R: Clock + AllocGlobal>(
     inputs: &[(Seconds, Input<'_>)],
 ) -> io::Result<(Run, Duration)> {
     let began = Instant::now(rt)?;
-    let run = drive(rt.alloc(), config, HOP_4, HOP_6, inputs)?;
+    let run = drive(rt.alloc(), config, LOCAL_ADDRESS, HOP_6, inputs)?;
     Ok((run, began.elapsed(rt)?))
 }
 
@@ -128,13 +109,8 @@ fn judged<R: Clock + AllocGlobal>(
 
 /// The UPDATEs by which the peer announces the prefixes.
 fn heard_updates(alloc: Global, prefixes: &[Prefix]) -> io::Result<Vec<u8>> {
-    let link = link_of(&config_of(PEER_AS)?, &OPEN_A)?;
-    written(
-        alloc,
-        &link,
-        &path_of(alloc, PEER_AS, PEER_ADDRESS)?,
-        prefixes,
-    )
+    let path = plain_path(alloc, PEER_AS, PEER_ADDRESS)?;
+    written(alloc, &peer_link()?, &path, prefixes)
 }
 
 /// Hears UPDATEs, and judges what a core showed then. Answers whether both leave all routes.
@@ -143,7 +119,7 @@ fn hear<R: Clock + Print + AllocGlobal>(
     prefixes: &[Prefix],
     is_timed: bool,
 ) -> io::Result<bool> {
-    let config = config_of(LOCAL_AS)?;
+    let config = local_config()?;
     let updates = heard_updates(rt.alloc(), prefixes)?;
     let mut inputs = opening(rt.alloc())?;
     for update in updates.as_slice().chunks(UPDATE_LENGTH) {
@@ -173,14 +149,14 @@ fn announce<R: Clock + Print + AllocGlobal>(
     prefixes: &[Prefix],
     is_timed: bool,
 ) -> io::Result<bool> {
-    let config = config_of(LOCAL_AS)?;
+    let config = local_config()?;
     let mut inputs = opening(rt.alloc())?;
     for prefix in prefixes {
         inputs.extend_from_slice(&[(101, Input::Announce(*prefix))])?;
     }
     let (run, announcing) = driven(rt, &config, inputs.as_slice())?;
-    let link = link_of(&config, &OPEN_B)?;
-    let path = path_of(rt.alloc(), LOCAL_AS, HOP_4)?;
+    let link = local_link()?;
+    let path = plain_path(rt.alloc(), LOCAL_AS, LOCAL_ADDRESS)?;
     let began = Instant::now(rt)?;
     let updates = written(rt.alloc(), &link, &path, prefixes)?;
     let writing = began.elapsed(rt)?;

@@ -1,9 +1,8 @@
 //! The outcomes of a stream's UPDATEs, counted.
 
-use bgp_open::{Config, ConfigParts, Families, Link, negotiate, read_open};
-use bgp_prefix::{Address, Session};
+use crate::parties::local_link;
+use bgp_open::Link;
 use bgp_update::{Put, read_update};
-use bgp_wire::vectors::OPEN_B;
 use bgp_wire::{Frames, Limit, MessageType, Next};
 use bumpalo::Bump;
 use std::alloc::Allocator;
@@ -43,13 +42,10 @@ fn count<A: Allocator>(group: &Option<Put<A>>) -> u64 {
     }
 }
 
-/// Reads a stream in blocks, and prints what became of its UPDATEs on a link of both families with
-/// AS numbers of four octets. The outcomes of a block take their memory from an arena, and give it
-/// back together.
+/// Reads the stream that a file has in blocks, and prints what became of its UPDATEs. The outcomes
+/// of a block take their memory from an arena, and give it back together.
 pub(crate) fn print_outcomes<R: Files + Print + AllocGlobal>(rt: &R, name: &str) -> io::Result<()> {
-    let Some(link) = link() else {
-        return Err(io::Error::from(io::ErrorKind::InvalidData));
-    };
+    let link = local_link()?;
     let mut file = fs::open(rt, name)?;
     let mut frames = Frames::new(rt.alloc(), Limit::Plain);
     let mut totals = Totals::default();
@@ -86,26 +82,4 @@ fn add_frames<A: Allocator + Copy>(
         }
     }
     Ok(())
-}
-
-/// What the OPENs of AS 65001 and AS 65002 settle.
-fn link() -> Option<Link> {
-    let config = Config::new(ConfigParts {
-        local_as: 65001,
-        peer_as: 65002,
-        local_id: 0xc000_0201,
-        hold: 90,
-        families: Families { v4: true, v6: true },
-        as4: true,
-        delay_open: false,
-        large_hold: 240,
-        session: Session {
-            peer: Address::V4(0xc000_0202),
-            local: Address::V4(0xc000_0201),
-            refresh: false,
-            extended: false,
-        },
-    })?;
-    let open = read_open(&OPEN_B).ok()?;
-    Some(negotiate(&config, &open))
 }

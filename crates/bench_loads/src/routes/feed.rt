@@ -1,6 +1,8 @@
 //! The routes of a made-up peer: prefixes in no order or ascending, in groups that share a path.
 
-use bgp_path::{AsPath, Items, NextHop, Origin, Path, PathParts, Segment, SegmentKind};
+use crate::parties::{PEER_ADDRESS, PEER_AS};
+use crate::paths::{Attributes, path_of};
+use bgp_path::{Origin, Path};
 use bgp_prefix::{Address, Family, Prefix};
 use bgp_update::{Changes, Put};
 use std::alloc::{AllocError, Global};
@@ -240,28 +242,14 @@ fn groups(prefixes: u32, per_group: u32) -> u32 {
 
 /// A path of four AS numbers and two communities, another one for each group.
 pub fn path(alloc: Global, group: u32) -> Result<Path, AllocError> {
-    let numbers = Vec::from_slice(alloc, &[65002, 174, 3356, group])?;
-    let mut as_path = AsPath::new(alloc);
-    if let Some(segment) = Segment::new(SegmentKind::Sequence, numbers) {
-        as_path.push(segment)?;
-    }
-    Path::new(
-        alloc,
-        PathParts {
-            origin: Origin::Igp,
-            as_path,
-            next_hop: NextHop::V4(0xc000_0202),
-            multi_exit_disc: None,
-            local_pref: None,
-            atomic_aggregate: false,
-            aggregator: None,
-            communities: Items::from(Vec::from_slice(alloc, &[group, 0xfdea_0001])?),
-            originator_id: None,
-            cluster_list: Items::new(alloc),
-            extended_communities: Items::new(alloc),
-            large_communities: Items::new(alloc),
-        },
-    )
+    let attributes = Attributes {
+        origin: Origin::Igp,
+        numbers: Vec::from_slice(alloc, &[PEER_AS, 174, 3356, group])?,
+        next_hop: PEER_ADDRESS,
+        metric: None,
+        communities: Vec::from_slice(alloc, &[group, 0xfdea_0001])?,
+    };
+    path_of(alloc, attributes)
 }
 
 /// A number of 24 bits. As the indices ascend the numbers are in no order, and no two of the first
