@@ -1,0 +1,10 @@
+pub mod OwedRows
+pub mod Explaining
+pub mod Owing
+pub mod OneForAll
+pub mod AskedTell
+pub mod Asks
+pub mod Reasoning
+pub mod Halving
+pub mod Settling
+pub mod Telling

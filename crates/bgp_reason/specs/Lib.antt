@@ -1,0 +1,7 @@
+pub mod Following
+pub mod Sending
+pub mod Told
+pub mod Hearable
+pub mod Possible
+pub mod Asked
+pub mod Reasons

@@ -1,0 +1,83 @@
+//! Laws of what may follow a session's records, each on a function that does nothing.
+
+ghost use Rattle.std.specs.Prelude.{◌≤◌, OnOk, Some, length};
+ghost use Rattle.bgp_reason.specs.Asked.{AskedTellAll, ExpiresFromThenOn};
+ghost use Rattle.bgp_reason.specs.Hearable.{CanBeHeard, IsSettled};
+ghost use Rattle.bgp_reason.specs.Reasons.{MessageWhereARunEnds, NoHasAReason};
+ghost use Rattle.bgp_reason.specs.Reasons.{OwedWhereUnfinished, SomethingMayFollow};
+ghost use Rattle.bgp_reason.specs.Told.{ToldOneMore, ToldStateIsTold};
+
+use bgp_machine::{each_owed_want_can_be_met, hear};
+use bgp_open::{Config, Link};
+use bgp_update::{empty_is_clean, read_update, some_outcome};
+use std::alloc::{AllocError, Allocator};
+
+/// What is so of one record of each kind tells all that may follow, and nothing else.
+pub fn one_record_of_each_kind_tells_all()
+    ensures { AskedTellAll }
+{
+    each_owed_want_can_be_met();
+    empty_is_clean();
+}
+
+/// Where Hold Timer Expired may be sent, it may be later.
+pub fn hold_timer_expires_from_then_on()
+    ensures { ExpiresFromThenOn }
+{
+    each_owed_want_can_be_met();
+}
+
+/// Where records begin a run, something may follow them. So of a record that is impossible there is
+/// a reason: it is none of those that are possible in its place, and there are others.
+pub fn each_no_has_a_reason()
+    ensures something { SomethingMayFollow }
+    ensures reason { NoHasAReason }
+{
+    each_owed_want_can_be_met();
+}
+
+/// A message may be received just where some run ends. So something is owed, that is to be sent or
+/// told first, just where the verdict is unfinished.
+pub fn owed_where_unfinished()
+    ensures message { MessageWhereARunEnds }
+    ensures owed { OwedWhereUnfinished }
+{
+    each_owed_want_can_be_met();
+}
+
+/// What an UPDATE comes to on a link: it is applied or refused.
+fn settle<A: Allocator + Copy>(alloc: A, link: &Link, octets: &[u8]) -> Result<(), AllocError>
+    ensures { OnOk result (IsSettled (Some link.now) octets.now) }
+{
+    some_outcome(link, octets);
+    let outcomes = read_update(alloc, link, octets)?;
+    let _reset = outcomes.reset;
+    Ok(())
+}
+
+/// Octets of the size of a header and more can be heard: as a message of some kind, and where that
+/// is an UPDATE, it is applied or refused on the link. It works out which, and takes memory for it.
+pub fn each_message_can_be_heard<A: Allocator + Copy>(
+    alloc: A,
+    config: &Config,
+    link: Option<Link>,
+    octets: &[u8],
+) -> Result<(), AllocError>
+    ensures { 19 ≤ length octets.now → OnOk result (CanBeHeard config.now link octets.now) }
+{
+    hear(config, octets);
+    match link {
+        None => Ok(()),
+        Some(link) => {
+            settle(alloc, &link, octets)?;
+            Ok(())
+        }
+    }
+}
+
+/// What records tell is told one by one, and the state is the one that runs of them end in
+/// ([law](bgp_judge::records_tell_the_state)).
+pub fn records_tell_one_by_one()
+    ensures one_more { ToldOneMore }
+    ensures state { ToldStateIsTold }
+{}
