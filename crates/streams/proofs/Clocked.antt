@@ -19,7 +19,7 @@ use Rattle.streams.specs.Given.{total, giver_at}
 use Rattle.streams.specs.Passed.{Segment}
 use Rattle.streams.specs.History.{given_of, start_of}
 use Rattle.streams.specs.Refusals.{cut, time_back, fault_at, first_fault}
-use Rattle.streams.specs.Connections.{connections_of, numbered, put_at, last_index, is_between, begins, has_octets, first_in, end_by, end_of_connection}
+use Rattle.streams.specs.Connections.{connections_of, numbered, put_at, last_index, is_between, begins, has_octets, has_others, first_in, end_by, end_of_connection}
 use Rattle.streams.specs.Choice.{IsStreamOf, Tells, TellsOf, refusal_of, numbered_one, IsAnswered}
 use Rattle.streams.specs.Clock.{AreInOrder, GoesFrom, IsClocked}
 use Rattle.streams.proofs.Runs.{total-cons}
@@ -212,7 +212,7 @@ put_in_order s bound cs (Some i) lt all =
     let wide = All-weaker (IsInOrder s.packet) (IsInOrder bound) (λ c h. (h.0, all_below s.packet bound c (omega (arith, lt)) h.1)) cs all in
     let own = at_index s.packet cs i all in
     let more : IsInOrder bound (s ∷ get_or cs i []) = ((own.1, own.0), (lt, all_below s.packet bound (get_or cs i []) (omega (arith, lt)) own.1)) in
-    elim (cases_Bool (begins s (start_of s.sender (get_or cs i [])))) [
+    elim (cases_Bool (begins s (start_of s.sender (get_or cs i [])) (has_others (get_or cs i [])))) [
       | inl e ↦ subst (λ (t : Bool). All (IsInOrder bound) (cond t (cs ++ (s ∷ []) ∷ []) (set cs i (s ∷ get_or cs i [])))) (sym e)
           (All-push (IsInOrder bound) cs (s ∷ []) wide ((tt, tt), (lt, tt)))
       | inr e ↦ subst (λ (t : Bool). All (IsInOrder bound) (cond t (cs ++ (s ∷ []) ∷ []) (set cs i (s ∷ get_or cs i [])))) (sym e)

@@ -1,10 +1,10 @@
 -- The connections, once a segment more is taken.
-use Rattle.std.proofs.Common.{◌≡◌, ◌<◌, ◌∙◌, ℕ, Some, None, Bool, true, false, cond, List, [], ◌∷◌, ◌++◌, refl, sym, ap, length, get_or, set, subst}
+use Rattle.std.proofs.Common.{◌≡◌, ◌<◌, ◌∙◌, ℕ, Some, None, Option, Bool, true, false, cond, List, [], ◌∷◌, ◌++◌, refl, sym, ap, length, get_or, set, subst}
 use Rattle.streams.specs.declared.connections.Connections.{Connections}
 use Rattle.streams.specs.declared.gathering.Gathering.{Gathering}
 use Rattle.streams.specs.Passed.{Segment}
 use Rattle.streams.specs.History.{start_of}
-use Rattle.streams.specs.Connections.{last_index, is_between, begins, first_in, put_at, connections_of}
+use Rattle.streams.specs.Connections.{last_index, is_between, begins, has_others, first_in, put_at, connections_of}
 use Rattle.streams.specs.Gatherings.{IsOf, HoldsConnection, start_in}
 use Rattle.streams.specs.Held.{passes, IsOne, AreEach, HoldsConnections}
 use Rattle.streams.proofs.Numbering.{each_index, each_at, each_set, each_push}
@@ -27,9 +27,11 @@ one_more : {Z : Type 0} (s : Segment) (segments : List Segment) (g later : Gathe
 one_more s [] g later one holds of = absurd one
 one_more s (last ∷ before) g later one holds of = (of (first_in last before) one.0, holds (last ∷ before) one.1)
 
-begins_is : {Z : Type 0} (s : Segment) (segments : List Segment) (g : Gathering Z) → IsOne segments g → begins s (start_of s.sender segments) ≡ begins s (start_in s.sender g)
+begins_is : {Z : Type 0} (s : Segment) (segments : List Segment) (g : Gathering Z) → IsOne segments g → begins s (start_of s.sender segments) (has_others segments) ≡ begins s (start_in s.sender g) g.has_others
 begins_is s [] g one = absurd one
-begins_is s (last ∷ before) g one = ap (begins s) (sym (start_is s.sender (last ∷ before) g one.1))
+begins_is s (last ∷ before) g one =
+    ap (λ (o : Option ℕ). begins s o (has_others (last ∷ before))) (sym (start_is s.sender (last ∷ before) g one.1))
+    ∙ ap (begins s (start_in s.sender g)) (sym one.1.has_others)
 
 -- two reads of one place
 read_twice : {X : Type 0} (xs : List X) (i : ℕ) (x y : X) → i < length xs → x ≡ get_or xs i x → y ≡ get_or xs i y → x ≡ y
@@ -38,13 +40,13 @@ read_twice xs i x y lt is it = get_or_read xs i x lt is x ∙ sym (get_or_read x
 -- the segment is of the last connection between its ports
 pub continued : {Z : Type 0} (s : Segment) (before : List Segment) (old new : Connections Z) (i : ℕ) (seen g later : Gathering Z) → HoldsConnections before old
     → Some i ≡ last_index (passes s) old.list.items → i < length old.list.items → seen ≡ get_or old.list.items i seen → g ≡ get_or old.list.items i g
-    → false ≡ begins s (start_in s.sender seen)
+    → false ≡ begins s (start_in s.sender seen) seen.has_others
     → ((b : List Segment) → HoldsConnection b g → HoldsConnection (s ∷ b) later)
     → ((first : Segment) → IsOf first g → IsOf first later)
     → new.list.items ≡ set old.list.items i later
     → HoldsConnections (s ∷ before) new
 continued s before old new i seen g later holds found lt saw is stays holds_more of items =
-    let goes : begins s (start_in s.sender g) ≡ false = ap (λ x. begins s (start_in s.sender x)) (read_twice old.list.items i g seen lt is saw) ∙ sym stays in
+    let goes : begins s (start_in s.sender g) g.has_others ≡ false = ap (λ x. begins s (start_in s.sender x) x.has_others) (read_twice old.list.items i g seen lt is saw) ∙ sym stays in
     let cs = connections_of before in
     let gs = old.list.items in
     let one : IsOne (get_or cs i []) g = subst (IsOne (get_or cs i [])) (sym is) (each_at cs gs i g holds.each lt) in
@@ -82,7 +84,7 @@ first_between s before old new later holds found of one items =
 -- it begins another connection than the last between its ports
 pub begun : {Z : Type 0} (s : Segment) (before : List Segment) (old new : Connections Z) (i : ℕ) (g later : Gathering Z) → HoldsConnections before old
     → Some i ≡ last_index (passes s) old.list.items → i < length old.list.items → g ≡ get_or old.list.items i g
-    → true ≡ begins s (start_in s.sender g)
+    → true ≡ begins s (start_in s.sender g) g.has_others
     → IsOf s later → HoldsConnection (s ∷ []) later
     → new.list.items ≡ old.list.items ++ later ∷ []
     → HoldsConnections (s ∷ before) new

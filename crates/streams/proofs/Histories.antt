@@ -10,12 +10,12 @@ use Rattle.streams.specs.declared.direction.Direction.{Direction}
 use Rattle.streams.specs.Given.{IsSound, given_at, piece_at, size, first_conflict, first_new, contradicts, octet_of}
 use Rattle.streams.specs.Passed.{Segment, giver_of, is_side, other_side}
 use Rattle.streams.specs.Places.{Piece, after}
-use Rattle.streams.specs.History.{start_of, count_of, first_hole, given_by, given_of, next_of, piece_in, placed, end_in, end_of, fin_of, has_rst}
+use Rattle.streams.specs.History.{start_of, count_of, first_hole, given_by, given_of, acknowledged_of, next_of, piece_in, placed, end_in, end_of, fin_of, has_rst}
 use Rattle.streams.specs.Refusals.{octet_conflict, fin_conflict, after_reset, conflict_at}
-use Rattle.streams.specs.Sent.{first_shown, shown_by_acknowledgment, acknowledges, first_acknowledged}
+use Rattle.streams.specs.Places.{shown_by_acknowledgment}
+use Rattle.streams.specs.Sent.{first_shown, acknowledges, first_acknowledged}
 use Rattle.streams.specs.Directions.{Adds, Acknowledges, Holds, piece_faults, fin_faults, rst_faults, shown_by_own}
 use Rattle.streams.specs.declared.gathered.Giver.{Giver}
-use Rattle.streams.proofs.Pieces.{piece_past}
 use Rattle.streams.proofs.Places.{known_is_given, waits}
 
 -- the first hole
@@ -72,9 +72,6 @@ none_more (Some x) = refl
 max_zero : (n : ℕ) → max n 0 ≡ n
 max_zero n = omega arith
 
-empty_piece : (giver : Giver) (place : ℕ) → None ≡ piece_at 0 [] giver place
-empty_piece giver place = sym (piece_past 0 [] giver place (omega arith))
-
 own_size : (s : Segment) (before : List Segment) (new old : ℕ) → new ≤ old + length s.octets → old ≤ count_of s.sender before → new ≤ count_of s.sender (s ∷ before)
 own_size s before new old h k =
     let e : count_of s.sender (s ∷ before) ≡ count_of s.sender before + length s.octets = ap (λ (t : Bool). count_of s.sender before + cond t (length s.octets) 0) (own_side s.sender) in
@@ -93,13 +90,17 @@ rst_other : (s : Segment) (side : Side) (before : List Segment) → is_side s.se
 rst_other s side before e = ap (λ (t : Bool). has_rst side before || (t && s.rst)) e ∙ or_none (has_rst side before)
 
 -- one segment more, in the direction of its side
-pub given_more : (s : Segment) (before : List Segment) (place : ℕ) → given_of s.sender (s ∷ before) place ≡ option_or (given_of s.sender before place) (given_by s (start_of s.sender (s ∷ before)) (next_of s.sender before) place)
+pub given_more : (s : Segment) (before : List Segment) (place : ℕ) → given_of s.sender (s ∷ before) place ≡ option_or (given_of s.sender before place) (given_by s (start_of s.sender (s ∷ before)) (next_of s.sender before) (acknowledged_of s.sender before) place)
 unfolding given_of
-given_more s before place = ap (λ (t : Bool). option_or (given_of s.sender before place) (cond t (given_by s (start_of s.sender (s ∷ before)) (next_of s.sender before) place) None)) (own_side s.sender)
+given_more s before place = ap (λ (t : Bool). option_or (given_of s.sender before place) (cond t (given_by s (start_of s.sender (s ∷ before)) (next_of s.sender before) (acknowledged_of s.sender before) place) None)) (own_side s.sender)
 
-pub by_piece : (s : Segment) (start : Option ℕ) (next place : ℕ) → given_by s start next place ≡ piece_at (piece_in s start next).first (piece_in s start next).octets (giver_of s) place
-by_piece s None next place = empty_piece (giver_of s) place
-by_piece s (Some start) next place = refl
+pub bound_own : (s : Segment) (before : List Segment) → acknowledged_of s.sender (s ∷ before) ≡ acknowledged_of s.sender before
+unfolding given_of
+bound_own s before = ap (λ (t : Bool). max (acknowledged_of s.sender before) (cond t 0 (shown_by_acknowledgment (start_of s.sender before) (next_of s.sender before) s.acknowledgment s.rst))) (own_side s.sender) ∙ max_zero (acknowledged_of s.sender before)
+
+pub bound_other : (s : Segment) (side : Side) (before : List Segment) → is_side s.sender side ≡ false → acknowledged_of side (s ∷ before) ≡ max (acknowledged_of side before) (shown_by_acknowledgment (start_of side before) (next_of side before) s.acknowledgment s.rst)
+unfolding given_of
+bound_other s side before e = ap (λ (t : Bool). max (acknowledged_of side before) (cond t 0 (shown_by_acknowledgment (start_of side before) (next_of side before) s.acknowledgment s.rst))) e
 
 pub end_more : (s : Segment) (before : List Segment) → end_of s.sender (s ∷ before) ≡ max (end_of s.sender before) (end_in (placed s before))
 unfolding end_of
@@ -116,7 +117,7 @@ shown_more s before place = ap (λ (t : Bool). option_or (first_shown s.sender b
 -- one segment more, of the other side
 pub given_other : (s : Segment) (side : Side) (before : List Segment) (place : ℕ) → is_side s.sender side ≡ false → given_of side (s ∷ before) place ≡ given_of side before place
 unfolding given_of
-given_other s side before place e = ap (λ (t : Bool). option_or (given_of side before place) (cond t (given_by s (start_of side (s ∷ before)) (next_of side before) place) None)) e ∙ none_more (given_of side before place)
+given_other s side before place e = ap (λ (t : Bool). option_or (given_of side before place) (cond t (given_by s (start_of side (s ∷ before)) (next_of side before) (acknowledged_of side before) place) None)) e ∙ none_more (given_of side before place)
 
 pub end_other : (s : Segment) (side : Side) (before : List Segment) → is_side s.sender side ≡ false → end_of side (s ∷ before) ≡ end_of side before
 unfolding end_of
@@ -141,30 +142,32 @@ acknowledged_more s side before e = ap (λ (t : Bool). option_or (first_acknowle
 
 -- a direction that has taken a segment of its side
 pub added : {Z : Type 0} (s : Segment) (before : List Segment) (old new : Direction Z) → Holds s.sender before old
-    → Adds s (piece_in s (start_of s.sender (s ∷ before)) (length old.gathered.octets.items)) old new
+    → Adds s (piece_in s (start_of s.sender (s ∷ before)) (length old.gathered.octets.items) old.acknowledged) old new
     → Holds s.sender (s ∷ before) new
 added s before old new holds adds =
     let start = start_of s.sender (s ∷ before) in
     let n = next_is s.sender before old holds in
-    let piece : piece_in s start (length old.gathered.octets.items) ≡ placed s before = ap (piece_in s start) n in
+    let piece : piece_in s start (length old.gathered.octets.items) old.acknowledged ≡ placed s before =
+    ap (λ (k : ℕ). piece_in s start k old.acknowledged) n ∙ ap (piece_in s start (next_of s.sender before)) holds.acknowledged in
     record {
       sound = adds.sound;
       given = λ place.
           adds.given place
-          ∙ ap (λ o. option_or o (piece_at (piece_in s start (length old.gathered.octets.items)).first (piece_in s start (length old.gathered.octets.items)).octets (giver_of s) place)) (holds.given place)
+          ∙ ap (λ o. option_or o (piece_at (piece_in s start (length old.gathered.octets.items) old.acknowledged).first (piece_in s start (length old.gathered.octets.items) old.acknowledged).octets (giver_of s) place)) (holds.given place)
           ∙ ap (λ (p : Piece). option_or (given_of s.sender before place) (piece_at p.first p.octets (giver_of s) place)) piece
-          ∙ sym (given_more s before place ∙ ap (λ o. option_or (given_of s.sender before place) o) (by_piece s start (next_of s.sender before) place));
+          ∙ sym (given_more s before place);
       size = own_size s before (size new.gathered) (size old.gathered) adds.size holds.size;
-      end = adds.end ∙ ap (λ (k : ℕ). max k (end_in (piece_in s start (length old.gathered.octets.items)))) holds.end
+      end = adds.end ∙ ap (λ (k : ℕ). max k (end_in (piece_in s start (length old.gathered.octets.items) old.acknowledged))) holds.end
           ∙ ap (λ (p : Piece). max (end_of s.sender before) (end_in p)) piece ∙ sym (end_more s before);
-      fin = adds.fin ∙ ap (λ o. option_or o (cond s.fin (Some (after (piece_in s start (length old.gathered.octets.items)))) None)) holds.fin
+      fin = adds.fin ∙ ap (λ o. option_or o (cond s.fin (Some (after (piece_in s start (length old.gathered.octets.items) old.acknowledged))) None)) holds.fin
           ∙ ap (λ (p : Piece). option_or (fin_of s.sender before) (cond s.fin (Some (after p)) None)) piece ∙ sym (fin_more s before);
       rst = adds.rst ∙ ap (λ (t : Bool). t || s.rst) holds.rst ∙ sym (ap (λ (t : Bool). has_rst s.sender before || (t && s.rst)) (own_side s.sender));
       shown = λ place.
           adds.shown place
-          ∙ ap (λ o. option_or o (cond (nat_lt place (shown_by_own s (piece_in s start (length old.gathered.octets.items)))) (Some s.packet) None)) (holds.shown place)
+          ∙ ap (λ o. option_or o (cond (nat_lt place (shown_by_own s (piece_in s start (length old.gathered.octets.items) old.acknowledged))) (Some s.packet) None)) (holds.shown place)
           ∙ ap (λ (p : Piece). option_or (first_shown s.sender before place) (cond (nat_lt place (shown_by_own s p)) (Some s.packet) None)) piece
           ∙ sym (shown_more s before place);
+      acknowledged = adds.acknowledged ∙ holds.acknowledged ∙ sym (bound_own s before);
       acknowledged_by = adds.acknowledged_by ∙ holds.acknowledged_by ∙ sym (acknowledged_own s before);
     }
 
@@ -186,12 +189,16 @@ acknowledged s side before old new e holds acks =
           ∙ ap (λ o. option_or o (cond (nat_lt place (shown_by_acknowledgment (start_of side before) (length old.gathered.octets.items) s.acknowledgment s.rst)) (Some s.packet) None)) (holds.shown place)
           ∙ ap (λ (k : ℕ). option_or (first_shown side before place) (cond (nat_lt place (shown_by_acknowledgment (start_of side before) k s.acknowledgment s.rst)) (Some s.packet) None)) n
           ∙ sym (shown_other s side before place e);
+      acknowledged = acks.acknowledged
+          ∙ ap (λ (k : ℕ). max k (shown_by_acknowledgment (start_of side before) (length old.gathered.octets.items) s.acknowledgment s.rst)) holds.acknowledged
+          ∙ ap (λ (k : ℕ). max (acknowledged_of side before) (shown_by_acknowledgment (start_of side before) k s.acknowledgment s.rst)) n
+          ∙ sym (bound_other s side before e);
       acknowledged_by = acks.acknowledged_by ∙ ap (λ o. option_or o (cond (acknowledges s) (Some s.packet) None)) holds.acknowledged_by ∙ sym (acknowledged_more s side before e);
     }
 
 -- the first refusal of a segment's piece
 pub faults : {Z : Type 0} (s : Segment) (before : List Segment) (d : Direction Z) → Holds s.sender before d
-    → piece_faults s (piece_in s (start_of s.sender (s ∷ before)) (length d.gathered.octets.items)) (given_at d.gathered) d.fin d.end d.has_rst
+    → piece_faults s (piece_in s (start_of s.sender (s ∷ before)) (length d.gathered.octets.items) d.acknowledged) (given_at d.gathered) d.fin d.end d.has_rst
     ≡ option_or (octet_conflict s before) (option_or (fin_conflict s before) (after_reset s before))
 faults s before d holds =
     let start = start_of s.sender (s ∷ before) in
@@ -199,7 +206,8 @@ faults s before d holds =
     let told = given_of s.sender before in
     let fin = fin_of s.sender before in
     let end = end_of s.sender before in
-    let piece : piece_in s start (length d.gathered.octets.items) ≡ placed s before = ap (piece_in s start) (next_is s.sender before d holds) in
+    let piece : piece_in s start (length d.gathered.octets.items) d.acknowledged ≡ placed s before =
+    ap (λ (k : ℕ). piece_in s start k d.acknowledged) (next_is s.sender before d holds) ∙ ap (piece_in s start (next_of s.sender before)) holds.acknowledged in
     let p : Piece = placed s before in
     ap (λ (q : Piece). piece_faults s q given d.fin d.end d.has_rst) piece
     ∙ ap (λ (f : Option ℕ). piece_faults s p given f d.end d.has_rst) holds.fin

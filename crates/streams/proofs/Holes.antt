@@ -8,7 +8,7 @@ use Rattle.streams.specs.declared.gathered.Giver.{Giver}
 use Rattle.streams.specs.declared.passed.Side.{Side}
 use Rattle.streams.specs.Given.{piece_at}
 use Rattle.streams.specs.Passed.{Segment, giver_of}
-use Rattle.streams.specs.History.{start_of, count_of, first_hole, given_of, next_of, piece_in, placed}
+use Rattle.streams.specs.History.{start_of, count_of, first_hole, given_of, acknowledged_of, next_of, piece_in, placed}
 use Rattle.streams.proofs.Pieces.{piece_before, piece_past}
 use Rattle.streams.proofs.Histories.{given_other}
 use Rattle.streams.proofs.Moments.{own_given, cases_side, nothing, own_count, other_count}
@@ -119,9 +119,9 @@ hole_found f c few =
       ]
     ]
 
-piece_short : (s : Segment) (start : Option ℕ) (next : ℕ) → length (piece_in s start next).octets ≤ length s.octets
-piece_short s None next = omega arith
-piece_short s (Some start) next = omega (arith, length-drop {A = ℕ})
+piece_short : (s : Segment) (start : Option ℕ) (next bound : ℕ) → length (piece_in s start next bound).octets ≤ length s.octets
+piece_short s None next bound = omega arith
+piece_short s (Some start) next bound = omega (arith, length-drop {A = ℕ})
 
 given_few : (side : Side) (segments : List Segment) (n : ℕ) → counted (given_of side segments) n ≤ count_of side segments
 given_few side [] n = omega (arith, counted_none (given_of side []) (λ p. nothing side p) n)
@@ -131,7 +131,7 @@ given_few side (s ∷ before) n = elim (cases_side s.sender side) [
         arith,
         counted_more (given_of side (s ∷ before)) (given_of side before) (placed s before).first (placed s before).octets (giver_of s) (λ p. own_given s side before p own) n,
         given_few side before n,
-        piece_short s (start_of s.sender (s ∷ before)) (next_of s.sender before),
+        piece_short s (start_of s.sender (s ∷ before)) (next_of s.sender before) (acknowledged_of s.sender before),
         own_count s side before own,
       )
   | inr other ↦

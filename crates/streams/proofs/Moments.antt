@@ -14,7 +14,7 @@ use Rattle.streams.specs.History.{start_of, count_of, given_of, next_of, placed,
 use Rattle.streams.specs.Sent.{first_shown}
 use Rattle.streams.specs.Directions.{shown_by_own}
 use Rattle.streams.proofs.Pieces.{piece_before, piece_past, piece_within}
-use Rattle.streams.proofs.Histories.{own_side, by_piece, given_more, given_other, end_more, fin_more, fin_other, shown_more}
+use Rattle.streams.proofs.Histories.{own_side, given_more, given_other, end_more, fin_more, fin_other, shown_more}
 
 pub cases_side : (a b : Side) → (a ≡ b) ⊎ (is_side a b ≡ false)
 cases_side Local Local = inl refl
@@ -42,7 +42,7 @@ none_shown side p = refl
 pub own_given : (s : Segment) (side : Side) (before : List Segment) (place : ℕ) → s.sender ≡ side → given_of side (s ∷ before) place ≡ option_or (given_of side before place) (piece_at (placed s before).first (placed s before).octets (giver_of s) place)
 own_given s side before place e =
     subst (λ (t : Side). given_of t (s ∷ before) place ≡ option_or (given_of t before place) (piece_at (placed s before).first (placed s before).octets (giver_of s) place)) e
-    (given_more s before place ∙ ap (λ o. option_or (given_of s.sender before place) o) (by_piece s (start_of s.sender (s ∷ before)) (next_of s.sender before) place))
+    (given_more s before place)
 
 pub own_end : (s : Segment) (side : Side) (before : List Segment) → s.sender ≡ side → end_of side (s ∷ before) ≡ max (end_of side before) (end_in (placed s before))
 own_end s side before e = subst (λ (t : Side). end_of t (s ∷ before) ≡ max (end_of t before) (end_in (placed s before))) e (end_more s before)

@@ -16,7 +16,8 @@ use Rattle.streams.specs.Passed.{Segment, giver_of, is_side}
 use Rattle.streams.specs.Places.{Piece, after}
 use Rattle.streams.specs.History.{start_of, given_of, next_of, placed, end_in, end_of, fin_of}
 use Rattle.streams.specs.Refusals.{cut, time_back, no_start, octet_conflict, fin_conflict, conflict_at, other_fin, early_fin, fault_at, first_fault, half_of, missing_of}
-use Rattle.streams.specs.Sent.{shown_by_acknowledgment, first_shown, is_fin, half_shown, missing}
+use Rattle.streams.specs.Places.{shown_by_acknowledgment}
+use Rattle.streams.specs.Sent.{first_shown, is_fin, half_shown, missing}
 use Rattle.streams.specs.Directions.{shown_by_own}
 use Rattle.streams.specs.Choice.{IsStreamOf, refusal_of, numbered_one, Tells, IsAnswered}
 use Rattle.streams.specs.Spelling.{Stands, AllStand, AcknowledgeBelow, Spell, Agrees, fin_count}

@@ -10,7 +10,8 @@ use Rattle.streams.specs.declared.passed.Side.{Side}
 use Rattle.streams.specs.Passed.{Segment, giver_of}
 use Rattle.streams.specs.Places.{Piece, after}
 use Rattle.streams.specs.History.{start_of, given_of, next_of, placed, fin_of}
-use Rattle.streams.specs.Sent.{shown_by_acknowledgment, first_shown}
+use Rattle.streams.specs.Places.{shown_by_acknowledgment}
+use Rattle.streams.specs.Sent.{first_shown}
 use Rattle.streams.specs.Directions.{shown_by_own}
 use Rattle.streams.specs.Spelling.{Stands, AllStand, AcknowledgeBelow, Spell}
 use Rattle.streams.proofs.Histories.{given_other, fin_other, shown_other}

@@ -1,5 +1,5 @@
 -- A connection that has taken a segment.
-use Rattle.std.proofs.Common.{◌≡◌, ◌∙◌, ℕ, Some, None, Option, Bool, true, false, cond, List, [], ◌∷◌, refl, sym, ap, length, ◌||◌, ◌&&◌, subst}
+use Rattle.std.proofs.Common.{◌≡◌, ◌∙◌, ℕ, Some, None, Option, Bool, true, false, cond, List, [], ◌∷◌, refl, sym, ap, length, not, ◌||◌, ◌&&◌, subst}
 use Rattle.std.specs.Option.{option_or, is_some}
 use Rattle.streams.specs.declared.fault.Fault.{Fault}
 use Rattle.streams.specs.declared.fault.Fault.TheVariants as faults
@@ -12,7 +12,7 @@ use Rattle.streams.specs.History.{start_of, piece_in}
 use Rattle.streams.specs.Refusals.{cut, time_back, no_start, fault_at, first_fault}
 use Rattle.std.proofs.lemmas.Bool.{le-ltb}
 use Rattle.std.proofs.Common.{arith}
-use Rattle.streams.specs.Sent.{shown_by_acknowledgment}
+use Rattle.streams.specs.Places.{shown_by_acknowledgment}
 use Rattle.streams.specs.Directions.{Holds, Adds, Acknowledges}
 use Rattle.streams.specs.Connections.{opener_by, end_by, has_data}
 use Rattle.streams.specs.Gatherings.{AreSound, start_in, late, unstarted, direction_in, direction_faults, gathering_faults, HoldsConnection, last_second_of, noted, HasGathered, Gathers, start_with}
@@ -69,6 +69,7 @@ taken s before g fault sent received holds sound is directions = record {
   peer_start = peer_start_known s.sender s before g holds refl;
   last_second = refl;
   has_octets = ap (λ (t : Bool). t || has_data s) holds.has_octets;
+  has_others = ap (λ (t : Bool). t || not s.syn) holds.has_others;
   end = ap (λ o. option_or o (end_by s)) holds.end;
   fault = is;
   sent = λ none. (directions none).0;
@@ -76,7 +77,7 @@ taken s before g fault sent received holds sound is directions = record {
 }
 
 own : {Z : Type 0} (side : Side) (s : Segment) (before : List Segment) (old new : Direction Z) → s.sender ≡ side → Holds side before old
-    → Adds s (piece_in s (start_of s.sender (s ∷ before)) (length old.gathered.octets.items)) old new → Holds side (s ∷ before) new
+    → Adds s (piece_in s (start_of s.sender (s ∷ before)) (length old.gathered.octets.items) old.acknowledged) old new → Holds side (s ∷ before) new
 own side s before old new e holds adds =
     subst (λ (t : Side). Holds t (s ∷ before) new) e (histories.added s before old new (subst (λ (t : Side). Holds t before old) (sym e) holds) adds)
 

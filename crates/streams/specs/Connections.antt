@@ -1,10 +1,10 @@
--- The connections of a recording: the segments of one pair of ports, up to the next SYN whose
--- sequence number isn't that of its side's SYN. A connection's segments are told from the last one
--- back to the first, the connections in the order of their first segments.
+-- The connections of a recording: the segments of one pair of ports, up to the next SYN that begins
+-- another. A connection's segments are told from the last one back to the first, the connections in
+-- the order of their first segments.
 use Rattle.std.specs.Prelude.{ℕ, ◌+◌, List, [], ◌∷◌, ◌++◌, Option, Some, None, cond, Bool}
 use Rattle.std.specs.Prelude.{false, not, ◌&&◌, ◌||◌, nat_eq, nat_lt, length, suc}
 use Rattle.std.specs.Prelude.{get_or, filter, slice_set}
-use Rattle.std.specs.Option.{option_or, option_map, is_some}
+use Rattle.std.specs.Option.{option_or, option_map, is_some, is_none}
 use Rattle.streams.specs.declared.passed.Side.{Side}
 use Rattle.streams.specs.declared.connection.End.{End}
 use Rattle.streams.specs.Passed.{Segment, other_side}
@@ -15,10 +15,16 @@ abbrev pub has_ports : Segment → ℕ → ℕ → Bool
 has_ports s local_port peer_port =
     nat_eq local_port s.local_port && nat_eq peer_port s.peer_port
 
--- it has a SYN whose number isn't that of its side's SYN
-abbrev pub begins : Segment → Option ℕ → Bool
-begins s None = false
-begins s (Some start) = s.syn && not (nat_eq start s.sequence)
+-- a segment without a SYN is among them
+abbrev pub has_others : List Segment → Bool
+has_others [] = false
+has_others (s ∷ before) = has_others before || not s.syn
+
+-- it has a SYN that begins another connection: its side has a SYN of another number in this one; or
+-- its side has none there, it has no ACK, and a segment without a SYN stands there
+abbrev pub begins : Segment → Option ℕ → Bool → Bool
+begins s None others = s.syn && (is_none s.acknowledgment && others)
+begins s (Some start) others = s.syn && not (nat_eq start s.sequence)
 
 -- who opened a connection, by its first SYN: the side of that, if it has no ACK, else the other
 abbrev pub opener_by : Segment → Option Side
@@ -67,7 +73,8 @@ is_between s (last ∷ before) =
 -- one segment more: it is of the last connection between its ports, unless it begins another
 abbrev pub put_at : Segment → List (List Segment) → Option ℕ → List (List Segment)
 put_at s connections None = connections ++ (s ∷ []) ∷ []
-put_at s connections (Some i) = cond (begins s (start_of s.sender (get_or connections i [])))
+put_at s connections (Some i) = cond (begins s (start_of s.sender (get_or connections i []))
+    (has_others (get_or connections i [])))
     (connections ++ (s ∷ []) ∷ [])
     (slice_set connections i (s ∷ get_or connections i []))
 

@@ -8,7 +8,8 @@ use Rattle.streams.specs.declared.direction.Direction.{Direction}
 use Rattle.streams.specs.declared.gathered.Given.{Given}
 use Rattle.streams.specs.declared.passed.Side.{Side}
 use Rattle.streams.specs.Given.{IsSound, given_at, piece_at, size, first_conflict, first_new}
-use Rattle.streams.specs.History.{given_of, count_of, end_of, fin_of, has_rst, end_in}
+use Rattle.streams.specs.History.{given_of, acknowledged_of, count_of, end_of, fin_of}
+use Rattle.streams.specs.History.{has_rst, end_in}
 use Rattle.streams.specs.Sent.{first_shown, shown_by_piece, is_fin}
 use Rattle.streams.specs.Sent.{acknowledges, first_acknowledged}
 use Rattle.streams.specs.declared.fault.Fault.{Fault}
@@ -61,6 +62,7 @@ pub record Adds {Z : Type 0} (s : Segment) (piece : Piece) (old new : Direction 
   pub shown : (place : ℕ) → first_above new.shown.items place
       ≡ option_or (first_above old.shown.items place)
       (cond (nat_lt place (shown_by_own s piece)) (Some s.packet) None)
+  pub acknowledged : new.acknowledged ≡ old.acknowledged
   pub acknowledged_by : new.acknowledged_by ≡ old.acknowledged_by
 
 -- a direction has taken what a segment of the other side acknowledges
@@ -73,6 +75,7 @@ pub record Acknowledges {Z : Type 0} (s : Segment) (below : ℕ) (old new : Dire
     pub shown : (place : ℕ) → first_above new.shown.items place
         ≡ option_or (first_above old.shown.items place)
         (cond (nat_lt place below) (Some s.packet) None)
+    pub acknowledged : new.acknowledged ≡ max old.acknowledged below
     pub acknowledged_by : new.acknowledged_by
         ≡ option_or old.acknowledged_by (cond (acknowledges s) (Some s.packet) None)
 
@@ -87,6 +90,7 @@ pub record Holds {Z : Type 0} (side : Side) (segments : List Segment) (direction
   pub rst : direction.has_rst ≡ has_rst side segments
   pub shown : (place : ℕ) → first_above direction.shown.items place
       ≡ first_shown side segments place
+  pub acknowledged : direction.acknowledged ≡ acknowledged_of side segments
   pub acknowledged_by : direction.acknowledged_by ≡ first_acknowledged side segments
 
 -- the first packet that acknowledges what a side sent without a SYN

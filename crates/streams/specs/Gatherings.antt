@@ -1,6 +1,6 @@
 -- What is held of a connection.
 use Rattle.std.specs.Prelude.{ℕ, ◌≡◌, List, [], ◌∷◌, Option, Some, None, cond, ◌&&◌, ◌||◌}
-use Rattle.std.specs.Prelude.{nat_lt, length}
+use Rattle.std.specs.Prelude.{nat_lt, length, not}
 use Rattle.std.specs.Option.{option_or, is_none, unwrap_or}
 use Rattle.streams.specs.declared.fault.Fault.{Fault}
 use Rattle.streams.specs.declared.fault.Fault.TheVariants as faults
@@ -14,9 +14,9 @@ use Rattle.streams.specs.Given.{IsSound, given_at}
 use Rattle.streams.specs.Passed.{Segment, is_side}
 use Rattle.streams.specs.History.{start_of, piece_in}
 use Rattle.streams.specs.Refusals.{cut, first_fault, half_of, missing_of}
-use Rattle.streams.specs.Sent.{shown_by_acknowledgment}
+use Rattle.streams.specs.Places.{shown_by_acknowledgment}
 use Rattle.streams.specs.Directions.{Holds, piece_faults, Adds, Acknowledges, half_in, missing_in}
-use Rattle.streams.specs.Connections.{opener_of, end_of_connection, has_octets, has_data}
+use Rattle.streams.specs.Connections.{opener_of, end_of_connection, has_octets, has_data, has_others}
 use Rattle.streams.specs.Connections.{opener_by, end_by}
 
 -- both directions are held as they have to be
@@ -39,7 +39,7 @@ unstarted s start = cond ((nat_lt 0 (length s.octets) || s.fin) && is_none start
 
 abbrev pub direction_faults : {Z : Type 0} → Segment → Option ℕ → Direction Z → Option Fault
 direction_faults s start direction = piece_faults s
-    (piece_in s start (length direction.gathered.octets.items))
+    (piece_in s start (length direction.gathered.octets.items) direction.acknowledged)
     (given_at direction.gathered) direction.fin direction.end direction.has_rst
 
 abbrev pub direction_in : {Z : Type 0} → Side → Gathering Z → Direction Z
@@ -73,6 +73,7 @@ pub record HoldsConnection {Z : Type 0} (segments : List Segment) (gathering : G
   pub peer_start : gathering.peer_start ≡ start_of Peer segments
   pub last_second : gathering.last_second ≡ last_second_of segments
   pub has_octets : gathering.has_octets ≡ has_octets segments
+  pub has_others : gathering.has_others ≡ has_others segments
   pub end : gathering.end ≡ end_of_connection segments
   pub fault : gathering.fault ≡ first_fault segments
   pub sent : gathering.fault ≡ None → Holds Local segments gathering.sent
@@ -86,13 +87,15 @@ noted s start g = record g {
   peer_start = cond (is_side s.sender Peer) start g.peer_start;
   last_second = s.second;
   has_octets = g.has_octets || has_data s;
+  has_others = g.has_others || not s.syn;
   end = option_or g.end (end_by s);
 }
 
 -- a direction has taken a segment that its side sent, and the other one what it acknowledges
 pub record Gathers {Z : Type 0} (s : Segment) (start other : Option ℕ)
     (own acknowledged own' acknowledged' : Direction Z) : Type 0 where
-  pub adds : Adds s (piece_in s start (length own.gathered.octets.items)) own own'
+  pub adds : Adds s
+      (piece_in s start (length own.gathered.octets.items) own.acknowledged) own own'
   pub acknowledges : Acknowledges s (shown_by_acknowledgment other
       (length acknowledged.gathered.octets.items) s.acknowledgment s.rst)
       acknowledged acknowledged'

@@ -7,7 +7,7 @@ use Rattle.streams.specs.declared.passed.Side.{Side}
 use Rattle.streams.specs.declared.gathered.Given.{Given}
 use Rattle.streams.specs.Given.{piece_at}
 use Rattle.streams.specs.Passed.{Segment, giver_of, is_side}
-use Rattle.streams.specs.Places.{Piece, piece_of, after}
+use Rattle.streams.specs.Places.{Piece, piece_of, after, kept_from, shown_by_acknowledgment}
 
 -- the sequence number of the side's SYN, if it has one
 abbrev pub start_of : Side → List Segment → Option ℕ
@@ -27,33 +27,44 @@ first_hole given place zero = place
 first_hole given place (suc limit) =
     cond (is_some (given place)) (first_hole given (place + 1) limit) place
 
--- what a segment of the side gives at a place
-abbrev pub given_by : Segment → Option ℕ → ℕ → ℕ → Option Given
-given_by s None next place = None
-given_by s (Some start) next place =
-    piece_at (piece_of s start next).first (piece_of s start next).octets (giver_of s) place
+-- the piece of a segment of the side, after so many known octets: those that were acknowledged, as
+-- all below the bound, are passed over
+abbrev pub piece_in : Segment → Option ℕ → ℕ → ℕ → Piece
+piece_in s None next bound = record { first = 0; octets = [] }
+piece_in s (Some start) next bound = kept_from bound (piece_of s start next)
 
--- the octet that is given at a place of the side's stream, and the packet that gave it first
-unfoldable pub given_of : Side → List Segment → ℕ → Option Given
-given_of side [] place = None
-given_of side (s ∷ before) place = option_or (given_of side before place)
-    (cond (is_side s.sender side)
-    (given_by s (start_of side (s ∷ before))
-    (first_hole (given_of side before) 0 (count_of side before)) place)
-    None)
+-- what a segment of the side gives at a place
+abbrev pub given_by : Segment → Option ℕ → ℕ → ℕ → ℕ → Option Given
+given_by s start next bound place = piece_at (piece_in s start next bound).first
+    (piece_in s start next bound).octets (giver_of s) place
+
+unfoldable mutual
+  -- the octet that is given at a place of the side's stream, and the packet that gave it first
+  pub given_of : Side → List Segment → ℕ → Option Given
+  given_of side [] place = None
+  given_of side (s ∷ before) place = option_or (given_of side before place)
+      (cond (is_side s.sender side)
+      (given_by s (start_of side (s ∷ before))
+      (first_hole (given_of side before) 0 (count_of side before))
+      (acknowledged_of side before) place)
+      None)
+
+  -- all below this place of the side's stream is acknowledged by segments of the other side
+  pub acknowledged_of : Side → List Segment → ℕ
+  acknowledged_of side [] = 0
+  acknowledged_of side (s ∷ before) = max (acknowledged_of side before)
+      (cond (is_side s.sender side) 0
+      (shown_by_acknowledgment (start_of side before)
+      (first_hole (given_of side before) 0 (count_of side before)) s.acknowledgment s.rst))
 
 -- the number of octets known: given from the first on, none missing
 abbrev pub next_of : Side → List Segment → ℕ
 next_of side before = first_hole (given_of side before) 0 (count_of side before)
 
--- the piece of a segment of the side
-abbrev pub piece_in : Segment → Option ℕ → ℕ → Piece
-piece_in s None next = record { first = 0; octets = [] }
-piece_in s (Some start) next = piece_of s start next
-
--- where a segment's octets stand in its side's stream
+-- where a segment's octets stand in its side's stream, those passed over left out
 abbrev pub placed : Segment → List Segment → Piece
 placed s before = piece_in s (start_of s.sender (s ∷ before)) (next_of s.sender before)
+    (acknowledged_of s.sender before)
 
 -- the place after a piece, if it has octets
 abbrev pub end_in : Piece → ℕ

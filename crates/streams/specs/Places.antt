@@ -1,6 +1,7 @@
 -- Places in a stream: 0 is the first octet after the SYN. Sequence numbers are places modulo 2 to
 -- the 32nd (RFC 9293, 3.4), so a number's place is sought near the octets that are known.
-use Rattle.std.specs.Prelude.{ℕ, ◌+◌, ◌-◌, ◌%◌, List, drop, length, cond}
+use Rattle.std.specs.Prelude.{ℕ, ◌+◌, ◌-◌, ◌%◌, List, drop, length, cond, min, max}
+use Rattle.std.specs.Prelude.{Option, Some, None, Bool, true, false}
 use Rattle.streams.specs.Passed.{Segment}
 
 -- how many sequence numbers there are, and half of them
@@ -40,3 +41,18 @@ after piece = piece.first + length piece.octets
 -- the first place that isn't acknowledged
 abbrev pub acknowledged : ℕ → ℕ → ℕ → ℕ
 acknowledged start next number = raised_place next (offset_of start number) - half
+
+-- what stands below this place was sent, as an acknowledgment shows
+abbrev pub shown_by_acknowledgment : Option ℕ → ℕ → Option ℕ → Bool → ℕ
+shown_by_acknowledgment start next number true = 0
+shown_by_acknowledgment None next number false = 0
+shown_by_acknowledgment (Some start) next None false = 0
+shown_by_acknowledgment (Some start) next (Some number) false = acknowledged start next number
+
+-- octets below the bound are passed over; those that are left keep their places, and so does what
+-- follows
+abbrev pub kept_from : ℕ → Piece → Piece
+kept_from bound piece = record {
+  first = max piece.first (min bound (after piece));
+  octets = drop (bound - piece.first) piece.octets;
+}

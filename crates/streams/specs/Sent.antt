@@ -5,19 +5,12 @@ use Rattle.std.specs.Prelude.{true, false, not, ◌||◌, ◌&&◌, nat_lt, nat_
 use Rattle.std.specs.Option.{option_or, is_some, is_none}
 use Rattle.streams.specs.declared.passed.Side.{Side}
 use Rattle.streams.specs.Passed.{Segment, is_side}
-use Rattle.streams.specs.Places.{Piece, after, acknowledged}
+use Rattle.streams.specs.Places.{Piece, after, shown_by_acknowledgment}
 use Rattle.streams.specs.History.{start_of, next_of, placed, fin_of}
 
 -- what stands below this place was sent, as the piece and its FIN show
 abbrev pub shown_by_piece : Piece → Bool → ℕ
 shown_by_piece piece fin = cond fin (after piece) (after piece - 1)
-
--- what stands below this place was sent, as an acknowledgment shows
-abbrev pub shown_by_acknowledgment : Option ℕ → ℕ → Option ℕ → Bool → ℕ
-shown_by_acknowledgment start next number true = 0
-shown_by_acknowledgment None next number false = 0
-shown_by_acknowledgment (Some start) next None false = 0
-shown_by_acknowledgment (Some start) next (Some number) false = acknowledged start next number
 
 -- what stands below this place of the side's stream was sent, as the segment shows
 abbrev pub shown_by : Side → Segment → List Segment → ℕ

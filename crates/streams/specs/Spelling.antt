@@ -1,7 +1,7 @@
 -- The stream that a connection's segments spell in one direction (RFC 9293, 3.4): the octets of
--- each segment stand at their places in it, each of its octets is given, each FIN stands right
--- after it, and nothing is acknowledged that it lacks. The segments are told from the last one back
--- to the first.
+-- each segment, but those that were acknowledged before, stand at their places in it, each of its
+-- octets is given, each FIN stands right after it, and nothing is acknowledged that it lacks. The
+-- segments are told from the last one back to the first.
 use Rattle.std.specs.Prelude.{ℕ, ◌≡◌, ◌<◌, ◌≤◌, ◌+◌, ◌⊎◌, List, [], ◌∷◌, ◌++◌, Option, Some, None}
 use Rattle.std.specs.Prelude.{true, false, cond, length, get_or, min}
 use Rattle.std.specs.List.{slice_get}
@@ -12,10 +12,9 @@ use Rattle.streams.specs.declared.gathered.Given.{Given}
 use Rattle.streams.specs.declared.passed.Side.{Side}
 use Rattle.streams.specs.declared.passed.Side.TheVariants.{Local, Peer}
 use Rattle.streams.specs.Passed.{Segment, is_side}
-use Rattle.streams.specs.Places.{after}
+use Rattle.streams.specs.Places.{after, shown_by_acknowledgment}
 use Rattle.streams.specs.History.{start_of, given_of, next_of, placed, fin_of}
 use Rattle.streams.specs.Refusals.{first_fault}
-use Rattle.streams.specs.Sent.{shown_by_acknowledgment}
 use Rattle.streams.specs.Choice.{refusal_of, numbered_one, IsAnswered}
 
 -- the segment's octets stand in the stream at their places, and its FIN right after it

@@ -19,8 +19,9 @@ use std::alloc::{AllocError, Allocator, Global};
 /// How many octets a segment may have. No packet of IP has as many.
 const TOO_LONG: usize = 1 << 32;
 
-/// The connections between two systems: the segments of one pair of ports, up to the next SYN whose
-/// sequence number isn't that of its side's SYN.
+/// The connections between two systems: the segments of one pair of ports, up to the next SYN that
+/// begins another. Its side has a SYN of another number in this one; or it has no ACK, and its side
+/// has no SYN in this one, where a segment without a SYN passed before.
 #[derive(Drop)]
 pub struct Connections<A: Allocator = Global> {
     alloc: A,

@@ -7,10 +7,10 @@ ghost use Rattle.std.specs.Option.{is_some, option_or, option_map};
 ghost use Rattle.streams.specs.declared.passed.Side.{Side};
 ghost use Rattle.streams.specs.Given.{IsSound, given_at};
 ghost use Rattle.streams.specs.Passed.{segment_of};
-ghost use Rattle.streams.specs.Places.{after};
+ghost use Rattle.streams.specs.Places.{after, shown_by_acknowledgment};
 ghost use Rattle.streams.specs.History.{piece_in, end_in};
 ghost use Rattle.streams.specs.Refusals.{other_fin, early_fin};
-ghost use Rattle.streams.specs.Sent.{shown_by_piece, shown_by_acknowledgment};
+ghost use Rattle.streams.specs.Sent.{shown_by_piece};
 ghost use Rattle.streams.specs.Directions.{piece_value, first_above, piece_faults, half_in, missing_in};
 ghost use Rattle.streams.specs.Directions.{Adds, Acknowledges, Holds};
 
@@ -38,6 +38,8 @@ pub struct Direction<A: Allocator> {
     has_rst: bool,
     /// The packets that showed more than those before them.
     shown: Vec<Shown, A>,
+    /// All below this place is acknowledged: a receiver drops what comes of it again.
+    acknowledged: u64,
     /// The first packet of the other side that acknowledges what this one sent.
     acknowledged_by: Option<u64>,
 }
@@ -87,6 +89,7 @@ impl<A: Allocator + Copy> Direction<A> {
             fin: None,
             has_rst: false,
             shown: Vec::new(alloc),
+            acknowledged: 0,
             acknowledged_by: None,
         }
     }
@@ -97,10 +100,11 @@ impl<A: Allocator + Copy> Direction<A> {
         requires sound { IsSound self.now.gathered }
         requires short { length passed.now.octets.now < 2 ^ 32 }
         ensures { result ≡ piece_faults (segment_of passed.now)
-            (piece_in (segment_of passed.now) start (length self.now.gathered.octets.items))
-            (given_at self.now.gathered) self.now.fin self.now.end self.now.has_rst }
+            (piece_in (segment_of passed.now) start (length self.now.gathered.octets.items)
+            self.now.acknowledged) (given_at self.now.gathered) self.now.fin self.now.end
+            self.now.has_rst }
     {
-        let piece = piece_in(passed, start, self.gathered.known());
+        let piece = piece_in(passed, start, self.gathered.known(), self.acknowledged);
         let conflict = self
             .gathered
             .first_conflict(piece.first, piece.octets, self.fin)
@@ -161,21 +165,22 @@ impl<A: Allocator + Copy> Direction<A> {
         requires sound { IsSound self.old.gathered }
         requires short { length passed.now.octets.now < 2 ^ 32 }
         ensures { OnOk result (Adds (segment_of passed.now)
-            (piece_in (segment_of passed.now) start (length self.old.gathered.octets.items))
+            (piece_in (segment_of passed.now) start (length self.old.gathered.octets.items)
+            self.old.acknowledged)
             self.old self.new) }
     {
-        let piece = piece_in(passed, start, self.gathered.known());
+        let given = piece_in(passed, start, self.gathered.known(), self.acknowledged);
         let giver = Giver {
             packet: passed.packet,
             second: passed.second,
         };
-        note(&mut self.shown, shown_by(passed.fin, &piece), passed.packet)?;
-        self.end = self.end_with(&piece);
+        note(&mut self.shown, shown_by(passed.fin, &given), passed.packet)?;
+        self.end = self.end_with(&given);
         if passed.fin && self.fin.is_none() {
-            self.fin = Some(piece.after());
+            self.fin = Some(given.after());
         }
         self.has_rst |= passed.rst;
-        self.gathered.put(piece.first, piece.octets, giver)?;
+        self.gathered.put(given.first, given.octets, giver)?;
         Ok(())
     }
 
@@ -195,6 +200,7 @@ impl<A: Allocator + Copy> Direction<A> {
             if let Some(start) = start {
                 let below = acknowledged(start, self.gathered.known(), number);
                 note(&mut self.shown, below, passed.packet)?;
+                self.acknowledged = self.acknowledged.max(below);
             }
         }
         Ok(())

@@ -35,6 +35,8 @@ pub struct Gathering<A: Allocator> {
     last_second: u32,
     /// A segment of it has data.
     pub has_octets: bool,
+    /// A segment of it has no SYN.
+    has_others: bool,
     pub end: Option<End>,
     pub fault: Option<Fault>,
     /// What each side sent, up to the fault.
@@ -96,6 +98,7 @@ impl<A: Allocator + Copy> Gathering<A> {
             peer_start: None,
             last_second: 0,
             has_octets: false,
+            has_others: false,
             end: None,
             fault: None,
             sent: Direction::new(alloc),
@@ -122,14 +125,14 @@ impl<A: Allocator + Copy> Gathering<A> {
     }
 
     /// Whether the segment begins another connection: it has a SYN whose number isn't that of its
-    /// side's SYN.
+    /// side's SYN; or its side has none, and it opens a connection where segments passed before.
     pub fn is_left_by(&self, passed: &Passed<'_>) -> bool
         ensures { result ≡ begins (segment_of passed.now)
-            (start_in passed.now.from self.now) }
+            (start_in passed.now.from self.now) self.now.has_others }
     {
         match self.start(passed.from) {
             Some(start) => passed.syn && start != passed.sequence,
-            None => false,
+            None => passed.syn && passed.acknowledgment.is_none() && self.has_others,
         }
     }
 
@@ -191,6 +194,7 @@ impl<A: Allocator + Copy> Gathering<A> {
         }
         self.last_second = passed.second;
         self.has_octets |= !passed.octets.is_empty() || !passed.is_whole;
+        self.has_others |= !passed.syn;
         self.end = self.end.or(end_by(passed));
     }
 

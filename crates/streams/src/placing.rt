@@ -3,6 +3,7 @@
 ghost use Rattle.std.specs.Prelude.{◌≡◌, ◌<◌, ◌≤◌, ◌+◌, ◌-◌, ◌^◌, length};
 ghost use Rattle.streams.specs.Passed.{segment_of};
 ghost use Rattle.streams.specs.Places.{raised_place, offset_of, lowered, after, acknowledged};
+ghost use Rattle.streams.specs.Places.{kept_from};
 ghost use Rattle.streams.specs.History.{piece_in};
 ghost use Rattle.streams.specs.Directions.{piece_value};
 
@@ -27,6 +28,24 @@ impl<'a> Piece<'a> {
         ensures { result ≡ after (piece_value self.entry) }
     {
         self.first + self.octets.len() as u64
+    }
+
+    /// Its octets from a place on: those before are passed over, and the place after it stays.
+    fn kept_from(self, bound: u64) -> Piece<'a>
+        requires { self.first + length self.octets.now < 2 ^ 64 }
+        ensures piece { piece_value result ≡ kept_from bound (piece_value self.entry) }
+        ensures end { result.first + length result.octets.now
+            ≡ self.entry.first + length self.entry.octets.now }
+        ensures within { length result.octets.now ≤ length self.entry.octets.now }
+    {
+        if bound <= self.first {
+            return self;
+        }
+        let below = (bound - self.first).min(self.octets.len() as u64);
+        Piece {
+            first: self.first + below,
+            octets: self.octets.split_at(below as usize).1,
+        }
     }
 }
 
@@ -69,19 +88,19 @@ fn lowered(raised: u64, octets: &[u8]) -> Piece<'_>
     }
 }
 
-/// Where a segment's octets stand in its side's stream, of which so many are known. Without a SYN
-/// of that side it has none.
-pub fn piece_in<'a>(passed: &Passed<'a>, start: Option<u32>, next: u64) -> Piece<'a>
+/// Where a segment's octets stand in its side's stream, of which so many are known. Those below the
+/// bound are passed over. Without a SYN of that side it has none.
+pub fn piece_in<'a>(passed: &Passed<'a>, start: Option<u32>, next: u64, bound: u64) -> Piece<'a>
     requires next { next < 2 ^ 63 }
     requires short { length passed.now.octets.now < 2 ^ 32 }
-    ensures piece { piece_value result ≡ piece_in (segment_of passed.entry.now) start next }
+    ensures piece { piece_value result ≡ piece_in (segment_of passed.entry.now) start next bound }
     ensures bound { result.first + length result.octets.now < 2 ^ 64 }
     ensures within { length result.octets.now ≤ length passed.entry.now.octets.now }
 {
     match start {
         Some(start) => {
             let offset = offset_of(start, passed.sequence) + u64::from(passed.syn);
-            lowered(raised_place(next, offset), passed.octets)
+            lowered(raised_place(next, offset), passed.octets).kept_from(bound)
         }
         None => Piece {
             first: 0,

@@ -24,7 +24,7 @@ pub struct Case {
     pub wanted: Wanted,
 }
 
-pub static CASES: [Case; 40] = [
+pub static CASES: [Case; 50] = [
     Case {
         name: "in order",
         rows: &[T1, T2, T3, T4, T5, T6, T7, T8, T9],
@@ -39,7 +39,7 @@ pub static CASES: [Case; 40] = [
     },
     Case {
         name: "an answer passes after what answers it",
-        rows: &[T1, T2, T3, T4, T5, T7, T6_AFTER, T8, T9],
+        rows: &[T1, T2, T3, T4, T5, T7_BEFORE, T6_AFTER, T8, T9],
         peer_start: 1000,
         local_start: 5000,
         number: None,
@@ -48,6 +48,18 @@ pub static CASES: [Case; 40] = [
             sent: &[(49, 5), (19, 7)],
             end: None,
         },
+    },
+    Case {
+        name: "an answer passes after what acknowledges it",
+        rows: &[T1, T2, T3, T4, T5, T7, T6_AFTER, T8, T9],
+        peer_start: 1000,
+        local_start: 5000,
+        number: None,
+        wanted: Wanted::Refused(Fault::Missing {
+            packet: 6,
+            from: Side::Local,
+            place: 49,
+        }),
     },
     Case {
         name: "sequence numbers wrap",
@@ -110,16 +122,80 @@ pub static CASES: [Case; 40] = [
         },
     },
     Case {
-        name: "another octet again",
+        name: "another octet again, which was acknowledged",
         rows: &[T1, T2, T3, T4, T5, T6, T7, T8, T9, T4_OTHER],
         peer_start: 1000,
         local_start: 5000,
         number: None,
+        wanted: Wanted::Told {
+            received: &[(49, 4), (19, 7), (45, 8)],
+            sent: &[(49, 5), (19, 6)],
+            end: None,
+        },
+    },
+    Case {
+        name: "another octet again",
+        rows: &[T1, T2, T3, T4, T4_OTHER],
+        peer_start: 1000,
+        local_start: 5000,
+        number: None,
         wanted: Wanted::Refused(Fault::Conflict {
-            packet: 10,
+            packet: 5,
             from: Side::Peer,
             place: 48,
         }),
+    },
+    Case {
+        name: "an octet of garbage that keeps the connection alive",
+        rows: &[T1, T2, T3, T4, T5, T6, T7, T8, T9, KEEP_ALIVE],
+        peer_start: 1000,
+        local_start: 5000,
+        number: None,
+        wanted: Wanted::Told {
+            received: &[(49, 4), (19, 7), (45, 8)],
+            sent: &[(49, 5), (19, 6)],
+            end: None,
+        },
+    },
+    Case {
+        name: "the same before its place is acknowledged",
+        rows: &[T1, T2, T3, T4, T5, T6, T7, T8, KEEP_ALIVE_EARLY, T9],
+        peer_start: 1000,
+        local_start: 5000,
+        number: None,
+        wanted: Wanted::Refused(Fault::Conflict {
+            packet: 9,
+            from: Side::Peer,
+            place: 112,
+        }),
+    },
+    Case {
+        name: "octets pass after their acknowledgment",
+        rows: &[T1, T2, T3, T4, T5, T6, T7, T9, T8],
+        peer_start: 1000,
+        local_start: 5000,
+        number: None,
+        wanted: Wanted::Refused(Fault::Missing {
+            packet: 8,
+            from: Side::Peer,
+            place: 68,
+        }),
+    },
+    Case {
+        name: "a FIN with octets that were acknowledged",
+        rows: &[T1, T2, T3, T4, T5, T6, T7, T8, T9, T8_FIN],
+        peer_start: 1000,
+        local_start: 5000,
+        number: None,
+        wanted: Wanted::Told {
+            received: &[(49, 4), (19, 7), (45, 8)],
+            sent: &[(49, 5), (19, 6)],
+            end: Some(End {
+                packet: 10,
+                second: 103,
+                side: Side::Peer,
+            }),
+        },
     },
     Case {
         name: "another octet while it waits",
@@ -451,6 +527,50 @@ pub static CASES: [Case; 40] = [
         wanted: Wanted::Told {
             received: &[(49, 13), (19, 16), (45, 17)],
             sent: &[(49, 14), (19, 15)],
+            end: None,
+        },
+    },
+    Case {
+        name: "the same ports after half a connection",
+        rows: &[T4, T5, T6, T7, T8, T9, T1, T2, T3, T4, T5, T6, T7, T8, T9],
+        peer_start: 1000,
+        local_start: 5000,
+        number: Some(1),
+        wanted: Wanted::Refused(Fault::NoStart { packet: 1 }),
+    },
+    Case {
+        name: "what follows half a connection",
+        rows: &[T4, T5, T6, T7, T8, T9, T1, T2, T3, T4, T5, T6, T7, T8, T9],
+        peer_start: 1000,
+        local_start: 5000,
+        number: Some(2),
+        wanted: Wanted::Told {
+            received: &[(49, 10), (19, 13), (45, 14)],
+            sent: &[(49, 11), (19, 12)],
+            end: None,
+        },
+    },
+    Case {
+        name: "both open at once",
+        rows: &[T1, OPENS_TOO, T3, T4, T5, T6, T7, T8, T9],
+        peer_start: 1000,
+        local_start: 5000,
+        number: None,
+        wanted: Wanted::Told {
+            received: &[(49, 4), (19, 7), (45, 8)],
+            sent: &[(49, 5), (19, 6)],
+            end: None,
+        },
+    },
+    Case {
+        name: "a SYN that acknowledges, after another segment",
+        rows: &[T1, T3, T2, T4, T5, T6, T7, T8, T9],
+        peer_start: 1000,
+        local_start: 5000,
+        number: None,
+        wanted: Wanted::Told {
+            received: &[(49, 4), (19, 7), (45, 8)],
+            sent: &[(49, 5), (19, 6)],
             end: None,
         },
     },

@@ -13,14 +13,14 @@ pub static STREAM: [u8; 128] = [
     117, 118, 119, 120, 121, 122, 123, 124, 125, 126, 127,
 ];
 
-/// The same with another octet at place 48.
+/// The same with another octet at places 48 and 112.
 static ALTERED: [u8; 128] = [
     0, 1, 2, 3, 4, 5, 6, 7, 8, 9, 10, 11, 12, 13, 14, 15, 16, 17, 18, 19, 20, 21, 22, 23, 24, 25,
     26, 27, 28, 29, 30, 31, 32, 33, 34, 35, 36, 37, 38, 39, 40, 41, 42, 43, 44, 45, 46, 47, 0, 49,
     50, 51, 52, 53, 54, 55, 56, 57, 58, 59, 60, 61, 62, 63, 64, 65, 66, 67, 68, 69, 70, 71, 72, 73,
     74, 75, 76, 77, 78, 79, 80, 81, 82, 83, 84, 85, 86, 87, 88, 89, 90, 91, 92, 93, 94, 95, 96, 97,
-    98, 99, 100, 101, 102, 103, 104, 105, 106, 107, 108, 109, 110, 111, 112, 113, 114, 115, 116,
-    117, 118, 119, 120, 121, 122, 123, 124, 125, 126, 127,
+    98, 99, 100, 101, 102, 103, 104, 105, 106, 107, 108, 109, 110, 111, 0, 113, 114, 115, 116, 117,
+    118, 119, 120, 121, 122, 123, 124, 125, 126, 127,
 ];
 
 /// A segment.
@@ -38,7 +38,7 @@ pub struct Row {
     pub acknowledges: Option<u32>,
     /// How many octets it has. They are the stream's at their place.
     pub count: usize,
-    /// The octet at place 48 is another.
+    /// The octets at places 48 and 112 are others.
     pub altered: bool,
     /// All its octets are in the recording.
     pub whole: bool,
@@ -162,9 +162,19 @@ pub const T6_AFTER: usize = 38;
 
 pub const FIN_PASSED: usize = 39;
 
+pub const T7_BEFORE: usize = 40;
+
+pub const KEEP_ALIVE: usize = 41;
+
+pub const KEEP_ALIVE_EARLY: usize = 42;
+
+pub const T8_FIN: usize = 43;
+
+pub const OPENS_TOO: usize = 44;
+
 /// The segments of the cases: nine of a session in order, the same of a later one from another
 /// port, and others.
-pub static ROWS: [Row; 40] = [
+pub static ROWS: [Row; 45] = [
     Row {
         second: 100,
         from: Side::Peer,
@@ -681,6 +691,71 @@ pub static ROWS: [Row; 40] = [
         rst: false,
         offset: 69,
         acknowledges: Some(116),
+        count: 0,
+        altered: false,
+        whole: true,
+    },
+    Row {
+        second: 101,
+        from: Side::Peer,
+        port: 40000,
+        syn: false,
+        fin: false,
+        rst: false,
+        offset: 50,
+        acknowledges: Some(50),
+        count: 19,
+        altered: false,
+        whole: true,
+    },
+    Row {
+        second: 103,
+        from: Side::Peer,
+        port: 40000,
+        syn: false,
+        fin: false,
+        rst: false,
+        offset: 113,
+        acknowledges: Some(69),
+        count: 1,
+        altered: true,
+        whole: true,
+    },
+    Row {
+        second: 102,
+        from: Side::Peer,
+        port: 40000,
+        syn: false,
+        fin: false,
+        rst: false,
+        offset: 113,
+        acknowledges: Some(69),
+        count: 1,
+        altered: true,
+        whole: true,
+    },
+    Row {
+        second: 103,
+        from: Side::Peer,
+        port: 40000,
+        syn: false,
+        fin: true,
+        rst: false,
+        offset: 69,
+        acknowledges: Some(69),
+        count: 45,
+        altered: false,
+        whole: true,
+    },
+    Row {
+        second: 100,
+        from: Side::Local,
+        port: 40000,
+        syn: true,
+        fin: false,
+        rst: false,
+        offset: 0,
+        acknowledges: None,
         count: 0,
         altered: false,
         whole: true,

@@ -15,5 +15,6 @@ returns g c = λ side. let empty : c.new-2.result.items ≡ [] = search rules in
   fin = refl;
   rst = refl;
   shown = λ place. ap (λ (xs : List Shown). first_above xs place) empty;
+  acknowledged = refl;
   acknowledged_by = refl;
 }

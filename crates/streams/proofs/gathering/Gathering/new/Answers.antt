@@ -12,6 +12,7 @@ returns-clause-holds g c = record {
   peer_start = refl;
   last_second = refl;
   has_octets = refl;
+  has_others = refl;
   end = refl;
   fault = refl;
   sent = λ _. c.new.ensures Local;
