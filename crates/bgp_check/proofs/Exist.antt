@@ -18,7 +18,7 @@ use Rattle.bgp_check.specs.Widest.{IsItsOwn, IsWidest, WantsIt}
 use Rattle.bgp_check.proofs.EachHeard.{readable_or_not, true_or_not}
 use Rattle.bgp_check.proofs.OtherParts.{own_alike}
 use Rattle.bgp_check.proofs.SameOpen.{alike_of}
-use Rattle.bgp_check.proofs.Widest.{peer_as_alike}
+use Rattle.bgp_check.proofs.WidestRuns.{peer_as_alike}
 
 -- what an AS number has to be for the peer's in a configuration
 pub record CanBePeers (as4 : Bool) (number : ℕ) : Type 0 where

@@ -94,7 +94,7 @@ faulting session (Some octets) has =
 -- ---- one under which it is valid, where it can be
 
 -- an OPEN that is valid under one configuration is valid under one that isn't internal and wants its AS number
-valid_under : (config a : Config) (octets : List ℕ) → IsValid config octets → peer_as_of a (open_of octets) ≡ a.parts.peer_as
+pub valid_under : (config a : Config) (octets : List ℕ) → IsValid config octets → peer_as_of a (open_of octets) ≡ a.parts.peer_as
     → ¬ IsTrue (is_internal a.parts) → IsValid a octets
 valid_under config a octets valid same external subcode detail fault = elim fault [
   | inl version ↦ valid subcode detail (inl version)
@@ -117,7 +117,7 @@ valid_under config a octets valid same external subcode detail fault = elim faul
 ]
 
 -- the AS number of a valid OPEN is the one that is configured
-wanted : (config : Config) (octets : List ℕ) → IsValid config octets → peer_as_of config (open_of octets) ≡ config.parts.peer_as
+pub wanted : (config : Config) (octets : List ℕ) → IsValid config octets → peer_as_of config (open_of octets) ≡ config.parts.peer_as
 wanted config octets valid = elim (cases_eq (peer_as_of config (open_of octets)) config.parts.peer_as) [
   | inl same ↦ same
   | inr differs ↦ absurd (valid 2 [] (inr (inr ((valid_is_well_formed config octets valid).readable, inr (inl (refl, differs))))))

@@ -9,7 +9,7 @@ pub mod Down
 pub mod Explaining
 pub mod AnotherRuns
 pub mod SameOpen
-pub mod Widest
+pub mod WidestRuns
 pub mod Unopened
 pub mod Accepted
 pub mod Without
@@ -20,3 +20,9 @@ pub mod SameEnds
 pub mod Over
 pub mod OwnSettings
 pub mod SentOwn
+pub mod FirstOpens
+pub mod ReadableOpen
+pub mod OpenMessages
+pub mod OwnConfigs
+pub mod Tuples
+pub mod WidestMade

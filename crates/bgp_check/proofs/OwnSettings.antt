@@ -55,13 +55,13 @@ even_as message never = elim (cases_eq message.my_as (two_octet_as (as_of messag
   | inr differs ↦ absurd (never (inr differs))
 ]
 
-large_as : (number : ℕ) → IsTrue (needs_four_octets number) → number ≡ two_octet_as number → number ≡ 23456
+pub large_as : (number : ℕ) → IsTrue (needs_four_octets number) → number ≡ two_octet_as number → number ≡ 23456
 large_as number large is = is ∙ (let k : two_octet_as number ≡ 23456 = cc in k)
 
-few_octets : (number : ℕ) → number ≡ two_octet_as number → ¬ IsTrue (needs_four_octets number)
+pub few_octets : (number : ℕ) → number ≡ two_octet_as number → ¬ IsTrue (needs_four_octets number)
 few_octets number is large = let k = large_as number large is in let x : IsTrue (needs_four_octets 23456) = subst (λ (v : ℕ). IsTrue (needs_four_octets v)) k large in absurd (let z : ⊥ = cc in z)
 
-absent : (number : Option ℕ) (otherwise : ℕ) → is_some number ≡ false → unwrap_or number otherwise ≡ otherwise
+pub absent : (number : Option ℕ) (otherwise : ℕ) → is_some number ≡ false → unwrap_or number otherwise ≡ otherwise
 absent None otherwise is = refl
 absent (Some x) otherwise is = absurd (cc)
 
@@ -99,7 +99,7 @@ same_number : (number : Option ℕ) (otherwise : ℕ) → number ≡ (if is_some
 same_number None otherwise = refl
 same_number (Some x) otherwise = refl
 
-own_if_none : (session : Session) (own : List ℕ) (config : Config) → IsWellFormed own → config.parts ≡ settings_of session (open_of own) config.parts.peer_as
+pub own_if_none : (session : Session) (own : List ℕ) (config : Config) → IsWellFormed own → config.parts ≡ settings_of session (open_of own) config.parts.peer_as
     → ¬ HasOddAs (open_of own) → IsOf session (Some own) config
 own_if_none session own config form is never = (
   ap (λ p. p.session) is,

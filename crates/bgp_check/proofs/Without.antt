@@ -22,7 +22,7 @@ use Rattle.bgp_check.proofs.EachHeard.{valid_or_not}
 use Rattle.bgp_check.proofs.Explaining.{Leads, explained, explained_end}
 use Rattle.bgp_check.proofs.Refused.{FaultsToo, not_valid}
 use Rattle.bgp_check.proofs.Similar.{IsSimilar}
-use Rattle.bgp_check.proofs.Widest.{between, between_is_wider, found, some_of}
+use Rattle.bgp_check.proofs.WidestRuns.{between, between_is_wider, found, some_of}
 
 -- an OPEN that has each fault which depends on a configuration has those that it has under another
 each_fault : (one other : Config) (octets : List ℕ)

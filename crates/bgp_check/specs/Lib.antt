@@ -5,8 +5,11 @@ pub mod Opens
 pub mod Another
 pub mod Configurations
 pub mod Settings
+pub mod WidestOf
+pub mod NotJudged
 pub mod Widest
 pub mod Without
+pub mod WidestMade
 pub mod Exist
 pub mod OwnFaults
 pub mod Cut

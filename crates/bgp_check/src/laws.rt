@@ -8,6 +8,7 @@ ghost use Rattle.bgp_check.specs.Over.{VerdictOfBoth, VerdictOfOne, VerdictOfYes
 ghost use Rattle.bgp_check.specs.OwnFaults.{OwnFaultsAreAll, SentOpenIsOwn};
 ghost use Rattle.bgp_check.specs.Wider.{WiderBegins, WiderIsComplete};
 ghost use Rattle.bgp_check.specs.Widest.{WidestBegins, WidestIsComplete};
+ghost use Rattle.bgp_check.specs.WidestMade.{WidestAreMade};
 ghost use Rattle.bgp_check.specs.Without.{WithoutBegins, WithoutIsComplete};
 
 use bgp_judge::records_tell_the_state;
@@ -53,6 +54,12 @@ pub fn widest_configurations_without_open_are_enough()
 pub fn widest_configurations_exist()
     ensures own { WidestExist }
     ensures without { WidestExistWithout }
+{}
+
+/// Configurations with the widest settings of an end ([`widest_of`](crate::widest_of)) are widest
+/// configurations of it, unless its OPEN has an own fault.
+pub fn widest_settings_are_widest()
+    ensures { WidestAreMade }
 {}
 
 /// An OPEN is some configuration's own exactly where it has no own fault, if it offers a family at

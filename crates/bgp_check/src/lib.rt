@@ -6,14 +6,28 @@
 //! leaves Idle to the next one that does.
 #![tactic(auto)]
 
+mod add_path;
+mod capabilities;
+mod fields;
 mod laws;
+mod next_hops;
+mod not_judged;
+mod offer;
+mod opens;
 mod own_fault;
+mod settings;
+mod widest;
 
 pub use laws::{
     a_session_is_cut_without_loss, a_wider_configuration_has_its_runs,
     another_peer_is_refused_alike, own_faults_are_all, stretches_begin_as_the_session_does,
     widest_configurations_are_enough, widest_configurations_exist,
     widest_configurations_have_the_same_ends, widest_configurations_make_the_verdict,
-    widest_configurations_without_open_are_enough,
+    widest_configurations_without_open_are_enough, widest_settings_are_widest,
 };
+pub use not_judged::{NotJudged, why_not_judged};
+pub use offer::{Offer, offer_of};
+pub use opens::{own_open, peers_open};
 pub use own_fault::OwnFault;
+pub use settings::has_own_fault;
+pub use widest::{Widest, widest_of};

@@ -1,0 +1,142 @@
+//! Why an end of a session isn't judged.
+
+ghost use Rattle.std.specs.Prelude.{◌≡◌, ◌↔◌, ◌⊎◌, IsTrue, IfSome, Option, None, Some, map};
+ghost use Rattle.std.specs.Prelude.{option_map};
+ghost use Rattle.bgp_open.specs.Open.{OpenFields, open_of};
+ghost use Rattle.bgp_open.specs.OpenFault.{IsWellFormed};
+ghost use Rattle.mrt.specs.Reader.{shown_of};
+ghost use Rattle.bgp_check.specs.NotJudged.{HasExtendedLength, IsWhyNot, SendsSome, why_by_both};
+ghost use Rattle.bgp_check.specs.NotJudged.{why_by_opens, why_not, why_with};
+ghost use Rattle.bgp_check.specs.WidestOf.{AreTold};
+
+use crate::add_path::paths_exchanged;
+use crate::fields::{Fields, read_fields};
+use crate::next_hops::offers_next_hops;
+use crate::offer::offer_of;
+use crate::opens::{own_open, peers_open, whole_open};
+use bgp_open::{Families, read_open};
+use mrt::Record;
+
+/// Why an end isn't judged.
+#[derive(Clone, Copy, Debug, PartialEq, Eq)]
+pub enum NotJudged {
+    /// It sent no message.
+    NothingSent,
+    /// One of both OPENs has parameters with an extended length (RFC 9072).
+    ExtendedParameters,
+    /// Its OPEN offers neither IPv4 nor IPv6 unicast.
+    NoFamily,
+    /// Both OPENs offer ADD-PATH (RFC 7911) for these families: UPDATEs have path identifiers.
+    AddPath(Families),
+    /// Both OPENs offer IPv6 next hops for IPv4 routes (RFC 8950).
+    Ipv6NextHops,
+}
+
+/// Whether a message is sent.
+fn sends_some(records: &[Record<'_>]) -> bool
+    ensures { IsTrue result ↔ SendsSome (map shown_of records.now) }
+{
+    for record in records {
+        match record {
+            Record::Out(..) => return true,
+            Record::In(..) | Record::Change(..) => {}
+        }
+    }
+    false
+}
+
+/// Whether the parameters of an OPEN have an extended length: Optional Parameters Length and the
+/// next octet are 255 (RFC 9072, 2).
+fn has_extended_length(octets: Option<&[u8]>) -> bool
+    ensures { IsTrue result ↔ HasExtendedLength (option_map (λ o. o.now) octets.entry) }
+{
+    match octets {
+        Some(octets) => octets.len() > 29 && octets[28] == 255 && octets[29] == 255,
+        None => false,
+    }
+}
+
+/// Whether one of both has.
+fn have_extended_length(one: Option<&[u8]>, other: Option<&[u8]>) -> bool
+    ensures { IsTrue result ↔ (HasExtendedLength (option_map (λ o. o.now) one.entry)
+        ⊎ HasExtendedLength (option_map (λ o. o.now) other.entry)) }
+{
+    has_extended_length(one) || has_extended_length(other)
+}
+
+/// What both OPENs offer that isn't known here.
+fn why_by_both(own: &Fields<'_>, peers: &Fields<'_>) -> Option<NotJudged>
+    ensures { result ≡ why_by_both own.now peers.now }
+{
+    let exchanged = paths_exchanged(own, peers);
+    if exchanged.v4 || exchanged.v6 {
+        Some(NotJudged::AddPath(exchanged))
+    } else if offers_next_hops(own) && offers_next_hops(peers) {
+        Some(NotJudged::Ipv6NextHops)
+    } else {
+        None
+    }
+}
+
+/// The same, where the peer's OPEN may be missing, or can't be told.
+fn why_with(own: &Fields<'_>, peers: Option<&[u8]>) -> Option<NotJudged>
+    ensures { (told : Option OpenFields) → AreTold (option_map (λ o. o.now) peers.entry) told
+        → result ≡ why_with own.now told }
+{
+    let Some(peers) = peers else {
+        return None;
+    };
+    match read_fields(peers) {
+        Some(peers) => why_by_both(own, &peers),
+        None => None,
+    }
+}
+
+/// Why both OPENs keep an end from being judged that sent this one.
+fn why_by_opens(own: &[u8], peers: Option<&[u8]>) -> Option<NotJudged>
+    requires { IsWellFormed own.now }
+    ensures { (told : Option OpenFields) → AreTold (option_map (λ o. o.now) peers.entry) told
+        → result ≡ why_by_opens (Some (open_of own.now)) told }
+{
+    let families = offer_of(&read_open(own).ok()?).families;
+    if families.v4 || families.v6 {
+        why_with(&read_fields(own)?, peers)
+    } else {
+        Some(NotJudged::NoFamily)
+    }
+}
+
+/// The first reason that there is.
+fn first_reason(
+    sends: bool,
+    extended: bool,
+    own: Option<&[u8]>,
+    peers: Option<&[u8]>,
+) -> Option<NotJudged>
+    requires { IfSome own (λ o. IsWellFormed o.now) }
+    ensures { (told : Option OpenFields) → AreTold (option_map (λ o. o.now) peers.entry) told
+        → result ≡ why_not sends extended
+        (option_map open_of (option_map (λ o. o.now) own.entry)) told }
+{
+    if !sends {
+        return Some(NotJudged::NothingSent);
+    }
+    if extended {
+        return Some(NotJudged::ExtendedParameters);
+    }
+    match own {
+        Some(own) => why_by_opens(own, peers),
+        None => None,
+    }
+}
+
+/// Why the local system of a stretch's records isn't judged, if it isn't: the first reason that
+/// holds, in the order of [`NotJudged`].
+pub fn why_not_judged(records: &[Record<'_>]) -> Option<NotJudged>
+    ensures { IsWhyNot (map shown_of records.now) result }
+{
+    let own = own_open(records);
+    let peers = peers_open(records);
+    let extended = have_extended_length(peers, whole_open(records));
+    first_reason(sends_some(records), extended, own, peers)
+}

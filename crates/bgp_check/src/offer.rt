@@ -1,0 +1,59 @@
+//! What an OPEN offers by its capabilities.
+
+ghost use Rattle.std.specs.Prelude.{◌≡◌, is_some, true};
+ghost use Rattle.bgp_open.specs.Offer.{as_number_of, families_of, offers_extended};
+
+use bgp_open::{Config, ConfigParts, Families, Open, negotiate};
+use bgp_prefix::{Address, Session};
+
+/// What a system offers by the capabilities of its OPEN.
+#[derive(Clone, Copy, Debug, PartialEq, Eq)]
+pub struct Offer {
+    /// The families (RFC 4760, 8): IPv4 unicast alone where no capability could name one.
+    pub families: Families,
+    /// Whether it sends a four-octet AS number (RFC 6793, 3).
+    pub as4: bool,
+    /// Whether it can receive extended messages (RFC 8654, 4).
+    pub extended: bool,
+}
+
+/// A system that offers whatever is known here: with it an OPEN settles what that OPEN offers.
+fn offering_all() -> Config
+    ensures families { result.parts.families ≡ record { v4 = true; v6 = true } }
+    ensures as4 { result.parts.as4 ≡ true }
+{
+    let parts = ConfigParts {
+        local_as: 1,
+        peer_as: 1,
+        local_id: 1,
+        hold: 90,
+        families: Families { v4: true, v6: true },
+        as4: true,
+        delay_open: false,
+        large_hold: 1,
+        session: Session {
+            peer: Address::V4(0),
+            local: Address::V4(0),
+            refresh: false,
+            extended: false,
+        },
+    };
+    match Config::new(parts) {
+        Some(config) => config,
+        None => unreachable!(),
+    }
+}
+
+/// What the OPEN offers.
+pub fn offer_of(message: &Open<'_>) -> Offer
+    ensures families { result.families ≡ families_of message.now.capabilities }
+    ensures as4 { result.as4 ≡ is_some (as_number_of message.now.capabilities) }
+    ensures extended { result.extended ≡ offers_extended message.now.capabilities }
+{
+    let link = negotiate(&offering_all(), message);
+    Offer {
+        families: link.families,
+        as4: link.as4,
+        extended: link.extended,
+    }
+}
