@@ -14,11 +14,11 @@ use Rattle.bgp_import.specs.declared.capture.AsNumbers.{AsNumbers}
 
 module _ (entries : List Entry) (i : ℕ) (d : Entry) (within : i < length entries) where
   -- the one at the index
-  abbrev here : Entry
+  abbrev pub here : Entry
   here = get_or entries i d
 
   -- those from it on
-  from_here : drop i entries ≡ here ∷ drop (i + 1) entries
+  pub from_here : drop i entries ≡ here ∷ drop (i + 1) entries
   from_here = rw add-one (drop-cons entries i d within)
 
   -- what holds of those from the index on, holds of the one there and of those behind it

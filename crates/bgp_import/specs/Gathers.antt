@@ -98,6 +98,7 @@ failures_by (refusals.File fault) = device_count fault.kind
 failures_by (refusals.Packet fault number) = 0
 failures_by (refusals.Connection fault) = 0
 failures_by (refusals.Memory number) = 0
+failures_by (refusals.RouteRefresh number from place) = 0
 
 abbrev pub failures_in : {X : Type 0} → Result X Refusal → ℕ
 failures_in (Ok answer) = 0

@@ -33,24 +33,29 @@ pub record IsConnection (wanted : Import) (packets : List Recorded) (connection 
   pub answered : IsAnswered wanted.connection (length packets) (numbered (reverse segments))
       connection
 
--- These octets are the capture of a connection: of records that tell its messages in an order that
--- is allowed within the patience. And this is to be told of them. Messages are as long as the
+-- These entries are made of a connection: their records tell its messages in an order that is
+-- allowed within the patience. And this is to be told of them. Messages are as long as the
 -- session's may be (RFC 8654).
-pub record IsMadeOf (wanted : Import) (connection : Connection) (octets : List ℕ) (notes : Notes)
-    : Type 0 where
-  pub entries : List Entry
+pub record IsMadeOf (wanted : Import) (connection : Connection) (entries : List Entry)
+    (notes : Notes) : Type 0 where
   pub recorded : IsRecorded (limit_with wanted.selection.session.extended) wanted.within
       connection entries notes.received notes.sent
-  pub capture : IsCapture wanted.selection.session entries octets
   pub counts : notes.put_off ≡ put_off 0 entries
 
--- what is made of a recording with these octets
+-- these octets are the capture of entries that are made of a connection
+pub record IsCaptureOf (wanted : Import) (connection : Connection) (octets : List ℕ)
+    (notes : Notes) : Type 0 where
+  pub entries : List Entry
+  pub made : IsMadeOf wanted connection entries notes
+  pub capture : IsCapture wanted.selection.session entries octets
+
+-- the capture that is made of a recording with these octets
 pub record IsImported (wanted : Import) (recording octets : List ℕ) (notes : Notes) : Type 0 where
   pub packets : List Recorded
   pub connection : Connection
   pub spells : Spells recording packets
   pub is_connection : IsConnection wanted packets connection
-  pub made : IsMadeOf wanted connection octets notes
+  pub made : IsCaptureOf wanted connection octets notes
 
 -- ---- the refusals
 

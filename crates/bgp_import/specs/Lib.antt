@@ -3,6 +3,7 @@ pub mod Refusals
 pub mod Selecting
 pub mod AsNumber
 pub mod Captures
+pub mod Refreshes
 pub mod Notes
 pub mod ListText
 pub mod Importing

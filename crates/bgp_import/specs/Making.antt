@@ -12,7 +12,7 @@ use Rattle.bgp_recording.specs.Recorded.{IsRecorded}
 use Rattle.bgp_recording.specs.declared.making.Recording.{Recording}
 use Rattle.bgp_import.specs.Captures.{CanBeWritten}
 use Rattle.bgp_import.specs.Gathers.{HoldsSession, IsNotChosen}
-use Rattle.bgp_import.specs.Importing.{IsConnection, IsMadeOf}
+use Rattle.bgp_import.specs.Importing.{IsConnection, IsCaptureOf}
 use Rattle.bgp_import.specs.Selecting.{AreTaken}
 use Rattle.bgp_import.specs.declared.gathering.Gathered.{Gathered}
 use Rattle.bgp_import.specs.declared.importing.Import.{Import}
@@ -53,7 +53,7 @@ module _ {T : Type 0} (takes : T → T → List ℕ → Type 0) (wanted : Import
   pub record IsCaptured (notes : Notes) (capture : List ℕ) : Type 0 where
     pub connection : Connection
     pub is_connection : IsConnection wanted packets connection
-    pub made : IsMadeOf wanted connection capture notes
+    pub made : IsCaptureOf wanted connection capture notes
 
   pub record IsWritten (notes : Notes) : Type 0 where
     pub capture : List ℕ

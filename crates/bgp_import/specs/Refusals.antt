@@ -21,12 +21,14 @@ refusal_number (refusals.File fault) = file.fault_number fault.kind
 refusal_number (refusals.Packet fault number) = packet.fault_number fault
 refusal_number (refusals.Connection fault) = connection.fault_number fault
 refusal_number (refusals.Memory number) = 17
+refusal_number (refusals.RouteRefresh number from place) = 18
 
 abbrev pub refusal_name : Refusal → List ℕ
 refusal_name (refusals.File fault) = file.fault_name fault.kind
 refusal_name (refusals.Packet fault number) = packet.fault_name fault
 refusal_name (refusals.Connection fault) = connection.fault_name fault
 refusal_name (refusals.Memory number) = codes "Memory"
+refusal_name (refusals.RouteRefresh number from place) = codes "RouteRefresh"
 
 -- the number of the packet at which it is told
 abbrev pub refusal_packet : Refusal → ℕ
@@ -34,6 +36,7 @@ refusal_packet (refusals.File fault) = fault.packet
 refusal_packet (refusals.Packet fault number) = number
 refusal_packet (refusals.Connection fault) = connection.packet_of fault
 refusal_packet (refusals.Memory number) = number
+refusal_packet (refusals.RouteRefresh number from place) = number
 
 -- what it is for
 abbrev pub file_cause : FaultKind → Cause
@@ -50,6 +53,7 @@ cause_of (refusals.File fault) = file_cause fault.kind
 cause_of (refusals.Packet fault number) = causes.Recording
 cause_of (refusals.Connection fault) = causes.Recording
 cause_of (refusals.Memory number) = causes.Memory
+cause_of (refusals.RouteRefresh number from place) = causes.Recording
 
 -- the octet that a refusal of a connection names
 abbrev pub place_in : Fault → Option Place
@@ -67,6 +71,8 @@ refusal_place (refusals.File fault) = None
 refusal_place (refusals.Packet fault number) = None
 refusal_place (refusals.Connection fault) = place_in fault
 refusal_place (refusals.Memory number) = None
+refusal_place (refusals.RouteRefresh number from place) =
+    Some (record { from = from; octet = place })
 
 -- ---- its text
 

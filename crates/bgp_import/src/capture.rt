@@ -24,7 +24,7 @@ pub(crate) struct AsNumbers {
 }
 
 /// The octets of a record's message, if this system sent it.
-fn message_from<'a>(entry: Entry<'a>, from: Side) -> Option<&'a [u8]>
+pub(crate) fn message_from<'a>(entry: Entry<'a>, from: Side) -> Option<&'a [u8]>
     ensures some { IfSome result (λ octets. message_from from entry.entry ≡ Some octets.now) }
     ensures none { IfNone result (message_from from entry.entry ≡ None) }
 {

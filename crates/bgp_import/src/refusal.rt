@@ -9,6 +9,9 @@ use segments::PacketFault;
 use std::fmt;
 use streams::{Fault, Side};
 
+/// The number of the refusal for a ROUTE-REFRESH.
+const ROUTE_REFRESH: u8 = 18;
+
 /// Why a recording is refused. Each refusal has a number and a name, and the number of a packet,
 /// which is counted from 1.
 #[derive(Clone, Copy, Debug, PartialEq, Eq)]
@@ -28,6 +31,15 @@ pub enum Refusal {
     Memory {
         /// The number of the packet.
         packet: u64,
+    },
+    /// A ROUTE-REFRESH (RFC 2918) of a session that is to be judged and may have one.
+    RouteRefresh {
+        /// The number of the packet by which it came or was made.
+        packet: u64,
+        /// Who sent it.
+        from: Side,
+        /// The place of its first octet in the stream.
+        place: u64,
     },
 }
 
@@ -50,7 +62,7 @@ pub(crate) struct Place {
 }
 
 impl Refusal {
-    /// Its number, 1 to 17.
+    /// Its number, 1 to 18.
     pub fn number(self) -> u8
         ensures { result ≡ refusal_number self }
     {
@@ -59,6 +71,7 @@ impl Refusal {
             Refusal::Packet { fault, .. } => fault.number(),
             Refusal::Connection(fault) => fault.number(),
             Refusal::Memory { .. } => FaultKind::Memory.number(),
+            Refusal::RouteRefresh { .. } => ROUTE_REFRESH,
         }
     }
 
@@ -71,6 +84,7 @@ impl Refusal {
             Refusal::Packet { fault, .. } => fault.name(),
             Refusal::Connection(fault) => fault.name(),
             Refusal::Memory { .. } => FaultKind::Memory.name(),
+            Refusal::RouteRefresh { .. } => "RouteRefresh",
         }
     }
 
@@ -80,7 +94,9 @@ impl Refusal {
     {
         match self {
             Refusal::File(fault) => fault.packet,
-            Refusal::Packet { packet, .. } | Refusal::Memory { packet } => packet,
+            Refusal::Packet { packet, .. }
+            | Refusal::Memory { packet }
+            | Refusal::RouteRefresh { packet, .. } => packet,
             Refusal::Connection(fault) => fault.packet(),
         }
     }
@@ -103,7 +119,10 @@ impl Refusal {
                 },
             )
             | Refusal::Memory { .. } => Cause::Memory,
-            Refusal::File(_) | Refusal::Packet { .. } | Refusal::Connection(_) => Cause::Recording,
+            Refusal::File(_)
+            | Refusal::Packet { .. }
+            | Refusal::Connection(_)
+            | Refusal::RouteRefresh { .. } => Cause::Recording,
         }
     }
 
@@ -116,7 +135,8 @@ impl Refusal {
                 Fault::Conflict { from, place, .. }
                 | Fault::Missing { from, place, .. }
                 | Fault::AfterReset { from, place, .. },
-            ) => Some(Place { from, octet: place }),
+            )
+            | Refusal::RouteRefresh { from, place, .. } => Some(Place { from, octet: place }),
             _ => None,
         }
     }

@@ -15,9 +15,10 @@ use Rattle.bgp_wire.specs.declared.header.MessageType.{MessageType}
 use Rattle.bgp_wire.specs.Framing.{IsFrame}
 use Rattle.bgp_wire.specs.Header.{header_of, length_of, type_of, greatest_length, limit_with, IsSound}
 use Rattle.mrt.specs.Layout.{IsState}
+use Rattle.mrt.specs.Reader.{shown_of}
 use Rattle.mrt.specs.Rules.{HasOtherLength, body_limit}
 use Rattle.streams.specs.declared.connection.Connection.{Connection}
-use Rattle.mrt.specs.Written.{IsWritable, CanBeCaptured, AreInOrder, address_octets, content_for, body_len}
+use Rattle.mrt.specs.Written.{IsWritable, IsAllowed, CanBeCaptured, AreInOrder, address_octets, content_for, body_len}
 use Rattle.mrt.proofs.WrittenCapture.{captures_read_back}
 use Rattle.bgp_recording.specs.declared.entry.Entry.{Entry}
 use Rattle.bgp_recording.specs.declared.message.Message.{Message}
@@ -26,8 +27,11 @@ use Rattle.bgp_recording.specs.Captured.{records_of, IsNoRefresh, CanBeNamed, Ma
 use Rattle.bgp_recording.specs.Framed.{HasKind}
 use Rattle.bgp_recording.specs.declared.framing.Rest.{Rest}
 use Rattle.bgp_recording.specs.Recorded.{IsRecorded}
-use Rattle.bgp_recording.specs.Tells.{Numbered, numbered_of, Event, Passed, Changed, items_in, numbered_in, AreTimed}
-use Rattle.bgp_recording.specs.Tells as tells
+use Rattle.bgp_recording.specs.Changes.{led_by_received, led_by_sent, led_by_end, led_by_left, is_open, is_rejected, are_left, opened_state, state_then}
+use Rattle.bgp_recording.specs.States.{state_number}
+use Rattle.bgp_recording.specs.Tells.{Numbered, numbered_of, Event, Passed, items_in, numbered_in, change, AreTimed, HasSecond}
+use Rattle.bgp_recording.specs.declared.state.State.{State}
+use Rattle.bgp_recording.specs.declared.state.State.TheVariants.{Idle, Connect, Active, OpenSent, OpenConfirm, Established}
 
 -- ---- messages
 
@@ -134,36 +138,80 @@ all_captured session [] named can fits without = tt
 all_captured session (r ∷ rs) named can fits without =
     (captured session r named can.0 fits.0 (λ t. (without t).0), all_captured session rs named can.1 fits.1 (λ t. (without t).1))
 
+-- a capture of the session may have such a record
+allowed : (session : Session) (record' : ShownRecord) → CanBeRecord (limit_with session.extended) record' → (IsTrue session.refresh → IsNoRefresh record') → IsAllowed session None record'
+allowed session (shown.Received second octets) can without = ((can.long, without, can.whole), λ none. none)
+allowed session (shown.Sent second octets) can without = ((can.long, without, can.whole), λ none. none)
+allowed session (shown.Changed second old new) can without = (can.0, can.1, λ none. none)
+
+all_allowed : (session : Session) (entries : List Entry) → AllByRecursion (CanBeRecord (limit_with session.extended)) (records_of entries)
+    → (IsTrue session.refresh → AllByRecursion IsNoRefresh (records_of entries)) → AllByRecursion (λ entry. IsAllowed session None (shown_of entry.record)) entries
+all_allowed session [] can without = tt
+all_allowed session (e ∷ es) can without = (allowed session (shown_of e.record) can.0 (λ t. (without t).0), all_allowed session es can.1 (λ t. (without t).1))
+
 -- ---- events
 
 abbrev pub shown_in : List Numbered → List ShownRecord
 shown_in numbered = map (λ n. n.shown) numbered
 
-events_can : (limit : Limit) (events : List Event) → AllByRecursion (HasKind limit) (received_in (items_in events)) → AllByRecursion (HasKind limit) (sent_in (items_in events))
-    → tells.AreStates events → AllByRecursion (CanBeRecord limit) (shown_in (numbered_in events))
-events_can limit [] received sent states = tt
-events_can limit (Passed second (Received m) ∷ later) received sent states = (kind_can limit m m.kind refl received.0, events_can limit later received.1 sent states)
-events_can limit (Passed second (Sent m) ∷ later) received sent states = (kind_can limit m m.kind refl sent.0, events_can limit later received sent.1 states)
-events_can limit (Passed second (Ended e) ∷ later) received sent states = events_can limit later received sent states
-events_can limit (Changed packet second old new ∷ later) received sent states = ((states.0, states.1), events_can limit later received sent states.2)
+is_state : (state : State) → IsState (state_number state)
+is_state Idle = (omega arith, omega arith)
+is_state Connect = (omega arith, omega arith)
+is_state Active = (omega arith, omega arith)
+is_state OpenSent = (omega arith, omega arith)
+is_state OpenConfirm = (omega arith, omega arith)
+is_state Established = (omega arith, omega arith)
+
+change_can : (limit : Limit) (packet second : ℕ) (state : State) (led : Option State) (rest : List Numbered) → AllByRecursion (CanBeRecord limit) (shown_in rest)
+    → AllByRecursion (CanBeRecord limit) (shown_in (change packet second state led ++ rest))
+change_can limit packet second state None rest h = h
+change_can limit packet second state (Some led) rest h = ((is_state state, is_state led), h)
+
+events_can : (limit : Limit) (events : List Event) (state : State) (follows : Bool) → AllByRecursion (HasKind limit) (received_in (items_in events))
+    → AllByRecursion (HasKind limit) (sent_in (items_in events)) → AllByRecursion (CanBeRecord limit) (shown_in (numbered_in state follows events))
+events_can limit [] state follows received sent = tt
+events_can limit (Passed second (Received m) ∷ later) state follows received sent = (
+  kind_can limit m m.kind refl received.0,
+  change_can limit m.packet second state (led_by_received state m.kind (is_rejected (sent_in (items_in later)))) _ (events_can limit later _ (is_open m.kind) received.1 sent),
+)
+events_can limit (Passed second (Sent m) ∷ later) state follows received sent =
+    (kind_can limit m m.kind refl sent.0, change_can limit m.packet second state (led_by_sent state m.kind follows) _ (events_can limit later _ false received sent.1))
+events_can limit (Passed second (Ended e) ∷ later) state follows received sent =
+    change_can limit e.packet second state (led_by_end state) _
+    (change_can limit e.packet second (state_then state (led_by_end state)) (led_by_left state (are_left (received_in (items_in later)))) _ (events_can limit later _ false received sent))
 
 from_later : (least second : ℕ) (records : List ShownRecord) → least ≤ second → AreInOrder second records → AreInOrder least records
 from_later least second [] le h = tt
 from_later least second (r ∷ rs) le h = (omega (arith, le, h.0), h.1)
 
-events_order : (least : ℕ) (events : List Event) → AreTimed least events → AreInOrder least (shown_in (numbered_in events))
-events_order least [] h = tt
-events_order least (Passed second (Received m) ∷ later) h = (h.0, events_order second later h.2)
-events_order least (Passed second (Sent m) ∷ later) h = (h.0, events_order second later h.2)
-events_order least (Passed second (Ended e) ∷ later) h = from_later least second _ h.0 (events_order second later h.2)
-events_order least (Changed packet second old new ∷ later) h = (h.0, events_order second later h.1)
+change_order : (least second packet : ℕ) (state : State) (led : Option State) (rest : List Numbered) → least ≤ second → AreInOrder second (shown_in rest)
+    → AreInOrder least (shown_in (change packet second state led ++ rest))
+change_order least second packet state None rest le h = from_later least second (shown_in rest) le h
+change_order least second packet state (Some led) rest le h = (le, h)
+
+same_second : (second : ℕ) → second ≤ second
+same_second second = omega arith
+
+events_order : (least : ℕ) (events : List Event) (state : State) (follows : Bool) → AreTimed least events → AreInOrder least (shown_in (numbered_in state follows events))
+events_order least [] state follows h = tt
+events_order least (Passed second (Received m) ∷ later) state follows h = (
+  h.0,
+  change_order second second m.packet state (led_by_received state m.kind (is_rejected (sent_in (items_in later)))) _ (same_second second)
+      (events_order second later _ (is_open m.kind) h.2),
+)
+events_order least (Passed second (Sent m) ∷ later) state follows h =
+    (h.0, change_order second second m.packet state (led_by_sent state m.kind follows) _ (same_second second) (events_order second later _ false h.2))
+events_order least (Passed second (Ended e) ∷ later) state follows h =
+    change_order least second e.packet state (led_by_end state) _ h.0
+    (change_order second second e.packet (state_then state (led_by_end state)) (led_by_left state (are_left (received_in (items_in later)))) _ (same_second second)
+    (events_order second later _ false h.2))
 
 same_records : (entries : List Entry) → shown_in (map numbered_of entries) ≡ records_of entries
 same_records [] = refl
 same_records (e ∷ es) = ap (λ rs. shown_in (numbered_of e ∷ []) ++ rs) (same_records es)
 
-pub events_are : (events : List Event) (entries : List Entry) → numbered_in events ≡ map numbered_of entries → shown_in (numbered_in events) ≡ records_of entries
-events_are events entries shown = ap (λ ns. shown_in ns) shown ∙ same_records entries
+pub entries_are : (numbered : List Numbered) (entries : List Entry) → map numbered_of entries ≡ numbered → shown_in numbered ≡ records_of entries
+entries_are numbered entries shown = sym (ap (λ ns. shown_in ns) shown) ∙ same_records entries
 
 made_can : (limit : Limit) (within : ℕ) (connection : Connection) (entries : List Entry) (received_rest sent_rest : Rest) → IsRecorded limit within connection entries received_rest sent_rest
     → AllByRecursion (CanBeRecord limit) (records_of entries)
@@ -171,7 +219,8 @@ made_can limit within connection entries received_rest sent_rest made =
     let t = made.tells in
     let kinds_received = subst (λ (ms : List Message). AllByRecursion (HasKind limit) ms) (sym t.allowed.of_received) made.heard.kinds in
     let kinds_sent = subst (λ (ms : List Message). AllByRecursion (HasKind limit) ms) (sym t.allowed.of_sent) made.said.kinds in
-    subst (λ (rs : List ShownRecord). AllByRecursion (CanBeRecord limit) rs) (events_are t.events entries t.shown) (events_can limit t.events kinds_received kinds_sent t.states)
+    subst (λ (rs : List ShownRecord). AllByRecursion (CanBeRecord limit) rs) (entries_are _ entries t.shown)
+    ((is_state Idle, is_state (opened_state connection.opened_by)), events_can limit t.events (opened_state connection.opened_by) false kinds_received kinds_sent)
 
 -- what is made can be written, where both addresses are of one family
 pub made_are_writable : (session : Session) (within : ℕ) (connection : Connection) (entries : List Entry) (received_rest sent_rest : Rest) → family_of session.peer ≡ family_of session.local
@@ -179,9 +228,21 @@ pub made_are_writable : (session : Session) (within : ℕ) (connection : Connect
 made_are_writable session within connection entries received_rest sent_rest family made =
     all_writable session (records_of entries) family (made_can (limit_with session.extended) within connection entries received_rest sent_rest made)
 
+-- and a capture of the session may have it
+pub made_are_allowed : (session : Session) (within : ℕ) (connection : Connection) (entries : List Entry) (received_rest sent_rest : Rest)
+    → (IsTrue session.refresh → AllByRecursion IsNoRefresh (records_of entries)) → IsRecorded (limit_with session.extended) within connection entries received_rest sent_rest
+    → AllByRecursion (λ entry. IsAllowed session None (shown_of entry.record)) entries
+made_are_allowed session within connection entries received_rest sent_rest without made =
+    all_allowed session entries (made_can (limit_with session.extended) within connection entries received_rest sent_rest made) without
+
+of_entries : (entries : List Entry) → AllByRecursion HasSecond entries → AllByRecursion (λ r. second_of r < 2 ^ 32) (records_of entries)
+of_entries [] h = tt
+of_entries (e ∷ es) h = (h.0, of_entries es h.1)
+
 pub made_are_read : MadeRecordsAreRead
-made_are_read session peer_as local_as within connection entries received_rest sent_rest named made fits without =
+made_are_read session peer_as local_as within connection entries received_rest sent_rest named made without =
     let t = made.tells in
     let can = made_can (limit_with session.extended) within connection entries received_rest sent_rest made in
-    let order = subst (λ (rs : List ShownRecord). AreInOrder 0 rs) (events_are t.events entries t.shown) (events_order 0 t.events t.timed) in
-    captures_read_back session peer_as local_as (records_of entries) (all_captured session (records_of entries) named can fits without) order
+    let order = subst (λ (rs : List ShownRecord). AreInOrder 0 rs) (entries_are _ entries t.shown)
+    (omega arith, events_order connection.second t.events (opened_state connection.opened_by) false t.timed) in
+    captures_read_back session peer_as local_as (records_of entries) (all_captured session (records_of entries) named can (of_entries entries made.seconds) without) order

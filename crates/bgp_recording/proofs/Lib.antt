@@ -2,13 +2,10 @@ pub mod Lists
 pub mod Orders
 pub mod Telling
 pub mod UnderWay
-pub mod Chains
-pub mod Chaining
-pub mod Ending
+pub mod Seconds
 pub mod Gave
 pub mod Splitting
 pub mod Heard
 pub mod Recordings
 pub mod Capturing
 pub mod Joining
-pub mod Moving

@@ -1,5 +1,5 @@
 -- What a gathered connection tells goes by its clock.
-use Rattle.std.proofs.Common.{◌≡◌, ◌≤◌, ℕ, List, Option, IfSome, Some, None, ap, subst, sym, ◌∙◌, map, false}
+use Rattle.std.proofs.Common.{◌≡◌, ◌≤◌, ℕ, List, Option, IfSome, Some, None, ap, subst, sym, ◌∙◌, map}
 use Rattle.std.specs.List.{AllByRecursion}
 use Rattle.bgp_wire.specs.declared.header.Limit.{Limit}
 use Rattle.streams.specs.declared.connection.Connection.{Connection}
@@ -12,7 +12,7 @@ use Rattle.bgp_recording.specs.declared.framing.Rest.{Rest}
 use Rattle.bgp_recording.specs.declared.pending.Moment.{Moment}
 use Rattle.bgp_recording.specs.Framed.{AreFramed, HasKind, AreStamped}
 use Rattle.bgp_recording.specs.Recorded.{IsRecorded}
-use Rattle.bgp_recording.specs.Tells.{Tells, numbered_of}
+use Rattle.bgp_recording.specs.Tells.{Tells, HasSecond, numbered_of}
 use Rattle.bgp_recording.specs.declared.message.Message.{Message}
 use Rattle.bgp_recording.specs.declared.ordering.Exchange.{Exchange}
 use Rattle.bgp_recording.specs.Gathered.{GoesFrom, IsClocked, IsHeard, IsSaid, AreMade}
@@ -82,12 +82,13 @@ is_told_by limit connection exchange received sent received_rest sent_rest packe
 
 pub recorded_by : (limit : Limit) (within : ℕ) (connection : Connection) (entries : List Entry) (received_rest sent_rest : Rest) (received sent heard_now said_now : List Message)
     → heard_now ≡ received → said_now ≡ sent → IsHeard limit connection.received received received_rest → IsSaid limit connection.sent connection.end sent sent_rest
-    → Tells within 0 false heard_now said_now connection.end (map numbered_of entries) → IsRecorded limit within connection entries received_rest sent_rest
-recorded_by limit within connection entries received_rest sent_rest received sent heard_now said_now p q heard said tells = record {
+    → Tells within connection.opened_by connection.packet connection.second heard_now said_now connection.end (map numbered_of entries) → AllByRecursion HasSecond entries → IsRecorded limit within connection entries received_rest sent_rest
+recorded_by limit within connection entries received_rest sent_rest received sent heard_now said_now p q heard said tells seconds = record {
   received = received;
   sent = sent;
   heard = heard;
   said = said;
-  tells = subst (λ (ms : List Message). Tells within 0 false ms sent connection.end (map numbered_of entries)) p
-      (subst (λ (ms : List Message). Tells within 0 false heard_now ms connection.end (map numbered_of entries)) q tells);
+  tells = subst (λ (ms : List Message). Tells within connection.opened_by connection.packet connection.second ms sent connection.end (map numbered_of entries)) p
+      (subst (λ (ms : List Message). Tells within connection.opened_by connection.packet connection.second heard_now ms connection.end (map numbered_of entries)) q tells);
+  seconds = seconds;
 }

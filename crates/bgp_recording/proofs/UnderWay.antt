@@ -1,34 +1,38 @@
 -- An order while it is made: whatever tells what is left, tells all behind the records so far.
 use Rattle.std.proofs.Common.{◌≡◌, ◌∙◌, ◌<◌, ◌≤◌, ◌+◌, ℕ, Bool, true, false, List, [], ◌∷◌, ◌++◌, Option, None, Some, IfSome, ap, subst, sym, refl, arith, map, max, length, append_assoc, append-nil}
-use Rattle.std.proofs.lemmas.List.{map-append}
 use Rattle.std.proofs.lemmas.Bool.{false≢true}
 use Rattle.std.proofs.Math.Nat.{le-max_left, le-max_right, max-le}
 use Rattle.std.specs.List.{AllByRecursion}
 use Rattle.bgp_prefix.specs.Shown as shown
 use Rattle.streams.specs.declared.connection.End.{End}
-use Rattle.bgp_recording.specs.declared.entry.Entry.{Entry}
+use Rattle.bgp_recording.specs.declared.state.State.{State}
 use Rattle.bgp_recording.specs.declared.message.Message.{Message}
 use Rattle.bgp_recording.specs.declared.ordering.Exchange.{Exchange}
 use Rattle.bgp_recording.specs.declared.pending.Turn.{Turn}
 use Rattle.bgp_recording.specs.declared.pending.Turn.TheVariants as turns
 use Rattle.bgp_recording.specs.Allowed.{ends_of}
 use Rattle.bgp_recording.specs.Leads.{Pending, LeadsReceived, LeadsSent, LeadsEnd, Leads, IsDone, MayKeep, own_of}
-use Rattle.bgp_recording.specs.Puts.{IsPut, numbered_with}
+use Rattle.bgp_recording.specs.Changes.{led_by_received, led_by_sent, is_open, is_rejected, opened_state, state_then}
 use Rattle.bgp_recording.specs.Steps.{Making, ShowsReceived, ShowsSent, ShowsEnd, Shows, Steps, StepsOrEnds, Begins}
-use Rattle.bgp_recording.specs.Tells.{Numbered, numbered_of, Tells}
-use Rattle.bgp_recording.specs.Told.{IsClock, GoesBy, Rises, IsLast, AreClocked, IsTold, IsMade}
+use Rattle.bgp_recording.specs.Tells.{Numbered, numbered_with, change, opening, Tells}
+use Rattle.bgp_recording.specs.Told.{IsClock, GoesBy, Rises, IsLast, AreClocked, IsTold}
 use Rattle.bgp_recording.proofs.Orders.{before_all, before_end, not_later, in_time_all}
-use Rattle.bgp_recording.proofs.Telling.{tells_received, tells_sent, tells_end, tells_earlier, tells_changes}
+use Rattle.bgp_recording.proofs.Telling.{Follows, follows_received, follows_sent, follows_end, ended_with, changes_at_end}
 
 -- what is left goes by the clock
 abbrev pub IsOnTime : (ℕ → ℕ) → Pending → Type 0
 IsOnTime clock pending = AreClocked clock pending.received pending.sent pending.end
 
+-- these records tell what is exchanged
+abbrev pub TellsIt : ℕ → Exchange → List Numbered → Type 0
+TellsIt within exchange numbered =
+    Tells within exchange.opened_by exchange.packet exchange.second exchange.received.now exchange.sent.now exchange.end numbered
+
 -- whatever may follow the records so far
 abbrev pub Goes : ℕ → Exchange → Making → Type 0
 Goes within exchange making =
-    (rest : List Numbered) → Tells within making.last false making.pending.received making.pending.sent making.pending.end rest
-    → Tells within 0 false exchange.received.now exchange.sent.now exchange.end (map numbered_of making.entries ++ rest)
+    (rest : List Numbered) → Follows within making.last making.state making.follows_open making.pending.received making.pending.sent making.pending.end rest
+    → TellsIt within exchange (making.numbered ++ rest)
 
 pub record IsUnderWay (within : ℕ) (exchange : Exchange) (making : Making) : Type 0 where
   pub clock : ℕ → ℕ
@@ -84,20 +88,23 @@ clocked_end within clock old new e leads h = record {
 
 -- ---- the records so far, and those of a step
 
-put_then : (second from to : ℕ) (n : Numbered) (before after : List Entry) (put : IsPut second from to n before after) (rest : List Numbered)
-    → map numbered_of before ++ (n ∷ (map numbered_of put.changes ++ rest)) ≡ map numbered_of after ++ rest
-put_then second from to n before after put rest =
-    sym (ap (λ (es : List Entry). map numbered_of es ++ rest) put.appended
-    ∙ ap (λ (ns : List Numbered). ns ++ rest) (map-append numbered_of before (put.entry ∷ put.changes))
-    ∙ append_assoc (map numbered_of before) (numbered_of put.entry ∷ map numbered_of put.changes) rest
-    ∙ ap (λ (m : Numbered). map numbered_of before ++ (m ∷ (map numbered_of put.changes ++ rest))) put.is)
+put_then : (within : ℕ) (exchange : Exchange) (before after more rest : List Numbered) → after ≡ before ++ more → TellsIt within exchange (before ++ (more ++ rest))
+    → TellsIt within exchange (after ++ rest)
+put_then within exchange before after more rest e h =
+    subst (λ (ns : List Numbered). TellsIt within exchange ns) (sym (ap (λ (ns : List Numbered). ns ++ rest) e ∙ append_assoc before more rest)) h
 
-changed_then : (before after changes : List Entry) (rest : List Numbered) → after ≡ before ++ changes
-    → map numbered_of before ++ (map numbered_of changes ++ rest) ≡ map numbered_of after ++ rest
-changed_then before after changes rest e =
-    sym (ap (λ (es : List Entry). map numbered_of es ++ rest) e
-    ∙ ap (λ (ns : List Numbered). ns ++ rest) (map-append numbered_of before changes)
-    ∙ append_assoc (map numbered_of before) (map numbered_of changes) rest)
+same_state : (within least : ℕ) (state state' : State) (follows follows' : Bool) (rs ss : List Message) (end : Option End) (rest : List Numbered) → state ≡ state' → follows ≡ follows'
+    → Follows within least state follows rs ss end rest → Follows within least state' follows' rs ss end rest
+same_state within least state state' follows follows' rs ss end rest p q h =
+    subst (λ (b : Bool). Follows within least state' b rs ss end rest) q (subst (λ (s : State). Follows within least s follows rs ss end rest) p h)
+
+same_left : (within least : ℕ) (state state' : State) (follows : Bool) (rs rs' ss ss' : List Message) (end end' : Option End) (rest : List Numbered) → state ≡ state' → rs ≡ rs' → ss ≡ ss'
+    → end ≡ end' → Follows within least state follows rs ss end rest → Follows within least state' follows rs' ss' end' rest
+same_left within least state state' follows rs rs' ss ss' end end' rest p q r e h =
+    subst (λ (o : Option End). Follows within least state' follows rs' ss' o rest) e
+    (subst (λ (xs : List Message). Follows within least state' follows rs' xs end rest) r
+    (subst (λ (xs : List Message). Follows within least state' follows xs ss end rest) q
+    (subst (λ (s : State). Follows within least s follows rs ss end rest) p h)))
 
 -- seconds of what is still to be sent
 ahead_received : (clock : ℕ → ℕ) (r : Message) (last : ℕ) (ss : List Message) → IsClock clock → GoesBy clock r → AllByRecursion (GoesBy clock) ss
@@ -137,18 +144,22 @@ after_received within exchange old new r leads shows h =
       ahead = subst (λ (n : ℕ). AllByRecursion (λ s. n ≤ s.second) new.pending.sent) (sym shows.second)
           (subst (λ (xs : List Message). AllByRecursion (λ s. max r.second old.last ≤ s.second) xs) (sym leads.sent)
           (ahead_received h.clock r old.last old.pending.sent h.go_by.clocked by h.go_by.sent_by before h.ahead));
-      so_far = λ rest tells.
-          let after : Tells within new.last false new.pending.received old.pending.sent old.pending.end rest =
-          subst (λ (o : Option End). Tells within new.last false new.pending.received old.pending.sent o rest) leads.end
-          (subst (λ (xs : List Message). Tells within new.last false new.pending.received xs new.pending.end rest) leads.sent tells) in
-          let with_changes = tells_changes within new.last true new.pending.received old.pending.sent old.pending.end (map numbered_of shows.put.changes) rest shows.put.each after in
-          let changes = map numbered_of shows.put.changes ++ rest in
-          let all = numbered_with r.packet (shown.Received new.last r.octets.now) ∷ changes in
-          let with_it = tells_received within old.last new.last false r new.pending.received old.pending.sent old.pending.end changes before ended
-          (omega (arith, le-max_right r.second old.last, shows.second)) (omega (arith, le-max_left r.second old.last, shows.second)) with_changes in
-          subst (λ (ns : List Numbered). Tells within 0 false exchange.received.now exchange.sent.now exchange.end ns)
-          (put_then new.last old.state new.state _ old.entries new.entries shows.put rest)
-          (h.so_far all (subst (λ (xs : List Message). Tells within old.last false xs old.pending.sent old.pending.end all) (sym leads.received) with_it));
+      so_far = λ rest follows.
+          let led = led_by_received old.state r.kind (is_rejected old.pending.sent) in
+          let n = numbered_with r.packet (shown.Received new.last r.octets.now) in
+          let after : Follows within new.last (state_then old.state led) (is_open r.kind) new.pending.received old.pending.sent old.pending.end rest =
+          same_left within new.last (state_then old.state (led_by_received old.state r.kind (is_rejected new.pending.sent))) (state_then old.state led) (is_open r.kind)
+          new.pending.received new.pending.received new.pending.sent old.pending.sent new.pending.end old.pending.end rest
+          (ap (λ (xs : List Message). state_then old.state (led_by_received old.state r.kind (is_rejected xs))) leads.sent) refl leads.sent leads.end
+          (same_state within new.last new.state (state_then old.state (led_by_received old.state r.kind (is_rejected new.pending.sent))) new.follows_open (is_open r.kind)
+          new.pending.received new.pending.sent new.pending.end rest shows.state shows.follows follows) in
+          let with_it = follows_received within old.last new.last old.state old.follows_open r new.pending.received old.pending.sent old.pending.end rest before ended
+          (omega (arith, le-max_right r.second old.last, shows.second)) shows.second after in
+          let put : new.numbered ≡ old.numbered ++ (n ∷ change r.packet new.last old.state led) =
+          shows.put ∙ ap (λ (xs : List Message). old.numbered ++ (n ∷ change r.packet new.last old.state (led_by_received old.state r.kind (is_rejected xs)))) leads.sent in
+          put_then within exchange old.numbered new.numbered (n ∷ change r.packet new.last old.state led) rest put
+          (h.so_far _ (subst (λ (xs : List Message). Follows within old.last old.state old.follows_open xs old.pending.sent old.pending.end
+          (n ∷ (change r.packet new.last old.state led ++ rest))) (sym leads.received) with_it));
     }
 
 after_sent : (within : ℕ) (exchange : Exchange) (old new : Making) (s : Message) → LeadsSent within old.pending s new.pending → ShowsSent old s new
@@ -164,18 +175,18 @@ after_sent within exchange old new s leads shows h =
       go_by = clocked_sent within h.clock old.pending new.pending s leads h.go_by;
       ahead = subst (λ (n : ℕ). AllByRecursion (λ t. n ≤ t.second) new.pending.sent) (sym shows.second)
           (from_first h.clock s.packet s.second new.pending.sent h.go_by.clocked by.0 by.1 rises.0);
-      so_far = λ rest tells.
-          let after : Tells within new.last false old.pending.received new.pending.sent old.pending.end rest =
-          subst (λ (o : Option End). Tells within new.last false old.pending.received new.pending.sent o rest) leads.end
-          (subst (λ (xs : List Message). Tells within new.last false xs new.pending.sent new.pending.end rest) leads.received tells) in
-          let with_changes = tells_changes within new.last true old.pending.received new.pending.sent old.pending.end (map numbered_of shows.put.changes) rest shows.put.each after in
-          let changes = map numbered_of shows.put.changes ++ rest in
-          let all = numbered_with s.packet (shown.Sent new.last s.octets.now) ∷ changes in
-          let with_it = tells_sent within old.last new.last false s old.pending.received new.pending.sent old.pending.end changes in_time
-          (omega (arith, le, shows.second)) shows.second with_changes in
-          subst (λ (ns : List Numbered). Tells within 0 false exchange.received.now exchange.sent.now exchange.end ns)
-          (put_then new.last old.state new.state _ old.entries new.entries shows.put rest)
-          (h.so_far all (subst (λ (xs : List Message). Tells within old.last false old.pending.received xs old.pending.end all) (sym leads.sent) with_it));
+      so_far = λ rest follows.
+          let led = led_by_sent old.state s.kind old.follows_open in
+          let n = numbered_with s.packet (shown.Sent new.last s.octets.now) in
+          let after : Follows within new.last (state_then old.state led) false old.pending.received new.pending.sent old.pending.end rest =
+          same_left within new.last (state_then old.state led) (state_then old.state led) false new.pending.received old.pending.received new.pending.sent new.pending.sent
+          new.pending.end old.pending.end rest refl leads.received refl leads.end
+          (same_state within new.last new.state (state_then old.state led) new.follows_open false new.pending.received new.pending.sent new.pending.end rest shows.state shows.follows follows) in
+          let with_it = follows_sent within old.last new.last old.state old.follows_open s old.pending.received new.pending.sent old.pending.end rest in_time
+          (omega (arith, le, shows.second)) shows.second after in
+          put_then within exchange old.numbered new.numbered (n ∷ change s.packet new.last old.state led) rest shows.put
+          (h.so_far _ (subst (λ (xs : List Message). Follows within old.last old.state old.follows_open old.pending.received xs old.pending.end
+          (n ∷ (change s.packet new.last old.state led ++ rest))) (sym leads.sent) with_it));
     }
 
 after_end : (within : ℕ) (exchange : Exchange) (old new : Making) (e : End) → LeadsEnd within old.pending e new.pending → ShowsEnd old e new
@@ -188,19 +199,21 @@ after_end within exchange old new e leads shows h =
       clock = h.clock;
       go_by = clocked_end within h.clock old.pending new.pending e leads h.go_by;
       ahead = subst (λ (xs : List Message). AllByRecursion (λ s. new.last ≤ s.second) xs) (sym leads.sent) tt;
-      so_far = λ rest tells.
-          let after : Tells within new.last false old.pending.received [] None rest =
-          subst (λ (o : Option End). Tells within new.last false old.pending.received [] o rest) leads.end_after
-          (subst (λ (xs : List Message). Tells within new.last false old.pending.received xs new.pending.end rest) leads.sent
-          (subst (λ (xs : List Message). Tells within new.last false xs new.pending.sent new.pending.end rest) leads.received tells)) in
-          let with_changes = tells_changes within new.last true old.pending.received [] None (map numbered_of shows.changes) rest shows.each after in
-          let all = map numbered_of shows.changes ++ rest in
-          let with_it = tells_end within old.last new.last false e old.pending.received all in_time
-          (omega (arith, le-max_right e.second old.last, shows.second)) (omega (arith, le-max_left e.second old.last, shows.second)) with_changes in
-          subst (λ (ns : List Numbered). Tells within 0 false exchange.received.now exchange.sent.now exchange.end ns)
-          (changed_then old.entries new.entries shows.changes rest shows.appended)
-          (h.so_far all (subst (λ (o : Option End). Tells within old.last false old.pending.received old.pending.sent o all) (sym leads.end_before)
-          (subst (λ (xs : List Message). Tells within old.last false old.pending.received xs (Some e) all) (sym leads.sent_before) with_it)));
+      so_far = λ rest follows.
+          let left = new.pending.received in
+          let after : Follows within new.last (ended_with old.state old.pending.received) false old.pending.received [] None rest =
+          same_left within new.last (ended_with old.state left) (ended_with old.state old.pending.received) false left old.pending.received new.pending.sent [] new.pending.end None rest
+          (ap (λ (xs : List Message). ended_with old.state xs) leads.received) leads.received leads.sent leads.end_after
+          (same_state within new.last new.state (ended_with old.state left) new.follows_open false left new.pending.sent new.pending.end rest shows.state shows.follows follows) in
+          let with_it = follows_end within old.last new.last old.state old.follows_open e old.pending.received rest in_time
+          (omega (arith, le-max_right e.second old.last, shows.second)) shows.second after in
+          let put : new.numbered ≡ old.numbered ++ changes_at_end e.packet new.last old.state old.pending.received =
+          shows.put ∙ ap (λ (xs : List Message). old.numbered ++ changes_at_end e.packet new.last old.state xs) leads.received in
+          put_then within exchange old.numbered new.numbered (changes_at_end e.packet new.last old.state old.pending.received) rest put
+          (h.so_far _ (subst (λ (o : Option End). Follows within old.last old.state old.follows_open old.pending.received old.pending.sent o
+          (changes_at_end e.packet new.last old.state old.pending.received ++ rest)) (sym leads.end_before)
+          (subst (λ (xs : List Message). Follows within old.last old.state old.follows_open old.pending.received xs (Some e)
+          (changes_at_end e.packet new.last old.state old.pending.received ++ rest)) (sym leads.sent_before) with_it)));
     }
 
 by_turn : (within : ℕ) (exchange : Exchange) (old new : Making) (turn : Turn) → Leads within old.pending turn new.pending → Shows old turn new
@@ -224,30 +237,33 @@ begins_under_way within exchange making begun told =
           (subst (λ (xs : List Message). AreClocked told.clock xs exchange.sent.now exchange.end) (sym begun.received) told.go_by));
       ahead = subst (λ (n : ℕ). AllByRecursion (λ s. n ≤ s.second) making.pending.sent) (sym begun.last)
           (subst (λ (xs : List Message). AllByRecursion (λ s. exchange.second ≤ s.second) xs) (sym begun.sent) ahead);
-      so_far = λ rest tells.
-          let all : Tells within exchange.second false exchange.received.now exchange.sent.now exchange.end rest =
-          subst (λ (n : ℕ). Tells within n false exchange.received.now exchange.sent.now exchange.end rest) begun.last
-          (subst (λ (o : Option End). Tells within making.last false exchange.received.now exchange.sent.now o rest) begun.end
-          (subst (λ (xs : List Message). Tells within making.last false exchange.received.now xs making.pending.end rest) begun.sent
-          (subst (λ (xs : List Message). Tells within making.last false xs making.pending.sent making.pending.end rest) begun.received tells))) in
-          tells_earlier within exchange.second exchange.received.now exchange.sent.now exchange.end _
-          (tells_changes within exchange.second false exchange.received.now exchange.sent.now exchange.end (map numbered_of making.entries) rest begun.each all);
+      so_far = λ rest follows.
+          let all : Follows within exchange.second (opened_state exchange.opened_by) false exchange.received.now exchange.sent.now exchange.end rest =
+          same_left within exchange.second making.state (opened_state exchange.opened_by) false making.pending.received exchange.received.now making.pending.sent exchange.sent.now
+          making.pending.end exchange.end rest begun.state begun.received begun.sent begun.end
+          (subst (λ (n : ℕ). Follows within n making.state false making.pending.received making.pending.sent making.pending.end rest) begun.last
+          (subst (λ (b : Bool). Follows within making.last making.state b making.pending.received making.pending.sent making.pending.end rest) begun.follows follows)) in
+          subst (λ (ns : List Numbered). TellsIt within exchange (ns ++ rest)) (sym begun.opens) record {
+            events = all.events;
+            allowed = all.allowed;
+            timed = all.timed;
+            shown = ap (λ (ns : List Numbered). opening exchange.opened_by exchange.packet exchange.second ∷ ns) (sym all.shown);
+          };
     }
 
-nothing_tells : (within last : ℕ) (rs ss : List Message) (end : Option End) → rs ≡ [] → ss ≡ [] → end ≡ None → Tells within last false rs ss end []
-nothing_tells within last rs ss end p q r = record {
+nothing_follows : (within last : ℕ) (state : State) (follows : Bool) (rs ss : List Message) (end : Option End) → rs ≡ [] → ss ≡ [] → end ≡ None
+    → Follows within last state follows rs ss end []
+nothing_follows within last state follows rs ss end p q r = record {
   events = [];
   allowed = record { of_received = sym p; of_sent = sym q; of_end = sym (ap ends_of r); each = tt };
-  shown = refl;
   timed = tt;
-  beside = tt;
-  states = tt;
+  shown = refl;
 }
 
-pub all_made : (within : ℕ) (exchange : Exchange) (making : Making) → IsDone making.pending → IsUnderWay within exchange making → IsMade within exchange making.entries
+pub all_made : (within : ℕ) (exchange : Exchange) (making : Making) → IsDone making.pending → IsUnderWay within exchange making → TellsIt within exchange making.numbered
 all_made within exchange making done h =
-    subst (λ (ns : List Numbered). Tells within 0 false exchange.received.now exchange.sent.now exchange.end ns) (append-nil (map numbered_of making.entries))
-    (h.so_far [] (nothing_tells within making.last making.pending.received making.pending.sent making.pending.end done.received done.sent done.end))
+    subst (λ (ns : List Numbered). TellsIt within exchange ns) (append-nil making.numbered)
+    (h.so_far [] (nothing_follows within making.last making.state making.follows_open making.pending.received making.pending.sent making.pending.end done.received done.sent done.end))
 
 -- ---- by what a step answers
 
@@ -257,10 +273,10 @@ steps_where within exchange old new true is steps h = steps_on within exchange o
 steps_where within exchange old new false is steps h = absurd (false≢true is)
 
 pub made_where : (within : ℕ) (exchange : Exchange) (old new inside : Making) (more : Bool) → more ≡ false → StepsOrEnds within old more new → inside ≡ new
-    → IsUnderWay within exchange old → IsMade within exchange inside.entries
+    → IsUnderWay within exchange old → TellsIt within exchange inside.numbered
 made_where within exchange old new inside true is ends view h = absurd (false≢true (sym is))
 made_where within exchange old new inside false is ends view h =
-    subst (λ (m : Making). IsMade within exchange m.entries) (sym (view ∙ ends.1)) (all_made within exchange old ends.0 h)
+    subst (λ (m : Making). TellsIt within exchange m.numbered) (sym (view ∙ ends.1)) (all_made within exchange old ends.0 h)
 
 -- ---- each step leaves less
 

@@ -2,6 +2,7 @@
 pub mod First
 pub mod States
 pub mod Allowed
+pub mod Changes
 pub mod Tells
 pub mod Told
 pub mod Leads
@@ -10,8 +11,5 @@ pub mod Framed
 pub mod Gathered
 pub mod Recorded
 pub mod Captured
-pub mod Changes
-pub mod Moves
-pub mod Puts
 pub mod Steps
 pub mod Joined

@@ -1,5 +1,5 @@
 -- States of a session by their numbers (RFC 6396, 4.4.1).
-use Rattle.std.specs.Prelude.{◌≡◌, ◌⊎◌, ℕ}
+use Rattle.std.specs.Prelude.{ℕ}
 use Rattle.bgp_recording.specs.declared.state.State.{State}
 use Rattle.bgp_recording.specs.declared.state.State.TheVariants.{Idle, Connect, Active}
 use Rattle.bgp_recording.specs.declared.state.State.TheVariants.{OpenSent, OpenConfirm, Established}
@@ -11,7 +11,3 @@ state_number Active = 3
 state_number OpenSent = 4
 state_number OpenConfirm = 5
 state_number Established = 6
-
--- the states with a session: OpenSent, OpenConfirm, Established
-abbrev pub HasSession : ℕ → Type 0
-HasSession state = (state ≡ 4) ⊎ (state ≡ 5) ⊎ (state ≡ 6)

@@ -1,50 +1,60 @@
--- An order while it is made: what is left, the second of the last record, the state, and the
--- records.
-use Rattle.std.specs.Prelude.{◌≡◌, ◌≤◌, ◌++◌, ℕ, Bool, true, false, List, length, max, map}
-use Rattle.std.specs.Prelude.{IfSome}
+-- An order while it is made: what is left, the second of the last record, the state, whether a
+-- received OPEN stands just before, and the records.
+use Rattle.std.specs.Prelude.{◌≡◌, ◌<◌, ◌^◌, ◌++◌, ℕ, Bool, true, false, List, [], ◌∷◌, max}
 use Rattle.bgp_prefix.specs.Shown as shown
 use Rattle.streams.specs.declared.connection.End.{End}
-use Rattle.bgp_recording.specs.declared.entry.Entry.{Entry}
 use Rattle.bgp_recording.specs.declared.message.Message.{Message}
 use Rattle.bgp_recording.specs.declared.ordering.Exchange.{Exchange}
 use Rattle.bgp_recording.specs.declared.pending.Turn.{Turn}
 use Rattle.bgp_recording.specs.declared.pending.Turn.TheVariants as turns
-use Rattle.bgp_recording.specs.Captured.{records_of}
-use Rattle.bgp_recording.specs.Changes.{AreChained, opened_state}
+use Rattle.bgp_recording.specs.declared.state.State.{State}
+use Rattle.bgp_recording.specs.Changes.{led_by_received, led_by_sent, led_by_end, led_by_left}
+use Rattle.bgp_recording.specs.Changes.{is_open, is_rejected, are_left, opened_state, state_then}
 use Rattle.bgp_recording.specs.Leads.{Pending, Leads, IsDone}
-use Rattle.bgp_recording.specs.Moves.{led_by_received, led_by_sent}
-use Rattle.bgp_recording.specs.Puts.{AreChanges, IsPut, numbered_with}
-use Rattle.bgp_recording.specs.Tells.{numbered_of}
+use Rattle.bgp_recording.specs.Tells.{Numbered, numbered_with, change, opening}
 
 pub record Making : Type 0 where
   pub pending : Pending
   pub last : ℕ
-  pub state : ℕ
-  pub entries : List Entry
+  pub state : State
+  pub follows_open : Bool
+  pub numbered : List Numbered
 
--- a received message is shown at its second, or at that of the record before it
+-- a received message is shown at its second, or at that of the record before it, and the change to
+-- which it leads
 pub record ShowsReceived (old : Making) (message : Message) (new : Making) : Type 0 where
   pub second : new.last ≡ max message.second old.last
-  pub put : IsPut new.last old.state new.state
-      (numbered_with message.packet (shown.Received new.last message.octets.now))
-      old.entries new.entries
-  pub leads : IfSome (led_by_received old.state message.kind) (λ to. new.state ≡ to)
+  pub fits : new.last < 2 ^ 32
+  pub put : let led = led_by_received old.state message.kind (is_rejected new.pending.sent) in
+      new.numbered ≡ old.numbered
+      ++ numbered_with message.packet (shown.Received new.last message.octets.now)
+      ∷ change message.packet new.last old.state led
+  pub state : new.state ≡ state_then old.state
+      (led_by_received old.state message.kind (is_rejected new.pending.sent))
+  pub follows : new.follows_open ≡ is_open message.kind
 
 -- a sent one at its own
 pub record ShowsSent (old : Making) (message : Message) (new : Making) : Type 0 where
   pub second : new.last ≡ message.second
-  pub put : IsPut new.last old.state new.state
-      (numbered_with message.packet (shown.Sent new.last message.octets.now))
-      old.entries new.entries
-  pub leads : IfSome (led_by_sent old.state message.kind) (λ to. new.state ≡ to)
+  pub fits : new.last < 2 ^ 32
+  pub put : let led = led_by_sent old.state message.kind old.follows_open in
+      new.numbered ≡ old.numbered
+      ++ numbered_with message.packet (shown.Sent new.last message.octets.now)
+      ∷ change message.packet new.last old.state led
+  pub state : new.state
+      ≡ state_then old.state (led_by_sent old.state message.kind old.follows_open)
+  pub follows : new.follows_open ≡ false
 
--- the end by changes at most
+-- the end by the changes to which it leads
 pub record ShowsEnd (old : Making) (end : End) (new : Making) : Type 0 where
   pub second : new.last ≡ max end.second old.last
-  pub changes : List Entry
-  pub appended : new.entries ≡ old.entries ++ changes
-  pub each : AreChanges new.last true (map numbered_of changes)
-  pub chained : AreChained old.state (records_of changes) new.state
+  pub fits : new.last < 2 ^ 32
+  pub put : let ended = state_then old.state (led_by_end old.state) in
+      new.numbered ≡ old.numbered ++ (change end.packet new.last old.state (led_by_end old.state)
+      ++ change end.packet new.last ended (led_by_left old.state (are_left new.pending.received)))
+  pub state : new.state ≡ state_then (state_then old.state (led_by_end old.state))
+      (led_by_left old.state (are_left new.pending.received))
+  pub follows : new.follows_open ≡ false
 
 abbrev pub Shows : Making → Turn → Making → Type 0
 Shows old (turns.Received message) new = ShowsReceived old message new
@@ -62,13 +72,14 @@ abbrev pub StepsOrEnds : ℕ → Making → Bool → Making → Type 0
 StepsOrEnds within old true new = Steps within old new
 StepsOrEnds within old false new = IsDone old.pending × (new ≡ old)
 
--- all is left, and no more than a change is shown, at the connection's first packet
+-- all is left, and the opening is shown
 pub record Begins (exchange : Exchange) (making : Making) : Type 0 where
   pub received : making.pending.received ≡ exchange.received.now
   pub sent : making.pending.sent ≡ exchange.sent.now
   pub end : making.pending.end ≡ exchange.end
   pub last : making.last ≡ exchange.second
-  pub each : AreChanges exchange.second false (map numbered_of making.entries)
-  pub few : length making.entries ≤ 1
+  pub fits : exchange.second < 2 ^ 32
   pub state : making.state ≡ opened_state exchange.opened_by
-  pub chained : AreChained 1 (records_of making.entries) making.state
+  pub follows : making.follows_open ≡ false
+  pub opens : making.numbered
+      ≡ opening exchange.opened_by exchange.packet exchange.second ∷ []

@@ -1,15 +1,20 @@
--- The records that tell a session: its messages in an allowed order, and changes of state beside
--- them.
-use Rattle.std.specs.Prelude.{◌≡◌, ◌≤◌, ◌⊎◌, ℕ, Bool, true, false, List, [], ◌∷◌, Option, IsTrue}
+-- The records that tell a session: its messages in an allowed order, and the changes of state to
+-- which that order leads.
+use Rattle.std.specs.Prelude.{◌≡◌, ◌<◌, ◌≤◌, ◌^◌, ◌++◌, ℕ, Bool, false, List, [], ◌∷◌, max}
+use Rattle.std.specs.Prelude.{Option, None, Some}
 use Rattle.bgp_prefix.specs.Shown as shown
-use Rattle.bgp_prefix.specs.Shown.{ShownRecord}
-use Rattle.mrt.specs.Layout.{IsState}
+use Rattle.bgp_prefix.specs.Shown.{ShownRecord, second_of}
 use Rattle.mrt.specs.Reader.{shown_of}
 use Rattle.bgp_recording.specs.declared.message.Message.{Message}
+use Rattle.bgp_recording.specs.declared.state.State.{State}
 use Rattle.streams.specs.declared.connection.End.{End}
+use Rattle.streams.specs.declared.passed.Side.{Side}
 use Rattle.bgp_recording.specs.declared.entry.Entry.{Entry}
-use Rattle.bgp_recording.specs.States.{HasSession}
 use Rattle.bgp_recording.specs.Allowed.{Item, Received, Sent, Ended, IsAllowed}
+use Rattle.bgp_recording.specs.Allowed.{received_in, sent_in}
+use Rattle.bgp_recording.specs.Changes.{led_by_received, led_by_sent, led_by_end, led_by_left}
+use Rattle.bgp_recording.specs.Changes.{is_open, is_rejected, are_left, opened_state, state_then}
+use Rattle.bgp_recording.specs.States.{state_number}
 
 -- a record, and the packet that shows it
 pub record Numbered : Type 0 where
@@ -20,74 +25,73 @@ pub record Numbered : Type 0 where
 abbrev pub numbered_of : Entry → Numbered
 numbered_of entry = record { packet = entry.packet; shown = shown_of entry.record }
 
--- What stands in a list of records, with the end at a place of its own: a message or the end at a
--- second; a change of state, with a packet, its second, the old state and the new one.
+-- its second has 32 bits, as a packet's
+abbrev pub HasSecond : Entry → Type 0
+HasSecond entry = second_of (shown_of entry.record) < 2 ^ 32
+
+abbrev pub numbered_with : ℕ → ShownRecord → Numbered
+numbered_with packet shown = record { packet = packet; shown = shown }
+
+-- what stands in an order, and the second at which it is shown
 pub data Event : Type 0 where
   Passed : ℕ → Item → Event
-  Changed : ℕ → ℕ → ℕ → ℕ → Event
 
--- the messages and the end, without the changes
 abbrev pub items_in : List Event → List Item
 items_in [] = []
 items_in (Passed second item ∷ later) = item ∷ items_in later
-items_in (Changed packet second old new ∷ later) = items_in later
 
--- the records, each with its packet: the end has none
-abbrev pub numbered_in : List Event → List Numbered
-numbered_in [] = []
-numbered_in (Passed second (Received m) ∷ later) =
-    record { packet = m.packet; shown = shown.Received second m.octets.now }
-    ∷ numbered_in later
-numbered_in (Passed second (Sent m) ∷ later) =
-    record { packet = m.packet; shown = shown.Sent second m.octets.now }
-    ∷ numbered_in later
-numbered_in (Passed second (Ended e) ∷ later) = numbered_in later
-numbered_in (Changed packet second old new ∷ later) =
-    record { packet = packet; shown = shown.Changed second old new } ∷ numbered_in later
+-- the second of an item that follows this one: that by which a sent message was made; that by which
+-- a received one came, or that before it, if that is greater; likewise the end's
+abbrev pub second_behind : ℕ → Item → ℕ
+second_behind before (Received m) = max m.second before
+second_behind before (Sent m) = m.second
+second_behind before (Ended e) = max e.second before
 
--- the second of an item: that by which a sent message was made; that by which a received one came,
--- or a later one; likewise the end's
-abbrev pub IsAt : ℕ → Item → Type 0
-IsAt second (Received m) = m.second ≤ second
-IsAt second (Sent m) = second ≡ m.second
-IsAt second (Ended e) = e.second ≤ second
-
--- the seconds are those of the items, begin at this one or after it, and never fall
+-- the seconds are those of the items after this one, and never fall
 abbrev pub AreTimed : ℕ → List Event → Type 0
-AreTimed least [] = Unit {0}
-AreTimed least (Passed second item ∷ later) =
-    (least ≤ second) × IsAt second item × AreTimed second later
-AreTimed least (Changed packet second old new ∷ later) = (least ≤ second) × AreTimed second later
+AreTimed before [] = Unit {0}
+AreTimed before (Passed second item ∷ later) =
+    (before ≤ second) × (second ≡ second_behind before item) × AreTimed second later
 
--- a message or the end comes first
-abbrev pub BeginsWithItem : List Event → Type 0
-BeginsWithItem [] = ⊥
-BeginsWithItem (Passed second item ∷ later) = Unit {0}
-BeginsWithItem (Changed packet second old new ∷ later) = ⊥
+-- the change to the state that is led to, if one is
+abbrev pub change : ℕ → ℕ → State → Option State → List Numbered
+change packet second state None = []
+change packet second state (Some led) =
+    numbered_with packet (shown.Changed second (state_number state) (state_number led)) ∷ []
 
--- each change from a state with a session stands beside a message or the end; `by` says whether one
--- stands just before the first event
-abbrev pub AreBeside : Bool → List Event → Type 0
-AreBeside by [] = Unit {0}
-AreBeside by (Passed second item ∷ later) = AreBeside true later
-AreBeside by (Changed packet second old new ∷ later) =
-    (HasSession old → IsTrue by ⊎ BeginsWithItem later) × AreBeside false later
+-- The records of an order from a state on, each with its packet: the messages, and right after each
+-- message and the end the changes to which it leads, with its packet and at its second. The end
+-- itself has none. `follows_open` says whether a received OPEN stands just before.
+abbrev pub numbered_in : State → Bool → List Event → List Numbered
+numbered_in state follows_open [] = []
+numbered_in state follows_open (Passed second (Received m) ∷ later) =
+    let led = led_by_received state m.kind (is_rejected (sent_in (items_in later))) in
+    numbered_with m.packet (shown.Received second m.octets.now)
+    ∷ (change m.packet second state led
+    ++ numbered_in (state_then state led) (is_open m.kind) later)
+numbered_in state follows_open (Passed second (Sent m) ∷ later) =
+    let led = led_by_sent state m.kind follows_open in
+    numbered_with m.packet (shown.Sent second m.octets.now)
+    ∷ (change m.packet second state led ++ numbered_in (state_then state led) false later)
+numbered_in state follows_open (Passed second (Ended e) ∷ later) =
+    let ended = state_then state (led_by_end state) in
+    let left = led_by_left state (are_left (received_in (items_in later))) in
+    change e.packet second state (led_by_end state)
+    ++ (change e.packet second ended left ++ numbered_in (state_then ended left) false later)
 
--- each change is from one of the states to one of them
-abbrev pub AreStates : List Event → Type 0
-AreStates [] = Unit {0}
-AreStates (Passed second item ∷ later) = AreStates later
-AreStates (Changed packet second old new ∷ later) = IsState old × IsState new × AreStates later
+-- the first record: the change from Idle to the state before the own OPEN
+abbrev pub opening : Side → ℕ → ℕ → Numbered
+opening opened_by packet second =
+    numbered_with packet (shown.Changed second 1 (state_number (opened_state opened_by)))
 
--- These records tell what packets tell of a session: the messages are in an order that is allowed
--- where one is handled so many seconds after it came at the latest. The records begin at the second
--- `least` or after it; `by` says whether a message or the end stands just before them.
+-- These records tell what packets tell of a session whose connection this side opened, by a first
+-- packet at this second: after the opening they are those of an order that is allowed where a
+-- message is handled so many seconds after it came at the latest.
 pub record Tells
-    (within least : ℕ) (by : Bool) (received sent : List Message) (end : Option End)
-    (numbered : List Numbered) : Type 0 where
+    (within : ℕ) (opened_by : Side) (packet second : ℕ) (received sent : List Message)
+    (end : Option End) (numbered : List Numbered) : Type 0 where
   pub events : List Event
   pub allowed : IsAllowed within received sent end (items_in events)
-  pub shown : numbered_in events ≡ numbered
-  pub timed : AreTimed least events
-  pub beside : AreBeside by events
-  pub states : AreStates events
+  pub timed : AreTimed second events
+  pub shown : numbered
+      ≡ opening opened_by packet second ∷ numbered_in (opened_state opened_by) false events

@@ -1,5 +1,5 @@
 -- What packets tell of a session goes by the file's clock.
-use Rattle.std.specs.Prelude.{◌≡◌, ◌≤◌, ℕ, List, [], ◌∷◌, Option, IfSome, false, map}
+use Rattle.std.specs.Prelude.{◌≡◌, ◌≤◌, ℕ, List, [], ◌∷◌, Option, IfSome, map}
 use Rattle.std.specs.List.{AllByRecursion}
 use Rattle.bgp_recording.specs.declared.entry.Entry.{Entry}
 use Rattle.bgp_recording.specs.declared.ordering.Exchange.{Exchange}
@@ -47,5 +47,5 @@ pub record IsTold (exchange : Exchange) : Type 0 where
 -- these records tell it
 abbrev pub IsMade : ℕ → Exchange → List Entry → Type 0
 IsMade within exchange entries =
-    Tells within 0 false exchange.received.now exchange.sent.now exchange.end
-    (map numbered_of entries)
+    Tells within exchange.opened_by exchange.packet exchange.second exchange.received.now
+    exchange.sent.now exchange.end (map numbered_of entries)

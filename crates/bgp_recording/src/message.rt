@@ -1,10 +1,18 @@
 //! Messages of a recorded session, each with the packet that shows it.
 
+ghost use Rattle.std.specs.Prelude.{◌≡◌, ◌↔◌, Some, IsTrue};
+ghost use Rattle.bgp_recording.specs.Changes.{error_code, rejects};
+
 use bgp_prefix::Seconds;
 use bgp_wire::MessageType;
 
 /// Where the Error code of a NOTIFICATION stands (RFC 4271, 4.5), after the header.
 const ERROR_CODE: usize = 19;
+
+/// Error codes of a NOTIFICATION (RFC 4271, 4.5).
+pub(crate) const MESSAGE_HEADER_ERROR: u8 = 1;
+
+pub(crate) const OPEN_MESSAGE_ERROR: u8 = 2;
 
 /// A message of one direction.
 #[derive(Clone, Copy, Debug, PartialEq, Eq)]
@@ -22,16 +30,31 @@ pub struct Message<'a> {
 
 impl Message<'_> {
     /// Whether it is of this type.
-    pub(crate) fn is(&self, kind: MessageType) -> bool {
+    pub(crate) fn is(&self, kind: MessageType) -> bool
+        ensures { IsTrue result ↔ (self.now.kind ≡ Some kind) }
+    {
         self.kind == Some(kind)
     }
 
     /// The Error code, where it is a NOTIFICATION.
-    pub(crate) fn error_code(&self) -> Option<u8> {
+    pub(crate) fn error_code(&self) -> Option<u8>
+        ensures { result ≡ error_code self.now }
+    {
         if self.is(MessageType::Notification) {
             self.octets.get(ERROR_CODE).copied()
         } else {
             None
         }
+    }
+
+    /// Whether it is a NOTIFICATION that rejects a connection before the own OPEN: Message Header
+    /// Error or OPEN Message Error (RFC 4271, 6.1 and 6.2).
+    pub(crate) fn rejects_opening(&self) -> bool
+        ensures { result ≡ rejects (error_code self.now) }
+    {
+        matches!(
+            self.error_code(),
+            Some(MESSAGE_HEADER_ERROR | OPEN_MESSAGE_ERROR)
+        )
     }
 }

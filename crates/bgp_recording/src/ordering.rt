@@ -1,11 +1,10 @@
 //! The made order (one of those that are allowed), and the records that tell the session in it.
 
 ghost use Rattle.std.specs.Prelude.{◌≡◌, IfOk, OnOk};
-ghost use Rattle.bgp_recording.specs.Captured.{records_of};
-ghost use Rattle.bgp_recording.specs.Changes.{ShowStates, opened_state};
-ghost use Rattle.bgp_recording.specs.Moves.{AreMoved};
-ghost use Rattle.bgp_recording.specs.States.{HasSession, state_number};
+ghost use Rattle.std.specs.List.{AllByRecursion};
+ghost use Rattle.bgp_recording.specs.Changes.{opened_state};
 ghost use Rattle.bgp_recording.specs.Told.{IsTold, IsMade};
+ghost use Rattle.bgp_recording.specs.Tells.{HasSecond};
 ghost use Rattle.bgp_recording.specs.Steps.{ShowsReceived, ShowsSent, ShowsEnd, Begins};
 ghost use Rattle.bgp_recording.specs.Steps.{StepsOrEnds};
 
@@ -13,7 +12,7 @@ use crate::entry::Entry;
 use crate::message::Message;
 use crate::pending::{Pending, Place, Turn};
 use crate::putting::{Shown, put_change, put_message};
-use crate::standing::Standing;
+use crate::standing::{Standing, led_by_end, led_by_left};
 use crate::state::State;
 use crate::waiting::Foresight;
 use bgp_prefix::Seconds;
@@ -52,16 +51,18 @@ struct Making<'l, 'a, A: Allocator> {
 
 impl<'l, 'a, A: Allocator> Model for Making<'l, 'a, A> {
     ghost use Rattle.bgp_recording.specs.Leads.{pending_of};
-    ghost use Rattle.bgp_recording.specs.States.{state_number};
+    ghost use Rattle.std.specs.Prelude.{map};
     ghost use Rattle.bgp_recording.specs.Steps.{Making as TheMaking};
+    ghost use Rattle.bgp_recording.specs.Tells.{numbered_of};
 
     ghost Value = { TheMaking };
 
     ghost view = { λ f. record {
       pending = pending_of f.pending;
       last = f.last;
-      state = state_number f.standing.state;
-      entries = f.entries.items;
+      state = f.standing.state;
+      follows_open = f.standing.follows_open;
+      numbered = map numbered_of f.entries.items;
     } };
 }
 
@@ -91,14 +92,15 @@ impl<'l, 'a, A: Allocator> Making<'l, 'a, A> {
         ensures pending { self.new.pending ≡ self.old.pending }
     {
         let second = message.second.max(self.last);
-        let old = self.standing.state;
-        self.standing = self.standing.after_received(&message, is_answered);
+        let old = self.standing;
+        let led = old.led_by_received(message.kind, self.pending.is_rejected());
+        self.standing = old.after_received(&message, led, is_answered);
         self.last = second;
         let entry = Entry {
             packet: message.packet,
             record: Record::In(second, message.octets),
         };
-        put_message(&mut self.entries, entry, second, old, self.standing.state)?;
+        put_message(&mut self.entries, entry, second, old.state, led)?;
         Ok(())
     }
 
@@ -108,19 +110,19 @@ impl<'l, 'a, A: Allocator> Making<'l, 'a, A> {
         ensures pending { self.new.pending ≡ self.old.pending }
     {
         let second = message.second;
-        let old = self.standing.state;
-        self.standing = self.standing.after_sent(&message);
+        let old = self.standing;
+        let led = old.led_by_sent(message.kind);
+        self.standing = old.after_own(led);
         self.last = second;
         let entry = Entry {
             packet: message.packet,
             record: Record::Out(second, message.octets),
         };
-        put_message(&mut self.entries, entry, second, old, self.standing.state)?;
+        put_message(&mut self.entries, entry, second, old.state, led)?;
         Ok(())
     }
 
-    /// Appends what the end changes: from OpenSent a connection is awaited again, until a message
-    /// that is left shows that it isn't.
+    /// Appends the changes to which the end leads.
     fn put_end(&mut self, end: End) -> Result<(), AllocError>
         ensures ok { OnOk result (ShowsEnd self.old end self.new) }
         ensures pending { self.new.pending ≡ self.old.pending }
@@ -129,14 +131,14 @@ impl<'l, 'a, A: Allocator> Making<'l, 'a, A> {
             packet: end.packet,
             second: end.second.max(self.last),
         };
-        let old = self.standing.state;
-        let new = old.at_end();
-        let is_left = self.pending.next_received().is_some();
-        let last = new.with_left(is_left);
-        self.standing.state = last;
+        let old = self.standing;
+        let led = led_by_end(old.state);
+        let ended = old.after_own(led);
+        let left = led_by_left(old.state, self.pending.are_left());
+        self.standing = ended.after_own(left);
         self.last = shown.second;
-        put_change(&mut self.entries, shown, old, new)?;
-        put_change(&mut self.entries, shown, new, last)?;
+        put_change(&mut self.entries, shown, old.state, led)?;
+        put_change(&mut self.entries, shown, ended.state, left)?;
         Ok(())
     }
 
@@ -160,8 +162,7 @@ impl<'l, 'a, A: Allocator> Making<'l, 'a, A> {
 
 /// The state before the own OPEN: the local system connects, or awaits its peer.
 fn opening_state(opened_by: Side) -> State
-    ensures before { ¬ HasSession (state_number result) }
-    ensures number { state_number result ≡ opened_state opened_by }
+    ensures { result ≡ opened_state opened_by }
 {
     match opened_by {
         Side::Local => State::Connect,
@@ -182,7 +183,7 @@ fn begun<'l, 'a, A: Allocator>(
         packet: exchange.packet,
         second: exchange.second,
     };
-    put_change(&mut entries, shown, State::Idle, state)?;
+    put_change(&mut entries, shown, State::Idle, Some(state))?;
     Ok(Making {
         entries,
         pending: Pending {
@@ -197,6 +198,7 @@ fn begun<'l, 'a, A: Allocator>(
         standing: Standing {
             state,
             is_answering: false,
+            follows_open: false,
         },
         last: exchange.second,
     })
@@ -204,8 +206,7 @@ fn begun<'l, 'a, A: Allocator>(
 
 /// The records of the made order: one that is allowed where a received message is handled within so
 /// many seconds after it came, if what packets tell goes by a clock. The session begins in Idle,
-/// and each change of state is from where the one before it led; none is left out to which the
-/// messages alone lead.
+/// and the changes of state are those to which the order leads.
 pub fn made_entries<'a, A: Allocator>(
     alloc: A,
     exchange: Exchange<'_, 'a>,
@@ -213,11 +214,7 @@ pub fn made_entries<'a, A: Allocator>(
 ) -> Result<Vec<Entry<'a>, A>, AllocError>
     ensures told { IfOk result (λ entries. IsTold exchange.entry
         → IsMade within exchange.entry entries.items) }
-    ensures states { IfOk result (λ entries. ShowStates exchange.entry.second
-        (opened_state exchange.entry.opened_by) (records_of entries.items)) }
-    // A change to which a message leads isn't left out.
-    ensures moves { IfOk result (λ entries.
-        AreMoved (records_of entries.items) 1 exchange.entry.received.now exchange.entry.sent.now) }
+    ensures seconds { IfOk result (λ entries. AllByRecursion HasSecond entries.items) }
 {
     let foresight = Foresight::new(exchange.received, exchange.sent);
     let mut making = begun(alloc, exchange)?;

@@ -3,6 +3,7 @@
 ghost use Rattle.std.specs.Prelude.{◌≡◌, ◌<◌, ◌+◌, ◌↔◌, [], IsTrue, IsFalse};
 ghost use Rattle.std.specs.Prelude.{IfSome, IfNone};
 ghost use Rattle.bgp_recording.specs.Leads.{own_of, pending_of, IsBeforeOwn, IsInTime};
+ghost use Rattle.bgp_recording.specs.Changes.{are_left, is_rejected};
 ghost use Rattle.bgp_recording.specs.First.{IsFirst};
 ghost use Rattle.bgp_recording.specs.Leads.{TakesReceived, TakesOwn, LeadsOrEnds};
 
@@ -77,6 +78,23 @@ impl<'l, 'a> Pending<'l, 'a> {
         ensures none { IfNone result ((pending_of self.entry.now).sent ≡ []) }
     {
         self.sent.get(self.place.sent)
+    }
+
+    /// Whether messages received are left.
+    pub(crate) fn are_left(&self) -> bool
+        ensures { result ≡ are_left (pending_of self.now).received }
+    {
+        self.next_received().is_some()
+    }
+
+    /// Whether the next message sent rejects a connection before the own OPEN.
+    pub(crate) fn is_rejected(&self) -> bool
+        ensures { result ≡ is_rejected (pending_of self.now).sent }
+    {
+        match self.next_sent() {
+            Some(message) => message.rejects_opening(),
+            None => false,
+        }
     }
 
     /// The packet of what the local system shows next: of its next message, or where none is left

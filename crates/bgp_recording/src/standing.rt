@@ -1,8 +1,8 @@
 //! Where the session stands while its order is made, as its own messages show.
 
-ghost use Rattle.std.specs.Prelude.{◌≡◌, IfSome};
-ghost use Rattle.bgp_recording.specs.Moves.{led_by_received, led_by_sent};
-ghost use Rattle.bgp_recording.specs.States.{state_number};
+ghost use Rattle.std.specs.Prelude.{◌≡◌, false};
+ghost use Rattle.bgp_recording.specs.Changes.{led_by_received, led_by_sent, led_by_end};
+ghost use Rattle.bgp_recording.specs.Changes.{led_by_left, is_open, state_then};
 
 use crate::message::Message;
 use crate::state::State;
@@ -12,57 +12,96 @@ use bgp_wire::MessageType;
 #[derive(Clone, Copy)]
 pub(crate) struct Standing {
     pub(crate) state: State,
-    /// A message was taken whose answer is the next one that is sent.
+    /// The answer to the message that was taken last is the next one that is sent.
     pub(crate) is_answering: bool,
+    /// A received OPEN stands just before.
+    pub(crate) follows_open: bool,
 }
 
 impl Standing {
-    /// Where it stands after a received message was taken, whose answer is the next one sent or
-    /// not.
-    pub(crate) fn after_received(self, message: &Message<'_>, is_answered: bool) -> Standing
-        ensures { IfSome (led_by_received (state_number self.state) message.now.kind)
-            (λ to. state_number result.state ≡ to) }
+    /// Where it stands after a received message that leads to a state or to none, and whose answer
+    /// is the next one sent or not.
+    pub(crate) fn after_received(
+        self,
+        message: &Message<'_>,
+        led: Option<State>,
+        is_answered: bool,
+    ) -> Standing
+        ensures state { result.state ≡ state_then self.state led }
+        ensures follows { result.follows_open ≡ is_open message.now.kind }
     {
         Standing {
-            state: state_after_received(self.state, message.kind, is_answered),
-            is_answering: self.is_answering || is_answered,
+            state: led.unwrap_or(self.state),
+            is_answering: is_answered,
+            follows_open: message.is(MessageType::Open),
         }
     }
 
-    /// Where it stands after a message was sent.
-    pub(crate) fn after_sent(self, message: &Message<'_>) -> Standing
-        ensures { IfSome (led_by_sent (state_number self.state) message.now.kind)
-            (λ to. state_number result.state ≡ to) }
+    /// Where it stands after anything else that leads to a state or to none: a sent message or the
+    /// end.
+    pub(crate) fn after_own(self, led: Option<State>) -> Standing
+        ensures state { result.state ≡ state_then self.state led }
+        ensures follows { result.follows_open ≡ false }
     {
         Standing {
-            state: self.state_after_sent(message.kind),
+            state: led.unwrap_or(self.state),
             is_answering: false,
+            follows_open: false,
         }
     }
 
-    fn state_after_sent(self, kind: Option<MessageType>) -> State
-        ensures { IfSome (led_by_sent (state_number self.state) kind)
-            (λ to. state_number result ≡ to) }
+    /// To which state a received message of this type leads, if it leads to another: before the own
+    /// OPEN it ends the session, unless the local system rejects it next.
+    pub(crate) fn led_by_received(
+        self,
+        kind: Option<MessageType>,
+        is_rejected: bool,
+    ) -> Option<State>
+        ensures { result ≡ led_by_received self.state kind is_rejected }
     {
         match (self.state, kind) {
-            (_, Some(MessageType::Notification)) => State::Idle,
-            (State::Connect | State::Active, Some(MessageType::Open)) => State::OpenSent,
-            (State::OpenSent, Some(MessageType::Keepalive)) if self.is_answering => {
-                State::OpenConfirm
+            (State::Idle, _) => None,
+            (_, Some(MessageType::Notification)) => Some(State::Idle),
+            (State::Connect | State::Active, _) if !is_rejected => Some(State::Idle),
+            (State::OpenConfirm, Some(MessageType::Keepalive)) => Some(State::Established),
+            _ => None,
+        }
+    }
+
+    /// To which state a sent message of this type leads.
+    pub(crate) fn led_by_sent(self, kind: Option<MessageType>) -> Option<State>
+        ensures { result ≡ led_by_sent self.state kind self.follows_open }
+    {
+        match (self.state, kind) {
+            (State::Idle, _) => None,
+            (_, Some(MessageType::Notification)) => Some(State::Idle),
+            (State::Connect | State::Active, Some(MessageType::Open)) => Some(State::OpenSent),
+            (State::OpenSent, Some(MessageType::Keepalive)) if self.follows_open => {
+                Some(State::OpenConfirm)
             }
-            (state, _) => state,
+            _ => None,
         }
     }
 }
 
-fn state_after_received(state: State, kind: Option<MessageType>, is_answered: bool) -> State
-    ensures { IfSome (led_by_received (state_number state) kind)
-        (λ to. state_number result ≡ to) }
+/// To which state the end leads: from OpenSent a connection is awaited again (RFC 4271, 8.2.2).
+pub(crate) fn led_by_end(state: State) -> Option<State>
+    ensures { result ≡ led_by_end state }
 {
-    match (state, kind) {
-        (_, Some(MessageType::Notification)) => State::Idle,
-        (State::Connect | State::Active, _) if !is_answered => State::Idle,
-        (State::OpenConfirm, Some(MessageType::Keepalive)) => State::Established,
-        _ => state,
+    match state {
+        State::Idle => None,
+        State::OpenSent => Some(State::Active),
+        _ => Some(State::Idle),
+    }
+}
+
+/// To which state it leads that received messages are left after the end in this state: they were
+/// never read, so no connection is awaited.
+pub(crate) fn led_by_left(state: State, are_left: bool) -> Option<State>
+    ensures { result ≡ led_by_left state are_left }
+{
+    match state {
+        State::OpenSent if are_left => Some(State::Idle),
+        _ => None,
     }
 }

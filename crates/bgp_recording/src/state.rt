@@ -2,7 +2,7 @@
 
 ghost use Rattle.std.specs.Prelude.{◌≡◌};
 ghost use Rattle.mrt.specs.Layout.{IsState};
-ghost use Rattle.bgp_recording.specs.States.{state_number, HasSession};
+ghost use Rattle.bgp_recording.specs.States.{state_number};
 
 /// A state of the session.
 #[derive(Clone, Copy, Debug, PartialEq, Eq)]
@@ -32,21 +32,5 @@ impl State {
     /// Whether both OPENs are agreed on.
     pub(crate) fn has_link(self) -> bool {
         matches!(self, State::OpenConfirm | State::Established)
-    }
-
-    /// The state after the end of the connection: from OpenSent a connection is awaited again
-    /// (RFC 4271, 8.2.2).
-    pub(crate) fn at_end(self) -> State
-        ensures { ¬ HasSession (state_number result) }
-    {
-        match self {
-            State::OpenSent => State::Active,
-            _ => State::Idle,
-        }
-    }
-
-    /// The state after the end, where messages are left or not: they were never read.
-    pub(crate) fn with_left(self, is_left: bool) -> State {
-        if is_left { State::Idle } else { self }
     }
 }

@@ -1,7 +1,7 @@
 //! Whether a received message waits: what the local system seems to have read when it sent what it
 //! sent. It is a choice among the orders that are allowed, and no promise rests on it.
 
-use crate::message::Message;
+use crate::message::{MESSAGE_HEADER_ERROR, Message, OPEN_MESSAGE_ERROR};
 use crate::pending::Place;
 use crate::standing::Standing;
 use crate::state::State;
@@ -9,16 +9,14 @@ use bgp_prefix::Seconds;
 use bgp_wire::{MessageType, message_body};
 use byteorder::{BigEndian, ByteOrder};
 
-/// Error codes of a NOTIFICATION (RFC 4271, 4.5).
-const MESSAGE_HEADER_ERROR: u8 = 1;
-
-const OPEN_MESSAGE_ERROR: u8 = 2;
-
+/// Error codes of a NOTIFICATION (RFC 4271, 4.5), besides those that reject a connection.
 const UPDATE_MESSAGE_ERROR: u8 = 3;
 
 const HOLD_TIMER_EXPIRED: u8 = 4;
 
 const STATE_MACHINE_ERROR: u8 = 5;
+
+const CEASE: u8 = 6;
 
 /// Where the Hold Time stands in an OPEN's body (RFC 4271, 4.2).
 const HOLD_TIME: usize = 3;
@@ -28,7 +26,7 @@ const HOLD_TIME: usize = 3;
 pub(crate) enum Waiting {
     /// One before it is being answered: it waits.
     AnAnswerIsUnderWay,
-    /// The own OPEN isn't sent yet: it waits where one is still to be sent.
+    /// The own OPEN isn't sent yet: it waits where one is still to be sent, or a Cease.
     BeforeTheOwnOpen,
     /// Its answer is the next message that is sent: it doesn't wait.
     ItsAnswerIsNext,
@@ -56,8 +54,8 @@ struct FirstNotification {
 /// What the messages that are still to be sent show of those received.
 #[derive(Clone, Copy)]
 pub(crate) struct Foresight {
-    /// How many messages were sent before the last OPEN.
-    last_open: Option<usize>,
+    /// How many messages were sent before the last OPEN or Cease.
+    last_open_or_cease: Option<usize>,
     notification: Option<FirstNotification>,
     /// How many messages were received before the cause of that NOTIFICATION.
     cause: Option<usize>,
@@ -108,6 +106,12 @@ fn last_before(received: &[Message<'_>], kind: MessageType, packet: u64) -> Opti
         .rposition(|message| message.is(kind) && message.packet < packet)
 }
 
+/// Whether it is an OPEN, or a NOTIFICATION by which the local system ends a connection that it
+/// doesn't want (RFC 4271, 6.7).
+fn is_open_or_cease(message: &Message<'_>) -> bool {
+    message.is(MessageType::Open) || message.error_code() == Some(CEASE)
+}
+
 fn cause_of(received: &[Message<'_>], sent: &[Message<'_>], place: usize) -> Option<usize> {
     let message = sent.get(place)?;
     let kind = blamed_type(message.error_code()?)?;
@@ -118,18 +122,17 @@ impl Foresight {
     pub(crate) fn new(received: &[Message<'_>], sent: &[Message<'_>]) -> Foresight {
         let notification = first_notification(sent);
         Foresight {
-            last_open: sent
-                .iter()
-                .rposition(|message| message.is(MessageType::Open)),
+            last_open_or_cease: sent.iter().rposition(|message| is_open_or_cease(message)),
             notification,
             cause: notification.and_then(|first| cause_of(received, sent, first.place)),
             hold: lesser_hold_time(received, sent),
         }
     }
 
-    /// Whether an OPEN is still to be sent.
-    fn has_open(&self, place: Place) -> bool {
-        self.last_open.is_some_and(|last| place.sent <= last)
+    /// Whether an OPEN or a Cease is still to be sent.
+    fn has_open_or_cease(&self, place: Place) -> bool {
+        self.last_open_or_cease
+            .is_some_and(|last| place.sent <= last)
     }
 
     /// Whether the first NOTIFICATION is still to be sent.
@@ -164,9 +167,7 @@ impl Foresight {
     fn answers(state: State, message: &Message<'_>, next: &Message<'_>) -> bool {
         let code = next.error_code();
         match (state, message.kind) {
-            (State::Connect | State::Active, _) => {
-                matches!(code, Some(MESSAGE_HEADER_ERROR | OPEN_MESSAGE_ERROR))
-            }
+            (State::Connect | State::Active, _) => next.rejects_opening(),
             (State::OpenSent, Some(MessageType::Open)) => {
                 next.is(MessageType::Keepalive) || code == Some(OPEN_MESSAGE_ERROR)
             }
@@ -229,7 +230,7 @@ impl Foresight {
             Waiting::AnAnswerIsUnderWay | Waiting::ItWouldBeAnswered | Waiting::ItCameUnseen => {
                 true
             }
-            Waiting::BeforeTheOwnOpen => self.has_open(place),
+            Waiting::BeforeTheOwnOpen => self.has_open_or_cease(place),
             Waiting::ItEndsTheSession => next.is_some(),
             Waiting::ItIsTheCause => self.has_notification(place),
             Waiting::ItsAnswerIsNext | Waiting::Nothing => false,

@@ -7,10 +7,7 @@ use Rattle.mrt.specs.Rules.{Place, Rule, Holds, FirstSays, Judgement, End, Refus
 use Rattle.mrt.specs.Rules.{Nothing, CutHeader, OtherTypeCut, OtherType, LongBody, CutBody, OtherSubtype, NoFields, OtherSession, WithAddPath, NoStates, BadStates, CutMessage, Refresh, OtherLength, Back, Allowed}
 use Rattle.mrt.specs.declared.fault.FaultKind.TheVariants as kinds
 use Rattle.mrt.specs.Written.{capture_octets, body_octets}
-
--- the session without ROUTE-REFRESH
-abbrev pub calm : Session → Session
-calm session = record session { refresh = false }
+use Rattle.bgp_recording_tool.specs.Options.{calm}
 
 same_limit : (session : Session) → body_limit (calm session) ≡ body_limit session
 unfolding body_limit

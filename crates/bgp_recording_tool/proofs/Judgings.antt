@@ -1,72 +1,58 @@
 -- What is told of one connection, by what was made of it and what is answered of that.
-use Rattle.std.proofs.Common.{◌≡◌, ◌∙◌, ◌++◌, ℕ, List, [], Option, Result, Ok, Err, refl, sym, ap, append-nil, length, reverse}
+use Rattle.std.proofs.Common.{◌≡◌, ◌∙◌, ◌++◌, ℕ, List, [], Option, Some, IsTrue, refl, sym, ap, append-nil, length, reverse, inl, inr}
+use Rattle.std.specs.List.{AllByRecursion}
 use Rattle.std.specs.Option.{unwrap_or}
 use Rattle.packets.specs.Packet.{Recorded}
 use Rattle.streams.specs.Connections.{numbered}
 use Rattle.streams.specs.Passed.{Segment}
-use Rattle.mrt.specs.declared.fault.CaptureFault.{CaptureFault}
 use Rattle.bgp_open.specs.declared.config.Config.{Config}
-use Rattle.bgp_judge.specs.Verdict.{verdict_value}
-use Rattle.bgp_judge.specs.declared.verdict.Verdict.{Verdict}
+use Rattle.bgp_judge.specs.Verdict.{VerdictValue, HasVerdict}
+use Rattle.bgp_recording.specs.Captured.{IsNoRefresh, records_of}
 use Rattle.bgp_recording.specs.declared.making.Recording.{Recording}
-use Rattle.bgp_import.specs.Captures.{IsCapture}
 use Rattle.bgp_import.specs.Importing.{IsMadeOf}
 use Rattle.bgp_import.specs.Making.{TellsOne, IsTurnedDown}
+use Rattle.bgp_import.specs.Refreshes.{IsRefreshIn}
 use Rattle.bgp_import.specs.declared.importing.Import.{Import}
 use Rattle.bgp_import.specs.declared.refusal.Refusal.{Refusal}
 use Rattle.bgp_recording_tool.specs.declared.remark.Remark.{Remark}
-use Rattle.bgp_recording_tool.specs.Answers.{IsAnswerOn}
-use Rattle.bgp_recording_tool.specs.Connections.{IsJudged, IsTold, AddsTold}
+use Rattle.bgp_recording_tool.specs.Connections.{IsJudged, HasRefresh, IsTold, AddsTold}
 use Rattle.bgp_recording_tool.specs.Remarks.{notes_of, remarks_on}
-use Rattle.bgp_recording_tool.specs.Told.{Told, Judged, Unread, Refused, told_of}
+use Rattle.bgp_recording_tool.specs.Told.{Judged, Refused}
 use Rattle.bgp_recording_tool.proofs.Numbers.{number_is}
 
--- the capture of these records is made of the connection
+-- these entries are made of the connection
 pub is_made : {Z : Type 0} (wanted : Import) (number : Option ℕ) (packets : List Recorded) (segments : List Segment) (made : Recording Z)
-    → (tells : TellsOne wanted number packets segments made) (octets : List ℕ) → IsCapture wanted.selection.session made.entries.items octets
-    → IsMadeOf wanted tells.connection octets (notes_of made)
-is_made wanted number packets segments made tells octets capture = record {
-  entries = made.entries.items;
-  recorded = tells.recorded;
-  capture = capture;
-  counts = refl;
-}
+    → (tells : TellsOne wanted number packets segments made) → IsMadeOf wanted tells.connection made.entries.items (notes_of made)
+is_made wanted number packets segments made tells = record { recorded = tells.recorded; counts = refl }
 
 module _ (config : Config) (wanted : Import) (packets : List Recorded) (segments : List Segment) (number : Option ℕ) where
   -- it was judged
-  is_judged : {Z : Type 0} (made : Recording Z) → TellsOne wanted number packets segments made → (told : Told) (octets : List ℕ)
-      → IsCapture wanted.selection.session made.entries.items octets → IsAnswerOn config octets told
-      → IsJudged config wanted packets segments number told (remarks_on (unwrap_or number 1) made.entries.items (notes_of made) told)
-  unfolding is_made
-  is_judged made tells told octets capture answer = record {
+  is_judged : {Z : Type 0} (made : Recording Z) → TellsOne wanted number packets segments made → (verdict : VerdictValue)
+      → (IsTrue wanted.selection.session.refresh → AllByRecursion IsNoRefresh (records_of made.entries.items))
+      → HasVerdict config (records_of made.entries.items) verdict
+      → IsJudged config wanted packets segments number verdict (remarks_on (unwrap_or number 1) made.entries.items (notes_of made) verdict)
+  is_judged made tells verdict without is = record {
     connection = tells.connection;
-    octets = octets;
+    entries = made.entries.items;
     notes = notes_of made;
     chosen = tells.answered;
-    made = is_made wanted number packets segments made tells octets capture;
-    answer = answer;
-    remarked = ap (λ (n : ℕ). remarks_on n made.entries.items (notes_of made) told)
+    made = is_made wanted number packets segments made tells;
+    without = without;
+    is = is;
+    remarked = ap (λ (n : ℕ). remarks_on n made.entries.items (notes_of made) verdict)
         (sym (number_is number (length packets) (numbered (reverse segments)) tells.connection.number tells.answered.chosen));
   }
 
-  is_told : {X Z : Type 0} (made : Recording Z) → TellsOne wanted number packets segments made
-      → (answer : Result (Verdict X) CaptureFault) (octets : List ℕ) → IsCapture wanted.selection.session made.entries.items octets
-      → IsAnswerOn config octets (told_of answer)
-      → IsTold config wanted packets segments number (told_of answer)
-      (remarks_on (unwrap_or number 1) made.entries.items (notes_of made) (told_of answer))
-  is_told made tells (Ok verdict) octets capture on = is_judged made tells (Judged (verdict_value verdict)) octets capture on
-  is_told made tells (Err fault) octets capture on = is_judged made tells (Unread fault) octets capture on
-
   -- and what there is to tell of it was added
-  pub adds_judged : {X Z : Type 0} (old new : List Remark) (made : Recording Z) → TellsOne wanted number packets segments made
-      → (answer : Result (Verdict X) CaptureFault) (octets : List ℕ) → IsCapture wanted.selection.session made.entries.items octets
-      → IsAnswerOn config octets (told_of answer)
-      → new ≡ old ++ remarks_on (unwrap_or number 1) made.entries.items (notes_of made) (told_of answer)
-      → AddsTold old new (IsTold config wanted packets segments number (told_of answer))
-  adds_judged old new made tells answer octets capture on added = record {
-    own = remarks_on (unwrap_or number 1) made.entries.items (notes_of made) (told_of answer);
+  pub adds_judged : {Z : Type 0} (old new : List Remark) (made : Recording Z) → TellsOne wanted number packets segments made → (verdict : VerdictValue)
+      → (IsTrue wanted.selection.session.refresh → AllByRecursion IsNoRefresh (records_of made.entries.items))
+      → HasVerdict config (records_of made.entries.items) verdict
+      → new ≡ old ++ remarks_on (unwrap_or number 1) made.entries.items (notes_of made) verdict
+      → AddsTold old new (IsTold config wanted packets segments number (Judged verdict))
+  adds_judged old new made tells verdict without is added = record {
+    own = remarks_on (unwrap_or number 1) made.entries.items (notes_of made) verdict;
     added = added;
-    is_told = is_told made tells answer octets capture on;
+    is_told = is_judged made tells verdict without is;
   }
 
   -- or it is refused, and nothing was added
@@ -75,5 +61,26 @@ module _ (config : Config) (wanted : Import) (packets : List Recorded) (segments
   adds_refused old new refusal down same = record {
     own = [];
     added = same ∙ sym (append-nil old);
-    is_told = record { turned_down = down; none = refl };
+    is_told = record { why = inl down; none = refl };
+  }
+
+  -- or it has a ROUTE-REFRESH
+  pub adds_refresh : {Z : Type 0} (old new : List Remark) (refusal : Refusal) (made : Recording Z) → TellsOne wanted number packets segments made
+      → IsTrue wanted.selection.session.refresh → IsRefreshIn made.entries.items made.received_rest made.sent_rest (Some refusal) → new ≡ old
+      → AddsTold old new (IsTold config wanted packets segments number (Refused refusal))
+  adds_refresh old new refusal made tells may is same = record {
+    own = [];
+    added = same ∙ sym (append-nil old);
+    is_told = record {
+      why = inr (record {
+        connection = tells.connection;
+        entries = made.entries.items;
+        notes = notes_of made;
+        chosen = tells.answered;
+        made = is_made wanted number packets segments made tells;
+        may = may;
+        is = is;
+      });
+      none = refl;
+    };
   }

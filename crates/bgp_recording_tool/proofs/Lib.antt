@@ -6,3 +6,5 @@ mod Puttings
 mod SomeRemarks
 mod Texts
 mod YesShown
+mod EntryLines
+mod JudgedEntries

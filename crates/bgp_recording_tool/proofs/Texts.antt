@@ -1,22 +1,15 @@
--- What is put of an answer on a capture is what is told, with its status.
-use Rattle.std.proofs.Common.{◌≡◌, ◌∙◌, ◌⊎◌, ℕ, Bool, IsTrue, IsFalse, refl, inl, inr, Result, Ok, Err}
-use Rattle.mrt.specs.declared.fault.CaptureFault.{CaptureFault}
+-- What is put of a verdict is what is told.
+use Rattle.std.proofs.Common.{◌≡◌, ◌∙◌, ◌⊎◌, ℕ, Bool, IsTrue, IsFalse, refl, inl, inr}
+use Rattle.bgp_judge.specs.Verdict.{verdict_value}
 use Rattle.bgp_judge.specs.declared.verdict.Verdict.{Verdict}
 use Rattle.bgp_judge.specs.declared.verdict.Verdict.TheVariants.{Yes, No, Unfinished}
-use Rattle.bgp_tool.specs.Answer.{answer_text, answer_status}
-use Rattle.bgp_recording_tool.specs.Told.{told_of, told_text, told_status}
+use Rattle.bgp_tool.specs.VerdictText.{verdict_text}
+use Rattle.bgp_recording_tool.specs.Told.{value_text}
 
-pub text_same : {X : Type 0} (answer : Result (Verdict X) CaptureFault) → answer_text answer ≡ told_text (told_of answer)
-text_same (Ok (Yes ends)) = refl
-text_same (Ok (No count)) = refl
-text_same (Ok Unfinished) = refl
-text_same (Err fault) = refl
-
-pub status_same : {X : Type 0} (answer : Result (Verdict X) CaptureFault) → answer_status answer ≡ told_status (told_of answer)
-status_same (Ok (Yes ends)) = refl
-status_same (Ok (No count)) = refl
-status_same (Ok Unfinished) = refl
-status_same (Err fault) = refl
+pub text_same : {X : Type 0} (verdict : Verdict X) → verdict_text verdict ≡ value_text (verdict_value verdict)
+text_same (Yes ends) = refl
+text_same (No count) = refl
+text_same Unfinished = refl
 
 -- the status is the text's, or that of a device
 pub told_as : (failed : Bool) (status one wanted : ℕ) → (IsFalse failed × (status ≡ one)) ⊎ (IsTrue failed × (status ≡ 5)) → one ≡ wanted

@@ -1,7 +1,7 @@
--- Each end that is listed of a made capture is that of a run which tells the connection.
-use Rattle.std.proofs.Common.{◌≡◌, ◌∙◌, ◌<◌, ◌^◌, ℕ, List, [], ◌∷◌, false, IsTrue, map, sym, ap, subst, inl, inr}
+-- Each end that is listed of made records is that of a run which tells the connection; and the capture of these records is judged as they are.
+use Rattle.std.proofs.Common.{◌≡◌, ◌∙◌, ℕ, Bool, List, [], ◌∷◌, false, IsTrue, sym, ap, subst, inl, inr}
 use Rattle.std.specs.List.{AllByRecursion}
-use Rattle.bgp_prefix.specs.Shown.{ShownRecord, second_of}
+use Rattle.bgp_prefix.specs.Shown.{ShownRecord}
 use Rattle.bgp_prefix.specs.declared.session.Session.{Session}
 use Rattle.bgp_wire.specs.Header.{limit_with}
 use Rattle.streams.specs.declared.connection.Connection.{Connection}
@@ -10,15 +10,18 @@ use Rattle.mrt.specs.CaptureLaws.{OneSpelling}
 use Rattle.mrt.specs.Written.{capture_octets}
 use Rattle.bgp_machine.specs.Lists.{Has, Each}
 use Rattle.bgp_machine.specs.Run.{IsComplete}
+use Rattle.bgp_open.specs.declared.config.Config.{Config}
+use Rattle.bgp_judge.specs.Verdict.{HasVerdict, HasOneVerdict}
 use Rattle.bgp_recording.specs.Captured.{CanBeNamed, MadeRecordsAreRead, IsNoRefresh, records_of}
 use Rattle.bgp_recording.specs.Recorded.{IsRecorded}
 use Rattle.bgp_recording.specs.declared.entry.Entry.{Entry}
-use Rattle.bgp_import.specs.Captures.{shown_by}
+use Rattle.bgp_import.specs.Captures.{IsCapture}
 use Rattle.bgp_import.specs.Importing.{IsMadeOf}
 use Rattle.bgp_import.specs.declared.importing.Import.{Import}
 use Rattle.bgp_import.specs.declared.note.Notes.{Notes}
-use Rattle.bgp_recording_tool.specs.Headline.{EachEndIsShown}
-use Rattle.bgp_recording_tool.proofs.Calm.{calm, spells_same, written_same}
+use Rattle.bgp_recording_tool.specs.Headline.{EachEndIsShown, ImportAndJudgeAgree}
+use Rattle.bgp_recording_tool.specs.Options.{calm}
+use Rattle.bgp_recording_tool.proofs.Calm.{spells_same, written_same}
 
 -- what each element has one that is there has
 of_each : {X : Type 0} (P : X → Type 0) (xs : List X) (x : X) → Each P xs → Has (λ y. y ≡ x) xs → P x
@@ -26,46 +29,58 @@ of_each P [] x each has = absurd has
 of_each P (y ∷ ys) x each (inl is) = subst P is each.0
 of_each P (y ∷ ys) x each (inr has) = of_each P ys x each.1 has
 
--- seconds of entries are those of their records
-of_entries : (entries : List Entry) → AllByRecursion (λ entry. second_of (shown_by entry) < 2 ^ 32) entries
-    → AllByRecursion (λ shown. second_of shown < 2 ^ 32) (records_of entries)
-of_entries [] all = all
-of_entries (entry ∷ entries) (first, all) = (first, of_entries entries all)
+pub each_end : EachEndIsShown
+each_end config wanted connection entries notes ends e same made lists has = record {
+  complete = of_each (IsComplete config (records_of entries)) ends e lists.each has;
+  recorded = subst (λ (s : Session). IsRecorded (limit_with s.extended) wanted.within connection entries notes.received notes.sent) same made.recorded;
+}
+
+-- ---- the capture
 
 -- it is named the same without ROUTE-REFRESH
 named : (session : Session) → CanBeNamed session → CanBeNamed (calm session)
 named session can = record { family = can.family; peer = can.peer; local = can.local }
 
--- the records that the made capture spells are those of the entries
-module _ (read : MadeRecordsAreRead) (one : OneSpelling) (session : Session) (wanted : Import) (connection : Connection)
-    (octets : List ℕ) (notes : Notes) (records : List ShownRecord) (can : CanBeNamed session) (same : wanted.selection.session ≡ session)
-    (made : IsMadeOf wanted connection octets notes) (seconds : AllByRecursion (λ entry. second_of (shown_by entry) < 2 ^ 32) made.entries)
-    (spells : Spells session octets records) where
-  recorded : IsRecorded (limit_with session.extended) wanted.within connection made.entries notes.received notes.sent
-  recorded = subst (λ (s : Session). IsRecorded (limit_with s.extended) wanted.within connection made.entries notes.received notes.sent) same made.recorded
+module _ (read : MadeRecordsAreRead) (spelling : OneSpelling) (verdicts : HasOneVerdict) (config : Config) (wanted : Import)
+    (connection : Connection) (entries : List Entry) (notes : Notes) (octets : List ℕ) (can : CanBeNamed config.parts.session)
+    (same : calm wanted.selection.session ≡ calm config.parts.session) (made : IsMadeOf wanted connection entries notes)
+    (capture : IsCapture wanted.selection.session entries octets) where
+  abbrev session : Session
+  session = config.parts.session
 
-  whole : octets ≡ capture_octets (calm session) made.capture.numbers.peer made.capture.numbers.local (records_of made.entries)
+  recorded : IsRecorded (limit_with session.extended) wanted.within connection entries notes.received notes.sent
+  recorded = subst (λ (b : Bool). IsRecorded (limit_with b) wanted.within connection entries notes.received notes.sent) (ap (λ (s : Session). s.extended) same) made.recorded
+
+  whole : octets ≡ capture_octets (calm session) capture.numbers.peer capture.numbers.local (records_of entries)
   whole =
-      made.capture.whole
-      ∙ ap (λ (s : Session). capture_octets s made.capture.numbers.peer made.capture.numbers.local (records_of made.entries)) same
-      ∙ sym (written_same session made.capture.numbers.peer made.capture.numbers.local (records_of made.entries))
+      capture.whole
+      ∙ sym (written_same wanted.selection.session capture.numbers.peer capture.numbers.local (records_of entries))
+      ∙ ap (λ (s : Session). capture_octets s capture.numbers.peer capture.numbers.local (records_of entries)) same
 
-  none : IsTrue false → AllByRecursion IsNoRefresh (records_of made.entries)
+  reads : (IsTrue session.refresh → AllByRecursion IsNoRefresh (records_of entries)) → Spells session octets (records_of entries)
+  reads without =
+      subst (λ (o : List ℕ). Spells session o (records_of entries))
+      (sym (whole ∙ written_same session capture.numbers.peer capture.numbers.local (records_of entries)))
+      (read session capture.numbers.peer capture.numbers.local wanted.within connection entries notes.received notes.sent can recorded without)
+
+  none : IsTrue false → AllByRecursion IsNoRefresh (records_of entries)
   none true = absurd (let no = true in cc)
 
-  read_back : Spells (calm session) octets (records_of made.entries)
+  read_back : Spells (calm session) octets (records_of entries)
   read_back =
-      subst (λ (o : List ℕ). Spells (calm session) o (records_of made.entries)) (sym whole)
-      (read (calm session) made.capture.numbers.peer made.capture.numbers.local wanted.within connection made.entries notes.received notes.sent
-      (named session can) recorded (of_entries made.entries seconds) none)
+      subst (λ (o : List ℕ). Spells (calm session) o (records_of entries)) (sym whole)
+      (read (calm session) capture.numbers.peer capture.numbers.local wanted.within connection entries notes.received notes.sent
+      (named session can) recorded none)
 
-  shows : map shown_by made.entries ≡ records
-  shows = one (calm session) octets (records_of made.entries) records read_back (spells_same session octets records spells)
+  shows : (records : List ShownRecord) → Spells session octets records → records_of entries ≡ records
+  shows records spells = spelling (calm session) octets (records_of entries) records read_back (spells_same session octets records spells)
 
-pub each_end : MadeRecordsAreRead → OneSpelling → EachEndIsShown
-each_end read one config wanted connection octets notes records ends e can same made seconds spells lists has = record {
-  complete = of_each (IsComplete config records) ends e lists.each has;
-  entries = made.entries;
-  shows = shows read one config.parts.session wanted connection octets notes records can same made seconds spells;
-  recorded = recorded read one config.parts.session wanted connection octets notes records can same made seconds spells;
+pub agree : MadeRecordsAreRead → OneSpelling → HasOneVerdict → ImportAndJudgeAgree
+agree read spelling verdicts config wanted connection entries notes octets can same made capture = record {
+  reads = reads read spelling verdicts config wanted connection entries notes octets can same made capture;
+  shows = shows read spelling verdicts config wanted connection entries notes octets can same made capture;
+  one = λ records verdict judged spells is also.
+      verdicts config records verdict judged is
+      (subst (λ (rs : List ShownRecord). HasVerdict config rs judged)
+      (shows read spelling verdicts config wanted connection entries notes octets can same made capture records spells) also);
 }

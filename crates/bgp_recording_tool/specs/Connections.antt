@@ -1,6 +1,7 @@
 -- What judging tells of the connections of a session, in a recording that was read to its end.
 use Rattle.std.specs.Prelude.{◌≡◌, ◌<◌, ◌⊎◌, ◌++◌, ℕ, zero, suc, List, [], Option, None, Some}
-use Rattle.std.specs.Prelude.{length, reverse, max, codes}
+use Rattle.std.specs.Prelude.{length, reverse, max, codes, IsTrue}
+use Rattle.std.specs.List.{AllByRecursion}
 use Rattle.packets.specs.Packet.{Recorded}
 use Rattle.streams.specs.Choice.{IsAnswered, OpensAs, numbered_one}
 use Rattle.streams.specs.Connections.{numbered}
@@ -8,16 +9,19 @@ use Rattle.streams.specs.Passed.{Segment}
 use Rattle.streams.specs.declared.connection.Connection.{Connection}
 use Rattle.streams.specs.declared.connection.Opening.{Opening}
 use Rattle.bgp_open.specs.declared.config.Config.{Config}
+use Rattle.bgp_judge.specs.Verdict.{VerdictValue, HasVerdict}
+use Rattle.bgp_recording.specs.Captured.{IsNoRefresh, records_of}
+use Rattle.bgp_recording.specs.declared.entry.Entry.{Entry}
 use Rattle.bgp_import.specs.Importing.{IsMadeOf}
 use Rattle.bgp_import.specs.ListText.{opening_text}
 use Rattle.bgp_import.specs.Making.{IsTurnedDown}
+use Rattle.bgp_import.specs.Refreshes.{IsRefreshIn}
 use Rattle.bgp_import.specs.declared.importing.Import.{Import}
 use Rattle.bgp_import.specs.declared.note.Notes.{Notes}
 use Rattle.bgp_import.specs.declared.refusal.Refusal.{Refusal}
 use Rattle.bgp_recording_tool.specs.declared.remark.Remark.{Remark}
-use Rattle.bgp_recording_tool.specs.Answers.{IsAnswerOn}
 use Rattle.bgp_recording_tool.specs.Remarks.{remarks_on}
-use Rattle.bgp_recording_tool.specs.Told.{Told, Judged, Unread, Refused, told_text, told_status}
+use Rattle.bgp_recording_tool.specs.Told.{Told, Judged, Refused, told_text, told_status}
 
 -- something was added to what is told of connections
 pub record AddsTold (old new : List Remark) (IsTold : List Remark → Type 0) : Type 0 where
@@ -47,25 +51,39 @@ pub record HasOneMore (Before : List ℕ → ℕ → List Remark → Type 0)
 -- The session's packets have these segments, none of which is refused.
 module _ (config : Config) (wanted : Import) (packets : List Recorded) (segments : List Segment)
   where
-    -- the capture that is made of the connection with this number, or of the only one, is judged
-    pub record IsJudged (number : Option ℕ) (told : Told) (remarks : List Remark) : Type 0 where
+    -- These entries are made of the connection with this number, or of the only one, and this is
+    -- the verdict on their records. None of them is a ROUTE-REFRESH, where the session may have
+    -- one.
+    pub record IsJudged (number : Option ℕ) (verdict : VerdictValue) (remarks : List Remark)
+        : Type 0 where
       pub connection : Connection
-      pub octets : List ℕ
+      pub entries : List Entry
       pub notes : Notes
       pub chosen : IsAnswered number (length packets) (numbered (reverse segments)) connection
-      pub made : IsMadeOf wanted connection octets notes
-      pub answer : IsAnswerOn config octets told
-      pub remarked : remarks ≡ remarks_on connection.number made.entries notes told
+      pub made : IsMadeOf wanted connection entries notes
+      pub without : IsTrue wanted.selection.session.refresh
+          → AllByRecursion IsNoRefresh (records_of entries)
+      pub is : HasVerdict config (records_of entries) verdict
+      pub remarked : remarks ≡ remarks_on connection.number entries notes verdict
+
+    -- the session may have a ROUTE-REFRESH, and there is one, at which it is refused
+    pub record HasRefresh (number : Option ℕ) (refusal : Refusal) : Type 0 where
+      pub connection : Connection
+      pub entries : List Entry
+      pub notes : Notes
+      pub chosen : IsAnswered number (length packets) (numbered (reverse segments)) connection
+      pub made : IsMadeOf wanted connection entries notes
+      pub may : IsTrue wanted.selection.session.refresh
+      pub is : IsRefreshIn entries notes.received notes.sent (Some refusal)
 
     -- or it is refused, or memory was refused
     pub record IsNotJudged (number : Option ℕ) (refusal : Refusal) (remarks : List Remark)
         : Type 0 where
-      pub turned_down : IsTurnedDown number packets segments refusal
+      pub why : IsTurnedDown number packets segments refusal ⊎ HasRefresh number refusal
       pub none : remarks ≡ []
 
     abbrev pub IsTold : Option ℕ → Told → List Remark → Type 0
-    IsTold number (Judged verdict) remarks = IsJudged number (Judged verdict) remarks
-    IsTold number (Unread fault) remarks = IsJudged number (Unread fault) remarks
+    IsTold number (Judged verdict) remarks = IsJudged number verdict remarks
     IsTold number (Refused refusal) remarks = IsNotJudged number refusal remarks
 
     -- it is told of with this text and this status

@@ -1,5 +1,5 @@
--- What decoding a recording reads, writes and answers: the lines of the capture that is made of one
--- connection.
+-- What decoding a recording reads, writes and answers: the lines of the records that are made of
+-- one connection.
 use Rattle.std.specs.Prelude.{◌≡◌, ◌⊎◌, ◌+◌, ℕ, Bool, List, [], None, length, reverse}
 use Rattle.packets.specs.Packet.{Recorded}
 use Rattle.streams.specs.Choice.{IsAnswered}
@@ -7,9 +7,12 @@ use Rattle.streams.specs.Connections.{numbered}
 use Rattle.streams.specs.Passed.{Segment}
 use Rattle.streams.specs.declared.connection.Connection.{Connection}
 use Rattle.bgp_prefix.specs.declared.session.Session.{Session}
-use Rattle.mrt.specs.Reader.{ReaderState}
+use Rattle.mrt.specs.Written.{IsAllowed}
+use Rattle.bgp_recording.specs.Captured.{records_of}
+use Rattle.bgp_recording.specs.declared.entry.Entry.{Entry}
+use Rattle.bgp_text.specs.Capture.{AreRecordLines}
 use Rattle.bgp_tool.specs.Answer.{IsWritten}
-use Rattle.bgp_tool.specs.CaptureDecoding.{DecodesCapture}
+use Rattle.bgp_import.specs.Captures.{shown_by}
 use Rattle.bgp_import.specs.Gathers.{HasReadAll, IsStopped, failures_by}
 use Rattle.bgp_import.specs.Importing.{IsMadeOf}
 use Rattle.bgp_import.specs.Making.{IsTurnedDown}
@@ -18,64 +21,64 @@ use Rattle.bgp_import.specs.declared.importing.Import.{Import}
 use Rattle.bgp_import.specs.declared.note.Notes.{Notes}
 use Rattle.bgp_import.specs.declared.refusal.Refusal.{Refusal}
 use Rattle.bgp_recording_tool.specs.declared.judging.Judged.{Judged}
-use Rattle.bgp_recording_tool.specs.declared.octets.Octets.{Octets}
 use Rattle.bgp_words.specs.declared.recording.RecordingOptions.{RecordingOptions}
 use Rattle.bgp_recording_tool.specs.declared.remark.Remark.{Remark}
 use Rattle.bgp_recording_tool.specs.Judging.{IsUnmeant}
-use Rattle.bgp_recording_tool.specs.Octets.{GivesOctets}
-use Rattle.bgp_recording_tool.specs.Options.{IsMisfit, import_of}
+use Rattle.bgp_recording_tool.specs.Options.{IsMisfit, calm, import_of}
 use Rattle.bgp_recording_tool.specs.Remarks.{making_remarks, some_of}
 use Rattle.bgp_recording_tool.specs.Told.{refused_status}
 
--- The source goes from `old` to `new`. The members are the source's.
-module _ {S : Type 0} (gives : S → S → List ℕ → Type 0) (has_ended : S → Bool)
-    (wanted : Import) (old new : S) where
-  -- it was read to its end; this is the capture that is made of the connection that is meant, and
-  -- what is told of that
-  pub record HasMade (capture : List ℕ) (remarks : List Remark) : Type 0 where
-    pub octets : List ℕ
-    pub packets : List Recorded
-    pub segments : List Segment
+-- a capture of the session may have such a record, where it may have a ROUTE-REFRESH
+abbrev pub HasLine : Session → Entry → Type 0
+HasLine session entry = IsAllowed (calm session) None (shown_by entry)
+
+-- The session's packets have these segments, none of which is refused; and the sink goes from
+-- `empty` to `filled`.
+module _ {T : Type 0} (takes : T → T → List ℕ → Type 0) (failures : T → ℕ) (wanted : Import)
+    (packets : List Recorded) (segments : List Segment) (empty filled : T) (status : ℕ)
+    (remarks : List Remark) where
+  -- these entries are made of the connection that is meant, and the lines of their records were
+  -- written
+  pub record DecodesMade : Type 0 where
     pub connection : Connection
+    pub entries : List Entry
     pub notes : Notes
-    pub all : HasReadAll gives has_ended wanted.selection old new octets packets segments
+    pub text : List ℕ
     pub chosen : IsAnswered wanted.connection (length packets) (numbered (reverse segments))
         connection
-    pub made : IsMadeOf wanted connection capture notes
+    pub made : IsMadeOf wanted connection entries notes
+    pub are_lines : AreRecordLines wanted.selection.session (records_of entries) text
+    pub written : IsWritten takes failures text 0 empty filled status
     pub remarked : remarks ≡ some_of (making_remarks notes)
 
-  -- it was read to its end, and the connection is refused; or memory was refused
-  pub record HasMadeNone (refusal : Refusal) : Type 0 where
-    pub octets : List ℕ
-    pub packets : List Recorded
-    pub segments : List Segment
-    pub all : HasReadAll gives has_ended wanted.selection old new octets packets segments
+  -- or the connection is refused; or memory was refused
+  pub record TellsTurnedDown : Type 0 where
+    pub refusal : Refusal
     pub turned_down : IsTurnedDown wanted.connection packets segments refusal
+    pub written : IsWritten takes failures (refusal_line refusal) (refused_status refusal)
+        empty filled status
+    pub none : remarks ≡ []
 
-  abbrev pub IsRefused : Refusal → Type 0
-  IsRefused refusal = IsStopped gives has_ended wanted.selection old new refusal
-      ⊎ HasMadeNone refusal
+  abbrev pub DecodesOne : Type 0
+  DecodesOne = DecodesMade ⊎ TellsTurnedDown
 
--- And the sink goes from `empty` to `filled`.
+-- And the source goes from `old` to `new`. The members are the source's and the sink's.
 module _ {S T : Type 0} (gives : S → S → List ℕ → Type 0) (has_ended : S → Bool)
     (takes : T → T → List ℕ → Type 0) (source_failures : S → ℕ) (failures : T → ℕ)
     (wanted : Import) (old new : S) (empty filled : T) (status : ℕ) (remarks : List Remark) where
-  -- the made capture was decoded, by a source of just its octets, which never fails
-  pub record DecodesMade : Type 0 where
-    pub capture : List ℕ
-    pub made : HasMade gives has_ended wanted old new capture remarks
-    pub begun : Octets
-    pub read : Octets
-    pub reader : ReaderState
-    pub same : begun.rest.now ≡ capture
-    pub decoded : DecodesCapture GivesOctets (λ octets. octets.has_ended) takes (λ octets. 0)
-        failures wanted.selection.session begun read empty filled reader status
+  -- it was read to its end, and the connection that is meant was decoded or refused
+  pub record DecodesRead : Type 0 where
+    pub octets : List ℕ
+    pub packets : List Recorded
+    pub segments : List Segment
+    pub all : HasReadAll gives has_ended wanted.selection old new octets packets segments
+    pub decodes : DecodesOne takes failures wanted packets segments empty filled status remarks
     pub counted : source_failures new ≡ source_failures old
 
-  -- or a refusal was told
+  -- or the recording is refused
   pub record TellsRefusal : Type 0 where
     pub refusal : Refusal
-    pub refused : IsRefused gives has_ended wanted old new refusal
+    pub stopped : IsStopped gives has_ended wanted.selection old new refusal
     pub written : IsWritten takes failures (refusal_line refusal) (refused_status refusal)
         empty filled status
     pub none : remarks ≡ []
@@ -90,7 +93,7 @@ DecodesRecording gives has_ended takes source_failures failures session options 
     let wanted = import_of session options in
     IsUnmeant wanted old new empty filled judged.status judged.remarks.items
     ⊎ (IsMisfit wanted None
-    × (DecodesMade gives has_ended takes source_failures failures wanted old new empty filled
+    × (DecodesRead gives has_ended takes source_failures failures wanted old new empty filled
     judged.status judged.remarks.items
     ⊎ TellsRefusal gives has_ended takes source_failures failures wanted old new empty filled
     judged.status judged.remarks.items))

@@ -1,5 +1,5 @@
 -- What is imported of a recording, and of which sessions it has nothing.
-use Rattle.std.specs.Prelude.{◌≡◌, Option, None, Some}
+use Rattle.std.specs.Prelude.{◌≡◌, Option, None, Some, false}
 use Rattle.bgp_prefix.specs.Address.{family_of}
 use Rattle.bgp_prefix.specs.declared.session.Session.{Session}
 use Rattle.bgp_import.specs.declared.importing.Import.{Import}
@@ -18,6 +18,10 @@ import_of session options = record {
   connection = options.connection;
   within = options.within;
 }
+
+-- the session without ROUTE-REFRESH
+abbrev pub calm : Session → Session
+calm session = record session { refresh = false }
 
 -- both addresses are of one family: packets go between such alone
 abbrev pub IsOneFamily : Session → Type 0

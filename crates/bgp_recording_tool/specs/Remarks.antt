@@ -10,7 +10,6 @@ use Rattle.bgp_import.specs.declared.note.Note.{Note}
 use Rattle.bgp_import.specs.declared.note.Notes.{Notes}
 use Rattle.bgp_recording_tool.specs.declared.remark.Remark.{Remark}
 use Rattle.bgp_recording_tool.specs.declared.remark.Remark.TheVariants as remarks
-use Rattle.bgp_recording_tool.specs.Told.{Told, Judged, Unread, Refused}
 
 -- those that there are
 abbrev pub some_of : {X : Type 0} → List (Option X) → List X
@@ -18,7 +17,7 @@ some_of [] = []
 some_of (None ∷ more) = some_of more
 some_of (Some x ∷ more) = x ∷ some_of more
 
--- how the capture was made
+-- how the records were made
 abbrev pub notes_of : {X : Type 0} → Recording X → Notes
 notes_of made = record {
   received = made.received_rest;
@@ -48,12 +47,7 @@ verdict_remark connection entries (No count) =
     Some (remarks.No connection count (packet_after entries count))
 verdict_remark connection entries Unfinished = None
 
-abbrev pub no_remark : ℕ → List Entry → Told → Option Remark
-no_remark connection entries (Judged verdict) = verdict_remark connection entries verdict
-no_remark connection entries (Unread fault) = None
-no_remark connection entries (Refused refusal) = None
-
--- all that is told of the connection of this number, whose capture shows these entries
-abbrev pub remarks_on : ℕ → List Entry → Notes → Told → List Remark
-remarks_on connection entries notes told =
-    some_of (making_remarks notes ++ no_remark connection entries told ∷ [])
+-- all that is told of the connection of this number, of which these entries are made
+abbrev pub remarks_on : ℕ → List Entry → Notes → VerdictValue → List Remark
+remarks_on connection entries notes verdict =
+    some_of (making_remarks notes ++ verdict_remark connection entries verdict ∷ [])

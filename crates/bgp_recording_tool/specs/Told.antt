@@ -1,10 +1,7 @@
 -- What is answered of a connection in a recording, its text and its exit status.
 use Rattle.std.specs.Prelude.{ℕ, List, Result, Ok, Err}
-use Rattle.mrt.specs.declared.fault.CaptureFault.{CaptureFault}
 use Rattle.bgp_judge.specs.Verdict.{VerdictValue, Yes, No, Unfinished, verdict_value}
 use Rattle.bgp_judge.specs.declared.verdict.Verdict.{Verdict}
-use Rattle.bgp_text.specs.Capture.{refused_line}
-use Rattle.bgp_tool.specs.CaptureDecoding.{status_by}
 use Rattle.bgp_tool.specs.VerdictText.{yes_text, no_line, unfinished_line}
 use Rattle.bgp_import.specs.Refusals.{refusal_line, cause_of}
 use Rattle.bgp_import.specs.declared.refusal.Cause.{Cause}
@@ -12,11 +9,9 @@ use Rattle.bgp_import.specs.declared.refusal.Cause.TheVariants as causes
 use Rattle.bgp_import.specs.declared.refusal.Refusal.{Refusal}
 
 pub data Told : Type 0 where
-  -- the verdict on the capture that is made of it
+  -- the verdict on the records that are made of it
   Judged : VerdictValue → Told
-  -- why a reader refuses that capture: a ROUTE-REFRESH, or memory
-  Unread : CaptureFault → Told
-  -- why no capture is made of it
+  -- why none are made or judged
   Refused : Refusal → Told
 
 -- ---- its text
@@ -28,7 +23,6 @@ value_text Unfinished = unfinished_line
 
 abbrev pub told_text : Told → List ℕ
 told_text (Judged verdict) = value_text verdict
-told_text (Unread fault) = refused_line fault.kind fault.offset
 told_text (Refused refusal) = refusal_line refusal
 
 -- ---- its exit status
@@ -49,15 +43,10 @@ refused_status refusal = cause_status (cause_of refusal)
 
 abbrev pub told_status : Told → ℕ
 told_status (Judged verdict) = value_status verdict
-told_status (Unread fault) = status_by fault.kind
 told_status (Refused refusal) = refused_status refusal
 
 -- ---- what is told by an answer
 
-abbrev pub told_of : {X : Type 0} → Result (Verdict X) CaptureFault → Told
-told_of (Ok verdict) = Judged (verdict_value verdict)
-told_of (Err fault) = Unread fault
-
-abbrev pub told_by : {X : Type 0} → Result (Result (Verdict X) CaptureFault) Refusal → Told
-told_by (Ok answer) = told_of answer
+abbrev pub told_by : {X : Type 0} → Result (Verdict X) Refusal → Told
+told_by (Ok verdict) = Judged (verdict_value verdict)
 told_by (Err refusal) = Refused refusal

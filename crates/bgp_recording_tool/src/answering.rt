@@ -1,48 +1,30 @@
 //! What is answered of one of a recording's connections.
 
-ghost use Rattle.std.specs.Prelude.{◌≡◌, ◌++◌, ℕ, List, length, reverse, IfOk, OnErr};
+ghost use Rattle.std.specs.Prelude.{◌≡◌, ◌++◌, List, length, reverse, IfOk, IfSome, IfNone, OnErr};
+ghost use Rattle.std.specs.Prelude.{IsTrue, Some};
 ghost use Rattle.std.specs.List.{AllByRecursion};
-ghost use Rattle.bgp_import.specs.Captures.{CanBeWritten, IsCapture};
+ghost use Rattle.bgp_judge.specs.Verdict.{IsVerdict, verdict_value};
+ghost use Rattle.bgp_recording.specs.Captured.{IsNoRefresh, records_of};
 ghost use Rattle.bgp_import.specs.Gathers.{HoldsSession};
 ghost use Rattle.bgp_import.specs.Making.{HoldsTaken};
+ghost use Rattle.bgp_import.specs.Refreshes.{IsRefreshIn};
 ghost use Rattle.bgp_import.specs.Selecting.{AreTaken};
 ghost use Rattle.packets.specs.Packet.{Recorded};
 ghost use Rattle.streams.specs.Passed.{Segment};
-ghost use Rattle.bgp_recording_tool.specs.Answers.{IsAnswerOn};
 ghost use Rattle.bgp_recording_tool.specs.Connections.{IsTold, AddsTold};
 ghost use Rattle.bgp_recording_tool.specs.Options.{IsOneFamily};
-ghost use Rattle.bgp_recording_tool.specs.Remarks.{making_remark, making_remarks, no_remark};
+ghost use Rattle.bgp_recording_tool.specs.Remarks.{making_remark, making_remarks, verdict_remark};
 ghost use Rattle.bgp_recording_tool.specs.Remarks.{notes_of, packet_after, remarks_on};
-ghost use Rattle.bgp_recording_tool.specs.Told.{told_of, told_by};
+ghost use Rattle.bgp_recording_tool.specs.Told.{told_by};
 
-use crate::octets::Octets;
 use crate::remark::{Remark, add_remarks};
-use bgp_import::{Gathered, Import, Note, Refusal, notes_on, records_of, write_capture};
-use bgp_judge::{Tracker, Verdict, judge};
+use crate::verdict::judge_entries;
+use bgp_import::{Gathered, Import, Note, Refusal, notes_on, records_of, refresh_in};
+use bgp_judge::{Tracker, Verdict};
 use bgp_open::Config;
 use bgp_prefix::Session;
 use bgp_recording::{Entry, Recording};
-use mrt::{CaptureFault, MemSink};
 use std::alloc::{AllocError, Allocator};
-
-/// What is answered of a connection's capture: the verdict, or why a reader refuses it.
-pub(crate) type Answer<A> = Result<Verdict<A>, CaptureFault>;
-
-/// The octets of the capture that is made of entries.
-pub(crate) fn capture_of<A: Allocator + Copy>(
-    alloc: A,
-    session: &Session,
-    entries: &[Entry<'_>],
-) -> Result<Vec<u8, A>, AllocError>
-    requires { AllByRecursion (CanBeWritten session.now) entries.now }
-    ensures { IfOk result (λ octets. IsCapture session.now entries.now octets.items) }
-{
-    let mut sink = MemSink::new(alloc);
-    match write_capture(&mut sink, session, entries) {
-        Ok(()) => Ok(sink.into_octets()),
-        Err(_) => Err(AllocError),
-    }
-}
 
 /// A note as a remark.
 fn made_remark(note: Option<Note>) -> Option<Remark>
@@ -76,61 +58,59 @@ fn packet_after(entries: &[Entry<'_>], count: u64) -> u64
     }
 }
 
-/// What there is to tell of an answer no: at which record and packet.
+/// What there is to tell of a no: at which record and packet.
 fn no_remark<A: Allocator>(
     connection: usize,
     entries: &[Entry<'_>],
-    answer: &Answer<A>,
+    verdict: &Verdict<A>,
 ) -> Option<Remark>
-    ensures { result ≡ no_remark connection entries.now (told_of answer.now) }
+    ensures { result ≡ verdict_remark connection entries.now (verdict_value verdict.now) }
 {
-    match answer {
-        Ok(Verdict::No(count)) => Some(Remark::No {
+    match verdict {
+        Verdict::No(count) => Some(Remark::No {
             connection,
             before: *count,
             packet: packet_after(entries, *count),
         }),
-        Ok(Verdict::Yes(_)) | Ok(Verdict::Unfinished) | Err(_) => None,
+        Verdict::Yes(_) | Verdict::Unfinished => None,
     }
 }
 
-/// Judges a capture with these octets.
-fn judge_octets<A: Allocator + Copy, T: Tracker<A>>(
-    alloc: A,
-    config: &Config,
-    octets: &[u8],
-) -> Answer<A>
-    ensures { IsAnswerOn config.now octets.now (told_of result) }
-{
-    let mut source = Octets::new(octets);
-    judge::<A, T, Octets<'_>>(alloc, config, &mut source)
-}
-
-/// Judges the capture that is made of the connection of this number, and adds what there is to tell
-/// of it.
+/// Judges the records of the connection of this number, and adds what there is to tell of it.
 fn judge_made<A: Allocator + Copy, T: Tracker<A>>(
     alloc: A,
     config: &Config,
-    session: &Session,
     number: usize,
     made: &Recording<'_, A>,
     remarks: &mut Vec<Remark, A>,
-) -> Result<Answer<A>, AllocError>
-    requires { AllByRecursion (CanBeWritten session.now) made.now.entries.items }
-    ensures ok { IfOk result (λ answer. (octets : List ℕ)
-        × IsCapture session.now made.now.entries.items octets
-        × IsAnswerOn config.now octets (told_of answer)
-        × (remarks.new.items ≡ remarks.old.items ++ remarks_on number made.now.entries.items
-        (notes_of made.now) (told_of answer))) }
+) -> Result<Verdict<A>, AllocError>
+    ensures is { IfOk result (IsVerdict config.now (records_of made.now.entries.items)) }
+    ensures remarked { IfOk result (λ verdict. remarks.new.items ≡ remarks.old.items
+        ++ remarks_on number made.now.entries.items (notes_of made.now) (verdict_value verdict)) }
     ensures err { OnErr result (remarks.new.items ≡ remarks.old.items) }
 {
     let entries = made.entries.as_slice();
-    let octets = capture_of(alloc, session, entries)?;
-    let answer = judge_octets::<A, T>(alloc, config, octets.as_slice());
+    let verdict = judge_entries::<A, T>(alloc, config, entries)?;
     let [received, sent, put_off] = making_remarks(made);
-    let no = no_remark(number, entries, &answer);
+    let no = no_remark(number, entries, &verdict);
     add_remarks(remarks, &[received, sent, put_off, no])?;
-    Ok(answer)
+    Ok(verdict)
+}
+
+/// Why the records of a connection aren't judged, if they aren't: its session may have a
+/// ROUTE-REFRESH, which the machine doesn't know, and there is one.
+fn refused_refresh<A: Allocator>(session: &Session, made: &Recording<'_, A>) -> Option<Refusal>
+    ensures some { IfSome result (λ refusal. IsTrue session.now.refresh
+        × IsRefreshIn made.now.entries.items made.now.received_rest made.now.sent_rest
+        (Some refusal)) }
+    ensures none { IfNone result (IsTrue session.now.refresh
+        → AllByRecursion IsNoRefresh (records_of made.now.entries.items)) }
+{
+    if session.refresh {
+        refresh_in(made)
+    } else {
+        None
+    }
 }
 
 /// Judges the connection of this number, or the only one, and adds what there is to tell of it: of
@@ -142,7 +122,7 @@ pub(crate) fn answer_to<A: Allocator + Copy, T: Tracker<A>>(
     gathered: &Gathered<A>,
     number: Option<usize>,
     remarks: &mut Vec<Remark, A>,
-) -> Result<Answer<A>, Refusal>
+) -> Result<Verdict<A>, Refusal>
     requires family { IsOneFamily import.now.selection.session }
     requires holds { HoldsTaken import.now.selection gathered.now }
     ensures { (packets : List Recorded) (segments : List Segment)
@@ -152,10 +132,12 @@ pub(crate) fn answer_to<A: Allocator + Copy, T: Tracker<A>>(
         (IsTold config.now import.now packets segments number (told_by result)) }
 {
     let made = records_of(alloc, import, gathered, number)?;
-    let session = &import.selection.session;
+    if let Some(refusal) = refused_refresh(&import.selection.session, &made) {
+        return Err(refusal);
+    }
     let named = number.unwrap_or(1);
-    match judge_made::<A, T>(alloc, config, session, named, &made, remarks) {
-        Ok(answer) => Ok(answer),
+    match judge_made::<A, T>(alloc, config, named, &made, remarks) {
+        Ok(verdict) => Ok(verdict),
         Err(AllocError) => Err(gathered.no_memory()),
     }
 }

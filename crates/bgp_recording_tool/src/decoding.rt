@@ -1,74 +1,64 @@
 //! `bgp decode --mrt` of a recording.
 
-ghost use Rattle.std.specs.Prelude.{◌≡◌, ◌<◌, ◌+◌, ◌^◌, IfOk, MatchResult};
+ghost use Rattle.std.specs.Prelude.{◌≡◌, ◌<◌, ◌^◌, [], ℕ, List, IfOk, length, reverse};
 ghost use Rattle.std.specs.List.{AllByRecursion};
+ghost use Rattle.bgp_text.specs.Capture.{AreRecordLines};
+ghost use Rattle.bgp_text.specs.Lines.{Writes};
 ghost use Rattle.bgp_tool.specs.Answer.{IsWritten};
-ghost use Rattle.bgp_import.specs.Captures.{CanBeWritten, IsCapture};
-ghost use Rattle.bgp_import.specs.Gathers.{failures_in};
+ghost use Rattle.bgp_recording.specs.Captured.{records_of};
+ghost use Rattle.bgp_import.specs.Gathers.{HoldsSession};
+ghost use Rattle.bgp_import.specs.Making.{HoldsTaken};
 ghost use Rattle.bgp_import.specs.Refusals.{refusal_line};
-ghost use Rattle.bgp_recording_tool.specs.Decoding.{DecodesRecording, HasMade, IsRefused};
+ghost use Rattle.bgp_import.specs.Selecting.{AreTaken};
+ghost use Rattle.packets.specs.Packet.{Recorded};
+ghost use Rattle.streams.specs.Passed.{Segment};
+ghost use Rattle.bgp_recording_tool.specs.Decoding.{DecodesOne, DecodesRecording, HasLine};
 ghost use Rattle.bgp_recording_tool.specs.Options.{IsOneFamily};
 ghost use Rattle.bgp_recording_tool.specs.Remarks.{making_remarks, notes_of, some_of};
 ghost use Rattle.bgp_recording_tool.specs.Told.{refused_status};
 
-use crate::answering::{capture_of, making_remarks};
+use crate::answering::making_remarks;
 use crate::judging::{Judged, misfit, status_of};
-use crate::octets::Octets;
 use crate::options::{import_of, misfit_of};
 use crate::remark::{Remark, add_remarks};
-use bgp_import::{Import, Refusal, gather, put_refusal, records_of};
+use bgp_import::{Gathered, Import, Refusal, gather, put_refusal, records_of};
 use bgp_prefix::Session;
-use bgp_recording::Recording;
-use bgp_text::Lines;
-use bgp_tool::{decode_capture, hand_over};
+use bgp_recording::{Entry, Recording};
+use bgp_text::{Lines, put_record};
+use bgp_tool::{Status, hand_over};
 use bgp_words::RecordingOptions;
-use mrt::{Reader, Sink, Source};
+use mrt::{Sink, Source};
 use std::alloc::{AllocError, Allocator};
 
-/// The capture that is made of a connection, and what there is to tell of it.
-#[derive(Drop)]
-struct Imported<A: Allocator> {
-    octets: Vec<u8, A>,
-    remarks: Vec<Remark, A>,
-}
-
-/// The capture of records that are made of a connection, and what there is to tell of it.
-fn made_capture<A: Allocator + Copy>(
-    alloc: A,
-    session: &Session,
-    made: &Recording<'_, A>,
-) -> Result<Imported<A>, AllocError>
-    requires { AllByRecursion (CanBeWritten session.now) made.now.entries.items }
-    ensures capture { IfOk result (λ imported.
-        IsCapture session.now made.now.entries.items imported.octets.items) }
-    ensures remarks { IfOk result (λ imported.
-        imported.remarks.items ≡ some_of (making_remarks (notes_of made.now))) }
+/// Puts the line of each entry's record.
+fn put_entries<W: Sink>(lines: &mut Lines<'_, W>, session: &Session, entries: &[Entry<'_>])
+    requires { AllByRecursion (HasLine session.now) entries.now }
+    ensures { (text : List ℕ) × AreRecordLines session.now (records_of entries.now) text
+        × Writes lines.old lines.new text }
 {
-    let octets = capture_of(alloc, session, made.entries.as_slice())?;
-    let mut remarks = Vec::new(alloc);
-    add_remarks(&mut remarks, &making_remarks(made))?;
-    Ok(Imported { octets, remarks })
-}
-
-/// The capture that is made of the connection that is named, or of the only one.
-fn import_one<A: Allocator + Copy, R: Source>(
-    alloc: A,
-    import: &Import,
-    source: &mut R,
-) -> Result<Imported<A>, Refusal>
-    requires family { IsOneFamily import.now.selection.session }
-    requires failures { R.failures source.old < u64.MAX }
-    ensures imports { MatchResult result (λ imported. HasMade R.gives R.has_ended import.now
-        source.old source.new imported.octets.items imported.remarks.items)
-        (λ refusal. IsRefused R.gives R.has_ended import.now source.old source.new refusal) }
-    ensures failures { R.failures source.new ≡ R.failures source.old + failures_in result }
-{
-    let gathered = gather(alloc, &import.selection, source)?;
-    let made = records_of(alloc, import, &gathered, import.connection)?;
-    match made_capture(alloc, &import.selection.session, &made) {
-        Ok(imported) => Ok(imported),
-        Err(AllocError) => Err(gathered.no_memory()),
+    // A ROUTE-REFRESH has a line, too: its header is a faulty one.
+    let calm = Session {
+        refresh: false,
+        ..*session
+    };
+    for entry in entries {
+        put_record(lines, &calm, &entry.record);
     }
+}
+
+/// Writes the line of each entry's record, and answers the exit status.
+fn write_entries<W: Sink>(sink: &mut W, session: &Session, entries: &[Entry<'_>]) -> u8
+    requires sink { W.failures sink.old < 2 ^ 63 }
+    requires lines { AllByRecursion (HasLine session.now) entries.now }
+    ensures { (text : List ℕ) × AreRecordLines session.now (records_of entries.now) text
+        × IsWritten W.takes W.failures text 0 sink.old sink.new result }
+{
+    let mut lines = Lines::new(sink);
+    put_entries(&mut lines, session, entries);
+    let status = hand_over(&mut lines, Status::Done);
+    // No effect: it ends the loan of the sink.
+    lines.into_sink();
+    status.code()
 }
 
 /// Writes the line of a refusal, and answers its exit status.
@@ -85,13 +75,69 @@ fn write_refusal<W: Sink>(sink: &mut W, refusal: Refusal) -> u8
     status.code()
 }
 
-/// Decodes the capture that is made of one connection of a recording that a source gives: the one
+/// How decoding a recording ends that is refused.
+fn refused<A: Allocator + Copy, W: Sink>(alloc: A, sink: &mut W, refusal: Refusal) -> Judged<A>
+    requires { W.failures sink.old < 2 ^ 63 }
+    ensures written { IsWritten W.takes W.failures (refusal_line refusal)
+        (refused_status refusal) sink.old sink.new result.status }
+    ensures none { result.remarks.items ≡ [] }
+{
+    Judged {
+        status: write_refusal(sink, refusal),
+        remarks: Vec::new(alloc),
+    }
+}
+
+/// What there is to tell of how the records were made.
+fn made_remarks<A: Allocator + Copy>(
+    alloc: A,
+    made: &Recording<'_, A>,
+) -> Result<Vec<Remark, A>, AllocError>
+    ensures { IfOk result (λ remarks.
+        remarks.items ≡ some_of (making_remarks (notes_of made.now))) }
+{
+    let mut remarks = Vec::new(alloc);
+    add_remarks(&mut remarks, &making_remarks(made))?;
+    Ok(remarks)
+}
+
+/// Decodes the records of the connection that is named, or of the only one.
+fn decode_gathered<A: Allocator + Copy, W: Sink>(
+    alloc: A,
+    import: &Import,
+    gathered: &Gathered<A>,
+    sink: &mut W,
+) -> Judged<A>
+    requires sink { W.failures sink.old < 2 ^ 63 }
+    requires family { IsOneFamily import.now.selection.session }
+    requires holds { HoldsTaken import.now.selection gathered.now }
+    ensures { (packets : List Recorded) (segments : List Segment)
+        → AreTaken import.now.selection 0 packets segments
+        → HoldsSession (reverse segments) (length packets) gathered.now
+        → DecodesOne W.takes W.failures import.now packets segments sink.old sink.new
+        result.status result.remarks.items }
+{
+    let made = match records_of(alloc, import, gathered, import.connection) {
+        Ok(made) => made,
+        Err(refusal) => return refused(alloc, sink, refusal),
+    };
+    let remarks = match made_remarks(alloc, &made) {
+        Ok(remarks) => remarks,
+        Err(AllocError) => return refused(alloc, sink, gathered.no_memory()),
+    };
+    Judged {
+        status: write_entries(sink, &import.selection.session, made.entries.as_slice()),
+        remarks,
+    }
+}
+
+/// Decodes the records that are made of one connection of a recording that a source gives: the one
 /// that is named, or the only one. It writes one line a record, as
 /// [`decode_capture`](bgp_tool::decode_capture) does, or `recording refused: NUMBER NAME at packet
 /// N`.
 ///
-/// Answers the exit status: that of decoding the capture, or of the refusal: 3, 4 for memory and 5
-/// for a device. It is 64 where no recording can be meant, as of
+/// Answers the exit status: 0, or that of the refusal: 3, 4 for memory and 5 for a device, which
+/// may be the sink. It is 64 where no recording can be meant, as of
 /// [`judge_recording`](crate::judge_recording).
 pub fn decode_recording<A: Allocator + Copy, R: Source, W: Sink>(
     alloc: A,
@@ -109,19 +155,8 @@ pub fn decode_recording<A: Allocator + Copy, R: Source, W: Sink>(
     if let Some(remark) = misfit_of(&import) {
         return misfit(alloc, remark);
     }
-    match import_one(alloc, &import, source) {
-        Ok(imported) => {
-            let mut reader = Reader::new(alloc);
-            let mut capture = Octets::new(imported.octets.as_slice());
-            let status = decode_capture(&mut reader, session, &mut capture, sink);
-            Judged {
-                status,
-                remarks: imported.remarks,
-            }
-        }
-        Err(refusal) => Judged {
-            status: write_refusal(sink, refusal),
-            remarks: Vec::new(alloc),
-        },
+    match gather(alloc, &import.selection, source) {
+        Ok(gathered) => decode_gathered(alloc, &import, &gathered, sink),
+        Err(refusal) => refused(alloc, sink, refusal),
     }
 }

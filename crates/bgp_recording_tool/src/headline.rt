@@ -1,12 +1,12 @@
 //! The page to show: what judging a recording promises, and what a yes is worth.
 
 ghost use Rattle.std.specs.Prelude.{◌<◌, ◌^◌};
-ghost use Rattle.bgp_recording_tool.specs.Headline.{EachEndIsShown};
+ghost use Rattle.bgp_recording_tool.specs.Headline.{EachEndIsShown, ImportAndJudgeAgree};
 ghost use Rattle.bgp_recording_tool.specs.Judging.{JudgesRecording};
 
 use crate::judging::{Judged, judge_source, misfit};
 use crate::options::{import_of, misfit_of};
-use bgp_judge::Tracker;
+use bgp_judge::{Tracker, records_have_just_one_verdict};
 use bgp_open::Config;
 use bgp_recording::made_records_are_read;
 use bgp_text::Lines;
@@ -19,25 +19,26 @@ use std::alloc::Allocator;
 /// those of a run of the session machine (RFC 4271, 8.2.2), under this configuration.
 ///
 /// Packets don't tell when the local system read a message, and what came may have waited. So one
-/// order is made in which it may have handled them, and the capture of that is judged, as
-/// [`judge_capture`](bgp_tool::judge_capture) does. What a yes is worth says
-/// [`each_end_is_shown`]; a no is about this one order, and another may be a yes.
+/// order is made in which it may have handled them, and the records of that are judged. What a yes
+/// is worth says [`each_end_is_shown`]; a no is about this one order, and another may be a yes. By
+/// [`import_and_judge_agree`] it is what [`judge_capture`](bgp_tool::judge_capture) answers of the
+/// capture that is imported.
 ///
 /// It judges the connection that is named, or the only one; where there are several and none is
 /// named, each, under a line that names it. It writes the text of each verdict, or `recording
 /// refused: NUMBER NAME at packet N`, and answers the greatest exit status of its connections:
 ///
 /// * 0: `yes`, and each possible end with its routes, and no other.
-/// * 1: `no at record N` of the made capture; a remark tells the packet that shows the record.
+/// * 1: `no at record N` of the made records; a remark tells the packet that shows the record.
 /// * 2: `unfinished`: the recording stops within what the local system had to do.
-/// * 3: the recording is refused, or the made capture is, for a ROUTE-REFRESH.
+/// * 3: the recording is refused.
 /// * 4: memory was refused.
 /// * 5: a device failed.
 /// * 64: no recording can be meant, as a remark tells: the session's addresses are of two families,
 ///   or one, and the local system's port isn't named. Nothing is read or written then.
 ///
 /// A recording holds its packets one at a time; of the session it holds each connection's streams,
-/// and of one connection the made capture besides.
+/// and of one connection its messages and records besides, which point into these.
 pub fn judge_recording<A: Allocator + Copy, T: Tracker<A>, R: Source, W: Sink>(
     alloc: A,
     config: &Config,
@@ -89,7 +90,18 @@ pub fn judge_recording<A: Allocator + Copy, T: Tracker<A>, R: Source, W: Sink>(
 /// which they passed, by a clock that is right, and that what was recorded is what arrived.
 pub fn each_end_is_shown()
     ensures { EachEndIsShown }
+{}
+
+/// Law: what is imported of a recording is judged as the recording is.
+///
+/// The capture that [`import_recording`](bgp_import::import_recording) writes reads as just the
+/// records that are judged, and whatever verdict holds of what it reads as is the one that is
+/// answered of the recording. A reader refuses such a capture for a ROUTE-REFRESH alone, of a
+/// session that may have one, and there the recording is refused, too (18 RouteRefresh).
+pub fn import_and_judge_agree()
+    ensures { ImportAndJudgeAgree }
 {
     each_capture_has_one_reading();
     made_records_are_read();
+    records_have_just_one_verdict();
 }

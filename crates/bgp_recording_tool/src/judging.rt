@@ -12,15 +12,17 @@ ghost use Rattle.bgp_import.specs.Selecting.{AreTaken};
 ghost use Rattle.bgp_recording_tool.specs.Connections.{AreTold, AllAreTold};
 ghost use Rattle.bgp_recording_tool.specs.Judging.{TellsRecording, Puts};
 ghost use Rattle.bgp_recording_tool.specs.Options.{IsOneFamily};
+ghost use Rattle.bgp_judge.specs.Verdict.{verdict_value};
 ghost use Rattle.bgp_recording_tool.specs.Told.{refused_status, told_by, told_status, told_text};
+ghost use Rattle.bgp_recording_tool.specs.Told.{value_status};
 
-use crate::answering::{Answer, answer_to};
+use crate::answering::answer_to;
 use crate::remark::{Remark, add_remarks};
 use bgp_import::{Cause, Gathered, Import, Refusal, gather, put_opening, put_refusal};
-use bgp_judge::Tracker;
+use bgp_judge::{Tracker, Verdict};
 use bgp_open::Config;
 use bgp_text::Lines;
-use bgp_tool::{Status, put_answer};
+use bgp_tool::{Status, put_verdict};
 use mrt::{Sink, Source};
 use std::alloc::Allocator;
 
@@ -55,16 +57,31 @@ fn greater(status: Status, other: Status) -> Status
     }
 }
 
+/// The exit status of a verdict.
+fn verdict_status<A: Allocator>(verdict: &Verdict<A>) -> Status
+    ensures { code_of result ≡ value_status (verdict_value verdict.now) }
+{
+    match verdict {
+        Verdict::Yes(_) => Status::Done,
+        Verdict::No(_) => Status::No,
+        Verdict::Unfinished => Status::Unfinished,
+    }
+}
+
 /// Puts what is answered of a connection, and answers its exit status.
+#[tactic(auto, using(crate::proofs::Texts::text_same))]
 fn put_told<A: Allocator, W: Sink>(
     lines: &mut Lines<'_, W>,
-    answer: &Result<Answer<A>, Refusal>,
+    answer: &Result<Verdict<A>, Refusal>,
 ) -> Status
     ensures writes { Writes lines.old lines.new (told_text (told_by answer.now)) }
     ensures status { code_of result ≡ told_status (told_by answer.now) }
 {
     match answer {
-        Ok(answer) => put_answer(lines, answer),
+        Ok(verdict) => {
+            put_verdict(lines, verdict);
+            verdict_status(verdict)
+        }
         Err(refusal) => {
             put_refusal(lines, *refusal);
             status_of(*refusal)

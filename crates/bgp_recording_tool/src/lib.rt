@@ -2,7 +2,7 @@
 //! and sinks, or over a file that is a recording or a capture.
 //!
 //! A recording is a file of packets; a capture is the MRT records of one session (RFC 6396). What
-//! is judged or decoded is the capture that `bgp_import` makes of a connection in the recording:
+//! is judged or decoded of a recording are the records that `bgp_import` makes of a connection:
 //!
 //! ```text
 //! let judged =
@@ -18,15 +18,15 @@ mod decoding;
 mod files;
 mod headline;
 mod judging;
-mod octets;
 mod options;
 mod peeked;
 mod remark;
+mod verdict;
 
 pub use bgp_words::RecordingOptions;
 pub use decoding::decode_recording;
 pub use files::{FileOutcome, decode_file, judge_file};
-pub use headline::{each_end_is_shown, judge_recording};
+pub use headline::{each_end_is_shown, import_and_judge_agree, judge_recording};
 pub use judging::Judged;
 pub use options::import_of;
 pub use remark::Remark;

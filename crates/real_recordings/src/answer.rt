@@ -1,24 +1,43 @@
 //! What a command over a recording answers, told as a case tells it.
 
-ghost use Rattle.std.specs.Prelude.{◌<◌};
+ghost use Rattle.std.specs.Prelude.{◌<◌, ◌^◌};
 ghost use Rattle.mrt.specs.MemSource.{source_state};
 
 use crate::case::{Case, malformed};
-use crate::words::{import_of, port_of};
+use crate::words::{config_of, import_of, options_of, port_of, session_of};
+use bgp_compact::CompactTracker;
 use bgp_import::{Cause, Stopped, import_recording, list_recording};
+use bgp_judge::{PlainTracker, Tracker};
+use bgp_recording_tool::{decode_recording, judge_recording};
 use mrt::{MemSink, MemSource};
 use std::alloc::{AllocError, Global};
 use std::fmt::Write;
 use std::io;
 use std::num::NonZeroUsize;
 
+/// A case's recording, which is read so many octets at a time at the most.
+fn source_of(alloc: Global, case: &Case<'_>, most: NonZeroUsize) -> io::Result<MemSource> {
+    let recording = Vec::from_slice(alloc, case.recording.as_slice())?;
+    Ok(MemSource::new(recording).in_pieces_of(most))
+}
+
 /// The lines of the answer to a case, whose recording is read so many octets at a time at the most.
 pub(crate) fn answer_to(alloc: Global, case: &Case<'_>, most: NonZeroUsize) -> io::Result<String> {
-    let recording = Vec::from_slice(alloc, case.recording.as_slice())?;
-    let mut source = MemSource::new(recording).in_pieces_of(most);
+    let mut source = source_of(alloc, case, most)?;
     match case.words.split(' ').next() {
         Some("import") => import(alloc, case.words, &mut source),
         Some("list") => list(alloc, case.words, &mut source),
+        Some("decode") => decode(alloc, case.words, &mut source),
+        Some("judge") => {
+            let plain = judge::<PlainTracker<Global>>(alloc, case.words, &mut source)?;
+            let mut source = source_of(alloc, case, most)?;
+            let compact = judge::<CompactTracker<Global>>(alloc, case.words, &mut source)?;
+            if plain.as_str() == compact.as_str() {
+                Ok(compact)
+            } else {
+                Ok(format!(in alloc; "the trackers differ")?)
+            }
+        }
         _ => Err(malformed()),
     }
 }
@@ -94,10 +113,15 @@ fn list(alloc: Global, words: &str, source: &mut MemSource) -> io::Result<String
         Ok(()) => 0,
         Err(stopped) => status_of(stopped),
     };
+    printed(alloc, status, sink.into_octets())
+}
+
+/// The status, and the lines that were printed.
+fn printed(alloc: Global, status: u8, octets: Vec<u8>) -> io::Result<String> {
     let mut text = String::new(alloc);
     add(&mut text, "status ")?;
     add(&mut text, status)?;
-    let Ok(lines) = String::from_utf8(sink.into_octets()) else {
+    let Ok(lines) = String::from_utf8(octets) else {
         return Err(malformed());
     };
     for line in lines.as_str().lines() {
@@ -105,4 +129,34 @@ fn list(alloc: Global, words: &str, source: &mut MemSource) -> io::Result<String
         add(&mut text, line)?;
     }
     Ok(text)
+}
+
+/// What `bgp judge` answers, by a tracker.
+fn judge<T: Tracker<Global>>(
+    alloc: Global,
+    words: &str,
+    source: &mut MemSource,
+) -> io::Result<String>
+    requires { (source_state source.old).failures < 2 ^ 63 }
+{
+    let (Some(config), Some(options)) = (config_of(words), options_of(words)) else {
+        return Err(malformed());
+    };
+    let mut sink = MemSink::new(alloc);
+    let judged = judge_recording::<Global, T, MemSource, MemSink>(
+        alloc, &config, &options, source, &mut sink,
+    );
+    printed(alloc, judged.status, sink.into_octets())
+}
+
+/// What `bgp decode --mrt` answers.
+fn decode(alloc: Global, words: &str, source: &mut MemSource) -> io::Result<String>
+    requires { (source_state source.old).failures < 2 ^ 63 }
+{
+    let (Some(session), Some(options)) = (session_of(words), options_of(words)) else {
+        return Err(malformed());
+    };
+    let mut sink = MemSink::new(alloc);
+    let decoded = decode_recording(alloc, &session, &options, source, &mut sink);
+    printed(alloc, decoded.status, sink.into_octets())
 }

@@ -2,8 +2,9 @@
 //! was written apart from this one.
 //!
 //! `cases.txt` has packet captures made at random and by hand, with the capture that is made of
-//! each or why it is refused, and lists. `sessions` has recordings of real sessions between five
-//! daemons, each listed and judged from both ends, by the plain tracker and by the compact one.
+//! each or why it is refused, and lists; `judged.txt` has some that are judged, by the plain
+//! tracker and by the compact one, and decoded. `sessions` has recordings of real sessions between
+//! five daemons, each listed and judged from both ends, by both trackers.
 #![tactic(auto)]
 
 mod answer;
@@ -32,14 +33,16 @@ fn main(rt: HostRuntime) -> ExitCode {
 
 /// Prints what is not so, and how much was compared. Answers whether all is so.
 fn compare_all<R: Files + Print + AllocGlobal>(rt: &R) -> io::Result<bool> {
-    let cases = compare_cases(rt)?;
+    let cases = compare_cases(rt, "cases.txt")?;
+    let judged = compare_cases(rt, "judged.txt")?;
     let sessions = compare_sessions(rt)?;
-    Ok(cases && sessions)
+    Ok(cases && judged && sessions)
 }
 
-/// Prints each case that is not so, and then how many there were. Answers whether all are so.
-fn compare_cases<R: Files + Print + AllocGlobal>(rt: &R) -> io::Result<bool> {
-    let table = fs::read_to_string(rt, "cases.txt")?;
+/// Prints each case of a table that is not so, and then how many there were. Answers whether all
+/// are so.
+fn compare_cases<R: Files + Print + AllocGlobal>(rt: &R, name: &str) -> io::Result<bool> {
+    let table = fs::read_to_string(rt, name)?;
     let mut cases = 0u64;
     let mut all = true;
     for block in table.split("\n\n") {
@@ -50,7 +53,7 @@ fn compare_cases<R: Files + Print + AllocGlobal>(rt: &R) -> io::Result<bool> {
         cases = cases.saturating_add(1);
         all &= compare_case(rt, block)?;
     }
-    println!(rt; "cases.txt: {cases} cases")?;
+    println!(rt; "{name}: {cases} cases")?;
     Ok(all)
 }
 

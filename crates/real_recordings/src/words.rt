@@ -45,7 +45,7 @@ fn address_after(words: &str, option: &str) -> Option<Address> {
 }
 
 /// The session that the words name.
-fn session_of(words: &str) -> Option<Session> {
+pub(crate) fn session_of(words: &str) -> Option<Session> {
     Some(Session {
         peer: address_after(words, "--peer")?,
         local: address_after(words, "--local")?,

@@ -9,6 +9,12 @@ const BAD_PEER_AS: [u8; 21] = [
     0, 21, 3, 2, 2,
 ];
 
+/// Cease, Connection Rejected (RFC 4486).
+const CONNECTION_REJECTED: [u8; 21] = [
+    255, 255, 255, 255, 255, 255, 255, 255, 255, 255, 255, 255, 255, 255, 255, 255, // marker
+    0, 21, 3, 6, 5,
+];
+
 /// UPDATE Message Error, Malformed Attribute List.
 const MALFORMED_ATTRIBUTES: [u8; 21] = [
     255, 255, 255, 255, 255, 255, 255, 255, 255, 255, 255, 255, 255, 255, 255, 255, // marker
@@ -70,7 +76,7 @@ const HEADER_RECEIVED: [Run; 3] = [
     },
 ];
 
-pub static ROWS: [Row; 14] = [
+pub static ROWS: [Row; 16] = [
     // A session that comes up, and announces a route.
     Row {
         name: "session",
@@ -550,6 +556,86 @@ pub static ROWS: [Row; 14] = [
             Record::Change(100, 1, 3),
             Record::In(100, &OPEN_B),
             Record::Change(100, 3, 1),
+        ],
+        received_rest: Rest::Short { count: 0 },
+        sent_rest: Rest::Short { count: 0 },
+    },
+    // A connection that isn't wanted is rejected: the OPEN was never read.
+    Row {
+        name: "rejected",
+        opened_by: Side::Peer,
+        received: Way {
+            pieces: &[&OPEN_B],
+            runs: &[Run {
+                count: 49,
+                packet: 4,
+                second: 100,
+            }],
+        },
+        sent: Way {
+            pieces: &[&CONNECTION_REJECTED],
+            runs: &[Run {
+                count: 21,
+                packet: 5,
+                second: 101,
+            }],
+        },
+        end: Some(End {
+            side: Side::Local,
+            packet: 5,
+            second: 101,
+        }),
+        records: &[
+            Record::Change(100, 1, 3),
+            Record::Out(101, &CONNECTION_REJECTED),
+            Record::Change(101, 3, 1),
+            Record::In(101, &OPEN_B),
+        ],
+        received_rest: Rest::Short { count: 0 },
+        sent_rest: Rest::Short { count: 0 },
+    },
+    // A KEEPALIVE is overdue, and stands between the OPEN and what would have answered that.
+    Row {
+        name: "no answer any more",
+        opened_by: Side::Peer,
+        received: Way {
+            pieces: &[&OPEN_B, &KEEPALIVE],
+            runs: &[
+                Run {
+                    count: 49,
+                    packet: 5,
+                    second: 100,
+                },
+                Run {
+                    count: 19,
+                    packet: 6,
+                    second: 101,
+                },
+            ],
+        },
+        sent: Way {
+            pieces: &[&OPEN_A, &KEEPALIVE],
+            runs: &[
+                Run {
+                    count: 49,
+                    packet: 4,
+                    second: 100,
+                },
+                Run {
+                    count: 19,
+                    packet: 7,
+                    second: 120,
+                },
+            ],
+        },
+        end: None,
+        records: &[
+            Record::Change(100, 1, 3),
+            Record::Out(100, &OPEN_A),
+            Record::Change(100, 3, 4),
+            Record::In(100, &OPEN_B),
+            Record::In(101, &KEEPALIVE),
+            Record::Out(120, &KEEPALIVE),
         ],
         received_rest: Rest::Short { count: 0 },
         sent_rest: Rest::Short { count: 0 },

@@ -34,7 +34,11 @@ returns-in-Ok-write_capture-clause-imports g c = λ packets segments taken holds
       captured = record {
         connection = told.connection;
         is_connection = record { segments = segments; taken = taken; answered = told.answered };
-        made = record { entries = made.entries.items; recorded = recorded; capture = subst (λ (es : List Entry). IsCapture c.args.import.now.selection.session es wrote.0) c.as_slice.ensures.value wrote.1; counts = c.notes_on.ensures.put_off };
+        made = record {
+          entries = made.entries.items;
+          made = record { recorded = recorded; counts = c.notes_on.ensures.put_off };
+          capture = subst (λ (es : List Entry). IsCapture c.args.import.now.selection.session es wrote.0) c.as_slice.ensures.value wrote.1;
+        };
       };
       written = wrote.2;
     }
@@ -51,7 +55,11 @@ returns-clause-imports g c = λ packets segments taken holds.
       captured = record {
         connection = told.connection;
         is_connection = record { segments = segments; taken = taken; answered = told.answered };
-        made = record { entries = made.entries.items; recorded = told.recorded; capture = subst (λ (es : List Entry). IsCapture c.args.import.now.selection.session es wrote.0) c.as_slice.ensures.value wrote.1; counts = refl };
+        made = record {
+          entries = made.entries.items;
+          made = record { recorded = told.recorded; counts = refl };
+          capture = subst (λ (es : List Entry). IsCapture c.args.import.now.selection.session es wrote.0) c.as_slice.ensures.value wrote.1;
+        };
       };
       begun = wrote.2;
     }

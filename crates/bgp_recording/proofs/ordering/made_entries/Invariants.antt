@@ -1,14 +1,11 @@
 use Rattle.bgp_recording.specs.Told.{IsTold}
-use Rattle.bgp_recording.proofs.Chaining.{IsChaining}
-use Rattle.bgp_recording.proofs.Moving.{IsMoving}
+use Rattle.bgp_recording.proofs.Seconds.{AreShort}
 use Rattle.bgp_recording.proofs.UnderWay.{IsUnderWay, left_in}
 use Rattle.bgp_recording.proofs.ordering.made_entries.Given as goal
 
--- what tells the rest, tells all behind the records so far, whose changes lead to the state
+-- what tells the rest, tells all behind the records so far
 abbrev pub invariant-loop-making : goal.invariant-loop-making
-invariant-loop-making g l =
-    (IsTold l.exchange → IsUnderWay l.within l.exchange l.making) × IsChaining l.exchange l.making
-    × IsMoving l.exchange l.making
+invariant-loop-making g l = (IsTold l.exchange → IsUnderWay l.within l.exchange l.making) × AreShort l.making
 
 abbrev pub decreases-loop-making : goal.decreases-loop-making
 decreases-loop-making g l = left_in l.making.pending

@@ -2,4 +2,4 @@ use Rattle.bgp_recording_tool.proofs.YesShown.{each_end}
 use Rattle.bgp_recording_tool.proofs.headline.each_end_is_shown.Goals as goal
 
 pub returns : goal.returns
-returns c = each_end c.made_records_are_read.ensures c.each_capture_has_one_reading.ensures.spelling
+returns c = each_end

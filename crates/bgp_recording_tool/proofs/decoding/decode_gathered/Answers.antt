@@ -1,0 +1,48 @@
+use Rattle.std.proofs.Common.{List, ap, subst, sym, refl, length, reverse, inl, inr}
+use Rattle.std.specs.List.{AllByRecursion}
+use Rattle.bgp_recording.specs.declared.entry.Entry.{Entry}
+use Rattle.bgp_text.specs.Capture.{AreRecordLines}
+use Rattle.bgp_recording.specs.Captured.{records_of}
+use Rattle.bgp_recording_tool.specs.Decoding.{HasLine}
+use Rattle.bgp_recording_tool.specs.Remarks.{notes_of}
+use Rattle.bgp_recording_tool.proofs.EntryLines.{have_lines}
+use Rattle.bgp_recording_tool.proofs.Judgings.{is_made}
+use Rattle.bgp_recording_tool.proofs.decoding.decode_gathered.Goals as goal
+
+pub returns-in-Err : goal.returns-in-Err
+returns-in-Err g c = λ packets segments taken holds. inr (record {
+  refusal = c.in-Err.refusal;
+  turned_down = rw c.in-Err.is at (c.records_of.ensures packets segments taken holds);
+  written = c.refused.ensures.written;
+  none = c.refused.ensures.none;
+})
+
+pub returns-in-Err-made_remarks : goal.returns-in-Err-made_remarks
+returns-in-Err-made_remarks g c = λ packets segments taken holds. inr (record {
+  refusal = c.no_memory.result;
+  turned_down = inr (c.no_memory.ensures (reverse segments) (length packets) holds);
+  written = c.refused-in-Err-made_remarks.ensures.written;
+  none = c.refused-in-Err-made_remarks.ensures.none;
+})
+
+pub write_entries-requires-clause-lines : goal.write_entries-requires-clause-lines
+write_entries-requires-clause-lines g c =
+    let h = c.requires.holds in
+    let tells = rw c.in-Ok.is at (c.records_of.ensures h.packets h.segments h.taken h.holds) in
+    subst (λ (es : List Entry). AllByRecursion (HasLine c.args.import.now.selection.session) es) (sym c.as_slice.ensures.value)
+    (have_lines c.args.import.now.selection.session c.args.import.now.within tells.connection c.in-Ok.made.entries.items c.in-Ok.made.received_rest c.in-Ok.made.sent_rest tells.recorded)
+
+pub returns : goal.returns
+returns g c = λ packets segments taken holds.
+    let tells = rw c.in-Ok.is at (c.records_of.ensures packets segments taken holds) in
+    let (text, are_lines, written) = c.write_entries.ensures in inl (record {
+      connection = tells.connection;
+      entries = c.in-Ok.made.entries.items;
+      notes = notes_of c.in-Ok.made;
+      text = text;
+      chosen = tells.answered;
+      made = is_made c.args.import.now c.args.import.now.connection packets segments c.in-Ok.made tells;
+      are_lines = subst (λ (es : List Entry). AreRecordLines c.args.import.now.selection.session (records_of es) text) c.as_slice.ensures.value are_lines;
+      written = written;
+      remarked = c.in-Ok-made_remarks.ensures;
+    })
