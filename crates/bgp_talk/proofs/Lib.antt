@@ -4,3 +4,5 @@ mod ShortRecords
 mod Accounts
 mod Joining
 mod Entering
+mod TalkLaws
+mod Taken

@@ -63,7 +63,7 @@ took_what_is_told a b (told ∷ account) tells =
   where
     one_took : (a next : WireState) (told : Telling) → Calls a told next → next.taken ≡ a.taken ++ taken_by told
     one_took a next (Asked answer) calls = ap (λ (v : WireState). v.taken) calls.1 ∙ sym (append-nil a.taken)
-    one_took a next (Read told) calls = ap (λ (v : WireState). v.taken) calls.2 ∙ sym (append-nil a.taken)
+    one_took a next (Read room told) calls = ap (λ (v : WireState). v.taken) calls.1 ∙ sym (append-nil a.taken)
     one_took a next (Clock second) calls = ap (λ (v : WireState). v.taken) calls.1 ∙ sym (append-nil a.taken)
     one_took a next (Wrote octets) calls =
         ap (λ (v : WireState). v.taken) calls.4 ∙ ap (λ (o : List ℕ). a.taken ++ o) (sym calls.3)

@@ -1,7 +1,7 @@
 -- What a wire tells, and the inputs of the speaker's core that it makes.
-use Rattle.std.specs.Prelude.{◌≡◌, ◌≤◌, ◌+◌, ℕ, List, [], ◌∷◌, ◌++◌, take, Bool, true, false}
+use Rattle.std.specs.Prelude.{◌≤◌, ◌+◌, ℕ, List, [], ◌∷◌, ◌++◌, take, Bool, true, false}
 use Rattle.bgp_prefix.specs.Prefix.{PrefixBits}
-use Rattle.bgp_speaker.specs.Core.{InputValue, Start, Passive, Stop, Connected, Failed, Bytes}
+use Rattle.bgp_speaker.specs.Core.{InputValue, Start, Passive, Connected, Failed, Bytes}
 use Rattle.bgp_speaker.specs.Core.{Tick, Announce}
 use Rattle.bgp_talk.specs.declared.wire.Connection.{Connection}
 use Rattle.bgp_talk.specs.declared.wire.Connection.TheVariants.{Stands, Refused}
@@ -16,11 +16,11 @@ pub data ReadTold : Type 0 where
   Broke : ReadTold
 
 -- What a wire tells, one call after another: of `connect` whether there is a connection; of `read`
--- its answer with the octets; of `now` the second; of `write` the octets that were taken, none
--- where it failed.
+-- how much room there was, and its answer with the octets; of `now` the second; of `write` the
+-- octets that were taken, none where it failed.
 pub data Telling : Type 0 where
   Asked : Bool → Telling
-  Read : ReadTold → Telling
+  Read : ℕ → ReadTold → Telling
   Clock : ℕ → Telling
   Wrote : List ℕ → Telling
 
@@ -64,66 +64,39 @@ first_owed [] true = Passive ∷ []
 first_owed [] false = Start ∷ []
 first_owed (prefix ∷ own) passive = Announce prefix ∷ first_owed own passive
 
+-- what the core is told of an answer of `connect`
+abbrev pub connect_input : Bool → InputValue
+connect_input true = Connected
+connect_input false = Failed
+
 -- Those that are owed after a telling: before what was owed, what an answer of `connect` or `read`
 -- makes, and a failure where a write took nothing. Each `now` is for the first of them.
 abbrev pub owed_by : List InputValue → Telling → List InputValue
-owed_by owed (Asked true) = Connected ∷ owed
-owed_by owed (Asked false) = Failed ∷ owed
-owed_by owed (Read told) = turn_inputs told ++ owed
+owed_by owed (Asked answer) = connect_input answer ∷ owed
+owed_by owed (Read room told) = turn_inputs told ++ owed
 owed_by [] (Clock second) = []
 owed_by (input ∷ owed) (Clock second) = owed
 owed_by owed (Wrote []) = Failed ∷ owed
 owed_by owed (Wrote (octet ∷ octets)) = owed
 
--- Those that a telling hands in, each with its second: at a `now` the first that is owed, and where
--- none is, Stop.
+-- those that a telling hands in, each with its second: at a `now` the first that is owed
 abbrev pub handed_by : List InputValue → Telling → List (ℕ × InputValue)
 handed_by owed (Asked answer) = []
-handed_by owed (Read told) = []
-handed_by [] (Clock second) = (second, Stop) ∷ []
+handed_by owed (Read room told) = []
+handed_by [] (Clock second) = []
 handed_by (input ∷ owed) (Clock second) = (second, input) ∷ []
 handed_by owed (Wrote octets) = []
-
--- what is owed after an account
-abbrev pub owed_after : List InputValue → List Telling → List InputValue
-owed_after owed [] = owed
-owed_after owed (told ∷ account) = owed_after (owed_by owed told) account
 
 -- the inputs that an account makes, in order, each with its second
 abbrev pub inputs_of : List InputValue → List Telling → List (ℕ × InputValue)
 inputs_of owed [] = []
 inputs_of owed (told ∷ account) = handed_by owed told ++ inputs_of (owed_by owed told) account
 
--- nothing is owed when it is told, if it is an answer of `connect` or `read`
-abbrev pub IsDue : List InputValue → Telling → Type 0
-IsDue owed (Asked answer) = owed ≡ []
-IsDue owed (Read told) = owed ≡ []
-IsDue owed (Clock second) = Unit {0}
-IsDue owed (Wrote octets) = Unit {0}
-
--- `connect` was asked, and each read, only when all inputs until then had been handed in
-abbrev pub IsInTurn : List InputValue → List Telling → Type 0
-IsInTurn owed [] = Unit {0}
-IsInTurn owed (told ∷ account) = IsDue owed told × IsInTurn (owed_by owed told) account
-
--- something is owed when it is told, if it is a second
-abbrev pub IsFor : List InputValue → Telling → Type 0
-IsFor owed (Asked answer) = Unit {0}
-IsFor owed (Read told) = Unit {0}
-IsFor [] (Clock second) = ⊥
-IsFor (input ∷ owed) (Clock second) = Unit {0}
-IsFor owed (Wrote octets) = Unit {0}
-
--- each second is for an input that is owed: so none of them hands in a Stop that isn't
-abbrev pub HasNoStop : List InputValue → List Telling → Type 0
-HasNoStop owed [] = Unit {0}
-HasNoStop owed (told ∷ account) = IsFor owed told × HasNoStop (owed_by owed told) account
-
 -- ---- the octets that went out
 
 abbrev pub taken_by : Telling → List ℕ
 taken_by (Asked answer) = []
-taken_by (Read told) = []
+taken_by (Read room told) = []
 taken_by (Clock second) = []
 taken_by (Wrote octets) = octets
 
@@ -135,7 +108,7 @@ taken_of (told ∷ account) = taken_by told ++ taken_of account
 -- if it is a write, it took something
 abbrev pub TookIfWrote : Telling → Type 0
 TookIfWrote (Asked answer) = Unit {0}
-TookIfWrote (Read told) = Unit {0}
+TookIfWrote (Read room told) = Unit {0}
 TookIfWrote (Clock second) = Unit {0}
 TookIfWrote (Wrote []) = ⊥
 TookIfWrote (Wrote (octet ∷ octets)) = Unit {0}
@@ -149,7 +122,7 @@ IsCalm (told ∷ account) = TookIfWrote told × IsCalm account
 
 abbrev pub reads_by : Telling → ℕ
 reads_by (Asked answer) = 0
-reads_by (Read told) = 1
+reads_by (Read room told) = 1
 reads_by (Clock second) = 0
 reads_by (Wrote octets) = 0
 

@@ -3,3 +3,4 @@ pub mod Account
 pub mod MemWire
 pub mod CoreFacts
 pub mod Talk
+pub mod TalkLaws

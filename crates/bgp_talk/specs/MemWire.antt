@@ -191,7 +191,7 @@ after_now state =
 -- by one call
 abbrev pub Calls : WireState → Telling → WireState → Type 0
 Calls a (Asked answer) b = (answer ≡ connects a) × (b ≡ after_connect a)
-Calls a (Read told) b = (room : ℕ) × (told ≡ read_tells a room) × (b ≡ after_read a room)
+Calls a (Read room told) b = (told ≡ read_tells a room) × (b ≡ after_read a room)
 Calls a (Clock second) b = (second ≡ second_now a) × (b ≡ after_now a)
 Calls a (Wrote octets) b =
     (offered : List ℕ) × (answer : Result ℕ Failed)

@@ -1,222 +1,128 @@
 -- What a speaker does over a wire, by what the wire tells.
-use Rattle.std.specs.Prelude.{◌≡◌, ◌⊎◌, ◌+◌, ◌<◌, ◌≤◌, ℕ, length, List, [], ◌∷◌, ◌++◌}
-use Rattle.std.specs.Prelude.{Bool, true, false, IsTrue, IsFalse}
+use Rattle.std.specs.Prelude.{◌≡◌, ◌⊎◌, ◌+◌, ◌<◌, ℕ, length, List, [], ◌∷◌, ◌++◌}
+use Rattle.std.specs.Prelude.{Bool, true, false, IsTrue, IsFalse, if◌then◌else◌}
 use Rattle.std.specs.Prelude.{Result, Ok, Err}
 use Rattle.bgp_prefix.specs.Shown.{ShownRecord}
 use Rattle.bgp_open.specs.declared.config.Config.{Config}
 use Rattle.bgp_rib.specs.Routes.{Routes}
-use Rattle.bgp_speaker.specs.Choosing.{Chooses, Drives, sent_in}
-use Rattle.bgp_speaker.specs.Core.{CoreState, InputValue, Stop}
+use Rattle.bgp_speaker.specs.Choosing.{Chooses, sent_in}
+use Rattle.bgp_speaker.specs.Core.{CoreState, InputValue, Stop, Failed}
 use Rattle.mrt.specs.Sink.{TakesBeginning}
 use Rattle.mrt.specs.Written.{capture_octets}
-use Rattle.bgp_talk.specs.Account.{Telling, Asked, Clock, Wrote, owed_after, inputs_of, taken_of}
-use Rattle.bgp_talk.specs.Account.{HasNoStop, IsCalm, IsInTurn, reads_of}
-use Rattle.bgp_talk.specs.CoreFacts.{is_idle, is_resting, IsQuiet}
+use Rattle.bgp_talk.specs.Account.{Telling, ReadTold, Asked, Read, Clock, Wrote}
+use Rattle.bgp_talk.specs.Account.{connect_input, connection_after, turn_inputs}
+use Rattle.bgp_talk.specs.CoreFacts.{is_idle, is_resting}
 use Rattle.bgp_talk.specs.declared.fault.SpeakFault.{SpeakFault}
 use Rattle.bgp_talk.specs.declared.fault.SpeakFault.TheVariants.{Capture, Memory}
+use Rattle.bgp_talk.specs.declared.wire.Connection.{Connection}
+use Rattle.bgp_talk.specs.declared.wire.Connection.TheVariants.{NotAsked, Stands}
 
 -- the octets of a capture of these records
 abbrev pub capture_of : Config → List ShownRecord → List ℕ
 capture_of config records =
     capture_octets config.parts.session config.parts.peer_as config.parts.local_as records
 
--- Of the octets that were to be sent a beginning was taken, and all where no write failed or took
--- nothing. Where one did, the core rests.
-pub record Took (account : List Telling) (sent : List ℕ) (rests : Bool) : Type 0 where
-  pub left : List ℕ
-  pub whole : sent ≡ taken_of account ++ left
-  pub all : IsCalm account → left ≡ []
-  pub upset : IsCalm account ⊎ IsTrue rests
+-- ---- one telling after another
 
--- The inputs that the account makes were handed in, and what is left is still owed. `connect` was
--- asked, and each read, only when all inputs until then had been handed in, and no second told but
--- for an input that was owed.
-pub record Ran (owed : List InputValue) (a : CoreState) (account : List Telling)
-    (records : List ShownRecord) (left : List InputValue) (b : CoreState) : Type 0 where
-  pub runs : Drives a (inputs_of owed account) records b
-  pub owes : owed_after owed account ≡ left
-  pub in_turn : IsInTurn owed account
-  pub no_stop : HasNoStop owed account
+-- What a speaker has in hand between two tellings: the inputs that are owed, the octets of the last
+-- step that the wire hasn't taken, whether there is a connection, how many turns are left, and the
+-- core.
+pub record Standing : Type 0 where
+  pub owed : List InputValue
+  pub unsent : List ℕ
+  pub connection : Connection
+  pub left : ℕ
+  pub core : CoreState
 
--- The same over a wire and a sink: the wire told the account, with so many reads, and the sink took
--- the text of the records.
-pub record Done {W C : Type 0}
-    (tells : W → W → List Telling → Type 0) (takes : C → C → List ℕ → Type 0)
-    (text : List ShownRecord → List ℕ)
-    (owed : List InputValue) (a : CoreState) (wire : W) (sink : C) (reads : ℕ)
-    (left : List InputValue) (b : CoreState) (wire' : W) (sink' : C) : Type 0 where
-  pub account : List Telling
-  pub records : List ShownRecord
-  pub told : tells wire wire' account
-  pub wrote : takes sink sink' (text records)
-  pub ran : Ran owed a account records left b
-  pub took : Took account (sent_in records) (is_resting b)
-  pub counts : reads_of account ≡ reads
+abbrev pub in_hand : List InputValue → List ℕ → Connection → ℕ → CoreState → Standing
+in_hand owed unsent connection left core = record {
+  owed = owed;
+  unsent = unsent;
+  connection = connection;
+  left = left;
+  core = core;
+}
 
--- An input was handed in, and what it made the core send went to the wire.
-pub record Handed {W C : Type 0}
-    (tells : W → W → List Telling → Type 0) (takes : C → C → List ℕ → Type 0)
-    (text : List ShownRecord → List ℕ) (input : InputValue)
-    (owed : List InputValue) (a : CoreState) (wire : W) (sink : C)
-    (b : CoreState) (wire' : W) (sink' : C) : Type 0 where
-  pub done : Done tells takes text (input ∷ owed) a wire sink 0 owed b wire' sink'
-  -- where the core rested, it still does, and nothing went to the wire
-  pub quiet : IsQuiet input → IsTrue (is_resting a) →
-      IsTrue (is_resting b) × IsCalm done.account × (taken_of done.account ≡ [])
-      × (sent_in done.records ≡ [])
+-- all inputs are handed in, and all octets written
+abbrev pub IsFree : Standing → Type 0
+IsFree s = (s.owed ≡ []) × (s.unsent ≡ [])
 
--- An input was handed in, its records were written, and these octets are to be sent.
-pub record Entered {W C : Type 0}
-    (tells : W → W → List Telling → Type 0) (takes : C → C → List ℕ → Type 0)
-    (text : List ShownRecord → List ℕ) (input : InputValue)
-    (a : CoreState) (wire : W) (sink : C) (octets : List ℕ)
-    (b : CoreState) (wire' : W) (sink' : C) : Type 0 where
-  pub second : ℕ
-  pub records : List ShownRecord
-  pub told : tells wire wire' (Clock second ∷ [])
-  pub wrote : takes sink sink' (text records)
-  pub chosen : Chooses a input second records b
-  pub sends : octets ≡ sent_in records
+-- The wire is asked to connect: once, when there is nothing else to do. Its answer is owed.
+pub record Connects (s : Standing) (answer : Bool) (e : Standing) : Type 0 where
+  pub free : IsFree s
+  pub once : s.connection ≡ NotAsked
+  pub goes : e ≡ record s {
+    owed = connect_input answer ∷ [];
+    connection = connection_after answer;
+  }
 
--- An input was handed in that sends nothing.
-pub record Noted {W C : Type 0}
-    (tells : W → W → List Telling → Type 0) (takes : C → C → List ℕ → Type 0)
-    (text : List ShownRecord → List ℕ) (input : InputValue)
-    (owed : List InputValue) (a : CoreState) (wire : W) (sink : C)
-    (b : CoreState) (wire' : W) (sink' : C) : Type 0 where
-  pub handed : Handed tells takes text input owed a wire sink b wire' sink'
-  pub calm : IsCalm handed.done.account
+-- how many octets a read has room for
+abbrev pub read_room : ℕ
+read_room = 4096
 
--- The wire was asked to connect, and what it answered was handed in.
-pub record Opened {W C : Type 0}
-    (tells : W → W → List Telling → Type 0) (takes : C → C → List ℕ → Type 0)
-    (text : List ShownRecord → List ℕ) (answer : Bool)
-    (a : CoreState) (wire : W) (sink : C) (b : CoreState) (wire' : W) (sink' : C) : Type 0 where
-  pub done : Done tells takes text [] a wire sink 0 [] b wire' sink'
-  pub after : List Telling
-  pub asks : done.account ≡ Asked answer ∷ after
+-- The wire is read: when there is nothing else to do, the core doesn't rest, and a turn is left,
+-- which it takes. The turn's inputs are owed.
+pub record Reads (s : Standing) (room : ℕ) (told : ReadTold) (e : Standing) : Type 0 where
+  pub free : IsFree s
+  pub stands : s.connection ≡ Stands
+  pub awake : IsFalse (is_resting s.core)
+  pub wide : room ≡ read_room
+  pub takes : s.left ≡ e.left + 1
+  pub goes : e ≡ record s { owed = turn_inputs told; left = e.left }
 
--- Inputs were handed in that send nothing.
-pub record Begun {W C : Type 0}
-    (tells : W → W → List Telling → Type 0) (takes : C → C → List ℕ → Type 0)
-    (text : List ShownRecord → List ℕ)
-    (owed : List InputValue) (a : CoreState) (wire : W) (sink : C)
-    (left : List InputValue) (b : CoreState) (wire' : W) (sink' : C) : Type 0 where
-  pub done : Done tells takes text owed a wire sink 0 left b wire' sink'
-  pub calm : IsCalm done.account
-
--- The inputs that the account makes were handed in, and among what the wire told is its answer to
--- being asked to connect.
-pub record Conversed {W C : Type 0}
-    (tells : W → W → List Telling → Type 0) (takes : C → C → List ℕ → Type 0)
-    (text : List ShownRecord → List ℕ)
-    (owed : List InputValue) (a : CoreState) (wire : W) (sink : C) (reads : ℕ)
-    (b : CoreState) (wire' : W) (sink' : C) : Type 0 where
-  pub done : Done tells takes text owed a wire sink reads [] b wire' sink'
-  pub before : List Telling
-  pub answer : Bool
-  pub after : List Telling
-  pub asks : done.account ≡ before ++ Asked answer ∷ after
-
--- The core is Idle and nothing more was done, or Stop was handed in.
-abbrev pub Closes : {W C : Type 0}
-    → (W → W → List Telling → Type 0) → (C → C → List ℕ → Type 0)
-    → (List ShownRecord → List ℕ) → CoreState → W → C → CoreState → W → C → Type 0
-Closes tells takes text a wire sink b wire' sink' =
-    (IsTrue (is_idle a) × (a ≡ b) × (wire ≡ wire') × (sink ≡ sink'))
-    ⊎ (IsFalse (is_idle a)
-    × Handed tells takes text Stop [] a wire sink b wire' sink')
-
--- What ends a talk: nothing where the core is Idle, else Stop was handed in.
-abbrev pub Stops : CoreState → List Telling → List ShownRecord → CoreState → Type 0
-Stops a account records b =
-    (IsTrue (is_idle a) × (account ≡ []) × (records ≡ []) × (a ≡ b))
-    ⊎ (IsFalse (is_idle a) × Ran (Stop ∷ []) a account records [] b)
-
--- What a speaker reports. No Stop was handed in before the closing one. Its turns are as many as
--- were asked for, or fewer where the core then rests; its routes are those before the closing Stop.
-pub record Reports (owed : List InputValue) (limit turns : ℕ) (routes : Routes)
-    (a : CoreState) (account : List Telling) (records : List ShownRecord) (b : CoreState)
+-- The first input that is owed is handed in at the second, when all octets of the last one were
+-- written. What the core shows is its choice, and what it sends is to be written.
+pub record Enters (s : Standing) (second : ℕ) (shown : List ShownRecord) (e : Standing)
     : Type 0 where
-  -- what was told and shown before the closing Stop, and then
-  pub talk : List Telling
-  pub closing : List Telling
-  pub told : account ≡ talk ++ closing
-  pub first : List ShownRecord
-  pub last : List ShownRecord
-  pub shown : records ≡ first ++ last
-  -- the core before it
-  pub middle : CoreState
-  pub talked : Ran owed a talk first [] middle
-  pub stops : Stops middle closing last b
-  pub most : turns ≤ limit
-  pub enough : (turns ≡ limit) ⊎ IsTrue (is_resting middle)
-  pub reported : routes ≡ middle.moment.session.routes
+  pub input : InputValue
+  pub rest : List InputValue
+  pub sent : s.unsent ≡ []
+  pub owed : s.owed ≡ input ∷ rest
+  pub chosen : Chooses s.core input second shown e.core
+  pub goes : e ≡ record s { owed = rest; unsent = sent_in shown; core = e.core }
 
--- What a speaker did that ended: the inputs that the account makes were handed in, its turns are
--- the reads that were told, and among what was told is the answer to being asked to connect.
-pub record Spoken {W C : Type 0}
-    (tells : W → W → List Telling → Type 0) (takes : C → C → List ℕ → Type 0)
-    (text : List ShownRecord → List ℕ)
-    (owed : List InputValue) (limit turns : ℕ) (routes : Routes)
-    (a : CoreState) (wire : W) (sink : C) (b : CoreState) (wire' : W) (sink' : C) : Type 0 where
-  pub account : List Telling
-  pub records : List ShownRecord
-  pub told : tells wire wire' account
-  pub wrote : takes sink sink' (text records)
-  pub runs : Drives a (inputs_of owed account) records b
-  pub in_turn : IsInTurn owed account
-  pub took : Took account (sent_in records) (is_resting b)
-  pub counts : reads_of account ≡ turns
-  pub before : List Telling
-  pub answer : Bool
-  pub after : List Telling
-  pub asks : account ≡ before ++ Asked answer ∷ after
-  pub reports : Reports owed limit turns routes a account records b
+-- the wire takes some of the octets that are to be written, the first ones
+pub record Writes (s : Standing) (octets : List ℕ) (e : Standing) : Type 0 where
+  pub stands : s.connection ≡ Stands
+  pub unsent : s.unsent ≡ octets ++ e.unsent
+  pub goes : e ≡ record s { unsent = e.unsent }
 
--- A fault cut it short: the inputs that were handed in are those that the wire made, or all but the
--- last of these, and a beginning of the text was written. What the wire took is a beginning of what
--- was sent in the records that were written in whole.
-pub record Cut {W C : Type 0}
-    (tells : W → W → List Telling → Type 0) (takes : C → C → List ℕ → Type 0)
-    (text : List ShownRecord → List ℕ)
-    (owed : List InputValue) (a : CoreState) (wire : W) (sink : C)
-    (b : CoreState) (wire' : W) (sink' : C) : Type 0 where
-  pub account : List Telling
-  pub records : List ShownRecord
-  pub handed : List (ℕ × InputValue)
-  pub more : List (ℕ × InputValue)
-  pub told : tells wire wire' account
-  pub in_turn : IsInTurn owed account
-  pub begins : inputs_of owed account ≡ handed ++ more
-  pub few : length more ≤ 1
-  pub runs : Drives a handed records b
-  pub wrote : TakesBeginning takes sink sink' (text records)
-  -- those that were written in whole, and the others
-  pub written : List ShownRecord
-  pub others : List ShownRecord
-  pub parts : records ≡ written ++ others
-  pub held : (started : List ℕ) × (wrote.taken ≡ text written ++ started)
-  pub sent : (unsent : List ℕ) × (sent_in written ≡ taken_of account ++ unsent)
+-- It takes none, though there are some: they are given up, and a failure is owed before all else.
+pub record Breaks (s : Standing) (e : Standing) : Type 0 where
+  pub stands : s.connection ≡ Stands
+  pub some : 0 < length s.unsent
+  pub goes : e ≡ record s { owed = Failed ∷ s.owed; unsent = [] }
 
--- A fault cut the handing in of an input short before anything went to the wire.
-pub record EnteringCut {W C : Type 0}
-    (tells : W → W → List Telling → Type 0) (takes : C → C → List ℕ → Type 0)
-    (text : List ShownRecord → List ℕ)
-    (owed : List InputValue) (a : CoreState) (wire : W) (sink : C)
-    (b : CoreState) (wire' : W) (sink' : C) : Type 0 where
-  pub cut : Cut tells takes text owed a wire sink b wire' sink'
-  pub still : taken_of cut.account ≡ []
+-- what a telling makes of what was in hand, and what the core shows on it
+abbrev pub Goes : Standing → Telling → List ShownRecord → Standing → Type 0
+Goes s (Asked answer) shown e = Connects s answer e × (shown ≡ [])
+Goes s (Read room told) shown e = Reads s room told e × (shown ≡ [])
+Goes s (Clock second) shown e = Enters s second shown e
+Goes s (Wrote []) shown e = Breaks s e × (shown ≡ [])
+Goes s (Wrote (octet ∷ octets)) shown e = Writes s (octet ∷ octets) e × (shown ≡ [])
 
--- A fault cut the handing in of an input short.
-pub record HandingCut {W C : Type 0}
-    (tells : W → W → List Telling → Type 0) (takes : C → C → List ℕ → Type 0)
-    (text : List ShownRecord → List ℕ) (input : InputValue)
-    (owed : List InputValue) (a : CoreState) (wire : W) (sink : C)
-    (b : CoreState) (wire' : W) (sink' : C) : Type 0 where
-  pub cut : Cut tells takes text (input ∷ owed) a wire sink b wire' sink'
-  -- where the core rested, nothing went to the wire
-  pub quiet : IsQuiet input → IsTrue (is_resting a) → taken_of cut.account ≡ []
+-- and an account of tellings, one after another
+abbrev pub Talks : Standing → List Telling → List ShownRecord → Standing → Type 0
+Talks s [] shown e = (shown ≡ []) × (e ≡ s)
+Talks s (told ∷ account) shown e =
+    (first : List ShownRecord) × (between : Standing) × (others : List ShownRecord)
+    × Goes s told first between × Talks between account others e × (shown ≡ first ++ others)
+
+-- Nothing is left to do: the wire was asked to connect, and the core rests, or no turn is left.
+pub record IsOver (s : Standing) : Type 0 where
+  pub free : IsFree s
+  pub asked : (answer : Bool) × (s.connection ≡ connection_after answer)
+  pub ends : IsTrue (is_resting s.core) ⊎ (s.left ≡ 0)
+
+-- at last Stop is owed, unless the core is Idle
+abbrev pub closing_owed : CoreState → List InputValue
+closing_owed core = if is_idle core then [] else Stop ∷ []
+
+-- what is in hand then: no turn is left, so that nothing follows but what the Stop makes
+abbrev pub closing_of : Standing → Standing
+closing_of s = record s { owed = closing_owed s.core; left = 0 }
+
+-- ---- over a wire and a sink
 
 -- the failures of a sink after a call: one more exactly where the capture can't be written
 abbrev pub faults_after : {X : Type 0} → ℕ → Result X SpeakFault → ℕ
@@ -224,26 +130,103 @@ faults_after count (Ok answer) = count
 faults_after count (Err Capture) = count + 1
 faults_after count (Err Memory) = count
 
--- What is told while octets are sent: whatever was owed still is, nothing is handed in, and all
--- writes took something; what was taken, and this rest, are the octets.
-pub record SentSoFar (account : List Telling) (octets rest : List ℕ) : Type 0 where
-  pub taken : octets ≡ taken_of account ++ rest
-  pub none : (owed : List InputValue) → inputs_of owed account ≡ []
-  pub owes : (owed : List InputValue) → owed_after owed account ≡ owed
-  pub in_turn : (owed : List InputValue) → IsInTurn owed account
-  pub no_stop : (owed : List InputValue) → HasNoStop owed account
-  pub calm : IsCalm account
-  pub reads : reads_of account ≡ 0
+module _ {W C : Type 0}
+    (tells : W → W → List Telling → Type 0) (takes : C → C → List ℕ → Type 0)
+    (text : List ShownRecord → List ℕ) where
+  -- The wire told an account, the speaker did what it asks for, and the sink took the text of what
+  -- the core showed.
+  pub record Went (s : Standing) (wire : W) (sink : C) (e : Standing) (wire' : W) (sink' : C)
+      : Type 0 where
+    pub account : List Telling
+    pub records : List ShownRecord
+    pub told : tells wire wire' account
+    pub talked : Talks s account records e
+    pub wrote : takes sink sink' (text records)
 
--- What is told of octets that are sent and aren't all taken: the same, and then a write that took
--- nothing, so that a failure is owed first.
-pub record Upset (account : List Telling) (octets : List ℕ) : Type 0 where
-  pub before : List Telling
-  pub rest : List ℕ
-  pub sent : SentSoFar before octets rest
-  pub some : 0 < length rest
-  pub ended : account ≡ before ++ Wrote [] ∷ []
+  -- Where memory is refused, nothing more was told, or the second of an input that was owed, which
+  -- the core didn't take; and nothing was written.
+  abbrev pub Refuses : Standing → W → C → W → C → Type 0
+  Refuses s wire sink wire' sink' =
+      (sink' ≡ sink) × ((wire' ≡ wire) ⊎ ((input : InputValue) × (rest : List InputValue)
+      × (second : ℕ) × (s.owed ≡ input ∷ rest) × (s.unsent ≡ [])
+      × tells wire wire' (Clock second ∷ [])))
+
+  -- Where the capture can't be written, the core took an input, and a beginning of the text of what
+  -- it showed on it was written; nothing of what it sent.
+  abbrev pub Spoils : Standing → W → C → W → C → Type 0
+  Spoils s wire sink wire' sink' =
+      (second : ℕ) × (records : List ShownRecord) × (e : Standing)
+      × tells wire wire' (Clock second ∷ []) × Goes s (Clock second) records e
+      × TakesBeginning takes sink sink' (text records)
+
+  abbrev pub StopsShort : SpeakFault → Standing → W → C → W → C → Type 0
+  StopsShort Memory s wire sink wire' sink' = Refuses s wire sink wire' sink'
+  StopsShort Capture s wire sink wire' sink' = Spoils s wire sink wire' sink'
+
+  -- A fault cut it short: so far all went well, and then it stopped.
+  pub record Cut (fault : SpeakFault) (s : Standing) (wire : W) (sink : C) (wire' : W) (sink' : C)
+      : Type 0 where
+    pub between : Standing
+    pub there : W
+    pub so_far : C
+    pub went : Went s wire sink between there so_far
+    pub short : StopsShort fault between there so_far wire' sink'
+
+  -- the same while it closes: until then all went well
+  pub record CutAtTheEnd (fault : SpeakFault) (s : Standing) (wire : W) (sink : C) (wire' : W)
+      (sink' : C) : Type 0 where
+    pub end : Standing
+    pub there : W
+    pub so_far : C
+    pub talked : Went s wire sink end there so_far
+    pub over : IsOver end
+    pub cut : Cut fault (closing_of end) there so_far wire' sink'
+
+  -- What a speaker did that gave up: its talk was cut short, or its closing.
+  abbrev pub GaveUp : SpeakFault → List InputValue → ℕ → CoreState → W → C → W → C → Type 0
+  GaveUp fault owed limit core wire sink wire' sink' =
+      Cut fault (in_hand owed [] NotAsked limit core) wire sink wire' sink'
+      ⊎ CutAtTheEnd fault (in_hand owed [] NotAsked limit core) wire sink wire' sink'
+
+  -- What a speaker did that ended: it talked until nothing was left to do, and closed. Its turns
+  -- are those that aren't left, its routes those before the closing.
+  pub record Spoken (owed : List InputValue) (limit turns : ℕ) (routes : Routes)
+      (core : CoreState) (wire : W) (sink : C) (wire' : W) (sink' : C) : Type 0 where
+    pub end : Standing
+    pub there : W
+    pub so_far : C
+    pub talked : Went (in_hand owed [] NotAsked limit core) wire sink end there so_far
+    pub over : IsOver end
+    pub closed : Standing
+    pub closes : Went (closing_of end) there so_far closed wire' sink'
+    pub free : IsFree closed
+    pub taken : turns + end.left ≡ limit
+    pub reported : routes ≡ end.core.moment.session.routes
+
+  -- An input was handed in, its records were written, and these octets are to be sent.
+  pub record Entered (input : InputValue) (a : CoreState) (wire : W) (sink : C) (octets : List ℕ)
+      (b : CoreState) (wire' : W) (sink' : C) : Type 0 where
+    pub second : ℕ
+    pub records : List ShownRecord
+    pub told : tells wire wire' (Clock second ∷ [])
+    pub wrote : takes sink sink' (text records)
+    pub chosen : Chooses a input second records b
+    pub sends : octets ≡ sent_in records
+
+-- Octets were sent: in whole where all is taken, else up to a failure that is owed now.
+abbrev pub owed_then : Bool → List InputValue → List InputValue
+owed_then true owed = owed
+owed_then false owed = Failed ∷ owed
 
 abbrev pub Sends : List Telling → List ℕ → Bool → Type 0
-Sends account octets true = SentSoFar account octets []
-Sends account octets false = Upset account octets
+Sends account octets all =
+    (owed : List InputValue) (left : ℕ) (core : CoreState)
+    → Talks (in_hand owed octets Stands left core) account []
+    (in_hand (owed_then all owed) [] Stands left core)
+
+-- so far these were taken, and this rest is to be sent
+abbrev pub SentSoFar : List Telling → List ℕ → List ℕ → Type 0
+SentSoFar account octets rest =
+    (owed : List InputValue) (left : ℕ) (core : CoreState)
+    → Talks (in_hand owed octets Stands left core) account []
+    (in_hand owed rest Stands left core)

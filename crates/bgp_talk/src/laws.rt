@@ -3,6 +3,9 @@
 ghost use Rattle.bgp_talk.specs.CoreFacts.{EachRecordIsShort, FailureBringsRest, RestGoesOn};
 ghost use Rattle.bgp_talk.specs.CoreFacts.{IdleKeepsPrefix, StartIsSilent};
 ghost use Rattle.bgp_talk.specs.MemWire.{TookWhatIsTold};
+ghost use Rattle.bgp_talk.specs.TalkLaws.{FailureStandsNext, InputsAreHandedIn, NoStopBeforeTheEnd};
+ghost use Rattle.bgp_talk.specs.TalkLaws.{NothingFollowsTheEnd, OctetsAreTaken, OctetsGoFirst};
+ghost use Rattle.bgp_talk.specs.TalkLaws.{ReadsHaveRoom, StopIsLast, TurnsAreReads};
 
 /// Whatever a core shows on an input fits the records of a capture: a message that it received or
 /// sent has at most 4096 octets (RFC 4271, 4.1), or 65535 where it offers extended messages
@@ -19,6 +22,31 @@ pub fn a_core_at_rest_is_quiet()
     ensures rest { RestGoesOn }
     ensures announce { IdleKeepsPrefix }
     ensures start { StartIsSilent }
+{}
+
+/// The inputs of a core that talks are just those that the wire's account makes, each at the second
+/// that was told for it. Stop is the last of them, after the talk is over, and where the core isn't
+/// Idle; right after a write that took nothing stands a failure.
+pub fn a_talk_hands_in_what_is_told()
+    ensures inputs { InputsAreHandedIn }
+    ensures before { NoStopBeforeTheEnd }
+    ensures stop { StopIsLast }
+    ensures failure { FailureStandsNext }
+{}
+
+/// What a core that talks sends is written before the wire is asked for anything else. The wire
+/// took a beginning of it, and all where no write failed or took nothing.
+pub fn a_talk_writes_what_is_sent()
+    ensures first { OctetsGoFirst }
+    ensures taken { OctetsAreTaken }
+{}
+
+/// The turns of a talk are the reads that were told, each with room for 4096 octets; none comes
+/// once the core rests, nor anything else.
+pub fn a_talk_reads_in_its_turns()
+    ensures turns { TurnsAreReads }
+    ensures room { ReadsHaveRoom }
+    ensures rest { NothingFollowsTheEnd }
 {}
 
 /// The octets that a wire in memory took are those that it tells of its writes, in order.

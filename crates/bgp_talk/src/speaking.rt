@@ -1,19 +1,18 @@
 //! A speaker over a connection.
 
-ghost use Rattle.std.specs.Prelude.{◌≡◌, ◌<◌, ◌^◌, OnErr, IfOk};
+ghost use Rattle.std.specs.Prelude.{◌≡◌, ◌<◌, ◌^◌, IfErr, IfOk};
 ghost use Rattle.bgp_prefix.specs.Address.{family_of};
-ghost use Rattle.bgp_speaker.specs.Core.{CoreState, fresh_core};
+ghost use Rattle.bgp_speaker.specs.Core.{fresh_core};
 ghost use Rattle.bgp_talk.specs.Account.{first_owed};
-ghost use Rattle.bgp_talk.specs.Talk.{Cut, Spoken, capture_of, faults_after};
+ghost use Rattle.bgp_talk.specs.Talk.{GaveUp, Spoken, capture_of, faults_after};
 ghost use Rattle.bgp_talk.specs.declared.wire.Connection.TheVariants.{NotAsked};
 
 use crate::fault::SpeakFault;
-use crate::talking::{close, converse};
+use crate::talking::Talk;
 use crate::wire::Wire;
 use bgp_open::Config;
 use bgp_prefix::Prefix;
 use bgp_rib::RibIn;
-use bgp_speaker::Core;
 use mrt::Sink;
 use std::alloc::{Allocator, Global};
 
@@ -35,11 +34,12 @@ pub struct Report<A: Allocator = Global> {
 /// then its octets to the wire. Where the wire doesn't take all of them, the core is told that the
 /// connection failed.
 ///
-/// So the inputs are just those that what the wire told makes, the sink took the capture of what
-/// the core shows on them, and the wire a beginning of the octets that it sent: all, where no write
-/// failed or took nothing. A fault cuts this short: a beginning of the capture was written, and
-/// what the wire took was sent in records that were written in whole. A failure of the wire is no
-/// fault, since the core is told of it.
+/// So the core is handed in just what the wire told, in its order, each input at the second asked
+/// for it; what it sends is written before anything else is asked; a read has room for 4096 octets,
+/// and none follows once the core rests; Stop is the last input, and a failure stands right after
+/// an input whose octets weren't all taken. The sink took the capture of what the core shows. A
+/// fault cuts this short: see [`SpeakFault`]. A failure of the wire is no fault, since the core is
+/// told of it.
 ///
 /// The wire wasn't asked to connect before, and both addresses are of one family.
 pub fn speak<A: Allocator + Copy, W: Wire, C: Sink>(
@@ -58,34 +58,30 @@ pub fn speak<A: Allocator + Copy, W: Wire, C: Sink>(
     requires fresh { W.connection wire.old ≡ NotAsked }
     requires wire_failures { W.failures wire.old < 2 ^ 63 }
     requires sink_failures { C.failures sink.old < 2 ^ 63 }
-    ensures ok { IfOk result (λ report. (end : CoreState) × Spoken W.tells C.takes
-        (capture_of config.now) (first_owed own.now passive) turns report.turns report.rib
-        (fresh_core (record {
+    ensures ok { IfOk result (λ report. Spoken W.tells C.takes (capture_of config.now)
+        (first_owed own.now passive) turns report.turns report.rib (fresh_core (record {
           config = config.now;
           next_hop4 = next_hop4;
           next_hop6 = next_hop6;
-        })) wire.old sink.old end wire.new sink.new) }
-    ensures err { OnErr result ((end : CoreState) × Cut W.tells C.takes (capture_of config.now)
-        (first_owed own.now passive)
-        (fresh_core (record {
+        })) wire.old sink.old wire.new sink.new) }
+    ensures err { IfErr result (λ fault. GaveUp W.tells C.takes (capture_of config.now) fault
+        (first_owed own.now passive) turns (fresh_core (record {
           config = config.now;
           next_hop4 = next_hop4;
           next_hop6 = next_hop6;
-        })) wire.old sink.old end wire.new sink.new) }
+        })) wire.old sink.old wire.new sink.new) }
 
     // It can't write the capture exactly where the sink failed.
     ensures sink_failures { C.failures sink.new ≡ faults_after (C.failures sink.old) result }
 {
-    let mut core = Core::new(alloc, config, next_hop4, next_hop6);
-    let count = match converse(config, &mut core, wire, sink, passive, own, turns) {
-        Ok(count) => count,
-        Err(fault) => return Err(fault),
-    };
-    let Ok(rib) = core.rib().copy() else {
+    let mut talk = Talk::new(alloc, config, next_hop4, next_hop6);
+    let left = talk.converse(wire, sink, own, passive, turns)?;
+    let Ok(rib) = talk.routes() else {
         return Err(SpeakFault::Memory);
     };
-    match close(config, &mut core, wire, sink) {
-        Ok(()) => Ok(Report { turns: count, rib }),
-        Err(fault) => Err(fault),
-    }
+    talk.close(wire, sink)?;
+    Ok(Report {
+        turns: turns - left,
+        rib,
+    })
 }

@@ -2,18 +2,18 @@
 //! shows to a capture.
 
 ghost use Rattle.std.specs.Prelude.{◌≡◌, ◌⊎◌, ℕ, ◌<◌, ◌≤◌, ◌+◌, List, [], ◌∷◌, OnOk, OnErr, IfOk};
-ghost use Rattle.std.specs.Prelude.{IsTrue, IsFalse, Bool, map};
+ghost use Rattle.std.specs.Prelude.{IfErr, IsTrue, IsFalse, Bool, map};
 ghost use Rattle.std.specs.List.{AllByRecursion};
 ghost use Rattle.bgp_prefix.specs.Address.{family_of};
 ghost use Rattle.bgp_prefix.specs.Shown.{ShownRecord};
 ghost use Rattle.bgp_speaker.specs.Choosing.{Chooses, sent_in};
-ghost use Rattle.bgp_speaker.specs.Core.{CoreState, InputValue, Failed, Stop, Tick};
+ghost use Rattle.bgp_speaker.specs.Core.{CoreState, InputValue, Failed, Tick, fresh_core};
 ghost use Rattle.bgp_speaker.specs.Shown.{input_value, shown_value};
-ghost use Rattle.bgp_talk.specs.Account.{Telling, first_owed};
-ghost use Rattle.bgp_talk.specs.CoreFacts.{IsShort, is_idle, is_resting};
-ghost use Rattle.bgp_talk.specs.Talk.{Begun, Closes, Cut, Done, Entered, EnteringCut, Handed};
-ghost use Rattle.bgp_talk.specs.Talk.{HandingCut, Noted, Opened, Sends};
-ghost use Rattle.bgp_talk.specs.Talk.{Conversed, capture_of, faults_after};
+ghost use Rattle.bgp_talk.specs.Account.{Telling, connection_after, first_owed};
+ghost use Rattle.bgp_talk.specs.CoreFacts.{IsQuiet, IsShort, is_idle, is_resting};
+ghost use Rattle.bgp_talk.specs.Talk.{Cut, Entered, Sends, Went};
+ghost use Rattle.bgp_talk.specs.Talk.{capture_of, closing_owed, faults_after, in_hand};
+ghost use Rattle.bgp_talk.specs.declared.wire.Connection.{Connection};
 ghost use Rattle.bgp_talk.specs.declared.wire.Connection.TheVariants.{NotAsked, Stands};
 ghost use Rattle.mrt.specs.Failures.{failures_after};
 ghost use Rattle.mrt.specs.Sink.{TakesBeginning};
@@ -24,37 +24,10 @@ use crate::wire::{ReadAnswer, Wire};
 use bgp_machine::Fsm;
 use bgp_open::Config;
 use bgp_prefix::Prefix;
+use bgp_rib::RibIn;
 use bgp_speaker::{Core, Input, Shown};
 use mrt::{Sink, write_record};
-use std::alloc::Allocator;
-
-/// Whether the core is Idle.
-fn idles<A: Allocator + Copy>(core: &Core<A>) -> bool
-    ensures { result ≡ is_idle core.now }
-{
-    match core.fsm() {
-        Fsm::Idle => true,
-        Fsm::Connect => false,
-        Fsm::Active => false,
-        Fsm::OpenSent => false,
-        Fsm::OpenConfirm => false,
-        Fsm::Established => false,
-    }
-}
-
-/// Whether the core is Idle or Active.
-fn rests<A: Allocator + Copy>(core: &Core<A>) -> bool
-    ensures { result ≡ is_resting core.now }
-{
-    match core.fsm() {
-        Fsm::Idle => true,
-        Fsm::Connect => false,
-        Fsm::Active => true,
-        Fsm::OpenSent => false,
-        Fsm::OpenConfirm => false,
-        Fsm::Established => false,
-    }
-}
+use std::alloc::{AllocError, Allocator};
 
 /// The same input, out of a loan of it.
 pub fn again<'a>(input: &Input<'a>) -> Input<'a>
@@ -129,409 +102,416 @@ fn send<W: Wire>(wire: &mut W, octets: &[u8]) -> bool
     true
 }
 
-/// Hands in an input at the wire's second and writes its records. Answers the octets to send.
-fn enter<A: Allocator + Copy, W: Wire, C: Sink>(
-    config: &Config,
-    core: &mut Core<A>,
-    wire: &mut W,
-    sink: &mut C,
-    input: &Input<'_>,
-) -> Result<Vec<u8, A>, SpeakFault>
-    requires families { family_of config.now.parts.session.peer
-        ≡ family_of config.now.parts.session.local }
-    requires config { core.old.speaker.config ≡ config.now }
-    requires failures { C.failures sink.old < u64.MAX }
-    ensures ok { IfOk result (λ octets. Entered W.tells C.takes
-        (capture_of config.now) (input_value input.now)
-        core.old wire.old sink.old octets.items core.new wire.new sink.new) }
-    ensures config { IfOk result (λ octets. core.new.speaker.config ≡ config.now) }
-    ensures err { OnErr result ((owed : List InputValue) → EnteringCut W.tells C.takes
-        (capture_of config.now)
-        (input_value input.now ∷ owed)
-        core.old wire.old sink.old core.new wire.new sink.new) }
-    ensures connection { W.connection wire.new ≡ W.connection wire.old }
-    ensures wire_failures { W.failures wire.new ≡ W.failures wire.old }
-    ensures sink_failures { C.failures sink.new ≡ faults_after (C.failures sink.old) result }
-{
-    each_record_is_short();
-    let second = wire.now();
-    let Ok(output) = core.step(again(input), second) else {
-        return Err(SpeakFault::Memory);
-    };
-    if write_records(config, sink, output.records.as_slice()).is_err() {
-        return Err(SpeakFault::Capture);
-    }
-    Ok(output.octets)
+/// A core that talks, and what it is configured to do.
+#[derive(Drop)]
+pub(crate) struct Talk<A: Allocator> {
+    config: Config,
+    core: Core<A>,
+    pub(crate) ghost families: { family_of config.parts.session.peer
+        ≡ family_of config.parts.session.local },
+    pub(crate) ghost configured: { core.speaker.config ≡ config },
 }
 
-/// Hands in an input, writes its records and then its octets to the wire; where the wire doesn't
-/// take them all, hands in a failure.
-fn hand_in<A: Allocator + Copy, W: Wire, C: Sink>(
-    config: &Config,
-    core: &mut Core<A>,
-    wire: &mut W,
-    sink: &mut C,
-    input: &Input<'_>,
-) -> Result<(), SpeakFault>
-    requires families { family_of config.now.parts.session.peer
-        ≡ family_of config.now.parts.session.local }
-    requires config { core.old.speaker.config ≡ config.now }
-    requires failures { C.failures sink.old < u64.MAX }
-    requires stands { W.connection wire.old ≡ Stands }
-    requires wire_failures { W.failures wire.old < u64.MAX }
-    ensures ok { OnOk result ((owed : List InputValue) → Handed W.tells C.takes
-        (capture_of config.now) (input_value input.now)
-        owed core.old wire.old sink.old core.new wire.new sink.new) }
-    ensures config { OnOk result (core.new.speaker.config ≡ config.now) }
-    ensures err { OnErr result ((owed : List InputValue) → HandingCut W.tells C.takes
-        (capture_of config.now) (input_value input.now)
-        owed core.old wire.old sink.old core.new wire.new sink.new) }
-    ensures stands { W.connection wire.new ≡ Stands }
-    ensures wire_failures { W.failures wire.new ≤ W.failures wire.old + 1 }
-    ensures steady { OnOk result (IsTrue (is_resting core.new)
-        ⊎ (W.failures wire.new ≡ W.failures wire.old)) }
-    ensures fails { input_value input.now ≡ Failed → OnOk result (IsTrue (is_resting core.new)) }
-    ensures sink_failures { C.failures sink.new ≡ faults_after (C.failures sink.old) result }
-{
-    let octets = match enter(config, core, wire, sink, input) {
-        Ok(octets) => octets,
-        Err(fault) => return Err(fault),
-    };
-    if send(wire, octets.as_slice()) {
-        return Ok(());
-    }
-    match enter(config, core, wire, sink, &Input::Failed) {
-        Ok(_) => Ok(()),
-        Err(fault) => Err(fault),
-    }
-}
-
-/// Reads the wire once, and hands in what came or that the connection failed.
-fn hear<A: Allocator + Copy, W: Wire, C: Sink>(
-    config: &Config,
-    core: &mut Core<A>,
-    wire: &mut W,
-    sink: &mut C,
-) -> Result<(), SpeakFault>
-    requires families { family_of config.now.parts.session.peer
-        ≡ family_of config.now.parts.session.local }
-    requires config { core.old.speaker.config ≡ config.now }
-    requires failures { C.failures sink.old < u64.MAX }
-    requires stands { W.connection wire.old ≡ Stands }
-    requires wire_failures { W.failures wire.old + 1 < u64.MAX }
-    ensures ok { OnOk result (Done W.tells C.takes
-        (capture_of config.now)
-        [] core.old wire.old sink.old 1 (Tick ∷ []) core.new wire.new sink.new) }
-    ensures config { OnOk result (core.new.speaker.config ≡ config.now) }
-    ensures err { OnErr result (Cut W.tells C.takes
-        (capture_of config.now)
-        [] core.old wire.old sink.old core.new wire.new sink.new) }
-    ensures stands { W.connection wire.new ≡ Stands }
-    ensures wire_failures { W.failures wire.new ≤ W.failures wire.old + 2 }
-    ensures steady { OnOk result (IsTrue (is_resting core.new)
-        ⊎ (W.failures wire.new ≡ W.failures wire.old)) }
-    ensures sink_failures { C.failures sink.new ≡ faults_after (C.failures sink.old) result }
-{
-    let mut buffer = [0; 4096];
-    match wire.read(&mut buffer) {
-        ReadAnswer::Bytes(count) => {
-            hand_in(config, core, wire, sink, &Input::Bytes(&buffer[..count]))
-        }
-        ReadAnswer::Nothing => Ok(()),
-        ReadAnswer::Closed => hand_in(config, core, wire, sink, &Input::Failed),
-        ReadAnswer::Failed => hand_in(config, core, wire, sink, &Input::Failed),
-    }
-}
-
-/// Takes a turn: reads the wire once, hands in what came, and a tick.
-fn turn<A: Allocator + Copy, W: Wire, C: Sink>(
-    config: &Config,
-    core: &mut Core<A>,
-    wire: &mut W,
-    sink: &mut C,
-) -> Result<(), SpeakFault>
-    requires families { family_of config.now.parts.session.peer
-        ≡ family_of config.now.parts.session.local }
-    requires config { core.old.speaker.config ≡ config.now }
-    requires failures { C.failures sink.old < u64.MAX }
-    requires stands { W.connection wire.old ≡ Stands }
-    requires wire_failures { W.failures wire.old + 2 < u64.MAX }
-    ensures ok { OnOk result (Done W.tells C.takes
-        (capture_of config.now)
-        [] core.old wire.old sink.old 1 [] core.new wire.new sink.new) }
-    ensures config { OnOk result (core.new.speaker.config ≡ config.now) }
-    ensures err { OnErr result (Cut W.tells C.takes
-        (capture_of config.now)
-        [] core.old wire.old sink.old core.new wire.new sink.new) }
-    ensures stands { W.connection wire.new ≡ Stands }
-    ensures wire_failures { W.failures wire.new ≤ W.failures wire.old + 3 }
-    ensures steady { OnOk result (IsTrue (is_resting core.new)
-        ⊎ (W.failures wire.new ≡ W.failures wire.old)) }
-    ensures sink_failures { C.failures sink.new ≡ faults_after (C.failures sink.old) result }
-{
-    match hear(config, core, wire, sink) {
-        Ok(()) => hand_in(config, core, wire, sink, &Input::Tick),
-        Err(fault) => Err(fault),
-    }
-}
-
-/// Takes turns until the core rests, at most so many, and answers how many.
-fn talk<A: Allocator + Copy, W: Wire, C: Sink>(
-    config: &Config,
-    core: &mut Core<A>,
-    wire: &mut W,
-    sink: &mut C,
-    turns: u64,
-) -> Result<u64, SpeakFault>
-    requires families { family_of config.now.parts.session.peer
-        ≡ family_of config.now.parts.session.local }
-    requires config { core.old.speaker.config ≡ config.now }
-    requires failures { C.failures sink.old < u64.MAX }
-    requires stands { W.connection wire.old ≡ Stands }
-    requires wire_failures { W.failures wire.old + 3 < u64.MAX }
-    ensures ok { IfOk result (λ count. Done W.tells C.takes
-        (capture_of config.now)
-        [] core.old wire.old sink.old count [] core.new wire.new sink.new) }
-    ensures most { IfOk result (λ count. count ≤ turns) }
-    ensures enough { IfOk result (λ count. (count ≡ turns) ⊎ IsTrue (is_resting core.new)) }
-    ensures config { IfOk result (λ count. core.new.speaker.config ≡ config.now) }
-    ensures err { OnErr result (Cut W.tells C.takes
-        (capture_of config.now)
-        [] core.old wire.old sink.old core.new wire.new sink.new) }
-    ensures stands { W.connection wire.new ≡ Stands }
-    ensures wire_failures { W.failures wire.new ≤ W.failures wire.old + 3 }
-    ensures sink_failures { C.failures sink.new ≡ faults_after (C.failures sink.old) result }
-{
-    let mut count = 0;
-    while count < turns {
-        if rests(core) {
-            return Ok(count);
-        }
-        match turn(config, core, wire, sink) {
-            Ok(()) => count += 1,
-            Err(fault) => return Err(fault),
+impl<A: Allocator + Copy> Talk<A> {
+    /// One that nothing happened to.
+    pub(crate) fn new(alloc: A, config: &Config, next_hop4: u32, next_hop6: u128) -> Talk<A>
+        requires { family_of config.now.parts.session.peer
+            ≡ family_of config.now.parts.session.local }
+        ensures config { result.config ≡ config.now }
+        ensures core { result.core ≡ fresh_core (record {
+          config = config.now;
+          next_hop4 = next_hop4;
+          next_hop6 = next_hop6;
+        }) }
+    {
+        Talk {
+            config: *config,
+            core: Core::new(alloc, config, next_hop4, next_hop6),
         }
     }
-    Ok(count)
-}
 
-/// Hands in an input that sends nothing.
-fn note<A: Allocator + Copy, W: Wire, C: Sink>(
-    config: &Config,
-    core: &mut Core<A>,
-    wire: &mut W,
-    sink: &mut C,
-    input: &Input<'_>,
-) -> Result<(), SpeakFault>
-    requires families { family_of config.now.parts.session.peer
-        ≡ family_of config.now.parts.session.local }
-    requires config { core.old.speaker.config ≡ config.now }
-    requires failures { C.failures sink.old < u64.MAX }
-    requires silent { (b : CoreState) (second : ℕ) (records : List ShownRecord)
-        → Chooses core.old (input_value input.now) second records b → sent_in records ≡ [] }
-    ensures ok { OnOk result ((owed : List InputValue) → Noted W.tells C.takes
-        (capture_of config.now)
-        (input_value input.now) owed core.old wire.old sink.old core.new wire.new sink.new) }
-    ensures config { OnOk result (core.new.speaker.config ≡ config.now) }
-    ensures err { OnErr result ((owed : List InputValue) → EnteringCut W.tells C.takes
-        (capture_of config.now)
-        (input_value input.now ∷ owed)
-        core.old wire.old sink.old core.new wire.new sink.new) }
-    ensures fails { input_value input.now ≡ Failed → OnOk result (IsTrue (is_resting core.new)) }
-    ensures chosen { OnOk result ((second : ℕ) × (records : List ShownRecord)
-        × Chooses core.old (input_value input.now) second records core.new) }
-    ensures connection { W.connection wire.new ≡ W.connection wire.old }
-    ensures wire_failures { W.failures wire.new ≡ W.failures wire.old }
-    ensures sink_failures { C.failures sink.new ≡ faults_after (C.failures sink.old) result }
-{
-    let _octets = match enter(config, core, wire, sink, input) {
-        Ok(octets) => octets,
-        Err(fault) => return Err(fault),
-    };
-    Ok(())
-}
-
-/// Asks the wire to connect, and hands in its answer, which it answers.
-fn open<A: Allocator + Copy, W: Wire, C: Sink>(
-    config: &Config,
-    core: &mut Core<A>,
-    wire: &mut W,
-    sink: &mut C,
-) -> Result<bool, SpeakFault>
-    requires families { family_of config.now.parts.session.peer
-        ≡ family_of config.now.parts.session.local }
-    requires config { core.old.speaker.config ≡ config.now }
-    requires failures { C.failures sink.old < u64.MAX }
-    requires fresh { W.connection wire.old ≡ NotAsked }
-    requires wire_failures { W.failures wire.old + 1 < u64.MAX }
-    ensures ok { IfOk result (λ answer. Opened W.tells C.takes
-        (capture_of config.now)
-        answer core.old wire.old sink.old core.new wire.new sink.new) }
-    ensures config { IfOk result (λ answer. core.new.speaker.config ≡ config.now) }
-    ensures err { OnErr result (Cut W.tells C.takes
-        (capture_of config.now)
-        [] core.old wire.old sink.old core.new wire.new sink.new) }
-    ensures stands { IfOk result (λ answer. IsTrue answer → W.connection wire.new ≡ Stands) }
-    ensures rests { IfOk result (λ answer. IsFalse answer → IsTrue (is_resting core.new)) }
-    ensures wire_failures { W.failures wire.new ≤ W.failures wire.old + 1 }
-    ensures sink_failures { C.failures sink.new ≡ faults_after (C.failures sink.old) result }
-{
-    match wire.connect() {
-        Ok(()) => match hand_in(config, core, wire, sink, &Input::Connected) {
-            Ok(()) => Ok(true),
-            Err(fault) => Err(fault),
-        },
-        Err(_) => match note(config, core, wire, sink, &Input::Failed) {
-            Ok(()) => Ok(false),
-            Err(fault) => Err(fault),
-        },
+    /// A copy of the routes that the peer announced, and of the families that are disabled.
+    pub(crate) fn routes(&self) -> Result<RibIn<A>, AllocError>
+        ensures { IfOk result (λ rib. rib ≡ self.now.core.moment.session.routes) }
+    {
+        self.core.rib().copy()
     }
-}
 
-/// Hands in an Announce for each prefix.
-fn introduce<A: Allocator + Copy, W: Wire, C: Sink>(
-    config: &Config,
-    core: &mut Core<A>,
-    wire: &mut W,
-    sink: &mut C,
-    own: &[Prefix],
-) -> Result<(), SpeakFault>
-    requires families { family_of config.now.parts.session.peer
-        ≡ family_of config.now.parts.session.local }
-    requires config { core.old.speaker.config ≡ config.now }
-    requires failures { C.failures sink.old < u64.MAX }
-    requires idle { IsTrue (is_idle core.old) }
-    ensures ok { OnOk result ((passive : Bool) → Begun W.tells C.takes
-        (capture_of config.now)
-        (first_owed own.now passive) core.old wire.old sink.old
-        (first_owed [] passive) core.new wire.new sink.new) }
-    ensures config { OnOk result (core.new.speaker.config ≡ config.now) }
-    ensures err { OnErr result ((passive : Bool) → Cut W.tells C.takes
-        (capture_of config.now)
-        (first_owed own.now passive)
-        core.old wire.old sink.old core.new wire.new sink.new) }
-    ensures idle { OnOk result (IsTrue (is_idle core.new)) }
-    ensures connection { W.connection wire.new ≡ W.connection wire.old }
-    ensures wire_failures { W.failures wire.new ≡ W.failures wire.old }
-    ensures sink_failures { C.failures sink.new ≡ faults_after (C.failures sink.old) result }
-{
-    let mut rest = own;
-    while let Some((first, behind)) = rest.split_first() {
-        match note(config, core, wire, sink, &Input::Announce(*first)) {
-            Ok(()) => rest = behind,
-            Err(fault) => return Err(fault),
+    /// Whether the core is Idle.
+    fn is_idle(&self) -> bool
+        ensures { result ≡ is_idle self.now.core }
+    {
+        match self.core.fsm() {
+            Fsm::Idle => true,
+            Fsm::Connect => false,
+            Fsm::Active => false,
+            Fsm::OpenSent => false,
+            Fsm::OpenConfirm => false,
+            Fsm::Established => false,
         }
     }
-    Ok(())
-}
 
-/// Hands in an Announce for each prefix, and the start.
-fn begin<A: Allocator + Copy, W: Wire, C: Sink>(
-    config: &Config,
-    core: &mut Core<A>,
-    wire: &mut W,
-    sink: &mut C,
-    own: &[Prefix],
-    passive: bool,
-) -> Result<(), SpeakFault>
-    requires families { family_of config.now.parts.session.peer
-        ≡ family_of config.now.parts.session.local }
-    requires config { core.old.speaker.config ≡ config.now }
-    requires failures { C.failures sink.old < u64.MAX }
-    requires idle { IsTrue (is_idle core.old) }
-    ensures ok { OnOk result (Begun W.tells C.takes
-        (capture_of config.now)
-        (first_owed own.now passive) core.old wire.old sink.old
-        [] core.new wire.new sink.new) }
-    ensures config { OnOk result (core.new.speaker.config ≡ config.now) }
-    ensures err { OnErr result (Cut W.tells C.takes
-        (capture_of config.now)
-        (first_owed own.now passive)
-        core.old wire.old sink.old core.new wire.new sink.new) }
-    ensures connection { W.connection wire.new ≡ W.connection wire.old }
-    ensures wire_failures { W.failures wire.new ≡ W.failures wire.old }
-    ensures sink_failures { C.failures sink.new ≡ faults_after (C.failures sink.old) result }
-{
-    match introduce(config, core, wire, sink, own) {
-        Ok(()) => {}
-        Err(fault) => return Err(fault),
+    /// Whether the core is Idle or Active.
+    fn rests(&self) -> bool
+        ensures { result ≡ is_resting self.now.core }
+    {
+        match self.core.fsm() {
+            Fsm::Idle => true,
+            Fsm::Connect => false,
+            Fsm::Active => true,
+            Fsm::OpenSent => false,
+            Fsm::OpenConfirm => false,
+            Fsm::Established => false,
+        }
     }
-    if passive {
-        return note(config, core, wire, sink, &Input::Passive);
-    }
-    note(config, core, wire, sink, &Input::Start)
-}
 
-/// Hands in Stop, unless the core is Idle.
-pub(crate) fn close<A: Allocator + Copy, W: Wire, C: Sink>(
-    config: &Config,
-    core: &mut Core<A>,
-    wire: &mut W,
-    sink: &mut C,
-) -> Result<(), SpeakFault>
-    requires families { family_of config.now.parts.session.peer
-        ≡ family_of config.now.parts.session.local }
-    requires config { core.old.speaker.config ≡ config.now }
-    requires failures { C.failures sink.old < u64.MAX }
-    requires wire_failures { W.failures wire.old < u64.MAX }
-    requires ready { IsTrue (is_resting core.old) ⊎ (W.connection wire.old ≡ Stands) }
-    ensures ok { OnOk result (Closes W.tells C.takes (capture_of config.now)
-        core.old wire.old sink.old core.new wire.new sink.new) }
-    ensures err { OnErr result (HandingCut W.tells C.takes (capture_of config.now) Stop []
-        core.old wire.old sink.old core.new wire.new sink.new) }
-    ensures sink_failures { C.failures sink.new ≡ faults_after (C.failures sink.old) result }
-{
-    if idles(core) {
-        return Ok(());
+    /// Hands in an input at the wire's second and writes its records. Answers the octets to send.
+    fn enter<W: Wire, C: Sink>(
+        &mut self,
+        wire: &mut W,
+        sink: &mut C,
+        input: &Input<'_>,
+    ) -> Result<Vec<u8, A>, SpeakFault>
+        requires failures { C.failures sink.old < u64.MAX }
+        ensures ok { IfOk result (λ octets. Entered W.tells C.takes (capture_of self.old.config)
+            (input_value input.now) self.old.core wire.old sink.old
+            octets.items self.new.core wire.new sink.new) }
+        ensures err { IfErr result (λ fault.
+            (owed : List InputValue) (connection : Connection) (left : ℕ)
+            → Cut W.tells C.takes (capture_of self.old.config) fault
+            (in_hand (input_value input.now ∷ owed) [] connection left self.old.core)
+            wire.old sink.old wire.new sink.new) }
+        ensures config { self.new.config ≡ self.old.config }
+        ensures connection { W.connection wire.new ≡ W.connection wire.old }
+        ensures wire_failures { W.failures wire.new ≡ W.failures wire.old }
+        ensures sink_failures { C.failures sink.new ≡ faults_after (C.failures sink.old) result }
+    {
+        each_record_is_short();
+        let second = wire.now();
+        let Ok(output) = self.core.step(again(input), second) else {
+            return Err(SpeakFault::Memory);
+        };
+        if write_records(&self.config, sink, output.records.as_slice()).is_err() {
+            return Err(SpeakFault::Capture);
+        }
+        Ok(output.octets)
     }
-    if rests(core) {
-        return note(config, core, wire, sink, &Input::Stop);
-    }
-    hand_in(config, core, wire, sink, &Input::Stop)
-}
 
-/// Announces the prefixes, starts, connects, and takes turns until the core rests, at most so many.
-/// Answers how many.
-pub(crate) fn converse<A: Allocator + Copy, W: Wire, C: Sink>(
-    config: &Config,
-    core: &mut Core<A>,
-    wire: &mut W,
-    sink: &mut C,
-    passive: bool,
-    own: &[Prefix],
-    turns: u64,
-) -> Result<u64, SpeakFault>
-    requires families { family_of config.now.parts.session.peer
-        ≡ family_of config.now.parts.session.local }
-    requires config { core.old.speaker.config ≡ config.now }
-    requires failures { C.failures sink.old < u64.MAX }
-    requires idle { IsTrue (is_idle core.old) }
-    requires fresh { W.connection wire.old ≡ NotAsked }
-    requires wire_failures { W.failures wire.old + 4 < u64.MAX }
-    ensures ok { IfOk result (λ count. Conversed W.tells C.takes (capture_of config.now)
-        (first_owed own.now passive) core.old wire.old sink.old
-        count core.new wire.new sink.new) }
-    ensures most { IfOk result (λ count. count ≤ turns) }
-    ensures enough { IfOk result (λ count. (count ≡ turns) ⊎ IsTrue (is_resting core.new)) }
-    ensures config { IfOk result (λ count. core.new.speaker.config ≡ config.now) }
-    ensures err { OnErr result (Cut W.tells C.takes (capture_of config.now)
-        (first_owed own.now passive)
-        core.old wire.old sink.old core.new wire.new sink.new) }
-    ensures ready { OnOk result (IsTrue (is_resting core.new)
-        ⊎ (W.connection wire.new ≡ Stands)) }
-    ensures wire_failures { W.failures wire.new ≤ W.failures wire.old + 4 }
-    ensures sink_failures { C.failures sink.new ≡ faults_after (C.failures sink.old) result }
-{
-    match begin(config, core, wire, sink, own, passive) {
-        Ok(()) => {}
-        Err(fault) => return Err(fault),
+    /// Hands in an input that sends nothing.
+    fn enter_silent<W: Wire, C: Sink>(
+        &mut self,
+        wire: &mut W,
+        sink: &mut C,
+        input: &Input<'_>,
+    ) -> Result<(), SpeakFault>
+        requires failures { C.failures sink.old < u64.MAX }
+        requires silent { (b : CoreState) (second : ℕ) (records : List ShownRecord)
+            → Chooses self.old.core (input_value input.now) second records b
+            → sent_in records ≡ [] }
+        ensures ok { OnOk result ((owed : List InputValue) (connection : Connection) (left : ℕ)
+            → Went W.tells C.takes (capture_of self.old.config)
+            (in_hand (input_value input.now ∷ owed) [] connection left self.old.core)
+            wire.old sink.old
+            (in_hand owed [] connection left self.new.core) wire.new sink.new) }
+        ensures chosen { OnOk result ((second : ℕ) × (records : List ShownRecord)
+            × Chooses self.old.core (input_value input.now) second records self.new.core) }
+        ensures err { IfErr result (λ fault.
+            (owed : List InputValue) (connection : Connection) (left : ℕ)
+            → Cut W.tells C.takes (capture_of self.old.config) fault
+            (in_hand (input_value input.now ∷ owed) [] connection left self.old.core)
+            wire.old sink.old wire.new sink.new) }
+        ensures config { self.new.config ≡ self.old.config }
+        ensures connection { W.connection wire.new ≡ W.connection wire.old }
+        ensures wire_failures { W.failures wire.new ≡ W.failures wire.old }
+        ensures sink_failures { C.failures sink.new ≡ faults_after (C.failures sink.old) result }
+    {
+        let _octets = self.enter(wire, sink, input)?;
+        Ok(())
     }
-    let _stands = match open(config, core, wire, sink) {
-        Ok(stands) => stands,
-        Err(fault) => return Err(fault),
-    };
-    if rests(core) {
-        return Ok(0);
+
+    /// Hands in an input, writes its records and then its octets to the wire; where the wire
+    /// doesn't take them all, hands in a failure.
+    fn hand_in<W: Wire, C: Sink>(
+        &mut self,
+        wire: &mut W,
+        sink: &mut C,
+        input: &Input<'_>,
+    ) -> Result<(), SpeakFault>
+        requires failures { C.failures sink.old < u64.MAX }
+        requires stands { W.connection wire.old ≡ Stands }
+        requires wire_failures { W.failures wire.old < u64.MAX }
+        ensures ok { OnOk result ((owed : List InputValue) (left : ℕ)
+            → Went W.tells C.takes (capture_of self.old.config)
+            (in_hand (input_value input.now ∷ owed) [] Stands left self.old.core)
+            wire.old sink.old
+            (in_hand owed [] Stands left self.new.core) wire.new sink.new) }
+        ensures err { IfErr result (λ fault. (owed : List InputValue) (left : ℕ)
+            → Cut W.tells C.takes (capture_of self.old.config) fault
+            (in_hand (input_value input.now ∷ owed) [] Stands left self.old.core)
+            wire.old sink.old wire.new sink.new) }
+        ensures config { self.new.config ≡ self.old.config }
+        ensures stands { W.connection wire.new ≡ Stands }
+        ensures wire_failures { W.failures wire.new ≤ W.failures wire.old + 1 }
+        ensures steady { OnOk result (IsTrue (is_resting self.new.core)
+            ⊎ (W.failures wire.new ≡ W.failures wire.old)) }
+        ensures fails { input_value input.now ≡ Failed
+            → OnOk result (IsTrue (is_resting self.new.core)) }
+        ensures quiet { IsQuiet (input_value input.now) → IsTrue (is_resting self.old.core)
+            → OnOk result (IsTrue (is_resting self.new.core)) }
+        ensures sink_failures { C.failures sink.new ≡ faults_after (C.failures sink.old) result }
+    {
+        let octets = self.enter(wire, sink, input)?;
+        if send(wire, octets.as_slice()) {
+            return Ok(());
+        }
+        self.enter_silent(wire, sink, &Input::Failed)
     }
-    talk(config, core, wire, sink, turns)
+
+    /// Reads the wire once, and hands in what came or that the connection failed.
+    fn read_once<W: Wire, C: Sink>(&mut self, wire: &mut W, sink: &mut C) -> Result<(), SpeakFault>
+        requires failures { C.failures sink.old < u64.MAX }
+        requires stands { W.connection wire.old ≡ Stands }
+        requires wire_failures { W.failures wire.old + 1 < u64.MAX }
+        requires awake { IsFalse (is_resting self.old.core) }
+        ensures ok { OnOk result ((left : ℕ)
+            → Went W.tells C.takes (capture_of self.old.config)
+            (in_hand [] [] Stands (left + 1) self.old.core) wire.old sink.old
+            (in_hand (Tick ∷ []) [] Stands left self.new.core) wire.new sink.new) }
+        ensures err { IfErr result (λ fault. (left : ℕ)
+            → Cut W.tells C.takes (capture_of self.old.config) fault
+            (in_hand [] [] Stands (left + 1) self.old.core)
+            wire.old sink.old wire.new sink.new) }
+        ensures config { self.new.config ≡ self.old.config }
+        ensures stands { W.connection wire.new ≡ Stands }
+        ensures wire_failures { W.failures wire.new ≤ W.failures wire.old + 2 }
+        ensures steady { OnOk result (IsTrue (is_resting self.new.core)
+            ⊎ (W.failures wire.new ≡ W.failures wire.old)) }
+        ensures sink_failures { C.failures sink.new ≡ faults_after (C.failures sink.old) result }
+    {
+        let mut buffer = [0; 4096];
+        match wire.read(&mut buffer) {
+            ReadAnswer::Bytes(count) => {
+                self.hand_in(wire, sink, &Input::Bytes(&buffer[..count]))
+            }
+            ReadAnswer::Nothing => Ok(()),
+            ReadAnswer::Closed => self.hand_in(wire, sink, &Input::Failed),
+            ReadAnswer::Failed => self.hand_in(wire, sink, &Input::Failed),
+        }
+    }
+
+    /// Takes a turn: reads the wire once, hands in what came, and a tick.
+    fn take_turn<W: Wire, C: Sink>(&mut self, wire: &mut W, sink: &mut C) -> Result<(), SpeakFault>
+        requires failures { C.failures sink.old < u64.MAX }
+        requires stands { W.connection wire.old ≡ Stands }
+        requires wire_failures { W.failures wire.old + 2 < u64.MAX }
+        requires awake { IsFalse (is_resting self.old.core) }
+        ensures ok { OnOk result ((left : ℕ)
+            → Went W.tells C.takes (capture_of self.old.config)
+            (in_hand [] [] Stands (left + 1) self.old.core) wire.old sink.old
+            (in_hand [] [] Stands left self.new.core) wire.new sink.new) }
+        ensures err { IfErr result (λ fault. (left : ℕ)
+            → Cut W.tells C.takes (capture_of self.old.config) fault
+            (in_hand [] [] Stands (left + 1) self.old.core)
+            wire.old sink.old wire.new sink.new) }
+        ensures config { self.new.config ≡ self.old.config }
+        ensures stands { W.connection wire.new ≡ Stands }
+        ensures wire_failures { W.failures wire.new ≤ W.failures wire.old + 3 }
+        ensures steady { OnOk result (IsTrue (is_resting self.new.core)
+            ⊎ (W.failures wire.new ≡ W.failures wire.old)) }
+        ensures sink_failures { C.failures sink.new ≡ faults_after (C.failures sink.old) result }
+    {
+        self.read_once(wire, sink)?;
+        self.hand_in(wire, sink, &Input::Tick)
+    }
+
+    /// Takes turns until the core rests, at most so many, and answers how many are left.
+    fn take_turns<W: Wire, C: Sink>(
+        &mut self,
+        wire: &mut W,
+        sink: &mut C,
+        turns: u64,
+    ) -> Result<u64, SpeakFault>
+        requires failures { C.failures sink.old < u64.MAX }
+        requires stands { W.connection wire.old ≡ Stands }
+        requires wire_failures { W.failures wire.old + 3 < u64.MAX }
+        ensures ok { IfOk result (λ left. Went W.tells C.takes (capture_of self.old.config)
+            (in_hand [] [] Stands turns self.old.core) wire.old sink.old
+            (in_hand [] [] Stands left self.new.core) wire.new sink.new) }
+        ensures most { IfOk result (λ left. left ≤ turns) }
+        ensures ends { IfOk result (λ left. IsTrue (is_resting self.new.core) ⊎ (left ≡ 0)) }
+        ensures err { IfErr result (λ fault. Cut W.tells C.takes (capture_of self.old.config) fault
+            (in_hand [] [] Stands turns self.old.core)
+            wire.old sink.old wire.new sink.new) }
+        ensures config { self.new.config ≡ self.old.config }
+        ensures stands { W.connection wire.new ≡ Stands }
+        ensures wire_failures { W.failures wire.new ≤ W.failures wire.old + 3 }
+        ensures sink_failures { C.failures sink.new ≡ faults_after (C.failures sink.old) result }
+    {
+        let mut left = turns;
+        while left > 0 {
+            if self.rests() {
+                return Ok(left);
+            }
+            self.take_turn(wire, sink)?;
+            left -= 1;
+        }
+        Ok(left)
+    }
+
+    /// Asks the wire to connect, and hands in its answer.
+    fn open<W: Wire, C: Sink>(&mut self, wire: &mut W, sink: &mut C) -> Result<(), SpeakFault>
+        requires failures { C.failures sink.old < u64.MAX }
+        requires fresh { W.connection wire.old ≡ NotAsked }
+        requires wire_failures { W.failures wire.old + 1 < u64.MAX }
+        ensures ok { OnOk result ((left : ℕ)
+            → Went W.tells C.takes (capture_of self.old.config)
+            (in_hand [] [] NotAsked left self.old.core) wire.old sink.old
+            (in_hand [] [] (W.connection wire.new) left self.new.core) wire.new sink.new) }
+        ensures err { IfErr result (λ fault. (left : ℕ)
+            → Cut W.tells C.takes (capture_of self.old.config) fault
+            (in_hand [] [] NotAsked left self.old.core)
+            wire.old sink.old wire.new sink.new) }
+        ensures config { self.new.config ≡ self.old.config }
+        ensures asked { (answer : Bool) × (W.connection wire.new ≡ connection_after answer) }
+        ensures ready { OnOk result (IsTrue (is_resting self.new.core)
+            ⊎ (W.connection wire.new ≡ Stands)) }
+        ensures wire_failures { W.failures wire.new ≤ W.failures wire.old + 1 }
+        ensures sink_failures { C.failures sink.new ≡ faults_after (C.failures sink.old) result }
+    {
+        match wire.connect() {
+            Ok(()) => self.hand_in(wire, sink, &Input::Connected),
+            Err(_) => self.enter_silent(wire, sink, &Input::Failed),
+        }
+    }
+
+    /// Hands in an Announce for each prefix.
+    fn introduce<W: Wire, C: Sink>(
+        &mut self,
+        wire: &mut W,
+        sink: &mut C,
+        own: &[Prefix],
+    ) -> Result<(), SpeakFault>
+        requires failures { C.failures sink.old < u64.MAX }
+        requires idle { IsTrue (is_idle self.old.core) }
+        ensures ok { OnOk result ((passive : Bool) (connection : Connection) (left : ℕ)
+            → Went W.tells C.takes (capture_of self.old.config)
+            (in_hand (first_owed own.now passive) [] connection left self.old.core)
+            wire.old sink.old
+            (in_hand (first_owed [] passive) [] connection left self.new.core)
+            wire.new sink.new) }
+        ensures err { IfErr result (λ fault.
+            (passive : Bool) (connection : Connection) (left : ℕ)
+            → Cut W.tells C.takes (capture_of self.old.config) fault
+            (in_hand (first_owed own.now passive) [] connection left self.old.core)
+            wire.old sink.old wire.new sink.new) }
+        ensures config { self.new.config ≡ self.old.config }
+        ensures idle { OnOk result (IsTrue (is_idle self.new.core)) }
+        ensures connection { W.connection wire.new ≡ W.connection wire.old }
+        ensures wire_failures { W.failures wire.new ≡ W.failures wire.old }
+        ensures sink_failures { C.failures sink.new ≡ faults_after (C.failures sink.old) result }
+    {
+        let mut rest = own;
+        while let Some((first, behind)) = rest.split_first() {
+            self.enter_silent(wire, sink, &Input::Announce(*first))?;
+            rest = behind;
+        }
+        Ok(())
+    }
+
+    /// Hands in an Announce for each prefix, and the start.
+    fn begin<W: Wire, C: Sink>(
+        &mut self,
+        wire: &mut W,
+        sink: &mut C,
+        own: &[Prefix],
+        passive: bool,
+    ) -> Result<(), SpeakFault>
+        requires failures { C.failures sink.old < u64.MAX }
+        requires idle { IsTrue (is_idle self.old.core) }
+        ensures ok { OnOk result ((connection : Connection) (left : ℕ)
+            → Went W.tells C.takes (capture_of self.old.config)
+            (in_hand (first_owed own.now passive) [] connection left self.old.core)
+            wire.old sink.old
+            (in_hand [] [] connection left self.new.core) wire.new sink.new) }
+        ensures err { IfErr result (λ fault. (connection : Connection) (left : ℕ)
+            → Cut W.tells C.takes (capture_of self.old.config) fault
+            (in_hand (first_owed own.now passive) [] connection left self.old.core)
+            wire.old sink.old wire.new sink.new) }
+        ensures config { self.new.config ≡ self.old.config }
+        ensures connection { W.connection wire.new ≡ W.connection wire.old }
+        ensures wire_failures { W.failures wire.new ≡ W.failures wire.old }
+        ensures sink_failures { C.failures sink.new ≡ faults_after (C.failures sink.old) result }
+    {
+        self.introduce(wire, sink, own)?;
+        if passive {
+            return self.enter_silent(wire, sink, &Input::Passive);
+        }
+        self.enter_silent(wire, sink, &Input::Start)
+    }
+
+    /// Announces the prefixes, starts, connects, and takes turns until the core rests, at most so
+    /// many. Answers how many are left.
+    pub(crate) fn converse<W: Wire, C: Sink>(
+        &mut self,
+        wire: &mut W,
+        sink: &mut C,
+        own: &[Prefix],
+        passive: bool,
+        turns: u64,
+    ) -> Result<u64, SpeakFault>
+        requires failures { C.failures sink.old < u64.MAX }
+        requires idle { IsTrue (is_idle self.old.core) }
+        requires fresh { W.connection wire.old ≡ NotAsked }
+        requires wire_failures { W.failures wire.old + 4 < u64.MAX }
+        ensures ok { IfOk result (λ left. Went W.tells C.takes (capture_of self.old.config)
+            (in_hand (first_owed own.now passive) [] NotAsked turns self.old.core)
+            wire.old sink.old
+            (in_hand [] [] (W.connection wire.new) left self.new.core) wire.new sink.new) }
+        ensures most { IfOk result (λ left. left ≤ turns) }
+        ensures ends { IfOk result (λ left. IsTrue (is_resting self.new.core) ⊎ (left ≡ 0)) }
+        ensures asked { OnOk result ((answer : Bool)
+            × (W.connection wire.new ≡ connection_after answer)) }
+        ensures ready { OnOk result (IsTrue (is_resting self.new.core)
+            ⊎ (W.connection wire.new ≡ Stands)) }
+        ensures err { IfErr result (λ fault. Cut W.tells C.takes (capture_of self.old.config) fault
+            (in_hand (first_owed own.now passive) [] NotAsked turns self.old.core)
+            wire.old sink.old wire.new sink.new) }
+        ensures config { self.new.config ≡ self.old.config }
+        ensures wire_failures { W.failures wire.new ≤ W.failures wire.old + 4 }
+        ensures sink_failures { C.failures sink.new ≡ faults_after (C.failures sink.old) result }
+    {
+        self.begin(wire, sink, own, passive)?;
+        self.open(wire, sink)?;
+        if self.rests() {
+            return Ok(turns);
+        }
+        self.take_turns(wire, sink, turns)
+    }
+
+    /// Hands in Stop, unless the core is Idle.
+    pub(crate) fn close<W: Wire, C: Sink>(
+        &mut self,
+        wire: &mut W,
+        sink: &mut C,
+    ) -> Result<(), SpeakFault>
+        requires failures { C.failures sink.old < u64.MAX }
+        requires wire_failures { W.failures wire.old < u64.MAX }
+        requires ready { IsTrue (is_resting self.old.core) ⊎ (W.connection wire.old ≡ Stands) }
+        ensures ok { OnOk result (Went W.tells C.takes (capture_of self.old.config)
+            (in_hand (closing_owed self.old.core) [] (W.connection wire.old) 0 self.old.core)
+            wire.old sink.old
+            (in_hand [] [] (W.connection wire.old) 0 self.new.core) wire.new sink.new) }
+        ensures err { IfErr result (λ fault. Cut W.tells C.takes (capture_of self.old.config) fault
+            (in_hand (closing_owed self.old.core) [] (W.connection wire.old) 0 self.old.core)
+            wire.old sink.old wire.new sink.new) }
+        ensures sink_failures { C.failures sink.new ≡ faults_after (C.failures sink.old) result }
+    {
+        if self.is_idle() {
+            return Ok(());
+        }
+        if self.rests() {
+            return self.enter_silent(wire, sink, &Input::Stop);
+        }
+        self.hand_in(wire, sink, &Input::Stop)
+    }
 }

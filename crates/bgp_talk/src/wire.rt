@@ -64,7 +64,8 @@ pub trait Wire {
         requires stands { connection self.old ≡ Stands }
         requires failures { failures self.old < u64.MAX }
         ensures within { IsWithin result (length buffer.new) }
-        ensures told { tells self.old self.new (Read (read_told result buffer.new) ∷ []) }
+        ensures told { tells self.old self.new
+            (Read (length buffer.new) (read_told result buffer.new) ∷ []) }
         ensures connection { connection self.new ≡ connection self.old }
         ensures failures { failures self.new ≡ failures_after_read (failures self.old) result };
 

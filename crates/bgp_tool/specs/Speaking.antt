@@ -6,7 +6,7 @@ use Rattle.bgp_prefix.specs.Shown.{ShownRecord}
 use Rattle.bgp_rib.specs.Routes.{Routes}
 use Rattle.bgp_speaker.specs.Core.{CoreState, InputValue}
 use Rattle.bgp_talk.specs.Account.{Telling}
-use Rattle.bgp_talk.specs.Talk.{Cut, Spoken}
+use Rattle.bgp_talk.specs.Talk.{GaveUp, Spoken}
 use Rattle.bgp_talk.specs.declared.fault.SpeakFault.{SpeakFault}
 use Rattle.bgp_talk.specs.declared.fault.SpeakFault.TheVariants.{Capture, Memory}
 use Rattle.bgp_tool.specs.Answer.{IsWritten}
@@ -23,6 +23,11 @@ abbrev pub fault_status : SpeakFault → ℕ
 fault_status Capture = 5
 fault_status Memory = 4
 
+-- the failures of a capture's sink after it
+abbrev pub failures_by : SpeakFault → ℕ → ℕ
+failures_by Capture count = count + 1
+failures_by Memory count = count
+
 -- By what a wire, the sink of its capture and the sink of the report tell: what was to be done at
 -- first, in so many turns at most, from a core's state and theirs to theirs at the end.
 module _ {W C O : Type 0}
@@ -35,9 +40,7 @@ module _ {W C O : Type 0}
   pub record TellsReport : Type 0 where
     pub turns : ℕ
     pub routes : Routes
-    pub end : CoreState
-    pub spoken : Spoken tells takes text owed limit turns routes core wire capture
-        end wire' capture'
+    pub spoken : Spoken tells takes text owed limit turns routes core wire capture wire' capture'
     pub captured : capture_failures capture' ≡ capture_failures capture
     pub printed : IsWritten prints output_failures (report_text turns routes) 0
         output output' status
@@ -45,11 +48,11 @@ module _ {W C O : Type 0}
   -- The speaker was cut short, and nothing is told: its capture can't be written, or memory was
   -- refused.
   pub record GivesUp : Type 0 where
-    pub end : CoreState
-    pub cut : Cut tells takes text owed core wire capture end wire' capture'
+    pub fault : SpeakFault
+    pub cut : GaveUp tells takes text fault owed limit core wire capture wire' capture'
     pub silent : output' ≡ output
-    pub why : ((capture_failures capture' ≡ capture_failures capture + 1) × (status ≡ 5))
-        ⊎ ((capture_failures capture' ≡ capture_failures capture) × (status ≡ 4))
+    pub counted : capture_failures capture' ≡ failures_by fault (capture_failures capture)
+    pub named : status ≡ fault_status fault
 
   abbrev pub Speaks : Type 0
   Speaks = TellsReport ⊎ GivesUp

@@ -1,42 +1,58 @@
-use Rattle.std.proofs.Common.{◌∙◌, ap, subst}
+use Rattle.std.proofs.Common.{◌∙◌, ◌≡◌, ◌+◌, ◌-◌, [], ap, arith, inl, inr, refl}
 use Rattle.bgp_speaker.specs.Core.{CoreState}
 use Rattle.bgp_talk.specs.Account.{first_owed}
 use Rattle.bgp_talk.specs.CoreFacts.{is_idle}
-use Rattle.bgp_talk.specs.Talk.{Conversed, Cut, capture_of}
+use Rattle.bgp_talk.specs.Talk.{capture_of, in_hand}
+use Rattle.bgp_talk.specs.declared.wire.Connection.TheVariants.{NotAsked}
 use Rattle.bgp_talk.proofs.Accounts.{capture_joined}
-use Rattle.bgp_talk.proofs.Joining.{spoken, closing_cut, done_cut}
+use Rattle.bgp_talk.proofs.Joining.{cut_at_once, cut_by, cut_from, err_again, went_by, went_cut, went_from}
 use Rattle.bgp_talk.proofs.speaking.speak.Goals as goal
 
 pub converse-requires-clause-idle : goal.converse-requires-clause-idle
-converse-requires-clause-idle g c = ap is_idle c.new-core.ensures
+converse-requires-clause-idle g c = ap is_idle c.new-talk.ensures.core
 
-pub returns-in-Err-clause-err : goal.returns-in-Err-clause-err
-returns-in-Err-clause-err g c =
-    (c.converse.new.core, subst (λ (s : CoreState). Cut g.W.Wire.tells g.C.Sink.takes (capture_of c.args.config.now) (first_owed c.args.own.now c.args.passive) s c.args.wire.now c.args.sink.now c.converse.new.core c.converse.new.wire c.converse.new.sink) c.new-core.ensures c.in-Err.ensures.err)
+pub returns-in_err-left-clause-err : goal.returns-in_err-left-clause-err
+returns-in_err-left-clause-err g c =
+    err_again c.from_residual.result c.in_err-left.field-0.0 _ c.from_residual.ensures.1
+    (inl (cut_from (ap (λ (s : CoreState). in_hand (first_owed c.args.own.now c.args.passive) [] NotAsked c.args.turns s) c.new-talk.ensures.core)
+    (cut_by c.new-talk.ensures.config c.in_err-left.ensures.err)))
 
 pub returns-in_default-clause-err : goal.returns-in_default-clause-err
 returns-in_default-clause-err g c =
-    let conversed = subst (λ (s : CoreState). Conversed g.W.Wire.tells g.C.Sink.takes (capture_of c.args.config.now) (first_owed c.args.own.now c.args.passive) s c.args.wire.now c.args.sink.now c.in-Ok.count c.converse.new.core c.converse.new.wire c.converse.new.sink) c.new-core.ensures c.in-Ok.ensures.ok in (
-      c.converse.new.core,
-      done_cut g.W.Wire.tells g.C.Sink.takes (capture_of c.args.config.now)
-          g.met.W.Wire.joined g.met.C.Sink.joined (capture_joined c.args.config.now)
-          (first_owed c.args.own.now c.args.passive) _ _ _ _ _ _ _ conversed.done,
-    )
+    let conversed = went_from (ap (λ (s : CoreState). in_hand (first_owed c.args.own.now c.args.passive) [] NotAsked c.args.turns s) c.new-talk.ensures.core)
+    (went_by c.new-talk.ensures.config c.in_ok-left.ensures.ok) in
+    inl (went_cut g.W.Wire.tells g.C.Sink.takes (capture_of c.args.config.now) g.met.W.Wire.joined g.met.C.Sink.joined (capture_joined c.args.config.now) conversed
+    (cut_at_once g.W.Wire.tells g.C.Sink.takes (capture_of c.args.config.now) g.met.W.Wire.joined g.met.C.Sink.joined (capture_joined c.args.config.now)
+    (g.met.C.Sink.nothing c.converse.new.sink) (g.met.W.Wire.nothing c.converse.new.wire) (refl, inl refl)))
 
-pub returns-in-Ok-close-clause-ok : goal.returns-in-Ok-close-clause-ok
-returns-in-Ok-close-clause-ok g c =
-    let conversed = subst (λ (s : CoreState). Conversed g.W.Wire.tells g.C.Sink.takes (capture_of c.args.config.now) (first_owed c.args.own.now c.args.passive) s c.args.wire.now c.args.sink.now c.in-Ok.count c.converse.new.core c.converse.new.wire c.converse.new.sink) c.new-core.ensures c.in-Ok.ensures.ok in (
-      c.close.new.core,
-      spoken g.W.Wire.tells g.C.Sink.takes (capture_of c.args.config.now)
-          g.met.W.Wire.joined g.met.C.Sink.joined (capture_joined c.args.config.now)
-          (first_owed c.args.own.now c.args.passive) c.args.turns c.in-Ok.count _ _ _ _ _ _ _ _ _ _ conversed c.in-Ok-close.ensures.ok c.in-Ok.ensures.most c.in-Ok.ensures.enough (c.in-Ok-copy.ensures.copy ∙ c.rib.ensures),
-    )
+pub returns-in_err-close-clause-err : goal.returns-in_err-close-clause-err
+returns-in_err-close-clause-err g c =
+    let conversed = went_from (ap (λ (s : CoreState). in_hand (first_owed c.args.own.now c.args.passive) [] NotAsked c.args.turns s) c.new-talk.ensures.core)
+    (went_by c.new-talk.ensures.config c.in_ok-left.ensures.ok) in
+    err_again c.from_residual-in_err-close.result c.in_err-close.field-0.0 _ c.from_residual-in_err-close.ensures.1 (inr record {
+      end = in_hand [] [] (g.W.Wire.connection c.converse.new.wire) c.in_ok-left.left c.converse.new.self.core;
+      there = c.converse.new.wire;
+      so_far = c.converse.new.sink;
+      talked = conversed;
+      over = record { free = (refl, refl); asked = c.in_ok-left.ensures.asked; ends = c.in_ok-left.ensures.ends };
+      cut = cut_by (c.converse.ensures.config ∙ c.new-talk.ensures.config) c.in_err-close.ensures.err;
+    })
 
-pub returns-clause-err : goal.returns-clause-err
-returns-clause-err g c =
-    let conversed = subst (λ (s : CoreState). Conversed g.W.Wire.tells g.C.Sink.takes (capture_of c.args.config.now) (first_owed c.args.own.now c.args.passive) s c.args.wire.now c.args.sink.now c.in-Ok.count c.converse.new.core c.converse.new.wire c.converse.new.sink) c.new-core.ensures c.in-Ok.ensures.ok in (
-      c.close.new.core,
-      closing_cut g.W.Wire.tells g.C.Sink.takes (capture_of c.args.config.now)
-          g.met.W.Wire.joined g.met.C.Sink.joined (capture_joined c.args.config.now)
-          (first_owed c.args.own.now c.args.passive) _ _ _ _ _ _ _ _ _ _ conversed.done c.in-Err-close.ensures.err,
-    )
+pub returns-clause-ok : goal.returns-clause-ok
+returns-clause-ok g c =
+    let conversed = went_from (ap (λ (s : CoreState). in_hand (first_owed c.args.own.now c.args.passive) [] NotAsked c.args.turns s) c.new-talk.ensures.core)
+    (went_by c.new-talk.ensures.config c.in_ok-left.ensures.ok) in
+    let most = c.in_ok-left.ensures.most in
+    let taken : (c.args.turns - c.in_ok-left.left) + c.in_ok-left.left ≡ c.args.turns = omega (arith, most) in
+    record {
+      end = in_hand [] [] (g.W.Wire.connection c.converse.new.wire) c.in_ok-left.left c.converse.new.self.core;
+      there = c.converse.new.wire;
+      so_far = c.converse.new.sink;
+      talked = conversed;
+      over = record { free = (refl, refl); asked = c.in_ok-left.ensures.asked; ends = c.in_ok-left.ensures.ends };
+      closed = in_hand [] [] (g.W.Wire.connection c.converse.new.wire) 0 c.close.new.self.core;
+      closes = went_by (c.converse.ensures.config ∙ c.new-talk.ensures.config) c.in_ok-close.ensures.ok;
+      free = (refl, refl);
+      taken = taken;
+      reported = c.in-Ok.ensures;
+    }

@@ -9,7 +9,7 @@ returns-clause-told g c =
     let s = wire_state c.args.self.now in
     let room = length c.answer_read.new.buffer in (
       after_read s room,
-      (room, c.answer_read.ensures.answer, refl),
+      (c.answer_read.ensures.answer, refl),
       c.answer_read.ensures.state
           ∙ ap (λ n. record (after_read_place s) { failures = n }) (failures_are s.failures c.answer_read.result c.answer_read.new.buffer
           ∙ ap (λ (t : ReadTold). failures_told s.failures t) c.answer_read.ensures.answer),
