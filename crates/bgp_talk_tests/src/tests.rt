@@ -7,6 +7,8 @@
 //! judged yes by both trackers: the speaker is stopped at last, so all that it may end in is Idle,
 //! without routes.
 
+mod arising;
+mod extended;
 mod failing;
 mod hostile;
 mod memory;
@@ -122,11 +124,11 @@ fn put_parts(
     content: &[u8],
 ) -> Result<(), AllocError> {
     let [a, b, c, d] = second.to_be_bytes();
-    let [e, f] = u16::try_from(content.len())
+    let [e, f, g, h] = u32::try_from(content.len())
         .unwrap_or(0)
         .saturating_add(20)
         .to_be_bytes();
-    octets.extend_from_slice(&[a, b, c, d, 0, 16, 0, subtype, 0, 0, e, f])?;
+    octets.extend_from_slice(&[a, b, c, d, 0, 16, 0, subtype, e, f, g, h])?;
     octets.extend_from_slice(&ENDS)?;
     octets.extend_from_slice(content)
 }

@@ -106,7 +106,31 @@ fn a_session_is_opened_and_stopped(rt: HostRuntime) {
 }
 
 /// Other prefixes, a passive speaker, and fewer turns.
-static ROWS: [Row<'static>; 5] = [
+static ROWS: [Row<'static>; 6] = [
+    (
+        "a read of no octets is a turn",
+        Talk {
+            reads: &[MemRead::Bytes(&OPEN_B), MemRead::Bytes(&[])],
+            turns: 3,
+            ..TALK
+        },
+        Wanted {
+            records: &[
+                Change(1000, 1, 2),
+                Out(1000, &OPEN_A),
+                Change(1000, 2, 4),
+                In(1000, &OPEN_B),
+                Out(1000, &KEEPALIVE),
+                Change(1000, 4, 5),
+                Out(1000, &ADMINISTRATIVE_SHUTDOWN),
+                Change(1000, 5, 1),
+            ],
+            turns: 3,
+            routes: &[],
+            taken: 89,
+            ..WANTED
+        },
+    ),
     (
         "nothing is announced",
         Talk { own: &[], ..TALK },
