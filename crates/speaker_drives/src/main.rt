@@ -1,8 +1,8 @@
 //! Drives of a speaker's core, and talks of a speaker over a wire, whose records, octets, states
-//! and routes are known from elsewhere: `drives.txt` and `wires.txt` were made at random and
-//! answered by a program that was written apart from this one. What each shows is judged, too, by
-//! the plain tracker and by the compact one: yes, with the state and the routes of its end among
-//! the ends.
+//! and routes are known from elsewhere: `drives.txt`, `wires.txt` and `wires-clock.txt`, whose
+//! clock runs, were made at random and answered by a program that was written apart from this one.
+//! What each shows is judged, too, by the plain tracker and by the compact one: yes, with the state
+//! and the routes of its end among the ends.
 #![tactic(auto)]
 
 mod case;
@@ -22,6 +22,7 @@ use talk::is_talk;
 enum Table {
     Drives,
     Talks,
+    TalksByTheClock,
 }
 
 fn main(rt: HostRuntime) -> ExitCode {
@@ -39,7 +40,8 @@ fn main(rt: HostRuntime) -> ExitCode {
 fn compare_all<R: Files + Print + AllocGlobal>(rt: &R) -> io::Result<bool> {
     let drives = compare(rt, Table::Drives)?;
     let talks = compare(rt, Table::Talks)?;
-    Ok(drives && talks)
+    let by_the_clock = compare(rt, Table::TalksByTheClock)?;
+    Ok(drives && talks && by_the_clock)
 }
 
 /// Prints each block of a table that is not so, and then how many there were. Answers whether all
@@ -48,6 +50,7 @@ fn compare<R: Files + Print + AllocGlobal>(rt: &R, table: Table) -> io::Result<b
     let (file, name) = match table {
         Table::Drives => ("drives.txt", "drives"),
         Table::Talks => ("wires.txt", "talks"),
+        Table::TalksByTheClock => ("wires-clock.txt", "talks by the clock"),
     };
     let text = fs::read_to_string(rt, file)?;
     let mut count = 0u64;
@@ -71,6 +74,6 @@ fn compare<R: Files + Print + AllocGlobal>(rt: &R, table: Table) -> io::Result<b
 fn is_so(alloc: Global, table: Table, block: &str) -> io::Result<bool> {
     match table {
         Table::Drives => is_drive(alloc, block),
-        Table::Talks => is_talk(alloc, block),
+        Table::Talks | Table::TalksByTheClock => is_talk(alloc, block),
     }
 }

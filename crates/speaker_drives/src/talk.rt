@@ -1,8 +1,9 @@
 //! A talk of a speaker over a wire and what comes of it, told by a block of lines: `own` and the
 //! prefixes that are announced; `start` and `Start` or `Passive`; `turns` and at most how many;
-//! `clock` and the second; `connect` and `yes` or `no`; `read` and an answer of the wire;
-//! `fails-read` or `fails-write` and which one fails, counted from 1; `takes` and at most how many
-//! octets a write takes; `taken` and the octets that the wire took; `report turns` and how many.
+//! `clock` and its seconds, the last of which repeats; `connect` and `yes` or `no`; `read` and an
+//! answer of the wire; `fails-read` or `fails-write` and which one fails, counted from 1; `takes`
+//! and at most how many octets a write takes; `taken` and the octets that the wire took; `report
+//! turns` and how many.
 
 use crate::case::{are_routes, config_of, hops_of, is_line, line_of, malformed, pieces_of};
 use crate::judging::{end_text, is_judged};
@@ -22,7 +23,6 @@ struct Setting {
     hops: (u32, u128),
     passive: bool,
     turns: u64,
-    second: Seconds,
     most: NonZeroUsize,
     upset: (u64, WireUpset),
 }
@@ -46,8 +46,7 @@ fn upset_of(block: &str) -> (u64, WireUpset) {
 
 /// The setting.
 fn setting_of(block: &str) -> io::Result<Setting> {
-    let second = number_of(block, "clock").and_then(|second| Seconds::try_from(second).ok());
-    let (Some(turns), Some(second)) = (number_of(block, "turns"), second) else {
+    let Some(turns) = number_of(block, "turns") else {
         return Err(malformed());
     };
     let most = number_of(block, "takes").and_then(|count| NonZeroUsize::new(count as usize));
@@ -55,10 +54,21 @@ fn setting_of(block: &str) -> io::Result<Setting> {
         hops: hops_of(block)?,
         passive: line_of(block, "start") == Some("Passive"),
         turns,
-        second,
         most: most.unwrap_or(NonZeroUsize::MAX),
         upset: upset_of(block),
     })
+}
+
+/// The seconds that the wire tells.
+fn seconds_of(alloc: Global, block: &str) -> io::Result<Vec<Seconds>> {
+    let mut seconds = Vec::new(alloc);
+    for text in line_of(block, "clock").unwrap_or("").split(' ') {
+        match text.parse::<Seconds>() {
+            Ok(second) => seconds.push(second)?,
+            Err(_) => return Err(malformed()),
+        }
+    }
+    Ok(seconds)
 }
 
 /// The prefixes that are announced; a dash spells none.
@@ -143,14 +153,14 @@ fn is_told(
     setting: &Setting,
     own: &[Prefix],
     reads: &[MemRead<'_>],
+    seconds: &[Seconds],
 ) -> io::Result<bool> {
     let session = &config.parts.session;
     if session.peer.family() != session.local.family() {
         return Err(malformed());
     }
-    let seconds = [setting.second];
     let (call, upset) = setting.upset;
-    let mut wire = MemWire::new(alloc, reads, &seconds)
+    let mut wire = MemWire::new(alloc, reads, seconds)
         .in_pieces_of(setting.most)
         .upset_at(call, upset);
     let mut sink = MemSink::new(alloc);
@@ -177,6 +187,7 @@ pub(crate) fn is_talk(alloc: Global, block: &str) -> io::Result<bool> {
     let own = own_of(alloc, block)?;
     let pieces = pieces_of(alloc, block)?;
     let reads = reads_of(alloc, block, pieces.as_slice())?;
+    let seconds = seconds_of(alloc, block)?;
     is_told(
         alloc,
         &config,
@@ -184,5 +195,6 @@ pub(crate) fn is_talk(alloc: Global, block: &str) -> io::Result<bool> {
         &setting,
         own.as_slice(),
         reads.as_slice(),
+        seconds.as_slice(),
     )
 }
