@@ -4,6 +4,7 @@ mod Numbers
 mod Outcomes
 mod Puttings
 mod SomeRemarks
+mod Statuses
 mod Texts
 mod YesShown
 mod EntryLines

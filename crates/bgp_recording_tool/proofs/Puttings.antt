@@ -1,5 +1,5 @@
 -- What is put of connections one after another, and of a recording.
-use Rattle.std.proofs.Common.{◌≡◌, ◌∙◌, ◌++◌, ◌+◌, ℕ, suc, List, [], Some, Bool, refl, sym, ap, subst, inl, inr, append-nil, append_assoc, max, codes, arith}
+use Rattle.std.proofs.Common.{◌≡◌, ◌∙◌, ◌++◌, ◌+◌, ℕ, suc, List, [], Some, Bool, refl, sym, ap, subst, inl, inr, append-nil, append_assoc, ◌∷◌, codes, arith}
 use Rattle.packets.specs.Packet.{Recorded}
 use Rattle.streams.specs.Passed.{Segment}
 use Rattle.streams.specs.declared.connection.Opening.{Opening}
@@ -16,7 +16,8 @@ use Rattle.bgp_import.specs.declared.refusal.Refusal.{Refusal}
 use Rattle.bgp_recording_tool.specs.declared.remark.Remark.{Remark}
 use Rattle.bgp_recording_tool.specs.Connections.{AddsTold, IsTold, IsOpening, AreTold, HasSeveral, AllAreTold}
 use Rattle.bgp_recording_tool.specs.Judging.{Puts, TellsRecording}
-use Rattle.bgp_recording_tool.specs.Told.{Told, told_text, told_status, refused_status}
+use Rattle.bgp_recording_tool.specs.Told.{Told, told_text, told_status, refused_status, status_over}
+use Rattle.bgp_recording_tool.proofs.Statuses.{over_more}
 
 module _ {T : Type 0} {sink : sinks.Ghosts T} (law : Joins sink) (a b c : Lines T sink) (r s t : List Remark) where
   -- what was put tells another thing, too
@@ -36,7 +37,7 @@ module _ {T : Type 0} {sink : sinks.Ghosts T} (law : Joins sink) (a b c : Lines 
         → IsOpening config wanted packets segments (suc n) opening
         → AddsTold s t (IsTold config wanted packets segments (Some (suc n)) told)
         → Writes b c (opening_text config.parts.session opening ++ (codes "\n" ++ told_text told))
-        → status ≡ max before (told_status told)
+        → status ≡ status_over (before ∷ told_status told ∷ [])
         → Puts a c r t status (AreTold config wanted packets segments (suc n))
     one_more n before status opening told so_far opens adds wrote is = record {
       text = so_far.text ++ (opening_text config.parts.session opening ++ (codes "\n" ++ told_text told));
@@ -44,18 +45,22 @@ module _ {T : Type 0} {sink : sinks.Ghosts T} (law : Joins sink) (a b c : Lines 
       wrote = and_then law so_far.wrote wrote;
       added = adds.added ∙ ap (λ (x : List Remark). x ++ adds.own) so_far.added ∙ append_assoc r so_far.own adds.own;
       holds = record {
-        earlier = so_far.text;
-        least = before;
-        others = so_far.own;
-        before = so_far.holds;
-        opening = opening;
-        opens = opens;
-        told = told;
-        own = adds.own;
-        is_told = adds.is_told;
-        prints = refl;
-        tells = is;
-        remarked = refl;
+        statuses = told_status told ∷ so_far.holds.statuses;
+        each = record {
+          earlier = so_far.text;
+          before_it = so_far.holds.statuses;
+          others = so_far.own;
+          before = so_far.holds.each;
+          opening = opening;
+          opens = opens;
+          told = told;
+          own = adds.own;
+          is_told = adds.is_told;
+          prints = refl;
+          tells = refl;
+          remarked = refl;
+        };
+        tells = is ∙ ap (λ (n : ℕ). status_over (n ∷ told_status told ∷ [])) so_far.holds.tells ∙ sym (over_more (told_status told) so_far.holds.statuses);
       };
     }
 
@@ -64,7 +69,7 @@ module _ {T : Type 0} {sink : sinks.Ghosts T} (law : Joins sink) (a b c : Lines 
         → IsOpening config wanted packets segments number opening
         → AddsTold s t (IsTold config wanted packets segments (Some number) told)
         → Writes b c (opening_text config.parts.session opening ++ (codes "\n" ++ told_text told))
-        → status ≡ max before (told_status told)
+        → status ≡ status_over (before ∷ told_status told ∷ [])
         → Puts a c r t status (AreTold config wanted packets segments number)
     one_more_at n number before status opening told next so_far opens adds wrote is =
         (subst
@@ -97,7 +102,7 @@ none_put sink nothing a r config wanted packets segments = record {
   own = [];
   wrote = nothing_yet sink nothing a.outlet a.held.items;
   added = sym (append-nil r);
-  holds = (refl, refl, refl);
+  holds = record { statuses = []; each = (refl, refl, refl); tells = refl };
 }
 
 -- ---- a recording

@@ -1,6 +1,6 @@
 -- What judging tells of the connections of a session, in a recording that was read to its end.
 use Rattle.std.specs.Prelude.{◌≡◌, ◌<◌, ◌⊎◌, ◌++◌, ℕ, zero, suc, List, [], Option, None, Some}
-use Rattle.std.specs.Prelude.{length, reverse, max, codes, IsTrue}
+use Rattle.std.specs.Prelude.{length, reverse, codes, IsTrue, ◌∷◌}
 use Rattle.std.specs.List.{AllByRecursion}
 use Rattle.packets.specs.Packet.{Recorded}
 use Rattle.streams.specs.Choice.{IsAnswered, OpensAs, numbered_one}
@@ -22,6 +22,7 @@ use Rattle.bgp_import.specs.declared.refusal.Refusal.{Refusal}
 use Rattle.bgp_recording_tool.specs.declared.remark.Remark.{Remark}
 use Rattle.bgp_recording_tool.specs.Remarks.{remarks_on}
 use Rattle.bgp_recording_tool.specs.Told.{Told, Judged, Refused, told_text, told_status}
+use Rattle.bgp_recording_tool.specs.Told.{status_over}
 
 -- something was added to what is told of connections
 pub record AddsTold (old new : List Remark) (IsTold : List Remark → Type 0) : Type 0 where
@@ -29,23 +30,23 @@ pub record AddsTold (old new : List Remark) (IsTold : List Remark → Type 0) : 
   pub added : new ≡ old ++ own
   pub is_told : IsTold own
 
--- One connection more is told of, under its line: what was told before it stands before it, and the
--- status is the greater one.
-pub record HasOneMore (Before : List ℕ → ℕ → List Remark → Type 0)
+-- One connection more is told of, under its line: what was told before it stands before it. Its
+-- status comes first.
+pub record HasOneMore (Before : List ℕ → List ℕ → List Remark → Type 0)
     (IsOpening : Opening → Type 0) (IsTold : Told → List Remark → Type 0)
-    (line_of : Opening → List ℕ) (text : List ℕ) (status : ℕ) (remarks : List Remark)
+    (line_of : Opening → List ℕ) (text statuses : List ℕ) (remarks : List Remark)
     : Type 0 where
   pub earlier : List ℕ
-  pub least : ℕ
+  pub before_it : List ℕ
   pub others : List Remark
-  pub before : Before earlier least others
+  pub before : Before earlier before_it others
   pub opening : Opening
   pub opens : IsOpening opening
   pub told : Told
   pub own : List Remark
   pub is_told : IsTold told own
   pub prints : text ≡ earlier ++ (line_of opening ++ (codes "\n" ++ told_text told))
-  pub tells : status ≡ max least (told_status told)
+  pub tells : statuses ≡ told_status told ∷ before_it
   pub remarked : remarks ≡ others ++ own
 
 -- The session's packets have these segments, none of which is refused.
@@ -100,12 +101,19 @@ module _ (config : Config) (wanted : Import) (packets : List Recorded) (segments
         (opening.number ≡ number)
         × OpensAs (numbered_one (numbered (reverse segments)) number) opening
 
-    -- the first so many connections are told of, each from Idle on
-    abbrev pub AreTold : ℕ → List ℕ → ℕ → List Remark → Type 0
-    AreTold zero text status remarks = (text ≡ []) × (status ≡ 0) × (remarks ≡ [])
-    AreTold (suc count) text status remarks =
-        HasOneMore (AreTold count) (IsOpening (suc count)) (IsTold (Some (suc count)))
-        (opening_text config.parts.session) text status remarks
+    -- the first so many connections are told of, each from Idle on, with these statuses
+    abbrev pub AreEachTold : ℕ → List ℕ → List ℕ → List Remark → Type 0
+    AreEachTold zero text statuses remarks = (text ≡ []) × (statuses ≡ []) × (remarks ≡ [])
+    AreEachTold (suc count) text statuses remarks =
+        HasOneMore (AreEachTold count) (IsOpening (suc count)) (IsTold (Some (suc count)))
+        (opening_text config.parts.session) text statuses remarks
+
+    -- and this is the status over them
+    pub record AreTold (count : ℕ) (text : List ℕ) (status : ℕ) (remarks : List Remark) : Type 0
+      where
+        pub statuses : List ℕ
+        pub each : AreEachTold count text statuses remarks
+        pub tells : status ≡ status_over statuses
 
     -- none is named, and several hold octets
     abbrev pub HasSeveral : Type 0

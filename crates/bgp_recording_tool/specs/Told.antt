@@ -1,5 +1,6 @@
 -- What is answered of a connection in a recording, its text and its exit status.
-use Rattle.std.specs.Prelude.{ℕ, List, Result, Ok, Err}
+use Rattle.std.specs.Prelude.{ℕ, ◌≡◌, ◌||◌, List, [], ◌∷◌, Bool, true, false, cond, nat_eq}
+use Rattle.std.specs.Prelude.{Result, Ok, Err}
 use Rattle.bgp_judge.specs.Verdict.{VerdictValue, Yes, No, Unfinished, verdict_value}
 use Rattle.bgp_judge.specs.declared.verdict.Verdict.{Verdict}
 use Rattle.bgp_tool.specs.VerdictText.{yes_text, no_line, unfinished_line}
@@ -44,6 +45,36 @@ refused_status refusal = cause_status (cause_of refusal)
 abbrev pub told_status : Told → ℕ
 told_status (Judged verdict) = value_status verdict
 told_status (Refused refusal) = refused_status refusal
+
+-- ---- the exit status over several connections
+
+-- one of these statuses is this one
+abbrev pub has_status : List ℕ → ℕ → Bool
+has_status [] status = false
+has_status (s ∷ statuses) status = nat_eq s status || has_status statuses status
+
+-- the first of some statuses that is among others; 0 where none is
+abbrev pub first_among : List ℕ → List ℕ → ℕ
+first_among [] others = 0
+first_among (status ∷ more) others =
+    cond (has_status others status) status (first_among more others)
+
+-- The first of 5, 4, 1, 3, 2, 0 that one of the connections has. Where a device or memory failed,
+-- not all was judged; then a no is told, whatever is told of the others.
+abbrev pub status_over : List ℕ → ℕ
+status_over statuses = first_among (5 ∷ 4 ∷ 1 ∷ 3 ∷ 2 ∷ 0 ∷ []) statuses
+
+-- some connection is told no, and no device and no memory failed
+pub record IsNoAmong (statuses : List ℕ) : Type 0 where
+  pub no : has_status statuses 1 ≡ true
+  pub device : has_status statuses 5 ≡ false
+  pub memory : has_status statuses 4 ≡ false
+
+-- 1 is told exactly where some connection is told no, and no device and no memory failed
+abbrev pub NoIsTold : Type 0
+NoIsTold = (statuses : List ℕ) →
+    ((status_over statuses ≡ 1) → IsNoAmong statuses)
+    × (IsNoAmong statuses → status_over statuses ≡ 1)
 
 -- ---- what is told by an answer
 

@@ -1,6 +1,7 @@
 //! The page to show: what judging a recording promises, and what a yes is worth.
 
 ghost use Rattle.std.specs.Prelude.{◌<◌, ◌^◌};
+ghost use Rattle.bgp_recording_tool.specs.Told.{NoIsTold};
 ghost use Rattle.bgp_recording_tool.specs.Headline.{EachEndIsShown, ImportAndJudgeAgree};
 ghost use Rattle.bgp_recording_tool.specs.Judging.{JudgesRecording};
 
@@ -26,7 +27,8 @@ use std::alloc::Allocator;
 ///
 /// It judges the connection that is named, or the only one; where there are several and none is
 /// named, each, under a line that names it. It writes the text of each verdict, or `recording
-/// refused: NUMBER NAME at packet N`, and answers the greatest exit status of its connections:
+/// refused: NUMBER NAME at packet N`, and answers its exit status, of several the first of 5, 4, 1,
+/// 3, 2, 0 that one of them has ([`a_no_is_told`]):
 ///
 /// * 0: `yes`, and each possible end with its routes, and no other.
 /// * 1: `no at record N` of the made records; a remark tells the packet that shows the record.
@@ -105,3 +107,9 @@ pub fn import_and_judge_agree()
     made_records_are_read();
     records_have_just_one_verdict();
 }
+
+/// Law: over several connections the exit status is 1 exactly where one of them is told no, and no
+/// device and no memory failed. So a connection that is refused, or unfinished, hides no no.
+pub fn a_no_is_told()
+    ensures { NoIsTold }
+{}

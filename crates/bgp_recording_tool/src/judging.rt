@@ -1,6 +1,6 @@
 //! `bgp judge` of a recording.
 
-ghost use Rattle.std.specs.Prelude.{◌≡◌, ◌<◌, ◌⊎◌, ◌∷◌, [], List, length, reverse, max};
+ghost use Rattle.std.specs.Prelude.{◌≡◌, ◌<◌, ◌⊎◌, ◌∷◌, [], List, length, reverse};
 ghost use Rattle.packets.specs.Packet.{Recorded};
 ghost use Rattle.streams.specs.Connections.{numbered};
 ghost use Rattle.streams.specs.Passed.{Segment};
@@ -14,7 +14,7 @@ ghost use Rattle.bgp_recording_tool.specs.Judging.{TellsRecording, Puts};
 ghost use Rattle.bgp_recording_tool.specs.Options.{IsOneFamily};
 ghost use Rattle.bgp_judge.specs.Verdict.{verdict_value};
 ghost use Rattle.bgp_recording_tool.specs.Told.{refused_status, told_by, told_status, told_text};
-ghost use Rattle.bgp_recording_tool.specs.Told.{value_status};
+ghost use Rattle.bgp_recording_tool.specs.Told.{status_over, value_status};
 
 use crate::answering::answer_to;
 use crate::remark::{Remark, add_remarks};
@@ -46,14 +46,18 @@ pub(crate) fn status_of(refusal: Refusal) -> Status
     }
 }
 
-/// The greater of two exit statuses.
-fn greater(status: Status, other: Status) -> Status
-    ensures { code_of result ≡ max (code_of status) (code_of other) }
+/// The exit status over two connections: where a device or memory failed, not all was judged; then
+/// a no, which nothing told of the other hides.
+fn status_over(status: Status, other: Status) -> Status
+    ensures { code_of result ≡ status_over (code_of status ∷ code_of other ∷ []) }
 {
-    if status.code() < other.code() {
-        other
-    } else {
-        status
+    match (status, other) {
+        (Status::Device, _) | (_, Status::Device) => Status::Device,
+        (Status::Memory, _) | (_, Status::Memory) => Status::Memory,
+        (Status::No, _) | (_, Status::No) => Status::No,
+        (Status::Refused, _) | (_, Status::Refused) => Status::Refused,
+        (Status::Unfinished, _) | (_, Status::Unfinished) => Status::Unfinished,
+        _ => Status::Done,
     }
 }
 
@@ -89,8 +93,8 @@ fn put_told<A: Allocator, W: Sink>(
     }
 }
 
-/// Judges each connection that holds octets, under a line that names it, and answers the greatest
-/// exit status.
+/// Judges each connection that holds octets, under a line that names it, and answers the exit status
+/// over them.
 fn judge_each<A: Allocator + Copy, T: Tracker<A>, W: Sink>(
     alloc: A,
     config: &Config,
@@ -117,7 +121,7 @@ fn judge_each<A: Allocator + Copy, T: Tracker<A>, W: Sink>(
         put_opening(lines, &config.parts.session, opening);
         lines.put(b"\n");
         let answer = answer_to::<A, T>(alloc, config, import, gathered, Some(number), remarks);
-        status = greater(status, put_told(lines, &answer));
+        status = status_over(status, put_told(lines, &answer));
     }
     status
 }

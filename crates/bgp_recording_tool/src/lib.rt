@@ -26,7 +26,7 @@ mod verdict;
 pub use bgp_words::RecordingOptions;
 pub use decoding::decode_recording;
 pub use files::{FileOutcome, decode_file, judge_file};
-pub use headline::{each_end_is_shown, import_and_judge_agree, judge_recording};
+pub use headline::{a_no_is_told, each_end_is_shown, import_and_judge_agree, judge_recording};
 pub use judging::Judged;
 pub use options::import_of;
 pub use remark::Remark;

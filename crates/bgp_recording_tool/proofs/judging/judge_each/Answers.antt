@@ -1,10 +1,10 @@
-use Rattle.std.proofs.Common.{◌≡◌, ◌∙◌, ◌+◌, ℕ, length, reverse, max, ap, subst, add-one, arith}
+use Rattle.std.proofs.Common.{◌≡◌, ◌∙◌, ◌+◌, ℕ, length, reverse, [], ◌∷◌, ap, subst, add-one, arith}
 use Rattle.streams.specs.Connections.{numbered}
 use Rattle.bgp_tool.specs.Status.{code_of}
 use Rattle.bgp_text.proofs.Pieces.{Joins, and_then}
 use Rattle.bgp_recording_tool.specs.Connections.{AreTold}
 use Rattle.bgp_recording_tool.specs.Judging.{Puts}
-use Rattle.bgp_recording_tool.specs.Told.{told_by}
+use Rattle.bgp_recording_tool.specs.Told.{told_by, status_over}
 use Rattle.bgp_recording_tool.proofs.Puttings.{one_more_at}
 use Rattle.bgp_recording_tool.proofs.judging.judge_each.Goals as goal
 
@@ -12,11 +12,11 @@ pub loop-index-preserved : goal.loop-index-preserved
 loop-index-preserved g c = λ packets segments taken holds.
     let law : Joins g.W.Sink = record { joined = g.met.W.Sink.joined } in
     one_more_at law c.args.lines.now c.loop-index.lines c.put_told.new.lines c.args.remarks.now.items c.loop-index.remarks.items c.answer_to-answer.new.remarks.items
-    c.args.config.now c.args.import.now packets segments c.loop-index.index (c.loop-index.index + 1) (code_of c.loop-index.status) (code_of c.greater-status.result)
+    c.args.config.now c.args.import.now packets segments c.loop-index.index (c.loop-index.index + 1) (code_of c.loop-index.status) (code_of c.status_over-status.result)
     c.in-Some.opening (told_by c.answer_to-answer.result) (add-one c.loop-index.index) (c.loop-index.invariant packets segments taken holds)
     (c.in-Some.ensures (reverse segments) (length packets) holds) (c.answer_to-answer.ensures packets segments taken holds)
     (and_then law c.put_opening.ensures (and_then law c.put.ensures c.put_told.ensures.writes))
-    (c.greater-status.ensures ∙ ap (λ (n : ℕ). max (code_of c.loop-index.status) n) c.put_told.ensures.status)
+    (c.status_over-status.ensures ∙ ap (λ (n : ℕ). status_over (code_of c.loop-index.status ∷ n ∷ [])) c.put_told.ensures.status)
 
 pub returns : goal.returns
 returns g c = λ packets segments taken holds.
