@@ -116,6 +116,9 @@ class Spec:
                 self.words.setdefault('module', []).append(line)
                 in_head = not line.rstrip().endswith('where')
                 continue
+            if re.match(r'(?:unfoldable )?mutual\b', inner):
+                modules.append([indent, None])
+                continue
             if re.match(r'[A-Za-z_]', inner):
                 kind, name = re.match(
                     r'(?:abbrev |unfoldable )?(?:pub )?(record |data )?([^\s(:{]+)', inner).groups()
