@@ -1,6 +1,6 @@
 //! What a command over a recording answers, told as a case tells it.
 
-ghost use Rattle.std.specs.Prelude.{◌<◌, ◌^◌};
+ghost use Rattle.std.specs.Prelude.{◌<◌, ◌^◌, IfOk};
 ghost use Rattle.mrt.specs.MemSource.{source_state};
 
 use crate::case::{Case, malformed};
@@ -16,7 +16,9 @@ use std::io;
 use std::num::NonZeroUsize;
 
 /// A case's recording, which is read so many octets at a time at the most.
-fn source_of(alloc: Global, case: &Case<'_>, most: NonZeroUsize) -> io::Result<MemSource> {
+fn source_of(alloc: Global, case: &Case<'_>, most: NonZeroUsize) -> io::Result<MemSource>
+    ensures { IfOk result (λ source. source.failures < 2 ^ 63) }
+{
     let recording = Vec::from_slice(alloc, case.recording.as_slice())?;
     Ok(MemSource::new(recording).in_pieces_of(most))
 }
