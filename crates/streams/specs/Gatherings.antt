@@ -16,7 +16,8 @@ use Rattle.streams.specs.History.{start_of, piece_in}
 use Rattle.streams.specs.Refusals.{cut, first_fault, half_of, missing_of}
 use Rattle.streams.specs.Places.{shown_by_acknowledgment}
 use Rattle.streams.specs.Directions.{Holds, piece_faults, Adds, Acknowledges, half_in, missing_in}
-use Rattle.streams.specs.Connections.{opener_of, end_of_connection, has_octets, has_data, has_others}
+use Rattle.streams.specs.Connections.{opener_of, end_of_connection, has_octets, has_data}
+use Rattle.streams.specs.Connections.{has_others}
 use Rattle.streams.specs.Connections.{opener_by, end_by}
 
 -- both directions are held as they have to be

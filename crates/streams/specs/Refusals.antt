@@ -67,8 +67,8 @@ unfoldable pub first_fault : List Segment → Option Fault
 first_fault [] = None
 first_fault (s ∷ before) = option_or (first_fault before) (fault_at s before)
 
--- the refusal of half a connection, at the first packet that acknowledges what a side sent whose SYN
--- isn't in it: the peer's or the local system's
+-- the refusal of half a connection, at the first packet that acknowledges what a side sent whose
+-- SYN isn't in it: the peer's or the local system's
 abbrev pub half_of : Option ℕ → Option ℕ → Option Fault
 half_of None None = None
 half_of (Some packet) None = Some (faults.NoStart packet)

@@ -11,7 +11,8 @@ ghost use Rattle.streams.specs.Places.{after, shown_by_acknowledgment};
 ghost use Rattle.streams.specs.History.{piece_in, end_in};
 ghost use Rattle.streams.specs.Refusals.{other_fin, early_fin};
 ghost use Rattle.streams.specs.Sent.{shown_by_piece};
-ghost use Rattle.streams.specs.Directions.{piece_value, first_above, piece_faults, half_in, missing_in};
+ghost use Rattle.streams.specs.Directions.{piece_value, first_above, piece_faults, half_in};
+ghost use Rattle.streams.specs.Directions.{missing_in};
 ghost use Rattle.streams.specs.Directions.{Adds, Acknowledges, Holds};
 
 use crate::fault::Fault;
