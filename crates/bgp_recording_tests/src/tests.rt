@@ -1,5 +1,6 @@
 //! Connections by hand, packet by packet, and their records.
 
+mod endings;
 mod extended;
 mod memory;
 mod rows;
