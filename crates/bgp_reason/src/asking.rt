@@ -375,9 +375,15 @@ pub fn possible<A: Allocator + Copy, T: Tracker<A>>(
     state: Fsm,
     last: &[u8],
 ) -> Result<Possible, AllocError>
-    ensures { (records : List ShownRecord) → T.stands_for tracker.now config.now records
+    ensures exact { (records : List ShownRecord) → T.stands_for tracker.now config.now records
         → state ≡ (told records).fsm → last.now ≡ last_message records
         → IfOk result (ArePossible config.now records) }
+
+    // Each field by itself, also where no record is of its kind: no link is settled for an UPDATE,
+    // or no change may follow.
+    ensures each { (records : List ShownRecord) → T.stands_for tracker.now config.now records
+        → state ≡ (told records).fsm → last.now ≡ last_message records
+        → IfOk result (AreAsked config.now records) }
 {
     one_record_of_each_kind_tells_all();
     Ok(Possible {

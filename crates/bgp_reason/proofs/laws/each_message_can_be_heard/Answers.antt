@@ -1,13 +1,18 @@
 use Rattle.bgp_reason.proofs.Settling.{none_settled, some_settled}
 use Rattle.bgp_reason.proofs.laws.each_message_can_be_heard.Goals as goal
 
-pub returns-in-None : goal.returns-in-None
-returns-in-None g c = λ whole. record { header = whole; heard = c.hear.result; hears = c.hear.ensures; settled = λ e. none_settled c.args.link c.args.octets.now c.in-None.is }
-
-pub returns-in_ok-settle-in-Some : goal.returns-in_ok-settle-in-Some
-returns-in_ok-settle-in-Some g c = λ whole. record {
+pub returns-in-Some : goal.returns-in-Some
+returns-in-Some g c = λ whole none. c.settle.ensures (λ settled. none (record {
   header = whole;
-  heard = c.hear.result;
-  hears = c.hear.ensures;
-  settled = λ e. some_settled c.args.link c.in-Some.link c.args.octets.now c.in-Some.is c.in_ok-settle-in-Some.ensures;
-}
+  heard = c.hear-heard.result;
+  hears = c.hear-heard.ensures;
+  settled = λ e. some_settled c.args.link c.in-Some.link c.args.octets.now c.in-Some.is settled;
+}))
+
+pub returns-in_default : goal.returns-in_default
+returns-in_default g c = λ whole none. none (record {
+  header = whole;
+  heard = c.hear-heard.result;
+  hears = c.hear-heard.ensures;
+  settled = λ e. none_settled c.args.link c.args.octets.now c.in_default.is;
+})
