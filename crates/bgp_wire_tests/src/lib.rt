@@ -1,7 +1,10 @@
-//! Tests of `bgp_wire`: headers, frames and octets.
+//! Tests of `bgp_prefix`: prefixes and addresses as bits, octets and texts. And of `bgp_wire`:
+//! headers, frames and octets.
 //!
 //! They stand in a crate of their own, since a crate with tests is proved twice.
 #![tactic(auto)]
 
 #[cfg(test)]
-mod tests;
+mod prefix;
+#[cfg(test)]
+mod wire;
