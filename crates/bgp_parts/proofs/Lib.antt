@@ -1,0 +1,8 @@
+pub mod OwnOpen
+pub mod PossibleNotifications
+pub mod Walking
+pub mod MpFields
+pub mod FineUpdates
+pub mod QuietAttributes
+pub mod CleanUpdates
+pub mod Withdrawals

@@ -1,0 +1,6 @@
+pub mod OwnOpenParts
+pub mod NotificationWords
+pub mod NotificationParts
+pub mod AttributeFaults
+pub mod UpdateParts
+pub mod Withdrawal

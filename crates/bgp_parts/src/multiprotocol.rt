@@ -1,0 +1,94 @@
+//! Whether the values of MP_REACH_NLRI and MP_UNREACH_NLRI are right (RFC 4760, 3 and 4).
+//!
+//! ```text
+//! MP_REACH_NLRI    AFI 2 | SAFI 1 | next-hop length 1 | next hop | reserved 1 | NLRI
+//! MP_UNREACH_NLRI  AFI 2 | SAFI 1 | withdrawn prefixes
+//! ```
+
+ghost use Rattle.std.specs.Prelude.{◌≡◌, ◌≤◌, is_some, length};
+ghost use Rattle.bgp_update.specs.MpValue.{family_in, next_hop_in};
+ghost use Rattle.bgp_update.specs.MpValue.{reach_contents, unreach_contents};
+ghost use Rattle.bgp_update.specs.Prefixes.{prefixes_of};
+ghost use Rattle.bgp_parts.specs.AttributeFaults.{mp_contents};
+
+use bgp_attr::AttrType;
+use bgp_prefix::Family;
+use bgp_update::Prefixes;
+use byteorder::{BigEndian, ByteOrder};
+
+/// The Subsequent Address Family Identifier of unicast.
+const UNICAST: u8 = 1;
+
+/// The Attribute Type Code of MP_REACH_NLRI.
+const MP_REACH_NLRI: u8 = 14;
+
+/// The family that AFI and SAFI name: none where it is neither IPv4 nor IPv6 unicast.
+pub(crate) fn family_in(value: &[u8]) -> Option<Family>
+    requires { 3 ≤ length value.now }
+    ensures { result ≡ family_in value.now }
+{
+    if value[2] != UNICAST {
+        return None;
+    }
+    match BigEndian::read_u16(value) {
+        1 => Some(Family::V4),
+        2 => Some(Family::V6),
+        _ => None,
+    }
+}
+
+/// Whether the value of an MP attribute of this type and family is right.
+pub(crate) fn has_contents(attr_type: AttrType, family: Family, value: &[u8]) -> bool
+    requires { 3 ≤ length value.now }
+    ensures { result ≡ is_some (mp_contents attr_type family value.now) }
+{
+    if attr_type.row().number == MP_REACH_NLRI {
+        is_reach(family, value)
+    } else {
+        is_unreach(family, value)
+    }
+}
+
+/// Whether it is right for MP_REACH_NLRI.
+fn is_reach(family: Family, value: &[u8]) -> bool
+    ensures { result ≡ is_some (reach_contents family value.now) }
+{
+    if value.len() < 5 {
+        return false;
+    }
+    let hop_len = usize::from(value[3]);
+    let rest = value.split_at(4).1;
+    if rest.len() < hop_len + 1 {
+        return false;
+    }
+    let (hop, rest) = rest.split_at(hop_len);
+    if !is_next_hop(family, hop) {
+        return false;
+    }
+    are_prefixes(family, rest.split_at(1).1)
+}
+
+/// Whether it is right for MP_UNREACH_NLRI.
+fn is_unreach(family: Family, value: &[u8]) -> bool
+    requires { 3 ≤ length value.now }
+    ensures { result ≡ is_some (unreach_contents family value.now) }
+{
+    are_prefixes(family, value.split_at(3).1)
+}
+
+/// Whether a next hop has so many octets (RFC 4760, 3; RFC 2545, 3).
+fn is_next_hop(family: Family, octets: &[u8]) -> bool
+    ensures { result ≡ is_some (next_hop_in family octets.now) }
+{
+    match family {
+        Family::V4 => octets.len() == 4,
+        Family::V6 => octets.len() == 16 || octets.len() == 32,
+    }
+}
+
+/// Whether a field is a list of prefixes of the family.
+pub(crate) fn are_prefixes(family: Family, octets: &[u8]) -> bool
+    ensures { result ≡ is_some (prefixes_of family octets.now) }
+{
+    Prefixes::new(family, octets).is_some()
+}
