@@ -26,3 +26,5 @@ pub mod OpenMessages
 pub mod OwnConfigs
 pub mod Tuples
 pub mod WidestMade
+pub mod Told
+pub mod Answered

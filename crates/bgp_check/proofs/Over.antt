@@ -21,7 +21,7 @@ use Rattle.bgp_check.specs.Without.{AreWidest, AreWidestWithout, FaultsIt, Witho
 
 -- ---- fronts of records
 
-front_begins : (config : Config) (records : List ShownRecord) (n : ℕ) → Begins config records → Begins config (take n records)
+pub front_begins : (config : Config) (records : List ShownRecord) (n : ℕ) → Begins config records → Begins config (take n records)
 front_begins config records n b = (
   drop n records ++ b.0,
   b.1,
@@ -29,11 +29,11 @@ front_begins config records n b = (
       (sym (sym (append_assoc (take n records) (drop n records) b.0) ∙ ap (λ (v : List ShownRecord). v ++ b.0) (take-append-drop n records))) b.2,
 )
 
-shorter_begins : (config : Config) (records : List ShownRecord) (m n : ℕ) → m ≤ n → Begins config (take n records) → Begins config (take m records)
+pub shorter_begins : (config : Config) (records : List ShownRecord) (m n : ℕ) → m ≤ n → Begins config (take n records) → Begins config (take m records)
 shorter_begins config records m n le b =
     subst (λ (v : List ShownRecord). Begins config v) (take-take m n records le) (front_begins config (take n records) m b)
 
-complete_begins : (config : Config) (records : List ShownRecord) (e : End) → IsComplete config records e → Begins config records
+pub complete_begins : (config : Config) (records : List ShownRecord) (e : End) → IsComplete config records e → Begins config records
 complete_begins config records e c =
     ([], c.0, subst (λ (v : List ShownRecord). Run config fresh_state v c.0) (sym (append-nil records)) c.1)
 
@@ -77,7 +77,7 @@ each_also : {X : Type 0} (P Q : X → Type 0) → ((x : X) → P x → Q x) → 
 each_also P Q f [] each = tt
 each_also P Q f (x ∷ xs) each = (f x each.0, each_also P Q f xs each.1)
 
-first_end : (config : Config) (records : List ShownRecord) (ends : List End) → ends ≢ [] → Each (IsComplete config records) ends
+pub first_end : (config : Config) (records : List ShownRecord) (ends : List End) → ends ≢ [] → Each (IsComplete config records) ends
     → (e : End) × IsComplete config records e
 first_end config records [] some each = absurd (some refl)
 first_end config records (e ∷ ends) some each = (e, each.0)

@@ -15,3 +15,5 @@ pub mod OwnFaults
 pub mod Cut
 pub mod Ends
 pub mod Over
+pub mod Checked
+pub mod Answered

@@ -1,6 +1,8 @@
 //! Laws of runs under the configurations of one end, each on a function that does nothing.
 
 ghost use Rattle.bgp_check.specs.Another.{AnotherBegins, AnotherIsComplete};
+ghost use Rattle.bgp_check.specs.Answered.{FaultIsANo, NoConfigurationExplains};
+ghost use Rattle.bgp_check.specs.Checked.{ToldIsOverAll};
 ghost use Rattle.bgp_check.specs.Cut.{CutBegins, LeftEndsInIdle, StretchesBegin};
 ghost use Rattle.bgp_check.specs.Ends.{SameEnds, SameEndsWithout};
 ghost use Rattle.bgp_check.specs.Exist.{WidestExist, WidestExistWithout};
@@ -106,3 +108,25 @@ pub fn widest_configurations_make_the_verdict()
     widest_configurations_without_open_are_enough();
     widest_configurations_have_the_same_ends();
 }
+
+/// The verdict that [`check_records`](crate::check_records) answers, under the widest
+/// configurations of an end, is the one over all of that end's configurations.
+pub fn what_is_told_holds_over_all()
+    ensures { ToldIsOverAll }
+{
+    widest_configurations_make_the_verdict();
+}
+
+/// What is told of records with an OPEN that has an own fault is a no, at that OPEN at the latest:
+/// so it is over the widest configurations, which stand for those that it doesn't have.
+pub fn an_own_fault_is_a_no()
+    ensures { FaultIsANo }
+{
+    own_faults_are_all();
+}
+
+/// A no that [`check_end`](crate::check_end) answers says that no configuration under which the
+/// OPEN that was sent is the end's own has a run that shows these records.
+pub fn no_configuration_explains_a_no()
+    ensures { NoConfigurationExplains }
+{}

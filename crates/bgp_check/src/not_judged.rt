@@ -1,13 +1,14 @@
 //! Why an end of a session isn't judged.
 
-ghost use Rattle.std.specs.Prelude.{◌≡◌, ◌↔◌, ◌⊎◌, IsTrue, IfSome, Option, None, Some, map};
-ghost use Rattle.std.specs.Prelude.{option_map};
+ghost use Rattle.std.specs.Prelude.{◌≡◌, ◌↔◌, ◌⊎◌, IsTrue, IfSome, IfNone, Option, None, Some};
+ghost use Rattle.std.specs.Prelude.{map, option_map};
 ghost use Rattle.bgp_open.specs.Open.{OpenFields, open_of};
 ghost use Rattle.bgp_open.specs.OpenFault.{IsWellFormed};
 ghost use Rattle.mrt.specs.Reader.{shown_of};
 ghost use Rattle.bgp_check.specs.NotJudged.{HasExtendedLength, IsWhyNot, SendsSome, why_by_both};
 ghost use Rattle.bgp_check.specs.NotJudged.{why_by_opens, why_not, why_with};
-ghost use Rattle.bgp_check.specs.WidestOf.{AreTold};
+ghost use Rattle.bgp_check.specs.Opens.{HasOwnOpen, HasPeersOpen};
+ghost use Rattle.bgp_check.specs.WidestOf.{AreTold, OffersNone};
 
 use crate::add_path::paths_exchanged;
 use crate::fields::{Fields, read_fields};
@@ -130,13 +131,28 @@ fn first_reason(
     }
 }
 
+/// Why the local system of a stretch's records isn't judged that sent this OPEN, or none, and heard
+/// this one, or none.
+pub(crate) fn why_with_opens(
+    records: &[Record<'_>],
+    own: Option<&[u8]>,
+    peers: Option<&[u8]>,
+) -> Option<NotJudged>
+    requires own { HasOwnOpen (map shown_of records.now) (option_map (λ o. o.now) own) }
+    requires form { IfSome own (λ o. IsWellFormed o.now) }
+    requires peers { HasPeersOpen (map shown_of records.now)
+        (option_map (λ o. o.now) peers) }
+    ensures why { IsWhyNot (map shown_of records.now) result }
+    ensures family { IfNone result (¬ OffersNone (option_map (λ o. o.now) own.entry)) }
+{
+    let extended = have_extended_length(peers, whole_open(records));
+    first_reason(sends_some(records), extended, own, peers)
+}
+
 /// Why the local system of a stretch's records isn't judged, if it isn't: the first reason that
 /// holds, in the order of [`NotJudged`].
 pub fn why_not_judged(records: &[Record<'_>]) -> Option<NotJudged>
     ensures { IsWhyNot (map shown_of records.now) result }
 {
-    let own = own_open(records);
-    let peers = peers_open(records);
-    let extended = have_extended_length(peers, whole_open(records));
-    first_reason(sends_some(records), extended, own, peers)
+    why_with_opens(records, own_open(records), peers_open(records))
 }

@@ -1,0 +1,135 @@
+//! What is answered of an end of a session.
+
+ghost use Rattle.std.specs.Prelude.{◌≡◌, IfOk, IfSome, None, Option, map, option_map};
+ghost use Rattle.bgp_open.specs.Open.{OpenFields};
+ghost use Rattle.bgp_open.specs.OpenFault.{IsWellFormed};
+ghost use Rattle.bgp_judge.specs.Verdict.{verdict_value};
+ghost use Rattle.mrt.specs.Reader.{shown_of};
+ghost use Rattle.bgp_check.specs.Answered.{IsAnswerTo, IsJudged, answer_value, heard_as, number_of};
+ghost use Rattle.bgp_check.specs.Answered.{peer_as_by};
+ghost use Rattle.bgp_check.specs.NotJudged.{IsWhyNot};
+ghost use Rattle.bgp_check.specs.Opens.{HasOwnOpen, HasPeersOpen};
+ghost use Rattle.bgp_check.specs.WidestOf.{AreTold, OffersNone};
+
+use crate::checking::check_records;
+use crate::fields::read_fields;
+use crate::laws::{an_own_fault_is_a_no, what_is_told_holds_over_all, widest_settings_are_widest};
+use crate::not_judged::{NotJudged, why_with_opens};
+use crate::opens::{own_open, peers_open};
+use crate::peer_as::PeerAs;
+use crate::widest::{Widest, widest_of};
+use bgp_judge::{Tracker, Verdict};
+use bgp_prefix::Session;
+use mrt::Record;
+use std::alloc::{AllocError, Allocator, Global};
+
+/// The verdict on an end of a session, and for which settings it is told.
+#[derive(Drop)]
+pub struct Judged<A: Allocator = Global> {
+    /// The AS number that its OPEN tells, if it sent one.
+    pub as_number: Option<u32>,
+    /// The AS number that its peer has to have.
+    pub peer_as: PeerAs,
+    /// The verdict over all configurations under which the OPEN that it sent is its own.
+    pub verdict: Verdict<A>,
+}
+
+/// What is answered of an end of a session.
+#[derive(Drop)]
+pub enum Answer<A: Allocator = Global> {
+    /// It isn't judged.
+    NotJudged(NotJudged),
+    /// It is.
+    Judged(Judged<A>),
+}
+
+/// The AS number that an OPEN tells.
+fn number_of(own: Option<&[u8]>) -> Option<u32>
+    requires { IfSome own (λ o. IsWellFormed o.now) }
+    ensures { result ≡ number_of (option_map (λ o. o.now) own.entry) }
+{
+    match own {
+        Some(own) => Some(read_fields(own)?.as_to(true)),
+        None => None,
+    }
+}
+
+/// The AS number of the peer's OPEN, as the end hears it: 0 where no configuration can want it.
+fn heard_as(widest: &Widest) -> u32
+    ensures { result ≡ heard_as widest.now.wanting }
+{
+    match widest.wanting {
+        Some(wanting) => wanting.parts.peer_as,
+        None => 0,
+    }
+}
+
+/// Whether the fields of the peer's OPEN can be told, and for which AS number then.
+fn peer_as(wants_peers: bool, peers: Option<&[u8]>, number: u32) -> PeerAs
+    ensures { (told : Option OpenFields) → AreTold (option_map (λ o. o.now) peers.entry) told
+        → result ≡ peer_as_by wants_peers told number }
+{
+    let Some(peers) = peers else {
+        return PeerAs::Any;
+    };
+    match read_fields(peers) {
+        Some(_) if wants_peers => PeerAs::Is(number),
+        Some(_) => PeerAs::OtherThan(number),
+        None => PeerAs::Any,
+    }
+}
+
+/// Judges the records of an end that sent this OPEN, or none, and heard this one, or none.
+fn judge_end<A: Allocator + Copy, T: Tracker<A>>(
+    alloc: A,
+    session: &Session,
+    own: Option<&[u8]>,
+    peers: Option<&[u8]>,
+    records: &[Record<'_>],
+) -> Result<Judged<A>, AllocError>
+    requires own { HasOwnOpen (map shown_of records.now) (option_map (λ o. o.now) own) }
+    requires form { IfSome own (λ o. IsWellFormed o.now) }
+    requires peers { HasPeersOpen (map shown_of records.now)
+        (option_map (λ o. o.now) peers) }
+    requires none { IsWhyNot (map shown_of records.now) None }
+    requires family { ¬ OffersNone (option_map (λ o. o.now) own) }
+    ensures { IfOk result (λ judged. IsJudged session.now (map shown_of records.now)
+        judged.as_number judged.peer_as (verdict_value judged.verdict)) }
+{
+    widest_settings_are_widest();
+    what_is_told_holds_over_all();
+    an_own_fault_is_a_no();
+    let Some(widest) = widest_of(session, own, peers) else {
+        unreachable!();
+    };
+    let checked = check_records::<A, T>(alloc, &widest, records)?;
+    Ok(Judged {
+        as_number: number_of(own),
+        peer_as: peer_as(checked.wants_peers, peers, heard_as(&widest)),
+        verdict: checked.verdict,
+    })
+}
+
+/// What is answered of the local system of a session, by the records of a stretch of it: why it
+/// isn't judged; or the verdict over all configurations under which the OPEN that it sent is its
+/// own, and it is a no where that OPEN has an own fault. Of the session it takes the two addresses.
+///
+/// `AllocError` is answered where the tracker was refused memory, and then nothing else.
+pub fn check_end<A: Allocator + Copy, T: Tracker<A>>(
+    alloc: A,
+    session: &Session,
+    records: &[Record<'_>],
+) -> Result<Answer<A>, AllocError>
+    ensures { IfOk result (λ answer.
+        IsAnswerTo session.now (map shown_of records.now) (answer_value answer)) }
+{
+    let own = own_open(records);
+    let peers = peers_open(records);
+    match why_with_opens(records, own, peers) {
+        Some(why) => Ok(Answer::NotJudged(why)),
+        None => {
+            let judged = judge_end::<A, T>(alloc, session, own, peers, records)?;
+            Ok(Answer::Judged(judged))
+        }
+    }
+}

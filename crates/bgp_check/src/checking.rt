@@ -1,0 +1,78 @@
+//! The verdict on an end's records over all configurations under which its OPEN is its own.
+
+ghost use Rattle.std.specs.Prelude.{◌≡◌, ◌↔◌, IfOk, IsTrue, map};
+ghost use Rattle.mrt.specs.Reader.{shown_of};
+ghost use Rattle.bgp_judge.specs.Verdict.{verdict_value};
+ghost use Rattle.bgp_check.specs.Checked.{IsTold, IsYes, tells_other};
+
+use crate::widest::Widest;
+use bgp_judge::{Tracker, Verdict, judge_records};
+use mrt::Record;
+use std::alloc::{AllocError, Allocator, Global};
+
+/// What is answered of an end's records.
+#[derive(Drop)]
+pub struct Checked<A: Allocator = Global> {
+    /// The verdict over all configurations under which the end's OPEN is its own.
+    pub verdict: Verdict<A>,
+    /// Whether it is told under the configuration that wants the AS number of the peer's OPEN, or
+    /// else under the other one.
+    pub wants_peers: bool,
+}
+
+fn is_yes<A: Allocator>(verdict: &Verdict<A>) -> bool
+    ensures { IsTrue result ↔ IsYes (verdict_value verdict.now) }
+{
+    matches!(verdict, Verdict::Yes(_))
+}
+
+/// Whether the other one of two verdicts is told.
+fn tells_other<A: Allocator>(one: &Verdict<A>, other: &Verdict<A>) -> bool
+    ensures { result ≡ tells_other (verdict_value one.now) (verdict_value other.now) }
+{
+    match (one, other) {
+        (Verdict::Yes(_), _) => false,
+        (_, Verdict::Yes(_)) => true,
+        (Verdict::Unfinished, _) => false,
+        (_, Verdict::Unfinished) => true,
+        (Verdict::No(count), Verdict::No(later)) => count < later,
+    }
+}
+
+/// The verdict on the records of a stretch, over all configurations of the end of which these are
+/// the widest. The second one is judged only where the first isn't yes. `AllocError` is answered
+/// where the tracker was refused memory, and then no verdict.
+pub fn check_records<A: Allocator + Copy, T: Tracker<A>>(
+    alloc: A,
+    widest: &Widest,
+    records: &[Record<'_>],
+) -> Result<Checked<A>, AllocError>
+    ensures { IfOk result (λ checked. IsTold widest.now (map shown_of records.now)
+        checked.wants_peers (verdict_value checked.verdict)) }
+{
+    let Some(wanting) = widest.wanting else {
+        return Ok(Checked {
+            verdict: judge_records::<A, T>(alloc, &widest.another, records)?,
+            wants_peers: false,
+        });
+    };
+    let first = judge_records::<A, T>(alloc, &wanting, records)?;
+    if is_yes(&first) {
+        return Ok(Checked {
+            verdict: first,
+            wants_peers: true,
+        });
+    }
+    let second = judge_records::<A, T>(alloc, &widest.another, records)?;
+    if tells_other(&first, &second) {
+        Ok(Checked {
+            verdict: second,
+            wants_peers: false,
+        })
+    } else {
+        Ok(Checked {
+            verdict: first,
+            wants_peers: true,
+        })
+    }
+}
