@@ -1,0 +1,2 @@
+mod Separated
+mod PartByPart

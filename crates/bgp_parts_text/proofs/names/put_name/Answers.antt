@@ -1,0 +1,10 @@
+use Rattle.bgp_text.proofs.Pieces.{Joins, and_then}
+use Rattle.bgp_parts_text.proofs.names.put_name.Goals as goal
+
+pub returns-in-Some : goal.returns-in-Some
+returns-in-Some g c = rw c.in-Some.is (rw (c.as_bytes.ensures.value, c.type_text.ensures) at c.put.ensures)
+
+pub returns-in-None : goal.returns-in-None
+returns-in-None g c =
+    let law : Joins g.W.Sink = record { joined = g.met.W.Sink.joined } in
+    rw c.in-None.is (and_then law c.put-in-None.ensures c.put_decimal.ensures)

@@ -1,0 +1,5 @@
+pub mod Pieces
+pub mod Names
+pub mod Opens
+pub mod Notifications
+pub mod Updates
