@@ -21,6 +21,7 @@ use bgp_prefix::{Address, Prefix, Seconds, Session, read_prefix};
 use bgp_rib::RibIn;
 use bgp_speaker::{Core, Input, Output, Run, Shown, drive};
 use bgp_wire::vectors::{KEEPALIVE, OPEN_A, OPEN_B};
+use mrt::MemSink;
 use mrt::Record::{self, Change, In, Out};
 use std::alloc::{AllocError, Allocator, Global};
 

@@ -3,6 +3,7 @@
 use super::messages::*;
 use super::refused::{Refused, is_refused};
 use super::*;
+use bgp_text::write_route;
 use bgp_wire::vectors::{
     ADMINISTRATIVE_SHUTDOWN, ANNOUNCES_10, ANNOUNCES_2001_DB8, HOLD_TIMER_EXPIRED,
     MP_REACH_TRANSITIVE, MP_UNREACH_TWICE, NEXT_HOP_OF_5, OPTIONAL_ATTRIBUTE_ERROR, ORIGIN_OF_3,
@@ -431,4 +432,36 @@ fn in_established(rt: HostRuntime) {
             assert!(rt; is_so_of_a(rt.alloc(), &TO_ESTABLISHED, row), "{}", row.0);
         }
     }
+}
+
+/// The text of a table's first route: `None` where there is none, or memory is refused.
+fn text_of_the_first(alloc: Global, rib: &RibIn) -> Option<Vec<u8>> {
+    let (prefix, path) = rib.routes().next()?;
+    let mut sink = MemSink::new(alloc);
+    match write_route(&mut sink, *prefix, path) {
+        Ok(()) => Some(sink.into_octets()),
+        Err(_) => None,
+    }
+}
+
+/// The text of the route after a session came up and its peer announced 10.0.0.0/8.
+fn text_after_a_drive(alloc: Global) -> Option<Vec<u8>> {
+    let inputs = [
+        (100, Input::Start),
+        (100, Input::Connected),
+        (101, Input::Bytes(&OPEN_B)),
+        (101, Input::Bytes(&KEEPALIVE)),
+        (102, Input::Bytes(&ANNOUNCES_10)),
+    ];
+    let run = drive(alloc, &Config::new(PARTS_A)?, HOP_4, HOP_6, &inputs).ok()?;
+    text_of_the_first(alloc, &run.rib)
+}
+
+#[test]
+fn a_route_has_the_path_that_was_announced(rt: HostRuntime) {
+    let Some(text) = text_after_a_drive(rt.alloc()) else {
+        panic!(rt; "no route");
+    };
+    let wanted = b"10.0.0.0/8 via 192.0.2.2 path 65002 origin 0";
+    assert!(rt; text.as_slice() == wanted.as_slice());
 }
