@@ -107,7 +107,7 @@ fn take<A: Allocator + Copy>(
 }
 
 /// The refusal of a packet.
-pub(crate) fn refused(fault: PacketFault, packet: u64) -> Refusal
+pub fn refused(fault: PacketFault, packet: u64) -> Refusal
     ensures { result ≡ OfPacket fault packet }
 {
     Refusal::Packet { fault, packet }

@@ -25,11 +25,13 @@ mod selection;
 mod sender;
 
 pub use capture::{notes_on, write_capture};
-pub use gathering::{Gathered, gather};
+pub use gathering::{Gathered, gather, refused};
 pub use importing::{Import, Stopped, import_recording, records_of};
-pub use listing::{list_recording, put_opening, put_refusal};
+pub use listing::{
+    end_of, list_recording, other_side, put_counts, put_end, put_opening, put_refusal, put_refused,
+};
 pub use note::{Note, Notes};
 pub use refresh::refresh_in;
 pub use refusal::{Cause, Refusal};
-pub use selection::Selection;
+pub use selection::{Selection, passed};
 pub use sender::as_number;

@@ -199,7 +199,7 @@ fn add_lines<A: Allocator + Copy>(
 }
 
 /// The end of one of the systems.
-fn end_of(side: Side, session: &Session, opening: Opening) -> Endpoint
+pub fn end_of(side: Side, session: &Session, opening: Opening) -> Endpoint
     ensures { result ≡ end_of side session.now opening }
 {
     match side {
@@ -215,7 +215,7 @@ fn end_of(side: Side, session: &Session, opening: Opening) -> Endpoint
 }
 
 /// The other one.
-fn other_side(side: Side) -> Side
+pub fn other_side(side: Side) -> Side
     ensures { result ≡ other_side side }
 {
     match side {
@@ -225,7 +225,7 @@ fn other_side(side: Side) -> Side
 }
 
 /// An address and a port.
-fn put_end<W: Sink>(lines: &mut Lines<'_, W>, end: Endpoint)
+pub fn put_end<W: Sink>(lines: &mut Lines<'_, W>, end: Endpoint)
     ensures { Writes lines.old lines.new (end_text end) }
 {
     put_address(lines, end.address);
@@ -263,7 +263,7 @@ fn put_reason<W: Sink>(lines: &mut Lines<'_, W>, refusal: Refusal)
 }
 
 /// What stands in place of a refused connection's octets: `refused NUMBER NAME at packet N`.
-fn put_refused<W: Sink>(lines: &mut Lines<'_, W>, refusal: Refusal)
+pub fn put_refused<W: Sink>(lines: &mut Lines<'_, W>, refusal: Refusal)
     ensures { Writes lines.old lines.new (refused_text refusal) }
 {
     lines.put(b"refused ");
@@ -297,7 +297,7 @@ pub fn put_refusal<W: Sink>(lines: &mut Lines<'_, W>, refusal: Refusal)
 }
 
 /// How many octets either side sent, whoever opened the connection first.
-fn put_counts<W: Sink>(lines: &mut Lines<'_, W>, first: usize, second: usize)
+pub fn put_counts<W: Sink>(lines: &mut Lines<'_, W>, first: usize, second: usize)
     ensures { Writes lines.old lines.new (octets_text first second) }
 {
     lines.put(b"octets ");

@@ -25,7 +25,7 @@ pub struct Selection {
 
 impl Selection {
     /// The segments that may be of the session.
-    pub(crate) fn conversation(&self) -> Conversation
+    pub fn conversation(&self) -> Conversation
         ensures { result ≡ conversation_of self.now }
     {
         Conversation {
@@ -43,7 +43,7 @@ impl Selection {
     }
 
     /// Who sent a segment of the conversation, if it is of the session.
-    pub(crate) fn sender(&self, ends: &Ends) -> Option<Side>
+    pub fn sender(&self, ends: &Ends) -> Option<Side>
         ensures { IsSentBy self.now ends.now result }
     {
         if self.is_local(&ends.from) {
@@ -57,7 +57,7 @@ impl Selection {
 }
 
 /// A segment of a packet, as it passed between the two systems.
-pub(crate) fn passed<'a>(packet: &Packet<'_>, segment: &Segment<'a>, from: Side) -> Passed<'a>
+pub fn passed<'a>(packet: &Packet<'_>, segment: &Segment<'a>, from: Side) -> Passed<'a>
     ensures { segment_of result
         ≡ passed_of packet.now.number packet.now.second (segment_value segment.now) from }
 {
