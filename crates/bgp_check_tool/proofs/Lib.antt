@@ -1,0 +1,7 @@
+pub mod OtherEnd
+pub mod OneMore
+pub mod Stretch
+pub mod Headline
+pub mod Texts
+pub mod Lists
+pub mod TakenSoFar

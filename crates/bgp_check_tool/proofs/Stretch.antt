@@ -1,0 +1,115 @@
+-- The records that are made of a connection are a stretch: the first leaves Idle, and no other does.
+use Rattle.std.proofs.Common.{◌≡◌, ◌≢◌, ◌++◌, ◌∙◌, ℕ, Bool, true, false, List, [], ◌∷◌, Option, None, Some, map, refl, sym, ap, subst, arith}
+use Rattle.bgp_prefix.specs.Shown as shown
+use Rattle.bgp_prefix.specs.Shown.{ShownRecord}
+use Rattle.bgp_machine.specs.Lists.{Each}
+use Rattle.mrt.specs.Reader.{shown_of}
+use Rattle.streams.specs.declared.connection.Connection.{Connection}
+use Rattle.streams.specs.declared.passed.Side.{Side}
+use Rattle.streams.specs.declared.passed.Side.TheVariants.{Local, Peer}
+use Rattle.bgp_wire.specs.declared.header.Limit.{Limit}
+use Rattle.bgp_wire.specs.declared.header.MessageType.{MessageType}
+use Rattle.bgp_recording.specs.Allowed.{Ended, Received, Sent, received_in, sent_in}
+use Rattle.bgp_recording.specs.Captured.{records_of}
+use Rattle.bgp_recording.specs.Changes.{are_left, is_open, is_rejected, led_by_end, led_by_left, led_by_received, led_by_sent, opened_state, state_then}
+use Rattle.bgp_recording.specs.Recorded.{IsRecorded}
+use Rattle.bgp_recording.specs.States.{state_number}
+use Rattle.bgp_recording.specs.Tells.{Event, Numbered, Passed, change, items_in, numbered_in, numbered_of, numbered_with, opening}
+use Rattle.bgp_recording.specs.declared.entry.Entry.{Entry}
+use Rattle.bgp_recording.specs.declared.framing.Rest.{Rest}
+use Rattle.bgp_recording.specs.declared.state.State.{State}
+use Rattle.bgp_recording.specs.declared.state.State.TheVariants.{Active, Connect, Established, Idle, OpenConfirm, OpenSent}
+use Rattle.bgp_check.specs.Stretch.{AtMostTheLastLeaves, IsStretch, LeavesIdle}
+
+each_append : (xs ys : List Numbered) → Each (λ n. ¬ LeavesIdle n.shown) xs → Each (λ n. ¬ LeavesIdle n.shown) ys → Each (λ n. ¬ LeavesIdle n.shown) (xs ++ ys)
+each_append [] ys p q = q
+each_append (x ∷ xs) ys p q = (p.0, each_append xs ys p.1 q)
+
+not_idle : (packet second : ℕ) (state : State) (led : Option State) → state_number state ≢ 1 → Each (λ n. ¬ LeavesIdle n.shown) (change packet second state led)
+not_idle packet second state None some = tt
+not_idle packet second state (Some led) some = (λ leaves. some leaves.0, tt)
+
+-- ---- the changes to which messages and the end lead
+
+by_received : (packet second : ℕ) (state : State) (kind : Option MessageType) (rejected : Bool)
+    → Each (λ n. ¬ LeavesIdle n.shown) (change packet second state (led_by_received state kind rejected))
+by_received packet second Idle kind rejected = tt
+by_received packet second Connect kind rejected = not_idle packet second Connect (led_by_received Connect kind rejected) (λ e. omega (arith, e))
+by_received packet second Active kind rejected = not_idle packet second Active (led_by_received Active kind rejected) (λ e. omega (arith, e))
+by_received packet second OpenSent kind rejected = not_idle packet second OpenSent (led_by_received OpenSent kind rejected) (λ e. omega (arith, e))
+by_received packet second OpenConfirm kind rejected = not_idle packet second OpenConfirm (led_by_received OpenConfirm kind rejected) (λ e. omega (arith, e))
+by_received packet second Established kind rejected = not_idle packet second Established (led_by_received Established kind rejected) (λ e. omega (arith, e))
+
+by_sent : (packet second : ℕ) (state : State) (kind : Option MessageType) (follows : Bool)
+    → Each (λ n. ¬ LeavesIdle n.shown) (change packet second state (led_by_sent state kind follows))
+by_sent packet second Idle kind follows = tt
+by_sent packet second Connect kind follows = not_idle packet second Connect (led_by_sent Connect kind follows) (λ e. omega (arith, e))
+by_sent packet second Active kind follows = not_idle packet second Active (led_by_sent Active kind follows) (λ e. omega (arith, e))
+by_sent packet second OpenSent kind follows = not_idle packet second OpenSent (led_by_sent OpenSent kind follows) (λ e. omega (arith, e))
+by_sent packet second OpenConfirm kind follows = not_idle packet second OpenConfirm (led_by_sent OpenConfirm kind follows) (λ e. omega (arith, e))
+by_sent packet second Established kind follows = not_idle packet second Established (led_by_sent Established kind follows) (λ e. omega (arith, e))
+
+by_end : (packet second : ℕ) (state : State) → Each (λ n. ¬ LeavesIdle n.shown) (change packet second state (led_by_end state))
+by_end packet second Idle = tt
+by_end packet second Connect = not_idle packet second Connect (led_by_end Connect) (λ e. omega (arith, e))
+by_end packet second Active = not_idle packet second Active (led_by_end Active) (λ e. omega (arith, e))
+by_end packet second OpenSent = not_idle packet second OpenSent (led_by_end OpenSent) (λ e. omega (arith, e))
+by_end packet second OpenConfirm = not_idle packet second OpenConfirm (led_by_end OpenConfirm) (λ e. omega (arith, e))
+by_end packet second Established = not_idle packet second Established (led_by_end Established) (λ e. omega (arith, e))
+
+by_left : (packet second : ℕ) (state : State) (left : Bool)
+    → Each (λ n. ¬ LeavesIdle n.shown) (change packet second (state_then state (led_by_end state)) (led_by_left state left))
+by_left packet second Idle left = tt
+by_left packet second Connect left = tt
+by_left packet second Active left = tt
+by_left packet second OpenSent left = not_idle packet second Active (led_by_left OpenSent left) (λ e. omega (arith, e))
+by_left packet second OpenConfirm left = tt
+by_left packet second Established left = tt
+
+-- ---- the records
+
+none_leaves : (state : State) (follows : Bool) (events : List Event) → Each (λ n. ¬ LeavesIdle n.shown) (numbered_in state follows events)
+none_leaves state follows [] = tt
+none_leaves state follows (Passed second (Received m) ∷ later) =
+    let rejected = is_rejected (sent_in (items_in later)) in
+    let led = led_by_received state m.kind rejected in (
+      λ leaves. leaves,
+      each_append (change m.packet second state led) (numbered_in (state_then state led) (is_open m.kind) later)
+          (by_received m.packet second state m.kind rejected) (none_leaves (state_then state led) (is_open m.kind) later),
+    )
+none_leaves state follows (Passed second (Sent m) ∷ later) =
+    let led = led_by_sent state m.kind follows in (
+      λ leaves. leaves,
+      each_append (change m.packet second state led) (numbered_in (state_then state led) false later)
+          (by_sent m.packet second state m.kind follows) (none_leaves (state_then state led) false later),
+    )
+none_leaves state follows (Passed second (Ended e) ∷ later) =
+    let ended = state_then state (led_by_end state) in
+    let more = are_left (received_in (items_in later)) in
+    let left = led_by_left state more in
+    each_append (change e.packet second state (led_by_end state)) (change e.packet second ended left ++ numbered_in (state_then ended left) false later)
+    (by_end e.packet second state)
+    (each_append (change e.packet second ended left) (numbered_in (state_then ended left) false later) (by_left e.packet second state more)
+    (none_leaves (state_then ended left) false later))
+
+at_most : (ns : List Numbered) → Each (λ n. ¬ LeavesIdle n.shown) ns → AtMostTheLastLeaves (map (λ (n : Numbered). n.shown) ns)
+at_most [] each = tt
+at_most (n ∷ []) each = tt
+at_most (n ∷ next ∷ ns) each = (each.0, at_most (next ∷ ns) each.1)
+
+opens : (side : Side) → state_number (opened_state side) ≢ 1
+opens Local = λ e. omega (arith, e)
+opens Peer = λ e. omega (arith, e)
+
+same_records : (entries : List Entry) → map (λ (n : Numbered). n.shown) (map numbered_of entries) ≡ records_of entries
+same_records [] = refl
+same_records (e ∷ entries) = ap (λ (rest : List ShownRecord). shown_of e.record ∷ rest) (same_records entries)
+
+pub stretch_of : (limit : Limit) (within : ℕ) (connection : Connection) (entries : List Entry) (received_rest sent_rest : Rest)
+    → IsRecorded limit within connection entries received_rest sent_rest → IsStretch (records_of entries)
+stretch_of limit within connection entries received_rest sent_rest recorded =
+    let t = recorded.tells in
+    let rest = numbered_in (opened_state connection.opened_by) false t.events in
+    subst (λ (records : List ShownRecord). IsStretch records)
+    (ap (λ (ns : List Numbered). map (λ (n : Numbered). n.shown) ns) (sym t.shown) ∙ same_records entries)
+    ((refl, opens connection.opened_by), at_most rest (none_leaves (opened_state connection.opened_by) false t.events))

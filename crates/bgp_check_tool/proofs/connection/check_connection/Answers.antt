@@ -1,0 +1,43 @@
+use Rattle.std.proofs.Common.{Some, inl, inr, refl}
+use Rattle.streams.specs.Connections.{numbered}
+use Rattle.bgp_import.proofs.Telling.{are_covered, is_clocked}
+use Rattle.bgp_check_tool.proofs.OtherEnd.{covered_by}
+use Rattle.bgp_check_tool.proofs.connection.check_connection.Goals as goal
+
+pub check_both-requires-clause-received : goal.check_both-requires-clause-received
+check_both-requires-clause-received g c = covered_by c.in-Ok.connection.received c.requires
+    (λ h. (are_covered (Some c.args.opening.number) c.args.between.now.last_packet (numbered h.segments) c.in-Ok.connection (c.in-Ok.ensures h.segments h.holds)).0)
+
+pub check_both-requires-clause-sent : goal.check_both-requires-clause-sent
+check_both-requires-clause-sent g c = covered_by c.in-Ok.connection.sent c.requires
+    (λ h. (are_covered (Some c.args.opening.number) c.args.between.now.last_packet (numbered h.segments) c.in-Ok.connection (c.in-Ok.ensures h.segments h.holds)).1)
+
+pub returns-in-Ok-check_both : goal.returns-in-Ok-check_both
+returns-in-Ok-check_both g c = λ segments holds order.
+    let chosen = c.in-Ok.ensures segments holds in
+    let clock = is_clocked segments (Some c.args.opening.number) c.args.between.now.last_packet c.in-Ok.connection order chosen in
+    let is = c.in-Ok-check_both.ensures in (
+      refl,
+      refl,
+      record {
+        connection = c.in-Ok.connection;
+        chosen = chosen;
+        is_first = is.opener_octets;
+        is_second = is.other_octets;
+        is_opener = is.opener clock;
+        is_other = is.other clock;
+      },
+    )
+
+pub returns-in-Err-Refresh : goal.returns-in-Err-Refresh
+returns-in-Err-Refresh g c = λ segments holds order.
+    let chosen = c.in-Ok.ensures segments holds in
+    let clock = is_clocked segments (Some c.args.opening.number) c.args.between.now.last_packet c.in-Ok.connection order chosen in (
+      refl,
+      refl,
+      inr (record { connection = c.in-Ok.connection; chosen = chosen; why = inl (rw c.in-Err-Refresh.field-0-is at (c.in-Err-Refresh.ensures.err clock)) }),
+    )
+
+pub returns-in-Err-NoMemory : goal.returns-in-Err-NoMemory
+returns-in-Err-NoMemory g c = λ segments holds order.
+    (refl, refl, inr (record { connection = c.in-Ok.connection; chosen = c.in-Ok.ensures segments holds; why = inr refl }))

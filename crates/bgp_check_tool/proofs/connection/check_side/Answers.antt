@@ -1,0 +1,41 @@
+use Rattle.std.proofs.Common.{◌∙◌, subst, sym}
+use Rattle.bgp_prefix.specs.declared.session.Session.{Session}
+use Rattle.streams.specs.declared.connection.Connection.{Connection}
+use Rattle.bgp_recording.specs.Captured.{records_of}
+use Rattle.bgp_recording.specs.Gathered.{IsClocked, IsCovered}
+use Rattle.bgp_check.specs.Answered.{IsAnswerTo, answer_value}
+use Rattle.bgp_check_tool.specs.Made.{IsMade}
+use Rattle.bgp_check_tool.proofs.OtherEnd.{clocked, covered}
+use Rattle.bgp_check_tool.proofs.connection.check_side.Goals as goal
+
+pub returns-in-Some-clause-err : goal.returns-in-Some-clause-err
+returns-in-Some-clause-err g c = λ clock.
+    let made = c.in-Ok.made in
+    record {
+      side = c.args.side;
+      entries = made.entries.items;
+      received_rest = made.received_rest;
+      sent_rest = made.sent_rest;
+      made = subst (λ (v : Connection). IsMade c.args.between.now.within v made.entries.items made.received_rest made.sent_rest) c.seen_from.ensures
+          (c.in-Ok.ensures (subst (λ (v : Connection). IsClocked v) (sym c.seen_from.ensures) (clocked c.args.side c.args.connection.now clock)));
+      is = c.in-Some.ensures.is;
+    }
+
+pub returns-in-Ok-told_by-clause-ok : goal.returns-in-Ok-told_by-clause-ok
+returns-in-Ok-told_by-clause-ok g c = λ clock.
+    let made = c.in-Ok.made in
+    let told = c.in-Ok-told_by.told in
+    let is = c.in-Ok-told_by.ensures in
+    record {
+      entries = made.entries.items;
+      received_rest = made.received_rest;
+      sent_rest = made.sent_rest;
+      made = subst (λ (v : Connection). IsMade c.args.between.now.within v made.entries.items made.received_rest made.sent_rest) c.seen_from.ensures
+          (c.in-Ok.ensures (subst (λ (v : Connection). IsClocked v) (sym c.seen_from.ensures) (clocked c.args.side c.args.connection.now clock)));
+      calm = c.in_default-refresh_in.ensures.is;
+      is_end = is.end ∙ c.end_of-end.ensures;
+      answers = subst (λ (v : Session). IsAnswerTo v (records_of made.entries.items) (answer_value told.answer)) c.session_from-session.ensures is.answers;
+      is_packet = is.packet;
+      is_delayed = is.delayed;
+      is_highest = is.highest;
+    }

@@ -1,0 +1,9 @@
+pub mod Seen
+pub mod Made
+pub mod Told
+pub mod Text
+pub mod Blocks
+pub mod Tally
+pub mod Talks
+pub mod Checking
+pub mod Headline

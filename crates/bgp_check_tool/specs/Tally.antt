@@ -1,0 +1,93 @@
+-- How many ends there are of each verdict, and how many refusals; and the exit status over them.
+use Rattle.std.specs.Prelude.{◌++◌, ◌+◌, ◌-◌, ◌^◌, ◌==◌, ◌&&◌, ◌||◌, ℕ, Bool, true, false, List, []}
+use Rattle.std.specs.Prelude.{codes, if◌then◌else◌, min, nat_lt}
+use Rattle.std.specs.Fmt.{decimal}
+use Rattle.bgp_judge.specs.Verdict.{No, Unfinished, VerdictValue, Yes}
+use Rattle.bgp_import.specs.Refusals.{cause_of}
+use Rattle.bgp_import.specs.declared.refusal.Cause.{Cause}
+use Rattle.bgp_import.specs.declared.refusal.Cause.TheVariants as causes
+use Rattle.bgp_import.specs.declared.refusal.Refusal.{Refusal}
+use Rattle.bgp_check.specs.Answered.{AnswerValue, JudgedAs, Unjudged}
+use Rattle.bgp_check_tool.specs.declared.tally.Tally.{Tally}
+use Rattle.bgp_check_tool.specs.Blocks.{Block, Checked, Refused, Untold}
+
+-- one more, up to the greatest number that is told
+abbrev pub one_more : ℕ → ℕ
+one_more count = min (count + 1) (2 ^ 64 - 1)
+
+abbrev pub with_verdict : Tally → VerdictValue → Tally
+with_verdict tally (Yes ends) = record tally { yes = one_more tally.yes }
+with_verdict tally (No count) = record tally { no = one_more tally.no }
+with_verdict tally Unfinished = record tally { unfinished = one_more tally.unfinished }
+
+abbrev pub with_end : Tally → AnswerValue → Tally
+with_end tally (Unjudged why) = record tally { not_judged = one_more tally.not_judged }
+with_end tally (JudgedAs number peer verdict) = with_verdict tally verdict
+
+abbrev pub is_memory : Cause → Bool
+is_memory causes.Recording = false
+is_memory causes.Memory = true
+is_memory causes.Device = false
+
+abbrev pub is_device : Cause → Bool
+is_device causes.Recording = false
+is_device causes.Memory = false
+is_device causes.Device = true
+
+abbrev pub with_refusal : Tally → Refusal → Tally
+with_refusal tally refusal = record tally {
+  refused = one_more tally.refused;
+  memory = tally.memory || is_memory (cause_of refusal);
+  device = tally.device || is_device (cause_of refusal);
+}
+
+abbrev pub with_block : Tally → Block → Tally
+with_block tally (Checked session opening first second opener other) =
+    with_end (with_end tally opener.answer) other.answer
+with_block tally (Refused session opening refusal) = with_refusal tally refusal
+with_block tally (Untold addresses refusal) = with_refusal tally refusal
+
+abbrev pub no_tally : Tally
+no_tally = record {
+  yes = 0;
+  no = 0;
+  unfinished = 0;
+  not_judged = 0;
+  refused = 0;
+  memory = false;
+  device = false;
+}
+
+-- The exit status: the first of 5, 4, 1, 3, 2, 0 for which there is something; 3 where nothing was
+-- judged. Where a device or memory failed, not all was judged; then a no is told, whatever is told
+-- of other ends.
+abbrev pub status_of : Tally → ℕ
+status_of tally =
+    if tally.device then 5
+    else if tally.memory then 4
+    else if nat_lt 0 tally.no then 1
+    else if nat_lt 0 tally.refused then 3
+    else if nat_lt 0 tally.unfinished then 2
+    else if nat_lt 0 tally.yes then 0
+    else 3
+
+-- nothing was told of any connection, nor of the file
+abbrev pub is_empty : Tally → Bool
+is_empty tally =
+    (tally.yes + tally.no + tally.unfinished + tally.not_judged == 0) && (tally.refused == 0)
+
+unfoldable pub nothing_line : ℕ → List ℕ
+nothing_line port = codes "not judged: no connection at port "
+    ++ (decimal port ++ codes " holds octets\n")
+
+abbrev pub nothing_text : ℕ → Tally → List ℕ
+nothing_text port tally = if is_empty tally then nothing_line port else []
+
+-- the last line
+unfoldable pub tally_line : Tally → List ℕ
+tally_line tally =
+    codes "ends " ++ (decimal (tally.yes + tally.no + tally.unfinished + tally.not_judged)
+    ++ (codes ": " ++ (decimal tally.yes ++ (codes " yes, " ++ (decimal tally.no
+    ++ (codes " no, " ++ (decimal tally.unfinished ++ (codes " unfinished, "
+    ++ (decimal tally.not_judged ++ (codes " not judged; refused "
+    ++ (decimal tally.refused ++ codes "\n")))))))))))

@@ -1,0 +1,78 @@
+-- What is told of one of a connection's two ends.
+use Rattle.std.specs.Prelude.{◌≡◌, ℕ, List, [], ◌∷◌, Option, None, Some, max}
+use Rattle.std.specs.List.{slice_get}
+use Rattle.bgp_prefix.specs.Shown.{ShownRecord, Changed}
+use Rattle.bgp_prefix.specs.declared.session.Session.{Session}
+use Rattle.segments.specs.declared.found.Endpoint.{Endpoint}
+use Rattle.streams.specs.declared.connection.Connection.{Connection}
+use Rattle.streams.specs.declared.connection.Opening.{Opening}
+use Rattle.streams.specs.declared.passed.Side.{Side}
+use Rattle.bgp_judge.specs.Verdict.{No, Unfinished, VerdictValue, Yes}
+use Rattle.bgp_recording.specs.Captured.{records_of}
+use Rattle.bgp_recording.specs.declared.entry.Entry.{Entry}
+use Rattle.bgp_recording.specs.declared.framing.Rest.{Rest}
+use Rattle.bgp_import.specs.Captures.{put_off}
+use Rattle.bgp_import.specs.ListText.{end_of}
+use Rattle.bgp_import.specs.Refreshes.{IsRefreshIn}
+use Rattle.bgp_check.specs.Answered.{AnswerValue, IsAnswerTo, JudgedAs, Unjudged, answer_value}
+use Rattle.bgp_check_tool.specs.declared.ending.Told.{Told}
+use Rattle.bgp_check_tool.specs.Made.{IsMade}
+use Rattle.bgp_check_tool.specs.Seen.{seen_from, session_from}
+
+-- what is told, its answer as a value
+pub record EndTold : Type 0 where
+  pub end : Endpoint
+  pub answer : AnswerValue
+  -- the packet that shows the first impossible record, of a no
+  pub packet : ℕ
+  pub delayed : ℕ
+  -- the number of the highest state that is told
+  pub highest : ℕ
+
+abbrev pub told_value : {X : Type 0} → Told X → EndTold
+told_value told = record {
+  end = told.end;
+  answer = answer_value told.answer;
+  packet = told.packet;
+  delayed = told.put_off;
+  highest = told.highest;
+}
+
+-- the number of the state to which a record changes: 0 where it is no change
+abbrev pub new_state : ShownRecord → ℕ
+new_state (Changed t old new) = new
+new_state shown = 0
+
+-- that of the highest one that records tell
+abbrev pub highest_state : List ShownRecord → ℕ
+highest_state [] = 0
+highest_state (shown ∷ records) = max (new_state shown) (highest_state records)
+
+-- the packet that shows the first impossible record, where there is one
+abbrev pub packet_in : Option Entry → ℕ
+packet_in None = 0
+packet_in (Some entry) = entry.packet
+
+abbrev pub packet_by : VerdictValue → List Entry → ℕ
+packet_by (Yes ends) entries = 0
+packet_by (No count) entries = packet_in (slice_get entries count)
+packet_by Unfinished entries = 0
+
+abbrev pub packet_of : AnswerValue → List Entry → ℕ
+packet_of (Unjudged why) entries = 0
+packet_of (JudgedAs number peer verdict) entries = packet_by verdict entries
+
+-- This is told of that end of the connection: what is answered of the records that are made of it
+-- as this end has it. None of them is a ROUTE-REFRESH.
+pub record IsEndTold (within : ℕ) (session : Session) (opening : Opening) (connection : Connection)
+    (side : Side) (told : EndTold) : Type 0 where
+  pub entries : List Entry
+  pub received_rest : Rest
+  pub sent_rest : Rest
+  pub made : IsMade within (seen_from side connection) entries received_rest sent_rest
+  pub calm : IsRefreshIn entries received_rest sent_rest None
+  pub is_end : told.end ≡ end_of side session opening
+  pub answers : IsAnswerTo (session_from side session) (records_of entries) told.answer
+  pub is_packet : told.packet ≡ packet_of told.answer entries
+  pub is_delayed : told.delayed ≡ put_off 0 entries
+  pub is_highest : told.highest ≡ highest_state (records_of entries)

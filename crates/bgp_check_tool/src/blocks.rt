@@ -1,0 +1,86 @@
+//! The lines of a connection, and of two addresses of whose connections none can be told.
+
+ghost use Rattle.std.specs.Prelude.{◌≡◌};
+ghost use Rattle.bgp_text.specs.Lines.{Writes};
+ghost use Rattle.bgp_check_tool.specs.Blocks.{Untold, block_of, block_text, both_text};
+ghost use Rattle.bgp_check_tool.specs.Blocks.{session_text, turned_down_text};
+ghost use Rattle.bgp_check_tool.specs.Tally.{with_block};
+ghost use Rattle.bgp_check_tool.specs.Told.{told_value};
+
+use crate::connection::BothTold;
+use crate::lines::put_told;
+use crate::tally::Tally;
+use bgp_import::{Refusal, put_counts, put_opening, put_refused};
+use bgp_prefix::Session;
+use bgp_text::{Lines, put_address};
+use mrt::Sink;
+use segments::Addresses;
+use std::alloc::Allocator;
+use streams::Opening;
+
+/// What stands after a connection's opening where it isn't refused: its octets, and its ends.
+fn put_both<W: Sink, A: Allocator>(lines: &mut Lines<'_, W>, both: &BothTold<A>, routes: bool)
+    ensures { Writes lines.old lines.new (both_text routes both.now.opener_octets
+        both.now.other_octets (told_value both.now.opener) (told_value both.now.other)) }
+{
+    put_counts(lines, both.opener_octets, both.other_octets);
+    lines.put(b"\n");
+    put_told(lines, &both.opener, routes);
+    put_told(lines, &both.other, routes);
+}
+
+/// What stands where a connection is refused.
+fn put_turned_down<W: Sink>(lines: &mut Lines<'_, W>, refusal: Refusal)
+    ensures { Writes lines.old lines.new (turned_down_text refusal) }
+{
+    put_refused(lines, refusal);
+    lines.put(b"\n");
+}
+
+/// The line of two addresses of whose connections none can be told.
+pub(crate) fn put_session<W: Sink>(lines: &mut Lines<'_, W>, addresses: Addresses, refusal: Refusal)
+    ensures { Writes lines.old lines.new (session_text addresses refusal) }
+{
+    lines.put(b"session ");
+    put_address(lines, addresses.from);
+    lines.put(b" ");
+    put_address(lines, addresses.to);
+    lines.put(b" ");
+    put_turned_down(lines, refusal);
+}
+
+/// The lines of a connection.
+pub(crate) fn put_connection<W: Sink, A: Allocator>(
+    lines: &mut Lines<'_, W>,
+    session: &Session,
+    opening: Opening,
+    told: &Result<BothTold<A>, Refusal>,
+    routes: bool,
+)
+    ensures { Writes lines.old lines.new
+        (block_text routes (block_of session.now opening told.now)) }
+{
+    put_opening(lines, session, opening);
+    lines.put(b" ");
+    match told {
+        Ok(both) => put_both(lines, both, routes),
+        Err(refusal) => put_turned_down(lines, *refusal),
+    }
+}
+
+/// The tally with a connection more.
+pub(crate) fn with_connection<A: Allocator>(
+    tally: Tally,
+    session: &Session,
+    opening: Opening,
+    told: &Result<BothTold<A>, Refusal>,
+) -> Tally
+    ensures { result ≡ with_block tally (block_of session.now opening told.now) }
+{
+    match told {
+        Ok(both) => tally
+            .with_end(&both.opener.answer)
+            .with_end(&both.other.answer),
+        Err(refusal) => tally.with_refusal(*refusal),
+    }
+}

@@ -1,0 +1,163 @@
+//! `bgp check` of a recording.
+
+ghost use Rattle.std.specs.Prelude.{◌≡◌, ◌<◌, ◌^◌};
+ghost use Rattle.bgp_text.specs.Lines.{Writes};
+ghost use Rattle.bgp_check_tool.specs.Checking.{ChecksRecording, PutsBlock, PutsBlocks};
+ghost use Rattle.bgp_check_tool.specs.Checking.{file_text, with_file};
+ghost use Rattle.bgp_check_tool.specs.Tally.{no_tally};
+
+use crate::blocks::{put_connection, put_session, with_connection};
+use crate::connection::{Between, check_connection};
+use crate::listed::{Listed, listed_in};
+use crate::options::CheckOptions;
+use crate::talks::{Talks, selection_of, take_all};
+use crate::tally::Tally;
+use bgp_import::{Refusal, put_refusal, refused};
+use bgp_judge::Tracker;
+use bgp_text::Lines;
+use bgp_tool::hand_over;
+use mrt::{Sink, Source};
+use packets::Reader;
+use std::alloc::Allocator;
+
+/// How checking a recording ended.
+#[derive(Clone, Copy, Debug, PartialEq, Eq)]
+pub struct CheckedRecording {
+    /// The exit status.
+    pub status: u8,
+    /// Why the file wasn't read to its end, if it wasn't.
+    pub refusal: Option<Refusal>,
+}
+
+/// Checks what is listed at this packet, puts what is told of it, and answers the tally with it.
+fn put_listed<A: Allocator + Copy, T: Tracker<A>, W: Sink>(
+    alloc: A,
+    options: &CheckOptions,
+    last_packet: u64,
+    packet: u64,
+    listed: &Listed<'_, A>,
+    lines: &mut Lines<'_, W>,
+    tally: Tally,
+) -> Tally
+    ensures { PutsBlock options.now last_packet lines.old lines.new tally result }
+{
+    match *listed {
+        Listed::Connection(addresses, talk, opening) => {
+            let between = Between {
+                session: selection_of(addresses, options.port).session,
+                within: options.within,
+                last_packet,
+            };
+            let told = check_connection::<A, T>(alloc, &between, &talk.connections, opening);
+            put_connection(lines, &between.session, opening, &told, options.routes);
+            with_connection(tally, &between.session, opening, &told)
+        }
+        Listed::Refused(addresses, fault) => {
+            let refusal = refused(fault, packet);
+            put_session(lines, addresses, refusal);
+            tally.with_refusal(refusal)
+        }
+    }
+}
+
+/// Checks all that was gathered, in the order of packets, and answers the tally of it. Nothing is
+/// put, and the refusal answered, where there is no memory for the list.
+fn put_all<A: Allocator + Copy, T: Tracker<A>, W: Sink>(
+    alloc: A,
+    options: &CheckOptions,
+    talks: &Talks<A>,
+    last_packet: u64,
+    lines: &mut Lines<'_, W>,
+) -> (Tally, Option<Refusal>)
+    ensures { PutsBlocks options.now last_packet lines.old lines.new no_tally result.0 }
+{
+    let mut tally = Tally::new();
+    let Ok(listed) = listed_in(alloc, talks) else {
+        let refusal = Refusal::Memory {
+            packet: last_packet,
+        };
+        return (tally, Some(refusal));
+    };
+    for (packet, one) in &listed {
+        tally = put_listed::<A, T, W>(alloc, options, last_packet, *packet, one, lines, tally);
+    }
+    (tally, None)
+}
+
+/// The first refusal, if there is one.
+fn first_refusal(lacking: Option<Refusal>, taken: Result<(), Refusal>) -> Option<Refusal> {
+    match (lacking, taken) {
+        (Some(refusal), _) | (None, Err(refusal)) => Some(refusal),
+        (None, Ok(())) => None,
+    }
+}
+
+/// Puts why the file can't be read on, if it can't.
+fn put_file<W: Sink>(lines: &mut Lines<'_, W>, refusal: Option<Refusal>)
+    ensures { Writes lines.old lines.new (file_text refusal) }
+{
+    match refusal {
+        Some(refusal) => put_refusal(lines, refusal),
+        None => lines.put(b""),
+    }
+}
+
+/// The tally with that.
+fn with_file(tally: Tally, refusal: Option<Refusal>) -> Tally
+    ensures { result ≡ with_file tally refusal }
+{
+    match refusal {
+        Some(refusal) => tally.with_refusal(refusal),
+        None => tally,
+    }
+}
+
+/// Checks each end of each connection in a recording that holds octets and one of whose ports is
+/// this one: whether its messages are those of a run of the session machine (RFC 4271, 8.2.2) under
+/// some configuration under which the OPEN that it sent is its own.
+///
+/// It writes a line for each connection, in the order of their first packets, and after it what is
+/// told of both ends, first of that which opened it: the verdict, for which AS number of its peer
+/// it is told, and of a yes each possible end; or why it isn't judged. Then why the file can't be
+/// read on, if it can't, and last how many ends there are of each verdict. It answers the exit
+/// status over all ends, the first of 5, 4, 1, 3, 2, 0 for which there is something:
+///
+/// * 0: a yes.
+/// * 1: a no. What it is worth says
+///   [`no_configuration_explains_a_no`](bgp_check::no_configuration_explains_a_no).
+/// * 2: an end is unfinished: the recording stops within what it had to do.
+/// * 3: the recording or a connection is refused; or no end is judged.
+/// * 4: memory was refused.
+/// * 5: a device failed.
+///
+/// A recording holds its packets one at a time; of all connections it holds the streams, and of one
+/// end its messages and records besides.
+pub fn check_recording<A: Allocator + Copy, T: Tracker<A>, R: Source, W: Sink>(
+    alloc: A,
+    options: &CheckOptions,
+    source: &mut R,
+    sink: &mut W,
+) -> CheckedRecording
+    requires source { R.failures source.old < 2 ^ 63 }
+    requires sink { W.failures sink.old < 2 ^ 63 }
+    ensures { ChecksRecording W.takes W.failures options.now sink.old sink.new result.status
+        result.refusal }
+{
+    let mut reader = Reader::new(alloc);
+    let mut talks = Talks::new(alloc, options.port);
+    let taken = take_all(&mut reader, &mut talks, source);
+    let mut lines = Lines::new(sink);
+    let (tally, lacking) = put_all::<A, T, W>(alloc, options, &talks, reader.number(), &mut lines);
+    let refusal = first_refusal(lacking, taken);
+    put_file(&mut lines, refusal);
+    let tally = with_file(tally, refusal);
+    tally.put_nothing(&mut lines, options.port);
+    tally.put(&mut lines);
+    let status = hand_over(&mut lines, tally.status());
+    // No effect: it ends the loan of the sink.
+    lines.into_sink();
+    CheckedRecording {
+        status: status.code(),
+        refusal,
+    }
+}

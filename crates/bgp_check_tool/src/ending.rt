@@ -1,0 +1,105 @@
+//! What is told of one of a connection's two ends.
+
+ghost use Rattle.std.specs.Prelude.{◌≡◌, IfOk, map};
+ghost use Rattle.bgp_judge.specs.Verdict.{verdict_value};
+ghost use Rattle.mrt.specs.Reader.{shown_of};
+ghost use Rattle.bgp_check.specs.Answered.{IsAnswerTo, answer_value};
+ghost use Rattle.bgp_import.specs.Captures.{put_off};
+ghost use Rattle.bgp_recording.specs.Captured.{records_of};
+ghost use Rattle.bgp_check_tool.specs.Told.{highest_state, new_state, packet_by, packet_of};
+
+use crate::making::records_of;
+use bgp_check::{Answer, check_end};
+use bgp_import::notes_on;
+use bgp_judge::{Tracker, Verdict};
+use bgp_prefix::Session;
+use bgp_recording::{Entry, Recording};
+use mrt::Record;
+use segments::Endpoint;
+use std::alloc::{AllocError, Allocator};
+
+/// What is told of an end.
+#[derive(Drop)]
+pub(crate) struct Told<A: Allocator> {
+    /// Its address and port.
+    pub(crate) end: Endpoint,
+    /// What is answered of its records.
+    pub(crate) answer: Answer<A>,
+    /// The packet that shows the first impossible record, where there is one; else 0.
+    pub(crate) packet: u64,
+    /// How many received messages are put off in the order that is judged.
+    pub(crate) put_off: usize,
+    /// The number of the highest state that the records tell (RFC 6396, 4.4.1).
+    pub(crate) highest: u16,
+}
+
+/// The number of the state to which a record changes: 0 where it is no change.
+fn new_state(told: &Record<'_>) -> u16
+    ensures { result ≡ new_state (shown_of told.now) }
+{
+    match *told {
+        Record::Change(_, _, new) => new,
+        Record::In(..) | Record::Out(..) => 0,
+    }
+}
+
+/// That of the highest one that records tell.
+fn highest_state(records: &[Record<'_>]) -> u16
+    ensures { result ≡ highest_state (map shown_of records.now) }
+{
+    let mut highest = 0;
+    for record in records {
+        highest = highest.max(new_state(record));
+    }
+    highest
+}
+
+/// The packet that shows the first impossible record: of a no alone.
+fn packet_by<A: Allocator>(verdict: &Verdict<A>, entries: &[Entry<'_>]) -> u64
+    ensures { result ≡ packet_by (verdict_value verdict.now) entries.now }
+{
+    match verdict {
+        Verdict::No(count) => match entries.get(*count as usize) {
+            Some(entry) => entry.packet,
+            None => 0,
+        },
+        Verdict::Yes(_) | Verdict::Unfinished => 0,
+    }
+}
+
+fn packet_of<A: Allocator>(answer: &Answer<A>, entries: &[Entry<'_>]) -> u64
+    ensures { result ≡ packet_of (answer_value answer.now) entries.now }
+{
+    match answer {
+        Answer::Judged(judged) => packet_by(&judged.verdict, entries),
+        Answer::NotJudged(_) => 0,
+    }
+}
+
+/// What is told of the end of this session whose records these are.
+pub(crate) fn told_by<A: Allocator + Copy, T: Tracker<A>>(
+    alloc: A,
+    session: &Session,
+    end: Endpoint,
+    made: &Recording<'_, A>,
+) -> Result<Told<A>, AllocError>
+    ensures end { IfOk result (λ told. told.end ≡ end) }
+    ensures answers { IfOk result (λ told. IsAnswerTo session.now
+        (records_of made.now.entries.items) (answer_value told.answer)) }
+    ensures packet { IfOk result (λ told. told.packet
+        ≡ packet_of (answer_value told.answer) made.now.entries.items) }
+    ensures delayed { IfOk result (λ told. told.put_off ≡ put_off 0 made.now.entries.items) }
+    ensures highest { IfOk result (λ told. told.highest
+        ≡ highest_state (records_of made.now.entries.items)) }
+{
+    let entries = made.entries.as_slice();
+    let records = records_of(alloc, entries)?;
+    let answer = check_end::<A, T>(alloc, session, &records)?;
+    Ok(Told {
+        end,
+        packet: packet_of(&answer, entries),
+        answer,
+        put_off: notes_on(made).put_off,
+        highest: highest_state(&records),
+    })
+}

@@ -1,0 +1,26 @@
+//! Laws of what is told of an end, each on a function that does nothing.
+
+ghost use Rattle.bgp_check_tool.specs.Headline.{NoConfigurationHasARun, NothingIsVacuous};
+ghost use Rattle.bgp_check_tool.specs.Headline.{VerdictIsOverAll};
+
+use bgp_check::no_configuration_explains_a_no;
+
+/// A no of [`check_recording`](crate::check_recording) says that no configuration under which the
+/// router's OPEN is its own has a run that shows these records.
+pub fn no_configuration_has_a_run()
+    ensures { NoConfigurationHasARun }
+{
+    no_configuration_explains_a_no();
+}
+
+/// The verdict that is told of an end is the one over all configurations under which the OPEN that
+/// it sent is its own, where that has no own fault.
+pub fn a_verdict_is_over_all_configurations()
+    ensures { VerdictIsOverAll }
+{}
+
+/// A verdict is told only of an end that sent a message, and of records that begin where it leaves
+/// Idle: no yes is vacuous.
+pub fn no_verdict_is_vacuous()
+    ensures { NothingIsVacuous }
+{}

@@ -1,0 +1,29 @@
+//! `bgp check` as one function over a source and a sink: whether each end of each session in a
+//! recording of packets kept to the standard, without a setting.
+//!
+//! ```text
+//! let options = CheckOptions { port: 179, within: 10, routes: false };
+//! let checked = check_recording::<_, CompactTracker<_>, _, _>(alloc, &options, source, sink);
+//! std::process::exit(checked.status);
+//! ```
+#![tactic(auto)]
+
+mod blocks;
+mod checking;
+mod connection;
+mod ending;
+mod laws;
+mod lines;
+mod listed;
+mod making;
+mod options;
+mod seen;
+mod talks;
+mod tally;
+
+pub use checking::{CheckedRecording, check_recording};
+pub use laws::{
+    a_verdict_is_over_all_configurations, no_configuration_has_a_run, no_verdict_is_vacuous,
+};
+pub use options::CheckOptions;
+pub use seen::seen_from;

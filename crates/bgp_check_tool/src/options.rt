@@ -1,0 +1,12 @@
+//! How a recording is checked.
+
+/// How a recording is checked.
+#[derive(Clone, Copy, Debug, PartialEq, Eq)]
+pub struct CheckOptions {
+    /// The port on which BGP is awaited: 179 (RFC 4271, 2), unless the systems have another.
+    pub port: u16,
+    /// How many seconds after it came a message is handled at the latest.
+    pub within: u16,
+    /// Whether the routes of each end are told.
+    pub routes: bool,
+}

@@ -1,0 +1,186 @@
+//! How many ends there are of each verdict, and how many refusals.
+
+ghost use Rattle.std.specs.Prelude.{◌≡◌, ◌+◌, ◌<◌};
+ghost use Rattle.bgp_judge.specs.Verdict.{verdict_value};
+ghost use Rattle.bgp_text.specs.Lines.{Writes};
+ghost use Rattle.bgp_tool.specs.Status.{code_of};
+ghost use Rattle.bgp_check.specs.Answered.{answer_value};
+ghost use Rattle.bgp_check_tool.specs.Tally.{is_empty, no_tally, nothing_line, nothing_text};
+ghost use Rattle.bgp_check_tool.specs.Tally.{one_more, status_of, tally_line};
+ghost use Rattle.bgp_check_tool.specs.Tally.{with_end, with_refusal, with_verdict};
+
+use bgp_check::Answer;
+use bgp_import::{Cause, Refusal};
+use bgp_judge::Verdict;
+use bgp_text::Lines;
+use bgp_tool::Status;
+use mrt::Sink;
+use std::alloc::Allocator;
+
+/// How many ends there are of each verdict, and how many refusals. No count goes beyond the
+/// greatest `u64`.
+#[derive(Clone, Copy, Debug, PartialEq, Eq)]
+pub(crate) struct Tally {
+    yes: u64,
+    no: u64,
+    unfinished: u64,
+    not_judged: u64,
+    refused: u64,
+    /// Memory was refused.
+    memory: bool,
+    /// A device failed.
+    device: bool,
+}
+
+/// One more.
+fn one_more(count: u64) -> u64
+    ensures { result ≡ one_more count }
+{
+    count.saturating_add(1)
+}
+
+/// The line of a recording that has no connection at this port.
+fn put_no_connection<W: Sink>(lines: &mut Lines<'_, W>, port: u16)
+    ensures { Writes lines.old lines.new (nothing_line port) }
+{
+    lines.put(b"not judged: no connection at port ");
+    lines.put_decimal(port);
+    lines.put(b" holds octets\n");
+}
+
+impl Tally {
+    /// Of nothing.
+    pub(crate) fn new() -> Tally
+        ensures { result ≡ no_tally }
+    {
+        Tally {
+            yes: 0,
+            no: 0,
+            unfinished: 0,
+            not_judged: 0,
+            refused: 0,
+            memory: false,
+            device: false,
+        }
+    }
+
+    /// With an end more, of which this is answered.
+    pub(crate) fn with_end<A: Allocator>(self, answer: &Answer<A>) -> Tally
+        ensures { result ≡ with_end self (answer_value answer.now) }
+    {
+        match answer {
+            Answer::NotJudged(_) => Tally {
+                not_judged: one_more(self.not_judged),
+                ..self
+            },
+            Answer::Judged(judged) => self.with_verdict(&judged.verdict),
+        }
+    }
+
+    /// With a verdict more.
+    fn with_verdict<A: Allocator>(self, verdict: &Verdict<A>) -> Tally
+        ensures { result ≡ with_verdict self (verdict_value verdict.now) }
+    {
+        match verdict {
+            Verdict::Yes(_) => Tally {
+                yes: one_more(self.yes),
+                ..self
+            },
+            Verdict::No(_) => Tally {
+                no: one_more(self.no),
+                ..self
+            },
+            Verdict::Unfinished => Tally {
+                unfinished: one_more(self.unfinished),
+                ..self
+            },
+        }
+    }
+
+    /// With a refusal more.
+    pub(crate) fn with_refusal(self, refusal: Refusal) -> Tally
+        ensures { result ≡ with_refusal self refusal }
+    {
+        let (memory, device) = match refusal.cause() {
+            Cause::Recording => (false, false),
+            Cause::Memory => (true, false),
+            Cause::Device => (false, true),
+        };
+        Tally {
+            refused: one_more(self.refused),
+            memory: self.memory || memory,
+            device: self.device || device,
+            ..self
+        }
+    }
+
+    /// How many ends there are.
+    fn ends(&self) -> u128
+        ensures { result ≡ self.now.yes + self.now.no + self.now.unfinished + self.now.not_judged }
+    {
+        u128::from(self.yes)
+            + u128::from(self.no)
+            + u128::from(self.unfinished)
+            + u128::from(self.not_judged)
+    }
+
+    /// Whether nothing was told of any connection, nor of the file.
+    fn is_empty(&self) -> bool
+        ensures { result ≡ is_empty self.now }
+    {
+        self.ends() == 0 && self.refused == 0
+    }
+
+    /// The exit status over all ends: where a device or memory failed, not all was judged; then a
+    /// no, which nothing told of another end hides; then a refusal. It is that of a refusal where
+    /// no end is judged.
+    pub(crate) fn status(&self) -> Status
+        ensures { code_of result ≡ status_of self.now }
+    {
+        if self.device {
+            Status::Device
+        } else if self.memory {
+            Status::Memory
+        } else if 0 < self.no {
+            Status::No
+        } else if 0 < self.refused {
+            Status::Refused
+        } else if 0 < self.unfinished {
+            Status::Unfinished
+        } else if 0 < self.yes {
+            Status::Done
+        } else {
+            Status::Refused
+        }
+    }
+
+    /// That there is no connection at this port, where nothing was told.
+    pub(crate) fn put_nothing<W: Sink>(&self, lines: &mut Lines<'_, W>, port: u16)
+        ensures { Writes lines.old lines.new (nothing_text port self.now) }
+    {
+        if self.is_empty() {
+            put_no_connection(lines, port);
+        } else {
+            lines.put(b"");
+        }
+    }
+
+    /// The last line.
+    pub(crate) fn put<W: Sink>(&self, lines: &mut Lines<'_, W>)
+        ensures { Writes lines.old lines.new (tally_line self.now) }
+    {
+        lines.put(b"ends ");
+        lines.put_decimal(self.ends());
+        lines.put(b": ");
+        lines.put_decimal(self.yes);
+        lines.put(b" yes, ");
+        lines.put_decimal(self.no);
+        lines.put(b" no, ");
+        lines.put_decimal(self.unfinished);
+        lines.put(b" unfinished, ");
+        lines.put_decimal(self.not_judged);
+        lines.put(b" not judged; refused ");
+        lines.put_decimal(self.refused);
+        lines.put(b"\n");
+    }
+}
