@@ -1,0 +1,8 @@
+mod Lines
+mod Pieces
+mod Capabilities
+mod Refused
+mod Announced
+mod WholeMessage
+mod Alternatives
+mod Applied

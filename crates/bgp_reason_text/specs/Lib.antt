@@ -1,0 +1,13 @@
+pub mod Words
+pub mod Record
+pub mod Errors
+pub mod Items
+pub mod Parameter
+pub mod Refusal
+pub mod Reasons
+pub mod Asked
+pub mod Notes
+pub mod Lacks
+pub mod Possible
+pub mod Applying
+pub mod NotWhole

@@ -1,0 +1,161 @@
+-- Notes on a reason: facts by which a no is often not the fault of the system that is judged. That
+-- one of them is the cause of a no isn't said.
+use Rattle.std.specs.Prelude.{◌≡◌, ◌≢◌, ◌<◌, ◌↔◌, ◌++◌, ◌||◌, ℕ, Bool, List, [], Option, None}
+use Rattle.std.specs.Prelude.{Some, IsTrue, IsFalse, if◌then◌else◌, is_some, length, slice_index}
+use Rattle.std.specs.Prelude.{codes}
+use Rattle.bgp_prefix.specs.Shown.{ShownRecord, Received, Sent, Changed}
+use Rattle.bgp_wire.specs.Message.{IsKeepalive}
+use Rattle.bgp_open.specs.declared.config.Config.{Config}
+use Rattle.bgp_open.specs.declared.families.Families.{Families}
+use Rattle.bgp_open.specs.declared.link.Link.{Link}
+use Rattle.bgp_open.specs.Notification.{IsNotification}
+use Rattle.bgp_update.specs.Laws.{no_families}
+use Rattle.bgp_machine.specs.declared.fsm.Fsm.{Fsm}
+use Rattle.bgp_machine.specs.declared.fsm.Fsm.TheVariants as states
+use Rattle.bgp_machine.specs.Heard.{Announces}
+use Rattle.bgp_reason.specs.declared.kinds.Possible.{Possible}
+use Rattle.bgp_reason.specs.declared.told.Told.{Told}
+use Rattle.bgp_parts_text.specs.Names.{families_text}
+use Rattle.bgp_reason_text.specs.declared.notes.Notes.{Notes}
+use Rattle.bgp_reason_text.specs.Items.{has_sent}
+use Rattle.bgp_reason_text.specs.Words.{text_if}
+
+-- the first record is a change of another state than Idle, which has the number 1
+abbrev pub BeginsElsewhere : ℕ → ShownRecord → Type 0
+BeginsElsewhere number (Changed second old new) = (number ≡ 1) × (old ≢ 1)
+BeginsElsewhere number shown = ⊥
+
+-- a state in which a connection is tried or listened for
+abbrev pub WaitsForAnOpen : Fsm → Type 0
+WaitsForAnOpen states.Connect = Unit {0}
+WaitsForAnOpen states.Active = Unit {0}
+WaitsForAnOpen state = ⊥
+
+-- a message is sent
+abbrev pub IsSent : ShownRecord → Type 0
+IsSent (Sent second octets) = Unit {0}
+IsSent shown = ⊥
+
+-- a KEEPALIVE is sent
+abbrev pub IsSentKeepalive : ShownRecord → Type 0
+IsSentKeepalive (Sent second octets) = IsKeepalive octets
+IsSentKeepalive shown = ⊥
+
+-- the length of an OPEN's parameters and the octet after it are 255 (RFC 9072, 2)
+abbrev pub HasExtendedParameters : List ℕ → Type 0
+HasExtendedParameters octets =
+    (29 < length octets) × (slice_index octets 28 ≡ 255) × (slice_index octets 29 ≡ 255)
+
+-- an OPEN with such parameters
+abbrev pub IsExtendedOpen : Config → List ℕ → Type 0
+IsExtendedOpen config octets = Announces config 1 octets × HasExtendedParameters octets
+
+-- a NOTIFICATION of this code
+abbrev pub IsNotificationOf : ℕ → List ℕ → Type 0
+IsNotificationOf code octets =
+    (subcode : ℕ) × (detail : List ℕ) × IsNotification octets code subcode detail
+
+abbrev pub HoldsNotification : ℕ → ShownRecord → Type 0
+HoldsNotification code (Received second octets) = IsNotificationOf code octets
+HoldsNotification code (Sent second octets) = IsNotificationOf code octets
+HoldsNotification code (Changed second old new) = ⊥
+
+-- a NOTIFICATION is received, by its header, or the state changes to Idle
+abbrev pub EndsTheSession : Config → ShownRecord → Type 0
+EndsTheSession config (Received second octets) = Announces config 3 octets
+EndsTheSession config (Sent second octets) = ⊥
+EndsTheSession config (Changed second old new) = new ≡ 1
+
+-- another message is received, or there is another change
+abbrev pub GoesOn : Config → ShownRecord → Type 0
+GoesOn config (Received second octets) = ¬ Announces config 3 octets
+GoesOn config (Sent second octets) = ⊥
+GoesOn config (Changed second old new) = new ≢ 1
+
+-- both OPENs settled that there is no Hold Time
+abbrev pub HasNoHold : Option Link → Type 0
+HasNoHold None = ⊥
+HasNoHold (Some link) = link.hold ≡ 0
+
+-- a message has to be sent before another can be received
+abbrev pub IsSendOwed : Possible → Type 0
+IsSendOwed possible = IsFalse possible.message × IsTrue (has_sent possible)
+
+-- of the message that was received last what was received since Idle was told: no octets where
+-- nothing was
+abbrev pub since_idle : Told → List ℕ → List ℕ
+since_idle told last = if is_some told.last_received then last else []
+
+-- an OPEN was received before the local system's own was sent, without DelayOpen, and the record is
+-- sent
+abbrev pub CameFirst : Config → Fsm → List ℕ → ShownRecord → Type 0
+CameFirst config state last shown =
+    WaitsForAnOpen state × Announces config 1 last × IsSent shown
+    × IsFalse config.parts.delay_open
+
+-- The notes on a record, which is impossible after records that tell this and this link; the
+-- message that was received last is this one.
+pub record AreNotes (config : Config) (told : Told) (link : Option Link) (last : List ℕ)
+    (possible : Possible) (number : ℕ) (shown : ShownRecord) (notes : Notes) : Type 0 where
+  pub begins_elsewhere : IsTrue notes.begins_elsewhere ↔ BeginsElsewhere number shown
+  pub open_came_first : IsTrue notes.open_came_first
+      ↔ CameFirst config told.state (since_idle told last) shown
+  pub add_path : notes.add_path ≡ no_families
+  pub ipv6_next_hops : IsFalse notes.ipv6_next_hops
+  pub extended_parameters : IsTrue notes.extended_parameters
+      ↔ IsExtendedOpen config (since_idle told last)
+  -- Send Hold Timer Expired (RFC 9687, 4.2)
+  pub send_hold_timer : IsTrue notes.send_hold_timer ↔ HoldsNotification 8 shown
+  pub keepalive_without_hold : IsTrue notes.keepalive_without_hold
+      ↔ (IsSentKeepalive shown × HasNoHold link × IsTrue possible.message)
+  pub may_have_ended : IsTrue notes.may_have_ended
+      ↔ (IsSendOwed possible × EndsTheSession config shown)
+  pub may_be_missing : IsTrue notes.may_be_missing ↔ (IsSendOwed possible × GoesOn config shown)
+
+-- where the verdict is unfinished there is no record to note anything of
+pub record AreEndNotes (config : Config) (told : Told) (last : List ℕ) (notes : Notes) : Type 0
+  where
+    pub begins_elsewhere : IsFalse notes.begins_elsewhere
+    pub open_came_first : IsFalse notes.open_came_first
+    pub add_path : notes.add_path ≡ no_families
+    pub ipv6_next_hops : IsFalse notes.ipv6_next_hops
+    pub extended_parameters : IsTrue notes.extended_parameters
+        ↔ IsExtendedOpen config (since_idle told last)
+    pub send_hold_timer : IsFalse notes.send_hold_timer
+    pub keepalive_without_hold : IsFalse notes.keepalive_without_hold
+    pub may_have_ended : IsFalse notes.may_have_ended
+    pub may_be_missing : IsFalse notes.may_be_missing
+
+-- the same notes, and those on what both OPENs offer
+abbrev pub with_offers : Families → Bool → Notes → Notes
+with_offers add_path next_hops notes =
+    record notes { add_path = add_path; ipv6_next_hops = next_hops }
+
+-- both OPENs offer ADD-PATH (RFC 7911) for these families
+abbrev pub add_path_text : Families → List ℕ
+add_path_text families =
+    if families.v4 || families.v6
+    then codes "note both OPENs offer ADD-PATH for "
+    ++ (families_text families ++ codes ", which is not judged\n")
+    else []
+
+-- the notes, a line each
+unfoldable pub notes_text : Notes → List ℕ
+notes_text notes =
+    text_if notes.begins_elsewhere
+    (codes "note a capture begins in Idle: with change 1 2 or change 1 3\n")
+    ++ (text_if notes.open_came_first
+    (codes "note an OPEN was received before one was sent: DelayOpen, or the order of packets\n")
+    ++ (add_path_text notes.add_path
+    ++ (text_if notes.ipv6_next_hops
+    (codes "note both OPENs offer IPv6 next hops for v4, which is not judged\n")
+    ++ (text_if notes.extended_parameters
+    (codes "note the OPEN received has parameters of RFC 9072, which is not judged\n")
+    ++ (text_if notes.send_hold_timer
+    (codes "note NOTIFICATION 8, Send Hold Timer Expired (RFC 9687), is not judged\n")
+    ++ (text_if notes.keepalive_without_hold
+    (codes "note with hold 0 no keepalive is sent but the one behind the OPEN\n")
+    ++ (text_if notes.may_have_ended
+    (codes "note the connection may have ended before what is owed was written\n")
+    ++ text_if notes.may_be_missing (codes
+    "note a message that was sent may be missing here, or stand later in the capture\n"))))))))

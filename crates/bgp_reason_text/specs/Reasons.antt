@@ -1,0 +1,48 @@
+-- The text of why an OPEN has to be refused: its version, that it is malformed, or each field that
+-- is at fault.
+use Rattle.std.specs.Prelude.{◌++◌, ℕ, Bool, true, false, List, [], ◌∷◌, Option, None, Some, codes}
+use Rattle.std.specs.Fmt.{decimal}
+use Rattle.bgp_prefix.specs.Text.{address_text}
+use Rattle.bgp_prefix.specs.declared.address.Address.TheVariants.{V4}
+use Rattle.bgp_parts_text.specs.Pieces.{separated}
+use Rattle.bgp_reason_text.specs.declared.refusal.FieldReasons.{FieldReasons}
+use Rattle.bgp_reason_text.specs.declared.refusal.OpenReasons.{OpenReasons}
+use Rattle.bgp_reason_text.specs.declared.refusal.OpenReasons.TheVariants.{Version, Malformed}
+use Rattle.bgp_reason_text.specs.declared.refusal.OpenReasons.TheVariants.{Fields}
+
+-- a parameter isn't of type 2, Capabilities
+abbrev pub parameter_piece : Bool → Option (List ℕ)
+parameter_piece true = Some (codes "parameter not of type 2")
+parameter_piece false = None
+
+-- the AS number that the peer says it has, and the one that is configured
+abbrev pub as_piece : ℕ → Option ℕ → Option (List ℕ)
+as_piece configured None = None
+as_piece configured (Some number) =
+    Some (codes "as " ++ (decimal number ++ (codes ", configured " ++ decimal configured)))
+
+-- the BGP Identifier
+abbrev pub identifier_piece : Option ℕ → Option (List ℕ)
+identifier_piece None = None
+identifier_piece (Some id) = Some (codes "id " ++ address_text (V4 id))
+
+-- the Hold Time in seconds
+abbrev pub hold_piece : Option ℕ → Option (List ℕ)
+hold_piece None = None
+hold_piece (Some hold) = Some (codes "hold " ++ decimal hold)
+
+-- the fields that are at fault
+abbrev pub fields_text : FieldReasons → List ℕ
+fields_text reasons =
+    separated []
+    (parameter_piece reasons.other_parameter
+    ∷ as_piece reasons.configured_as reasons.peer_as
+    ∷ identifier_piece reasons.identifier
+    ∷ hold_piece reasons.hold
+    ∷ [])
+
+-- why an OPEN has to be refused
+abbrev pub reasons_text : OpenReasons → List ℕ
+reasons_text (Version number) = codes "version " ++ decimal number
+reasons_text Malformed = codes "malformed"
+reasons_text (Fields reasons) = fields_text reasons

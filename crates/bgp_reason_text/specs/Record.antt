@@ -1,0 +1,18 @@
+-- The record at which a verdict stands, and the state that the records before it tell.
+use Rattle.std.specs.Prelude.{◌++◌, ℕ, List, [], Option, None, Some, codes}
+use Rattle.std.specs.Fmt.{decimal}
+use Rattle.bgp_reason.specs.declared.told.Told.{Told}
+use Rattle.bgp_reason_text.specs.Words.{state_text}
+
+-- a record's number and its line
+unfoldable pub record_line : ℕ → List ℕ → List ℕ
+record_line number line = codes "record " ++ (decimal number ++ (codes " " ++ line))
+
+-- the record that told it, where one did
+abbrev pub by_text : Option ℕ → List ℕ
+by_text None = []
+by_text (Some number) = codes " by record " ++ decimal number
+
+-- the state that was told last, Idle where none was
+unfoldable pub state_line : Told → List ℕ
+state_line told = codes "state " ++ (state_text told.state ++ (by_text told.told_by ++ codes "\n"))

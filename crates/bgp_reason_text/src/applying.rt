@@ -1,0 +1,193 @@
+//! What an UPDATE that was received in Established asks for (RFC 4271, 6.3; RFC 7606).
+
+ghost use Rattle.std.specs.Prelude.{◌≡◌, ◌∷◌, [], IfOk, map};
+ghost use Rattle.bgp_parts.specs.UpdateParts.{shown_part};
+ghost use Rattle.bgp_text.specs.Lines.{Writes};
+ghost use Rattle.bgp_reason_text.specs.Applying.{AsksUpdate, alternatives, applied_piece};
+ghost use Rattle.bgp_reason_text.specs.Applying.{disabled_text, outcomes_text};
+ghost use Rattle.bgp_reason_text.specs.Applying.{last_update_line, may_disable};
+ghost use Rattle.bgp_reason_text.specs.Applying.{may_disable_these, next_alternative};
+ghost use Rattle.bgp_reason_text.specs.Applying.{refused_piece, why_text, withdrawal_text};
+
+use crate::errors::put_update_errors;
+use crate::items::has_update_error;
+use crate::texts::{has_some, put_if};
+use bgp_open::{Families, Link};
+use bgp_parts::{UpdatePart, is_withdrawal, update_parts};
+use bgp_parts_text::{families_text, put_update_parts};
+use bgp_text::Lines;
+use bgp_update::{Subcodes, read_update};
+use mrt::Sink;
+use std::alloc::{AllocError, Allocator, Global};
+
+/// The sets of families, in the order in which they are told.
+const NONE: Families = Families {
+    v4: false,
+    v6: false,
+};
+
+const V4: Families = Families {
+    v4: true,
+    v6: false,
+};
+
+const V6: Families = Families {
+    v4: false,
+    v6: true,
+};
+
+const BOTH: Families = Families { v4: true, v6: true };
+
+/// How an UPDATE may be applied.
+#[derive(Clone, Copy)]
+pub struct Applying {
+    /// Its routes are withdrawn in place of being announced (RFC 7606, 2).
+    pub as_withdrawal: bool,
+    /// The families that are disabled then.
+    pub certain: Families,
+    /// The other families that may be disabled then, or not.
+    pub optional: Families,
+}
+
+/// What an UPDATE that is received in Established asks for.
+#[derive(Drop)]
+pub struct AskedUpdate<'a, A: Allocator = Global> {
+    /// To be applied so, where the session need not be reset.
+    pub applied: Option<Applying>,
+    /// To be refused, by one of these subcodes of UPDATE Message Error.
+    pub refused: Subcodes,
+    /// What keeps it from being clean.
+    pub parts: Vec<UpdatePart<'a>, A>,
+}
+
+impl<'a, A: Allocator + Copy> AskedUpdate<'a, A> {
+    /// What the octets ask for as an UPDATE that came over this link. It takes memory for what the
+    /// UPDATE changes, and for its parts.
+    pub fn of(alloc: A, link: &Link, octets: &'a [u8]) -> Result<AskedUpdate<'a, A>, AllocError>
+        ensures { IfOk result (AsksUpdate link.now octets.entry.now) }
+    {
+        let outcomes = read_update(alloc, link, octets)?;
+        let parts = update_parts(alloc, link, octets)?;
+        let applying = Applying {
+            as_withdrawal: is_withdrawal(link, parts.as_slice()),
+            certain: outcomes.certain,
+            optional: outcomes.optional,
+        };
+        Ok(AskedUpdate {
+            applied: outcomes.changes.is_some().then_some(applying),
+            refused: outcomes.reset,
+            parts,
+        })
+    }
+}
+
+/// Whether a family may be, or may not be, among those that are disabled.
+fn may_disable(certain: bool, optional: bool, is_disabled: bool) -> bool
+    ensures { result ≡ may_disable certain optional is_disabled }
+{
+    if is_disabled {
+        certain || optional
+    } else {
+        !certain
+    }
+}
+
+/// Whether just these families may be disabled.
+fn may_disable_these(applying: &Applying, families: Families) -> bool
+    ensures { result ≡ may_disable_these applying.now families }
+{
+    let Applying {
+        certain,
+        optional,
+        ..
+    } = *applying;
+    may_disable(certain.v4, optional.v4, families.v4)
+        && may_disable(certain.v6, optional.v6, families.v6)
+}
+
+/// The families that are disabled, if any.
+fn put_disabled<W: Sink>(lines: &mut Lines<'_, W>, families: Families)
+    ensures { Writes lines.old lines.new (disabled_text families) }
+{
+    if has_some(families) {
+        lines.put(b" with ");
+        lines.put(families_text(families).as_bytes());
+        lines.put(b" disabled");
+    }
+}
+
+/// That it is to be applied, with these families disabled, after a word; nothing where that isn't
+/// allowed. Answers the next word.
+fn put_applied<W: Sink>(
+    lines: &mut Lines<'_, W>,
+    before: &'static [u8],
+    applied: Option<Applying>,
+    families: Families,
+) -> &'static [u8]
+    ensures writes { Writes lines.old lines.new
+        (alternatives before.now (applied_piece applied families ∷ [])) }
+    ensures next { result.now ≡ next_alternative before.now (applied_piece applied families) }
+{
+    let Some(applying) = applied else {
+        return before;
+    };
+    if !may_disable_these(&applying, families) {
+        return before;
+    }
+    lines.put(before);
+    lines.put(b"to be applied");
+    put_if(lines, applying.as_withdrawal, " as a withdrawal");
+    put_disabled(lines, families);
+    b" or "
+}
+
+/// That it is to be refused by one of these, if there is one, after a word.
+fn put_refused<W: Sink>(lines: &mut Lines<'_, W>, before: &'static [u8], errors: Subcodes)
+    ensures { Writes lines.old lines.new
+        (alternatives before.now (refused_piece errors ∷ [])) }
+{
+    if has_update_error(&errors) {
+        lines.put(before);
+        lines.put(b"to be refused by");
+        put_update_errors(lines, errors);
+    }
+}
+
+/// What keeps it from being clean, if anything does.
+fn put_why<W: Sink>(lines: &mut Lines<'_, W>, parts: &[UpdatePart<'_>])
+    ensures { Writes lines.old lines.new (why_text (map shown_part parts.now)) }
+{
+    if !parts.is_empty() {
+        put_update_parts(lines, b" (", parts);
+        lines.put(b")");
+    }
+}
+
+/// All that is allowed of it.
+fn put_outcomes<W: Sink>(lines: &mut Lines<'_, W>, applied: Option<Applying>, refused: Subcodes)
+    ensures { Writes lines.old lines.new (outcomes_text applied refused) }
+{
+    let first = put_applied(lines, b": ", applied, NONE);
+    let second = put_applied(lines, first, applied, V4);
+    let third = put_applied(lines, second, applied, V6);
+    let fourth = put_applied(lines, third, applied, BOTH);
+    put_refused(lines, fourth, refused);
+}
+
+/// Puts `last received record N update ASKED`: the number of the record that holds the UPDATE, and
+/// what it asks for in Established: `to be applied`, or `to be applied as a withdrawal`, each `with
+/// v6 disabled` or not, or `to be refused by 3/S`, all that is allowed; and then why, part by part.
+pub fn put_last_update<W: Sink, A: Allocator>(
+    lines: &mut Lines<'_, W>,
+    number: u64,
+    asked: &AskedUpdate<'_, A>,
+)
+    ensures { Writes lines.old lines.new (last_update_line number asked.now) }
+{
+    lines.put(b"last received record ");
+    lines.put_decimal(number);
+    lines.put(b" update");
+    put_outcomes(lines, asked.applied, asked.refused);
+    put_why(lines, asked.parts.as_slice());
+    lines.put(b"\n");
+}

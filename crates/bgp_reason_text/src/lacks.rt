@@ -1,0 +1,178 @@
+//! What the impossible record lacks of an item that it resembles.
+
+ghost use Rattle.std.specs.Prelude.{◌≡◌, ◌↔◌, IsTrue, IfOk};
+ghost use Rattle.mrt.specs.Reader.{shown_of};
+ghost use Rattle.bgp_wire.specs.Verdict.{type_code};
+ghost use Rattle.bgp_machine.specs.Want.{limit_on};
+ghost use Rattle.bgp_text.specs.Lines.{Writes};
+ghost use Rattle.bgp_reason_text.specs.Lacks.{IsWholeOf, AreNotificationLacks, AreSentLacks};
+ghost use Rattle.bgp_reason_text.specs.Lacks.{AreLacks, is_open, is_update, is_notification};
+ghost use Rattle.bgp_reason_text.specs.Lacks.{but_text};
+
+use crate::items::Item;
+use crate::whole::sent_limit;
+use bgp_open::{Config, Link, read_notification};
+use bgp_parts::{
+    NotificationParts, OwnOpenParts, UpdatePart, notification_parts, own_open_parts, update_parts,
+};
+use bgp_parts_text::{put_notification_parts, put_open_parts, put_update_parts};
+use bgp_prefix::Seconds;
+use bgp_reason::Possible;
+use bgp_text::Lines;
+use bgp_wire::{HeaderVerdict, MessageType, check_header, header_at};
+use mrt::{Record, Sink};
+use std::alloc::{AllocError, Allocator, Global};
+
+/// What stands between an item and what a record lacks of it.
+const BUT: &[u8] = b", but ";
+
+/// What a record lacks of the item that it resembles.
+#[derive(Drop)]
+pub enum Lacks<'a, A: Allocator = Global> {
+    /// It resembles none.
+    Nothing,
+    /// An OPEN that was sent, of the local system's own.
+    Open(OwnOpenParts),
+    /// An UPDATE that was sent, of a clean one.
+    Update(Vec<UpdatePart<'a>, A>),
+    /// A NOTIFICATION of this code that was sent, of those that are possible.
+    Notification(u8, NotificationParts<'a>),
+}
+
+/// Whether octets are a whole message of this type that can be sent on a link.
+fn is_whole(link: Option<Link>, octets: &[u8], kind: MessageType) -> bool
+    ensures { IsTrue result ↔ IsWholeOf (limit_on link) (type_code kind) octets.now }
+{
+    let Some(header) = header_at(octets) else {
+        return false;
+    };
+    match check_header(header, sent_limit(link)) {
+        HeaderVerdict::Whole(count, found) => {
+            let is_as_long = octets.len() == usize::from(count);
+            let is_of_type = found.code() == kind.code();
+            is_as_long && is_of_type
+        }
+        HeaderVerdict::Faulty(_) => false,
+    }
+}
+
+/// What a NOTIFICATION lacks, if octets are one of a code that is possible.
+fn notification_lacks<'a, A: Allocator>(
+    possible: &Possible,
+    second: Seconds,
+    octets: &'a [u8],
+) -> Lacks<'a, A>
+    ensures { AreNotificationLacks possible.now second octets.entry.now result }
+{
+    let Some(notification) = read_notification(octets) else {
+        return Lacks::Nothing;
+    };
+    match notification_parts(possible, second, octets) {
+        Some(parts) => Lacks::Notification(notification.code, parts),
+        None => Lacks::Nothing,
+    }
+}
+
+/// What a message that was sent lacks.
+fn sent_lacks<'a, A: Allocator + Copy>(
+    alloc: A,
+    config: &Config,
+    link: Option<Link>,
+    possible: &Possible,
+    second: Seconds,
+    octets: &'a [u8],
+) -> Result<Lacks<'a, A>, AllocError>
+    ensures { IfOk result (AreSentLacks config.now link possible.now second octets.entry.now) }
+{
+    if is_whole(link, octets, MessageType::Open) {
+        return Ok(Lacks::Open(own_open_parts(config, octets)));
+    }
+    let Some(settled) = link else {
+        return Ok(notification_lacks(possible, second, octets));
+    };
+    if is_whole(link, octets, MessageType::Update) {
+        return Ok(Lacks::Update(update_parts(alloc, &settled, octets)?));
+    }
+    Ok(notification_lacks(possible, second, octets))
+}
+
+impl<'a, A: Allocator + Copy> Lacks<'a, A> {
+    /// What a record lacks: an OPEN of the local system's own, an UPDATE of a clean one on the
+    /// link, a NOTIFICATION of those of its code that are possible. It takes memory for what an
+    /// UPDATE lacks.
+    pub fn of(
+        alloc: A,
+        config: &Config,
+        link: Option<Link>,
+        possible: &Possible,
+        shown: &Record<'a>,
+    ) -> Result<Lacks<'a, A>, AllocError>
+        ensures { IfOk result (AreLacks config.now link possible.now (shown_of shown.now)) }
+    {
+        match *shown {
+            Record::In(_, _) => Ok(Lacks::Nothing),
+            Record::Out(second, octets) => {
+                sent_lacks(alloc, config, link, possible, second, octets)
+            }
+            Record::Change(_, _, _) => Ok(Lacks::Nothing),
+        }
+    }
+}
+
+fn is_open(item: &Item) -> bool
+    ensures { result ≡ is_open item.now }
+{
+    matches!(*item, Item::SentOpen)
+}
+
+fn is_update(item: &Item) -> bool
+    ensures { result ≡ is_update item.now }
+{
+    matches!(*item, Item::SentUpdate)
+}
+
+/// Whether an item is NOTIFICATIONs of this code.
+fn is_notification(code: u8, item: &Item) -> bool
+    ensures { result ≡ is_notification code item.now }
+{
+    match item {
+        Item::HeaderErrors(_) => code == 1,
+        Item::OpenErrors(_) => code == 2,
+        Item::UpdateErrors(_) => code == 3,
+        Item::HoldTimerExpired(_) => code == 4,
+        Item::StateErrors(_) => code == 5,
+        Item::Cease => code == 6,
+        _ => false,
+    }
+}
+
+/// Puts what a record lacks of an item, where it resembles this one.
+pub(crate) fn put_lacks<W: Sink, A: Allocator>(
+    lines: &mut Lines<'_, W>,
+    item: &Item,
+    lacks: &Lacks<'_, A>,
+)
+    ensures { Writes lines.old lines.new (but_text lacks.now item.now) }
+{
+    match lacks {
+        Lacks::Nothing => {}
+        Lacks::Open(parts) => {
+            if !is_open(item) {
+                return;
+            }
+            put_open_parts(lines, BUT, parts);
+        }
+        Lacks::Update(parts) => {
+            if !is_update(item) {
+                return;
+            }
+            put_update_parts(lines, BUT, parts.as_slice());
+        }
+        Lacks::Notification(code, parts) => {
+            if !is_notification(*code, item) {
+                return;
+            }
+            put_notification_parts(lines, BUT, parts);
+        }
+    }
+}

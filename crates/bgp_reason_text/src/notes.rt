@@ -1,0 +1,334 @@
+//! Notes on a reason: facts by which a no is often not the fault of the system that is judged.
+
+ghost use Rattle.std.specs.Prelude.{◌≡◌, ◌↔◌, IsTrue};
+ghost use Rattle.mrt.specs.Reader.{shown_of};
+ghost use Rattle.bgp_wire.specs.Message.{IsKeepalive};
+ghost use Rattle.bgp_wire.specs.Verdict.{type_code};
+ghost use Rattle.bgp_machine.specs.Heard.{Announces};
+ghost use Rattle.bgp_text.specs.Lines.{Writes};
+ghost use Rattle.bgp_reason_text.specs.Notes.{BeginsElsewhere, WaitsForAnOpen, IsSent};
+ghost use Rattle.bgp_reason_text.specs.Notes.{IsSentKeepalive, HasExtendedParameters};
+ghost use Rattle.bgp_reason_text.specs.Notes.{IsNotificationOf, HoldsNotification};
+ghost use Rattle.bgp_reason_text.specs.Notes.{EndsTheSession, GoesOn, HasNoHold, IsSendOwed};
+ghost use Rattle.bgp_reason_text.specs.Notes.{CameFirst, IsExtendedOpen, since_idle};
+ghost use Rattle.bgp_reason_text.specs.Notes.{AreNotes, AreEndNotes, add_path_text, notes_text};
+ghost use Rattle.bgp_reason_text.specs.Notes.{with_offers};
+
+use crate::items::has_sent;
+use crate::texts::{has_some, put_if};
+use bgp_machine::{Fsm, received_limit};
+use bgp_open::{Config, Families, Link, read_notification};
+use bgp_parts_text::families_text;
+use bgp_reason::{Possible, Told};
+use bgp_text::Lines;
+use bgp_wire::{HeaderVerdict, MessageType, check_header, header_at, message_body};
+use mrt::{Record, Sink};
+
+/// The Error code of Send Hold Timer Expired (RFC 9687, 4.2).
+const SEND_HOLD_TIMER_EXPIRED: u8 = 8;
+
+/// No family.
+const NO_FAMILY: Families = Families {
+    v4: false,
+    v6: false,
+};
+
+/// Which notes stand after a reason.
+#[derive(Clone, Copy)]
+pub struct Notes {
+    /// The first record is a change of another state than Idle.
+    pub begins_elsewhere: bool,
+    /// An OPEN was received before the local system sent its own, and something is sent now.
+    pub open_came_first: bool,
+    /// Both OPENs offer ADD-PATH (RFC 7911) for these families, so that UPDATEs have identifiers of
+    /// paths.
+    pub add_path: Families,
+    /// Both OPENs offer IPv6 next hops of IPv4 routes (RFC 8950).
+    pub ipv6_next_hops: bool,
+    /// The OPEN that was received last has parameters of another form (RFC 9072), which is not
+    /// read.
+    pub extended_parameters: bool,
+    /// The record is a NOTIFICATION that no row of the session machine sends: Send Hold Timer
+    /// Expired (RFC 9687).
+    pub send_hold_timer: bool,
+    /// A KEEPALIVE is sent though both OPENs settle no Hold Time.
+    pub keepalive_without_hold: bool,
+    /// What is owed was never sent, since the session ends.
+    pub may_have_ended: bool,
+    /// What is owed may have been sent, but not captured here.
+    pub may_be_missing: bool,
+}
+
+/// Whether octets begin with a header without a fault, of a message of this type.
+fn announces(config: &Config, octets: &[u8], kind: MessageType) -> bool
+    ensures { IsTrue result ↔ Announces config.now (type_code kind) octets.now }
+{
+    let Some(header) = header_at(octets) else {
+        return false;
+    };
+    match check_header(header, received_limit(config)) {
+        HeaderVerdict::Whole(_, found) => found.code() == kind.code(),
+        HeaderVerdict::Faulty(_) => false,
+    }
+}
+
+/// Whether the octets are a KEEPALIVE.
+fn is_keepalive(octets: &[u8]) -> bool
+    ensures { IsTrue result ↔ IsKeepalive octets.now }
+{
+    match message_body(MessageType::Keepalive, octets) {
+        Some(body) => body.is_empty(),
+        None => false,
+    }
+}
+
+/// Whether a record is a change of another state than Idle, and the first one.
+fn begins_elsewhere(number: u64, shown: &Record<'_>) -> bool
+    ensures { IsTrue result ↔ BeginsElsewhere number (shown_of shown.now) }
+{
+    match *shown {
+        Record::Change(_, old, _) => number == 1 && old != 1,
+        _ => false,
+    }
+}
+
+/// Whether a state sends no message before its own OPEN.
+fn waits_for_an_open(state: Fsm) -> bool
+    ensures { IsTrue result ↔ WaitsForAnOpen state }
+{
+    matches!(state, Fsm::Connect | Fsm::Active)
+}
+
+/// Whether a record is a message that was sent.
+fn is_sent(shown: &Record<'_>) -> bool
+    ensures { IsTrue result ↔ IsSent (shown_of shown.now) }
+{
+    matches!(*shown, Record::Out(_, _))
+}
+
+/// Whether a record is a KEEPALIVE that was sent.
+fn is_sent_keepalive(shown: &Record<'_>) -> bool
+    ensures { IsTrue result ↔ IsSentKeepalive (shown_of shown.now) }
+{
+    match *shown {
+        Record::Out(_, octets) => is_keepalive(octets),
+        _ => false,
+    }
+}
+
+/// Whether an OPEN says that its parameters have the form of RFC 9072.
+fn has_extended_parameters(octets: &[u8]) -> bool
+    ensures { IsTrue result ↔ HasExtendedParameters octets.now }
+{
+    29 < octets.len() && octets[28] == 255 && octets[29] == 255
+}
+
+/// Whether octets are a NOTIFICATION of this code.
+fn is_notification(octets: &[u8], code: u8) -> bool
+    ensures { IsTrue result ↔ IsNotificationOf code octets.now }
+{
+    match read_notification(octets) {
+        Some(notification) => notification.code == code,
+        None => false,
+    }
+}
+
+/// Whether a record is a NOTIFICATION of this code, sent or received.
+fn holds_notification(shown: &Record<'_>, code: u8) -> bool
+    ensures { IsTrue result ↔ HoldsNotification code (shown_of shown.now) }
+{
+    match *shown {
+        Record::In(_, octets) => is_notification(octets, code),
+        Record::Out(_, octets) => is_notification(octets, code),
+        Record::Change(_, _, _) => false,
+    }
+}
+
+/// Whether a record ends the session: a NOTIFICATION that was received, or a change to Idle.
+fn ends_the_session(config: &Config, shown: &Record<'_>) -> bool
+    ensures { IsTrue result ↔ EndsTheSession config.now (shown_of shown.now) }
+{
+    match *shown {
+        Record::In(_, octets) => announces(config, octets, MessageType::Notification),
+        Record::Out(_, _) => false,
+        Record::Change(_, _, new) => new == 1,
+    }
+}
+
+/// Whether a record is another message that was received, or another change.
+fn goes_on(config: &Config, shown: &Record<'_>) -> bool
+    ensures { IsTrue result ↔ GoesOn config.now (shown_of shown.now) }
+{
+    match *shown {
+        Record::In(_, octets) => !announces(config, octets, MessageType::Notification),
+        Record::Out(_, _) => false,
+        Record::Change(_, _, new) => new != 1,
+    }
+}
+
+/// Whether both OPENs settled that there is no Hold Time.
+fn has_no_hold(link: Option<Link>) -> bool
+    ensures { IsTrue result ↔ HasNoHold link }
+{
+    match link {
+        Some(link) => link.hold == 0,
+        None => false,
+    }
+}
+
+/// The message that was received last, or no octets where none was since Idle was told.
+fn since_idle<'a>(told: &Told, last: &'a [u8]) -> &'a [u8]
+    ensures { result.now ≡ since_idle told.now last.entry.now }
+{
+    if told.last_received.is_some() {
+        last
+    } else {
+        &[]
+    }
+}
+
+/// Whether a message is an OPEN with parameters of the form of RFC 9072.
+fn is_extended_open(config: &Config, octets: &[u8]) -> bool
+    ensures { IsTrue result ↔ IsExtendedOpen config.now octets.now }
+{
+    announces(config, octets, MessageType::Open) && has_extended_parameters(octets)
+}
+
+/// Whether a message is owed: one has to be sent before another can be received.
+fn is_send_owed(possible: &Possible) -> bool
+    ensures { IsTrue result ↔ IsSendOwed possible.now }
+{
+    !possible.message && has_sent(possible)
+}
+
+/// Whether an OPEN was received before the local system's own was sent, without DelayOpen, and the
+/// record is sent.
+fn came_first(config: &Config, state: Fsm, last: &[u8], shown: &Record<'_>) -> bool
+    ensures { IsTrue result ↔ CameFirst config.now state last.now (shown_of shown.now) }
+{
+    waits_for_an_open(state)
+        && announces(config, last, MessageType::Open)
+        && is_sent(shown)
+        && !config.parts.delay_open
+}
+
+impl Notes {
+    /// The notes on a no: on the record with this number, which is impossible after records that
+    /// tell this and this link. `last` is the message that was received last, in whichever state.
+    pub fn on(
+        config: &Config,
+        told: &Told,
+        link: Option<Link>,
+        last: &[u8],
+        possible: &Possible,
+        number: u64,
+        shown: &Record<'_>,
+    ) -> Notes
+        ensures { AreNotes config.now told.now link last.now possible.now number
+            (shown_of shown.now) result }
+    {
+        let received = since_idle(told, last);
+        let is_owed = is_send_owed(possible);
+        Notes {
+            begins_elsewhere: begins_elsewhere(number, shown),
+            open_came_first: came_first(config, told.state, received, shown),
+            add_path: NO_FAMILY,
+            ipv6_next_hops: false,
+            extended_parameters: is_extended_open(config, received),
+            send_hold_timer: holds_notification(shown, SEND_HOLD_TIMER_EXPIRED),
+            keepalive_without_hold: is_sent_keepalive(shown)
+                && has_no_hold(link)
+                && possible.message,
+            may_have_ended: is_owed && ends_the_session(config, shown),
+            may_be_missing: is_owed && goes_on(config, shown),
+        }
+    }
+
+    /// The notes where the verdict is unfinished, by what the records tell and the message that was
+    /// received last, in whichever state.
+    pub fn on_the_end(config: &Config, told: &Told, last: &[u8]) -> Notes
+        ensures { AreEndNotes config.now told.now last.now result }
+    {
+        Notes {
+            begins_elsewhere: false,
+            open_came_first: false,
+            add_path: NO_FAMILY,
+            ipv6_next_hops: false,
+            extended_parameters: is_extended_open(config, since_idle(told, last)),
+            send_hold_timer: false,
+            keepalive_without_hold: false,
+            may_have_ended: false,
+            may_be_missing: false,
+        }
+    }
+
+    /// These notes, and those on what both OPENs offer that isn't judged: ADD-PATH for these
+    /// families, and IPv6 next hops of IPv4 routes.
+    pub fn with_offers(self, add_path: Families, ipv6_next_hops: bool) -> Notes
+        ensures { result ≡ with_offers add_path ipv6_next_hops self }
+    {
+        Notes {
+            add_path,
+            ipv6_next_hops,
+            ..self
+        }
+    }
+}
+
+/// That both OPENs offer ADD-PATH for families, if there is one.
+fn put_add_path<W: Sink>(lines: &mut Lines<'_, W>, families: Families)
+    ensures { Writes lines.old lines.new (add_path_text families) }
+{
+    if has_some(families) {
+        lines.put(b"note both OPENs offer ADD-PATH for ");
+        lines.put(families_text(families).as_bytes());
+        lines.put(b", which is not judged\n");
+    }
+}
+
+/// Puts the notes, a line each.
+pub fn put_notes<W: Sink>(lines: &mut Lines<'_, W>, notes: &Notes)
+    ensures { Writes lines.old lines.new (notes_text notes.now) }
+{
+    put_if(
+        lines,
+        notes.begins_elsewhere,
+        "note a capture begins in Idle: with change 1 2 or change 1 3\n",
+    );
+    put_if(
+        lines,
+        notes.open_came_first,
+        "note an OPEN was received before one was sent: DelayOpen, or the order of packets\n",
+    );
+    put_add_path(lines, notes.add_path);
+    put_if(
+        lines,
+        notes.ipv6_next_hops,
+        "note both OPENs offer IPv6 next hops for v4, which is not judged\n",
+    );
+    put_if(
+        lines,
+        notes.extended_parameters,
+        "note the OPEN received has parameters of RFC 9072, which is not judged\n",
+    );
+    put_if(
+        lines,
+        notes.send_hold_timer,
+        "note NOTIFICATION 8, Send Hold Timer Expired (RFC 9687), is not judged\n",
+    );
+    put_if(
+        lines,
+        notes.keepalive_without_hold,
+        "note with hold 0 no keepalive is sent but the one behind the OPEN\n",
+    );
+    put_if(
+        lines,
+        notes.may_have_ended,
+        "note the connection may have ended before what is owed was written\n",
+    );
+    put_if(
+        lines,
+        notes.may_be_missing,
+        "note a message that was sent may be missing here, or stand later in the capture\n",
+    );
+}

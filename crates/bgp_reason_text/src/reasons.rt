@@ -1,0 +1,107 @@
+//! The text of why an OPEN has to be refused.
+
+ghost use Rattle.std.specs.Prelude.{◌≡◌, ◌∷◌, [], ℕ, List, Option};
+ghost use Rattle.bgp_text.specs.Lines.{Writes};
+ghost use Rattle.bgp_parts_text.specs.Pieces.{separated, next_separator};
+ghost use Rattle.bgp_reason_text.specs.Reasons.{parameter_piece};
+ghost use Rattle.bgp_reason_text.specs.Reasons.{as_piece, identifier_piece, hold_piece};
+ghost use Rattle.bgp_reason_text.specs.Reasons.{fields_text, reasons_text};
+
+use crate::refusal::{FieldReasons, OpenReasons};
+use bgp_text::Lines;
+use mrt::Sink;
+
+/// That a parameter isn't of type 2, after a separator. Answers the next separator, as the three
+/// below.
+fn put_parameter<W: Sink>(
+    lines: &mut Lines<'_, W>,
+    before: &'static [u8],
+    is_other: bool,
+) -> &'static [u8]
+    ensures writes { Writes lines.old lines.new
+        (separated before.now (parameter_piece is_other ∷ [])) }
+    ensures next { result.now ≡ next_separator before.now (parameter_piece is_other) }
+{
+    if !is_other {
+        return before;
+    }
+    lines.put(before);
+    lines.put(b"parameter not of type 2");
+    b"; "
+}
+
+/// The AS number that the peer says it has, and the one that is configured.
+fn put_peer_as<W: Sink>(
+    lines: &mut Lines<'_, W>,
+    before: &'static [u8],
+    peer_as: Option<u32>,
+    configured: u32,
+) -> &'static [u8]
+    ensures writes { Writes lines.old lines.new
+        (separated before.now (as_piece configured peer_as ∷ [])) }
+    ensures next { result.now ≡ next_separator before.now (as_piece configured peer_as) }
+{
+    let Some(number) = peer_as else {
+        return before;
+    };
+    lines.put(before);
+    lines.put(b"as ");
+    lines.put_decimal(number);
+    lines.put(b", configured ");
+    lines.put_decimal(configured);
+    b"; "
+}
+
+/// The BGP Identifier.
+fn put_identifier<W: Sink>(
+    lines: &mut Lines<'_, W>,
+    before: &'static [u8],
+    identifier: Option<u32>,
+) -> &'static [u8]
+    ensures writes { Writes lines.old lines.new
+        (separated before.now (identifier_piece identifier ∷ [])) }
+    ensures next { result.now ≡ next_separator before.now (identifier_piece identifier) }
+{
+    let Some(id) = identifier else {
+        return before;
+    };
+    lines.put(before);
+    lines.put(b"id ");
+    lines.put_ipv4(id);
+    b"; "
+}
+
+/// The Hold Time.
+fn put_hold<W: Sink>(lines: &mut Lines<'_, W>, before: &'static [u8], hold: Option<u16>)
+    ensures { Writes lines.old lines.new (separated before.now (hold_piece hold ∷ [])) }
+{
+    if let Some(hold) = hold {
+        lines.put(before);
+        lines.put(b"hold ");
+        lines.put_decimal(hold);
+    }
+}
+
+/// The fields that are at fault.
+fn put_fields<W: Sink>(lines: &mut Lines<'_, W>, reasons: &FieldReasons)
+    ensures { Writes lines.old lines.new (fields_text reasons.now) }
+{
+    let first = put_parameter(lines, b"", reasons.other_parameter);
+    let second = put_peer_as(lines, first, reasons.peer_as, reasons.configured_as);
+    let third = put_identifier(lines, second, reasons.identifier);
+    put_hold(lines, third, reasons.hold);
+}
+
+/// Puts why an OPEN has to be refused.
+pub(crate) fn put_reasons<W: Sink>(lines: &mut Lines<'_, W>, reasons: &OpenReasons)
+    ensures { Writes lines.old lines.new (reasons_text reasons.now) }
+{
+    match reasons {
+        OpenReasons::Version(number) => {
+            lines.put(b"version ");
+            lines.put_decimal(*number);
+        }
+        OpenReasons::Malformed => lines.put(b"malformed"),
+        OpenReasons::Fields(reasons) => put_fields(lines, reasons),
+    }
+}
