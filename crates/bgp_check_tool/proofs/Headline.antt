@@ -1,5 +1,5 @@
 -- What a verdict on an end is worth.
-use Rattle.std.proofs.Common.{◌≡◌, Bool, true, false, IsTrue, ℕ, List, Option, None, Some, option_map, refl, sym, subst}
+use Rattle.std.proofs.Common.{◌≡◌, Bool, true, false, IsTrue, ℕ, List, Option, None, option_map, refl, sym, subst}
 use Rattle.bgp_prefix.specs.Shown.{ShownRecord}
 use Rattle.bgp_open.specs.Open.{OpenFields, open_of}
 use Rattle.bgp_judge.specs.Verdict.{No}

@@ -1,6 +1,5 @@
 -- The records that are made of a connection are a stretch: the first leaves Idle, and no other does.
-use Rattle.std.proofs.Common.{◌≡◌, ◌≢◌, ◌++◌, ◌∙◌, ℕ, Bool, true, false, List, [], ◌∷◌, Option, None, Some, map, refl, sym, ap, subst, arith}
-use Rattle.bgp_prefix.specs.Shown as shown
+use Rattle.std.proofs.Common.{◌≡◌, ◌≢◌, ◌++◌, ◌∙◌, ℕ, Bool, false, List, [], ◌∷◌, Option, None, Some, map, refl, sym, ap, subst, arith}
 use Rattle.bgp_prefix.specs.Shown.{ShownRecord}
 use Rattle.bgp_machine.specs.Lists.{Each}
 use Rattle.mrt.specs.Reader.{shown_of}
@@ -14,7 +13,7 @@ use Rattle.bgp_recording.specs.Captured.{records_of}
 use Rattle.bgp_recording.specs.Changes.{are_left, is_open, is_rejected, led_by_end, led_by_left, led_by_received, led_by_sent, opened_state, state_then}
 use Rattle.bgp_recording.specs.Recorded.{IsRecorded}
 use Rattle.bgp_recording.specs.States.{state_number}
-use Rattle.bgp_recording.specs.Tells.{Event, Numbered, Passed, change, items_in, numbered_in, numbered_of, numbered_with, opening}
+use Rattle.bgp_recording.specs.Tells.{Event, Numbered, Passed, change, items_in, numbered_in, numbered_of}
 use Rattle.bgp_recording.specs.declared.entry.Entry.{Entry}
 use Rattle.bgp_recording.specs.declared.framing.Rest.{Rest}
 use Rattle.bgp_recording.specs.declared.state.State.{State}

@@ -2,7 +2,6 @@
 use Rattle.std.proofs.Common.{◌<◌, ◌≤◌, ℕ, List, [], ◌∷◌, arith}
 use Rattle.std.proofs.Math.Logic.{∥∥₁_elim, ∥∥₁_prop}
 use Rattle.std.specs.List.{AllByRecursion}
-use Rattle.streams.specs.Clock.{AreInOrder}
 use Rattle.streams.specs.Held.{HoldsConnections}
 use Rattle.streams.specs.Passed.{Segment}
 use Rattle.streams.specs.declared.connections.Connections.{Connections}

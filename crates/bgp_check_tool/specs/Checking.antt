@@ -1,9 +1,8 @@
 -- What checking a recording writes and answers.
-use Rattle.std.specs.Prelude.{◌≡◌, ◌++◌, ℕ, Bool, List, [], ◌∷◌, Option, None, Some}
+use Rattle.std.specs.Prelude.{◌≡◌, ◌++◌, ℕ, List, [], ◌∷◌, Option, None, Some}
 use Rattle.std.specs.List.{AllByRecursion, flat_map}
 use Rattle.bgp_prefix.specs.declared.session.Session.{Session}
 use Rattle.segments.specs.declared.fault.PacketFault.{PacketFault}
-use Rattle.segments.specs.declared.found.Addresses.{Addresses}
 use Rattle.streams.specs.Clock.{AreInOrder}
 use Rattle.streams.specs.Passed.{Segment}
 use Rattle.streams.specs.declared.connection.Opening.{Opening}

@@ -1,9 +1,9 @@
 -- What a verdict on an end is worth.
-use Rattle.std.specs.Prelude.{◌≡◌, ℕ, List, Option, None}
+use Rattle.std.specs.Prelude.{◌≡◌, ℕ, List, Option}
 use Rattle.bgp_prefix.specs.declared.session.Session.{Session}
 use Rattle.bgp_open.specs.declared.config.Config.{Config}
 use Rattle.bgp_machine.specs.Run.{Begins}
-use Rattle.bgp_judge.specs.Verdict.{No, VerdictValue, Yes}
+use Rattle.bgp_judge.specs.Verdict.{No, VerdictValue}
 use Rattle.streams.specs.declared.connection.Connection.{Connection}
 use Rattle.streams.specs.declared.connection.Opening.{Opening}
 use Rattle.streams.specs.declared.passed.Side.{Side}

@@ -2,10 +2,10 @@ use Rattle.std.proofs.Common.{◌∙◌, subst, sym}
 use Rattle.bgp_prefix.specs.declared.session.Session.{Session}
 use Rattle.streams.specs.declared.connection.Connection.{Connection}
 use Rattle.bgp_recording.specs.Captured.{records_of}
-use Rattle.bgp_recording.specs.Gathered.{IsClocked, IsCovered}
+use Rattle.bgp_recording.specs.Gathered.{IsClocked}
 use Rattle.bgp_check.specs.Answered.{IsAnswerTo, answer_value}
 use Rattle.bgp_check_tool.specs.Made.{IsMade}
-use Rattle.bgp_check_tool.proofs.OtherEnd.{clocked, covered}
+use Rattle.bgp_check_tool.proofs.OtherEnd.{clocked}
 use Rattle.bgp_check_tool.proofs.connection.check_side.Goals as goal
 
 pub returns-in-Some-clause-err : goal.returns-in-Some-clause-err

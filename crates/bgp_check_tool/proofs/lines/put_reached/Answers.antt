@@ -1,7 +1,7 @@
 use Rattle.std.proofs.Common.{◌≡◌, ◌<◌, ◌++◌, ◌∙◌, Bool, true, false, ℕ, List, [], codes, if◌then◌else◌, nat_lt, refl, subst, arith}
 use Rattle.bgp_text.specs.Lines.{Writes}
 use Rattle.bgp_text.proofs.Pieces.{Joins, and_then}
-use Rattle.bgp_check_tool.specs.Text.{reached_text, state_name}
+use Rattle.bgp_check_tool.specs.Text.{state_name}
 use Rattle.bgp_check_tool.proofs.lines.put_reached.Goals as goal
 
 chosen : (b : Bool) (text : List ℕ) → b ≡ true → text ≡ (if b then text else [])

@@ -1,0 +1,61 @@
+//! What checking a recording answers, told as a case tells it.
+
+use crate::case::{Case, malformed};
+use crate::words::options_of;
+use bgp_check_tool::check_recording;
+use bgp_compact::CompactTracker;
+use bgp_judge::{PlainTracker, Tracker};
+use mrt::{MemSink, MemSource};
+use std::alloc::{AllocError, Global};
+use std::fmt::Write;
+use std::io;
+
+/// Appends what is told.
+fn add<T: std::fmt::Display + Drop>(text: &mut String, piece: T) -> io::Result<()> {
+    match write!(text, "{piece}") {
+        Ok(()) => Ok(()),
+        Err(_) => Err(io::Error::from(AllocError)),
+    }
+}
+
+/// The status, and the lines that were printed.
+fn printed(alloc: Global, status: u8, octets: Vec<u8>) -> io::Result<String> {
+    let mut text = String::new(alloc);
+    add(&mut text, "status ")?;
+    add(&mut text, status)?;
+    let Ok(lines) = String::from_utf8(octets) else {
+        return Err(malformed());
+    };
+    for line in lines.as_str().lines() {
+        add(&mut text, "\n> ")?;
+        add(&mut text, line)?;
+    }
+    Ok(text)
+}
+
+/// What checking a case's recording with a tracker answers.
+fn check<T: Tracker<Global>>(alloc: Global, case: &Case<'_>) -> io::Result<String> {
+    let Some(options) = options_of(case.words) else {
+        return Err(malformed());
+    };
+    let mut source = MemSource::new(Vec::from_slice(alloc, case.recording.as_slice())?);
+    let mut sink = MemSink::new(alloc);
+    let checked = check_recording::<Global, T, MemSource, MemSink>(
+        alloc,
+        &options,
+        &mut source,
+        &mut sink,
+    );
+    printed(alloc, checked.status, sink.into_octets())
+}
+
+/// The lines of the answer to a case, by both trackers.
+pub(crate) fn answer_to(alloc: Global, case: &Case<'_>) -> io::Result<String> {
+    let plain = check::<PlainTracker<Global>>(alloc, case)?;
+    let compact = check::<CompactTracker<Global>>(alloc, case)?;
+    if plain.as_str() == compact.as_str() {
+        Ok(compact)
+    } else {
+        Ok(format!(in alloc; "the trackers differ")?)
+    }
+}
