@@ -13,7 +13,7 @@ use Rattle.streams.specs.Choice.{IsAnswered, IsRefused}
 use Rattle.streams.specs.Connections.{numbered}
 use Rattle.streams.specs.Passed.{Segment}
 use Rattle.bgp_recording.specs.declared.entry.Entry.{Entry}
-use Rattle.bgp_recording.specs.Recorded.{IsRecorded}
+use Rattle.bgp_recording.specs.Recorded.{IsRecordedInOrder}
 use Rattle.bgp_import.specs.declared.importing.Import.{Import}
 use Rattle.bgp_import.specs.declared.note.Notes.{Notes}
 use Rattle.bgp_import.specs.declared.refusal.Refusal.{Refusal}
@@ -38,7 +38,7 @@ pub record IsConnection (wanted : Import) (packets : List Recorded) (connection 
 -- session's may be (RFC 8654).
 pub record IsMadeOf (wanted : Import) (connection : Connection) (entries : List Entry)
     (notes : Notes) : Type 0 where
-  pub recorded : IsRecorded (limit_with wanted.selection.session.extended) wanted.within
+  pub recorded : IsRecordedInOrder (limit_with wanted.selection.session.extended) wanted.within
       connection entries notes.received notes.sent
   pub counts : notes.put_off ≡ put_off 0 entries
 

@@ -7,6 +7,7 @@ pub mod Refreshes
 pub mod Notes
 pub mod ListText
 pub mod Importing
+pub mod Once
 pub mod Gathers
 pub mod Taking
 pub mod Imports

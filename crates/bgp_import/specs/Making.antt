@@ -8,7 +8,7 @@ use Rattle.streams.specs.Choice.{IsAnswered}
 use Rattle.streams.specs.Connections.{numbered}
 use Rattle.streams.specs.Passed.{Segment}
 use Rattle.streams.specs.declared.connection.Connection.{Connection}
-use Rattle.bgp_recording.specs.Recorded.{IsRecorded}
+use Rattle.bgp_recording.specs.Recorded.{IsRecordedInOrder}
 use Rattle.bgp_recording.specs.declared.making.Recording.{Recording}
 use Rattle.bgp_import.specs.Captures.{CanBeWritten}
 use Rattle.bgp_import.specs.Gathers.{HoldsSession, IsNotChosen}
@@ -36,7 +36,7 @@ pub record TellsOne {Z : Type 0} (wanted : Import) (number : Option ℕ) (packet
     (segments : List Segment) (made : Recording Z) : Type 0 where
   pub connection : Connection
   pub answered : IsAnswered number (length packets) (numbered (reverse segments)) connection
-  pub recorded : IsRecorded (limit_with wanted.selection.session.extended) wanted.within
+  pub recorded : IsRecordedInOrder (limit_with wanted.selection.session.extended) wanted.within
       connection made.entries.items made.received_rest made.sent_rest
   pub writable : AllByRecursion (CanBeWritten wanted.selection.session) made.entries.items
 

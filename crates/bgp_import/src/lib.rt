@@ -17,6 +17,7 @@
 mod capture;
 mod gathering;
 mod importing;
+mod laws;
 mod listing;
 mod note;
 mod refresh;
@@ -27,6 +28,7 @@ mod sender;
 pub use capture::{notes_on, write_capture};
 pub use gathering::{Gathered, gather, refused};
 pub use importing::{Import, Stopped, import_recording, records_of};
+pub use laws::recordings_are_made_once;
 pub use listing::{
     end_of, list_recording, other_side, put_counts, put_end, put_opening, put_refusal, put_refused,
 };

@@ -50,7 +50,7 @@ all_given P (run ∷ later) place h =
       | inr there ↦ subst (λ (o : Option Moment). IfSome o P) (sym (giver_there run later place there)) (all_given P later (place - run.count) h.1)
     ]
 
-at_giver : (P : Moment → Type 0) (runs : List Run) (place : ℕ) (moment : Moment) → IfSome (giver runs place) P → giver runs place ≡ Some moment → P moment
+pub at_giver : (P : Moment → Type 0) (runs : List Run) (place : ℕ) (moment : Moment) → IfSome (giver runs place) P → giver runs place ≡ Some moment → P moment
 at_giver P runs place moment h e = subst (λ (o : Option Moment). IfSome o P) e h
 
 pub came_by : (clock : ℕ → ℕ) (first : ℕ) (runs : List Run) (from : ℕ) (messages : List Message) → AllByRecursion (λ run. GoesFrom clock first run.packet run.second) runs → AreCame runs from messages

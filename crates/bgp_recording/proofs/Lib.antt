@@ -2,10 +2,12 @@ pub mod Lists
 pub mod Orders
 pub mod Telling
 pub mod UnderWay
+pub mod MadeOrders
 pub mod Seconds
 pub mod Gave
 pub mod Splitting
 pub mod Heard
 pub mod Recordings
+pub mod Once
 pub mod Capturing
 pub mod Joining

@@ -11,13 +11,15 @@ use Rattle.bgp_recording.specs.declared.framing.Direction.TheVariants.{Received,
 use Rattle.bgp_recording.specs.declared.framing.Rest.{Rest}
 use Rattle.bgp_recording.specs.declared.pending.Moment.{Moment}
 use Rattle.bgp_recording.specs.Framed.{AreFramed, HasKind, AreStamped}
-use Rattle.bgp_recording.specs.Recorded.{IsRecorded}
+use Rattle.bgp_recording.specs.Recorded.{IsRecordedInOrder}
 use Rattle.bgp_recording.specs.Tells.{Tells, HasSecond, numbered_of}
 use Rattle.bgp_recording.specs.declared.message.Message.{Message}
 use Rattle.bgp_recording.specs.declared.ordering.Exchange.{Exchange}
 use Rattle.bgp_recording.specs.Gathered.{GoesFrom, IsClocked, IsHeard, IsSaid, AreMade}
 use Rattle.bgp_recording.specs.Givers.{own_end, AreLatest, AreEarliest}
 use Rattle.bgp_recording.specs.Told.{IsTold}
+use Rattle.bgp_recording.specs.MadeOrder.{made_order}
+use Rattle.bgp_recording.specs.Values.{values_of}
 use Rattle.bgp_recording.proofs.Lists.{all_weaker}
 use Rattle.bgp_recording.proofs.Heard.{came_by, came_rise, made_each, made_rise, made_last, own_end_is, stamped_came, stamped_made}
 
@@ -82,13 +84,20 @@ is_told_by limit connection exchange received sent received_rest sent_rest packe
 
 pub recorded_by : (limit : Limit) (within : ℕ) (connection : Connection) (entries : List Entry) (received_rest sent_rest : Rest) (received sent heard_now said_now : List Message)
     → heard_now ≡ received → said_now ≡ sent → IsHeard limit connection.received received received_rest → IsSaid limit connection.sent connection.end sent sent_rest
-    → Tells within connection.opened_by connection.packet connection.second heard_now said_now connection.end (map numbered_of entries) → AllByRecursion HasSecond entries → IsRecorded limit within connection entries received_rest sent_rest
-recorded_by limit within connection entries received_rest sent_rest received sent heard_now said_now p q heard said tells seconds = record {
-  received = received;
-  sent = sent;
-  heard = heard;
-  said = said;
-  tells = subst (λ (ms : List Message). Tells within connection.opened_by connection.packet connection.second ms sent connection.end (map numbered_of entries)) p
-      (subst (λ (ms : List Message). Tells within connection.opened_by connection.packet connection.second heard_now ms connection.end (map numbered_of entries)) q tells);
-  seconds = seconds;
+    → Tells within connection.opened_by connection.packet connection.second heard_now said_now connection.end (map numbered_of entries) → AllByRecursion HasSecond entries
+    → map numbered_of entries ≡ made_order within connection.opened_by connection.packet connection.second (values_of heard_now) (values_of said_now) connection.end
+    → IsRecordedInOrder limit within connection entries received_rest sent_rest
+recorded_by limit within connection entries received_rest sent_rest received sent heard_now said_now p q heard said tells seconds order = record {
+  told = record {
+    received = received;
+    sent = sent;
+    heard = heard;
+    said = said;
+    tells = subst (λ (ms : List Message). Tells within connection.opened_by connection.packet connection.second ms sent connection.end (map numbered_of entries)) p
+        (subst (λ (ms : List Message). Tells within connection.opened_by connection.packet connection.second heard_now ms connection.end (map numbered_of entries)) q tells);
+    seconds = seconds;
+  };
+  order = order
+      ∙ ap (λ (ms : List Message). made_order within connection.opened_by connection.packet connection.second (values_of ms) (values_of said_now) connection.end) p
+      ∙ ap (λ (ms : List Message). made_order within connection.opened_by connection.packet connection.second (values_of received) (values_of ms) connection.end) q;
 }

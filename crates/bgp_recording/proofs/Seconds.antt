@@ -3,15 +3,13 @@ use Rattle.std.proofs.Common.{◌≡◌, ◌∙◌, ◌<◌, ◌^◌, ℕ, Bool,
 use Rattle.std.proofs.lemmas.Bool.{false≢true}
 use Rattle.std.specs.List.{AllByRecursion}
 use Rattle.bgp_prefix.specs.Shown.{second_of}
-use Rattle.streams.specs.declared.connection.End.{End}
 use Rattle.bgp_recording.specs.declared.entry.Entry.{Entry}
-use Rattle.bgp_recording.specs.declared.message.Message.{Message}
 use Rattle.bgp_recording.specs.declared.ordering.Exchange.{Exchange}
 use Rattle.bgp_recording.specs.declared.pending.Turn.{Turn}
 use Rattle.bgp_recording.specs.declared.pending.Turn.TheVariants as turns
 use Rattle.bgp_recording.specs.declared.state.State.{State}
 use Rattle.bgp_recording.specs.Changes.{led_by_end, led_by_left, are_left, state_then}
-use Rattle.bgp_recording.specs.Steps.{Making, ShowsReceived, ShowsSent, ShowsEnd, Shows, StepsOrEnds, Begins}
+use Rattle.bgp_recording.specs.Steps.{Making, Shows, StepsOrEnds, Begins}
 use Rattle.bgp_recording.specs.Tells.{Numbered, numbered_of, change, HasSecond}
 use Rattle.bgp_recording.proofs.Lists.{all_append}
 

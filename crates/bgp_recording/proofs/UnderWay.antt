@@ -1,7 +1,7 @@
 -- An order while it is made: whatever tells what is left, tells all behind the records so far.
-use Rattle.std.proofs.Common.{◌≡◌, ◌∙◌, ◌<◌, ◌≤◌, ◌+◌, ℕ, Bool, true, false, List, [], ◌∷◌, ◌++◌, Option, None, Some, IfSome, ap, subst, sym, refl, arith, map, max, length, append_assoc, append-nil}
+use Rattle.std.proofs.Common.{◌≡◌, ◌∙◌, ◌<◌, ◌≤◌, ◌+◌, ℕ, Bool, true, false, List, [], ◌∷◌, ◌++◌, Option, None, Some, IfSome, ap, subst, sym, refl, arith, max, length, append_assoc, append-nil}
 use Rattle.std.proofs.lemmas.Bool.{false≢true}
-use Rattle.std.proofs.Math.Nat.{le-max_left, le-max_right, max-le}
+use Rattle.std.proofs.Math.Nat.{le-max_right, max-le}
 use Rattle.std.specs.List.{AllByRecursion}
 use Rattle.bgp_prefix.specs.Shown as shown
 use Rattle.streams.specs.declared.connection.End.{End}

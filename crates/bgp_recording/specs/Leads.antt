@@ -1,12 +1,15 @@
 -- What is left to be ordered, and what may stand next.
 use Rattle.std.specs.Prelude.{◌≡◌, ◌<◌, ◌≤◌, ◌+◌, ℕ, List, [], ◌∷◌, drop}
-use Rattle.std.specs.Prelude.{Option, None, Some, IfSome}
+use Rattle.std.specs.Prelude.{Option, None, Some, IfSome, Bool, true, false}
 use Rattle.bgp_recording.specs.declared.message.Message.{Message}
 use Rattle.streams.specs.declared.connection.End.{End}
 use Rattle.bgp_recording.specs.declared.pending.Moment.{Moment}
 use Rattle.bgp_recording.specs.declared.pending.Pending.{Pending as Slices}
+use Rattle.bgp_recording.specs.declared.pending.Place.{Place}
 use Rattle.bgp_recording.specs.declared.pending.Turn.{Turn}
 use Rattle.bgp_recording.specs.declared.pending.Turn.TheVariants as turns
+use Rattle.bgp_recording.specs.MadeOrder.{is_taken, shown_next}
+use Rattle.bgp_recording.specs.Values.{values_of}
 
 -- what is left of each direction, and the end where it is still to come
 pub record Pending : Type 0 where
@@ -91,3 +94,28 @@ pub record IsDone (pending : Pending) : Type 0 where
 abbrev pub LeadsOrEnds : ℕ → Pending → Option Turn → Pending → Type 0
 LeadsOrEnds within old None new = IsDone old × (new ≡ old)
 LeadsOrEnds within old (Some turn) new = Leads within old turn new
+
+-- ---- what is next in the made order
+
+abbrev pub is_next_taken : ℕ → Bool → Pending → Bool
+is_next_taken within waits pending = is_taken within waits (values_of pending.received)
+    (shown_next (values_of pending.sent) pending.end)
+
+abbrev pub turn_by : Bool → List Message → List Message → Option End → Option Turn
+turn_by true [] sent end = None
+turn_by true (message ∷ later) sent end = Some (turns.Received message)
+turn_by false received (message ∷ later) end = Some (turns.Sent message)
+turn_by false received [] (Some end) = Some (turns.End end)
+turn_by false received [] None = None
+
+abbrev pub turn_of : ℕ → Bool → Pending → Option Turn
+turn_of within waits pending =
+    turn_by (is_next_taken within waits pending) pending.received pending.sent pending.end
+
+abbrev pub place_after : Place → Option Turn → Place
+place_after place None = place
+place_after place (Some (turns.Received message)) =
+    record { received = place.received + 1; sent = place.sent }
+place_after place (Some (turns.Sent message)) =
+    record { received = place.received; sent = place.sent + 1 }
+place_after place (Some (turns.End end)) = place

@@ -3,13 +3,17 @@ pub mod First
 pub mod States
 pub mod Allowed
 pub mod Changes
+pub mod Values
+pub mod Waiting
 pub mod Tells
+pub mod MadeOrder
 pub mod Told
 pub mod Leads
 pub mod Givers
 pub mod Framed
 pub mod Gathered
 pub mod Recorded
+pub mod Once
 pub mod Captured
 pub mod Steps
 pub mod Joined

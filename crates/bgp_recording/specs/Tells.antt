@@ -40,8 +40,9 @@ abbrev pub items_in : List Event → List Item
 items_in [] = []
 items_in (Passed second item ∷ later) = item ∷ items_in later
 
--- the second of an item that follows this one: that by which a sent message was made; that by which
--- a received one came, or that before it, if that is greater; likewise the end's
+-- the second of an item, after one of second `before`: that by which a sent message was made; that
+-- by which a received one came, or that of the item before it, if that is greater, whether that is
+-- a message or the end; likewise the end's
 abbrev pub second_behind : ℕ → Item → ℕ
 second_behind before (Received m) = max m.second before
 second_behind before (Sent m) = m.second

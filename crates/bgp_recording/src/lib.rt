@@ -29,7 +29,9 @@ mod waiting;
 
 pub use entry::Entry;
 pub use framing::Rest;
-pub use laws::{made_records_are_read, made_records_are_the_streams};
+pub use laws::{
+    connections_are_recorded_once, made_records_are_read, made_records_are_the_streams,
+};
 pub use making::{Recording, make_records};
 pub use message::Message;
 pub use ordering::{Exchange, made_entries};

@@ -3,7 +3,7 @@
 ghost use Rattle.std.specs.Prelude.{◌≡◌, IfOk};
 ghost use Rattle.bgp_recording.specs.Givers.{own_end};
 ghost use Rattle.bgp_recording.specs.Gathered.{IsCovered, IsClocked, IsHeard, IsSaid};
-ghost use Rattle.bgp_recording.specs.Recorded.{IsRecorded};
+ghost use Rattle.bgp_recording.specs.Recorded.{IsRecordedInOrder};
 
 use crate::entry::Entry;
 use crate::framing::{Direction, Framed, Rest, split_messages};
@@ -82,7 +82,7 @@ pub fn make_records<'a, A: Allocator + Copy>(
     requires received { IsCovered connection.now.received }
     requires sent { IsCovered connection.now.sent }
     // Where the packets' seconds don't fall, the records tell the connection.
-    ensures told { IfOk result (λ made. IsClocked connection.now → IsRecorded limit within
+    ensures told { IfOk result (λ made. IsClocked connection.now → IsRecordedInOrder limit within
         connection.now made.entries.items made.received_rest made.sent_rest) }
 {
     let received = received_messages(alloc, limit, &connection.received)?;

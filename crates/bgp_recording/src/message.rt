@@ -2,6 +2,7 @@
 
 ghost use Rattle.std.specs.Prelude.{◌≡◌, ◌↔◌, Some, IsTrue};
 ghost use Rattle.bgp_recording.specs.Changes.{error_code, rejects};
+ghost use Rattle.bgp_recording.specs.Waiting.{is_code};
 
 use bgp_prefix::Seconds;
 use bgp_wire::MessageType;
@@ -44,6 +45,16 @@ impl Message<'_> {
             self.octets.get(ERROR_CODE).copied()
         } else {
             None
+        }
+    }
+
+    /// Whether it is a NOTIFICATION with this Error code.
+    pub(crate) fn has_code(&self, code: u8) -> bool
+        ensures { result ≡ is_code code (error_code self.now) }
+    {
+        match self.error_code() {
+            Some(other) => other == code,
+            None => false,
         }
     }
 

@@ -1,12 +1,13 @@
 //! The made order (one of those that are allowed), and the records that tell the session in it.
 
-ghost use Rattle.std.specs.Prelude.{◌≡◌, IfOk, OnOk};
+ghost use Rattle.std.specs.Prelude.{◌≡◌, IfOk, OnOk, false, map};
 ghost use Rattle.std.specs.List.{AllByRecursion};
 ghost use Rattle.bgp_recording.specs.Changes.{opened_state};
 ghost use Rattle.bgp_recording.specs.Told.{IsTold, IsMade};
-ghost use Rattle.bgp_recording.specs.Tells.{HasSecond};
+ghost use Rattle.bgp_recording.specs.Tells.{HasSecond, numbered_of};
+ghost use Rattle.bgp_recording.specs.MadeOrder.{first_waits, first_is_answered, after_next};
 ghost use Rattle.bgp_recording.specs.Steps.{ShowsReceived, ShowsSent, ShowsEnd, Begins};
-ghost use Rattle.bgp_recording.specs.Steps.{StepsOrEnds};
+ghost use Rattle.bgp_recording.specs.Steps.{Shows, StepsOrEnds, answering_after, course_of, order_of};
 
 use crate::entry::Entry;
 use crate::message::Message;
@@ -59,8 +60,10 @@ impl<'l, 'a, A: Allocator> Model for Making<'l, 'a, A> {
 
     ghost view = { λ f. record {
       pending = pending_of f.pending;
+      place = f.pending.place;
       last = f.last;
       state = f.standing.state;
+      is_answering = f.standing.is_answering;
       follows_open = f.standing.follows_open;
       numbered = map numbered_of f.entries.items;
     } };
@@ -68,7 +71,10 @@ impl<'l, 'a, A: Allocator> Model for Making<'l, 'a, A> {
 
 impl<'l, 'a, A: Allocator> Making<'l, 'a, A> {
     /// Whether the next received message waits.
-    fn waits(&self, foresight: &Foresight) -> bool {
+    fn waits(&self, foresight: &Foresight) -> bool
+        ensures { result ≡ first_waits foresight.now (course_of self.now)
+            (course_of self.now).received }
+    {
         let Some(message) = self.pending.next_received() else {
             return false;
         };
@@ -78,18 +84,23 @@ impl<'l, 'a, A: Allocator> Making<'l, 'a, A> {
     }
 
     /// Whether the answer to the next received message is the next one that is sent.
-    fn is_answered(&self, foresight: &Foresight) -> bool {
+    fn is_answered(&self, foresight: &Foresight) -> bool
+        ensures { result ≡ first_is_answered foresight.now (course_of self.now)
+            (course_of self.now).received }
+    {
         let Some(message) = self.pending.next_received() else {
             return false;
         };
         let next = self.pending.next_sent();
-        foresight.is_answered(self.standing.state, self.pending.place, message, next)
+        foresight.is_answered(self.standing.state, self.pending.place, message.kind, next)
     }
 
     /// Appends a received message, whose answer is the next one sent or not.
     fn put_received(&mut self, message: Message<'a>, is_answered: bool) -> Result<(), AllocError>
         ensures ok { OnOk result (ShowsReceived self.old message.entry self.new) }
         ensures pending { self.new.pending ≡ self.old.pending }
+        ensures place { self.new.place ≡ self.old.place }
+        ensures answering { self.new.is_answering ≡ is_answered }
     {
         let second = message.second.max(self.last);
         let old = self.standing;
@@ -108,6 +119,8 @@ impl<'l, 'a, A: Allocator> Making<'l, 'a, A> {
     fn put_sent(&mut self, message: Message<'a>) -> Result<(), AllocError>
         ensures ok { OnOk result (ShowsSent self.old message.entry self.new) }
         ensures pending { self.new.pending ≡ self.old.pending }
+        ensures place { self.new.place ≡ self.old.place }
+        ensures answering { self.new.is_answering ≡ false }
     {
         let second = message.second;
         let old = self.standing;
@@ -126,6 +139,8 @@ impl<'l, 'a, A: Allocator> Making<'l, 'a, A> {
     fn put_end(&mut self, end: End) -> Result<(), AllocError>
         ensures ok { OnOk result (ShowsEnd self.old end self.new) }
         ensures pending { self.new.pending ≡ self.old.pending }
+        ensures place { self.new.place ≡ self.old.place }
+        ensures answering { self.new.is_answering ≡ false }
     {
         let shown = Shown {
             packet: end.packet,
@@ -142,20 +157,33 @@ impl<'l, 'a, A: Allocator> Making<'l, 'a, A> {
         Ok(())
     }
 
+    /// Appends what is shown of a turn; of a received message, whose answer is the next one sent or
+    /// not.
+    fn put(&mut self, turn: Turn<'a>, is_answered: bool) -> Result<(), AllocError>
+        ensures ok { OnOk result (Shows self.old turn.entry self.new) }
+        ensures pending { self.new.pending ≡ self.old.pending }
+        ensures place { self.new.place ≡ self.old.place }
+        ensures answering { self.new.is_answering ≡ answering_after turn.entry is_answered }
+    {
+        match turn {
+            Turn::Received(message) => self.put_received(message, is_answered),
+            Turn::Sent(message) => self.put_sent(message),
+            Turn::End(end) => self.put_end(end),
+        }
+    }
+
     /// Appends what stands next, and tells whether anything did.
     fn step(&mut self, foresight: &Foresight, within: u16) -> Result<bool, AllocError>
-        ensures { IfOk result (λ more. StepsOrEnds within self.old more self.new) }
+        ensures steps { IfOk result (λ more. StepsOrEnds within self.old more self.new) }
+        ensures next { OnOk result
+            (course_of self.new ≡ after_next foresight.now within (course_of self.old)) }
     {
         let waits = self.waits(foresight);
         let is_answered = self.is_answered(foresight);
         let Some(turn) = self.pending.next(within, waits) else {
             return Ok(false);
         };
-        match turn {
-            Turn::Received(message) => self.put_received(message, is_answered)?,
-            Turn::Sent(message) => self.put_sent(message)?,
-            Turn::End(end) => self.put_end(end)?,
-        }
+        self.put(turn, is_answered)?;
         Ok(true)
     }
 }
@@ -215,6 +243,8 @@ pub fn made_entries<'a, A: Allocator>(
     ensures told { IfOk result (λ entries. IsTold exchange.entry
         → IsMade within exchange.entry entries.items) }
     ensures seconds { IfOk result (λ entries. AllByRecursion HasSecond entries.items) }
+    ensures order { IfOk result (λ entries.
+        map numbered_of entries.items ≡ order_of within exchange.entry) }
 {
     let foresight = Foresight::new(exchange.received, exchange.sent);
     let mut making = begun(alloc, exchange)?;

@@ -1,11 +1,15 @@
 //! What is left to be ordered, and what stands next.
 
-ghost use Rattle.std.specs.Prelude.{◌≡◌, ◌<◌, ◌+◌, ◌↔◌, [], IsTrue, IsFalse};
+ghost use Rattle.std.specs.Prelude.{◌≡◌, ◌<◌, ◌+◌, ◌↔◌, ◌∷◌, [], IsTrue, IsFalse, Some};
+ghost use Rattle.std.specs.Prelude.{true, false};
 ghost use Rattle.std.specs.Prelude.{IfSome, IfNone};
 ghost use Rattle.bgp_recording.specs.Leads.{own_of, pending_of, IsBeforeOwn, IsInTime};
 ghost use Rattle.bgp_recording.specs.Changes.{are_left, is_rejected};
 ghost use Rattle.bgp_recording.specs.First.{IsFirst};
 ghost use Rattle.bgp_recording.specs.Leads.{TakesReceived, TakesOwn, LeadsOrEnds};
+ghost use Rattle.bgp_recording.specs.Leads.{is_next_taken, turn_by, turn_of, place_after};
+ghost use Rattle.bgp_recording.specs.MadeOrder.{is_taken};
+ghost use Rattle.bgp_recording.specs.Values.{message_value};
 
 use crate::message::Message;
 use bgp_prefix::Seconds;
@@ -50,10 +54,13 @@ fn is_overdue(came: Seconds, within: u16, second: Seconds) -> bool
     u64::from(came) + u64::from(within) < u64::from(second)
 }
 
-/// Whether a received message is taken before what the local system shows next.
+/// Whether a received message is taken before what the local system shows next: it came before
+/// that, and it is overdue or doesn't wait.
 fn is_taken(message: &Message<'_>, own: Moment, within: u16, waits: bool) -> bool
     ensures taken { IsTrue result → IsBeforeOwn own message.now }
     ensures kept { IsFalse result → IsInTime within own message.now }
+    ensures exact { result
+        ≡ is_taken within waits (message_value message.now ∷ []) (Some own) }
 {
     if message.packet >= own.packet {
         return false;
@@ -119,6 +126,7 @@ impl<'l, 'a> Pending<'l, 'a> {
     fn takes_received(&self, within: u16, waits: bool) -> bool
         ensures taken { IsTrue result → TakesReceived (pending_of self.now) }
         ensures kept { IsFalse result → TakesOwn within (pending_of self.now) }
+        ensures exact { result ≡ is_next_taken within waits (pending_of self.now) }
     {
         let Some(message) = self.next_received() else {
             return false;
@@ -132,7 +140,10 @@ impl<'l, 'a> Pending<'l, 'a> {
     /// Takes the next received message away.
     fn pop_received(&mut self, within: u16) -> Option<Turn<'a>>
         requires { TakesReceived (pending_of self.old) }
-        ensures { LeadsOrEnds within (pending_of self.old) result (pending_of self.new) }
+        ensures leads { LeadsOrEnds within (pending_of self.old) result (pending_of self.new) }
+        ensures turn { result ≡ turn_by true (pending_of self.old).received
+            (pending_of self.old).sent (pending_of self.old).end }
+        ensures place { self.new.place ≡ place_after self.old.place result }
     {
         let message = *self.next_received()?;
         self.place.received += 1;
@@ -142,7 +153,10 @@ impl<'l, 'a> Pending<'l, 'a> {
     /// Takes the next sent message away, or where none is left the end.
     fn pop_own(&mut self, within: u16) -> Option<Turn<'a>>
         requires { TakesOwn within (pending_of self.old) }
-        ensures { LeadsOrEnds within (pending_of self.old) result (pending_of self.new) }
+        ensures leads { LeadsOrEnds within (pending_of self.old) result (pending_of self.new) }
+        ensures turn { result ≡ turn_by false (pending_of self.old).received
+            (pending_of self.old).sent (pending_of self.old).end }
+        ensures place { self.new.place ≡ place_after self.old.place result }
     {
         if let Some(message) = self.next_sent() {
             let message = *message;
@@ -157,7 +171,9 @@ impl<'l, 'a> Pending<'l, 'a> {
     /// Takes away what stands next, where the next received message waits or not: `None` where
     /// nothing is left.
     pub(crate) fn next(&mut self, within: u16, waits: bool) -> Option<Turn<'a>>
-        ensures { LeadsOrEnds within (pending_of self.old) result (pending_of self.new) }
+        ensures leads { LeadsOrEnds within (pending_of self.old) result (pending_of self.new) }
+        ensures turn { result ≡ turn_of within waits (pending_of self.old) }
+        ensures place { self.new.place ≡ place_after self.old.place result }
     {
         if self.takes_received(within, waits) {
             self.pop_received(within)

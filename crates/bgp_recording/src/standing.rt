@@ -28,6 +28,7 @@ impl Standing {
         is_answered: bool,
     ) -> Standing
         ensures state { result.state ≡ state_then self.state led }
+        ensures answering { result.is_answering ≡ is_answered }
         ensures follows { result.follows_open ≡ is_open message.now.kind }
     {
         Standing {
@@ -41,6 +42,7 @@ impl Standing {
     /// end.
     pub(crate) fn after_own(self, led: Option<State>) -> Standing
         ensures state { result.state ≡ state_then self.state led }
+        ensures answering { result.is_answering ≡ false }
         ensures follows { result.follows_open ≡ false }
     {
         Standing {

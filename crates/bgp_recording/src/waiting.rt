@@ -1,13 +1,23 @@
 //! Whether a received message waits: what the local system seems to have read when it sent what it
-//! sent. It is a choice among the orders that are allowed, and no promise rests on it.
+//! sent. It is a choice among the orders that are allowed, and what a yes is worth doesn't rest on
+//! it.
+
+ghost use Rattle.std.specs.Prelude.{◌≡◌, ◌||◌, option_map};
+ghost use Rattle.streams.specs.Connections.{last_index};
+ghost use Rattle.bgp_recording.specs.Values.{message_value, values_of};
+ghost use Rattle.bgp_recording.specs.Waiting.{is_open_or_cease, notification_from, is_blamed, blames};
+ghost use Rattle.bgp_recording.specs.Waiting.{cause_of, hold_in, first_hold, lesser, foresight_of};
+ghost use Rattle.bgp_recording.specs.Waiting.{is_at, isnt_after, isnt_after_first};
+ghost use Rattle.bgp_recording.specs.Waiting.{is_cause_answered, answers, is_answered};
+ghost use Rattle.bgp_recording.specs.Waiting.{would_be_answered, came_unseen, reason_of, waits_for};
+ghost use Rattle.bgp_recording.specs.Waiting.{is_keepalive, is_update};
 
 use crate::message::{MESSAGE_HEADER_ERROR, Message, OPEN_MESSAGE_ERROR};
 use crate::pending::Place;
 use crate::standing::Standing;
 use crate::state::State;
 use bgp_prefix::Seconds;
-use bgp_wire::{MessageType, message_body};
-use byteorder::{BigEndian, ByteOrder};
+use bgp_wire::MessageType;
 
 /// Error codes of a NOTIFICATION (RFC 4271, 4.5), besides those that reject a connection.
 const UPDATE_MESSAGE_ERROR: u8 = 3;
@@ -18,8 +28,8 @@ const STATE_MACHINE_ERROR: u8 = 5;
 
 const CEASE: u8 = 6;
 
-/// Where the Hold Time stands in an OPEN's body (RFC 4271, 4.2).
-const HOLD_TIME: usize = 3;
+/// Where the Hold Time stands in an OPEN (RFC 4271, 4.2).
+const HOLD_TIME: usize = 22;
 
 /// Why a received message waits or doesn't: the first of these that holds, in their order.
 #[derive(Clone, Copy)]
@@ -48,10 +58,11 @@ struct FirstNotification {
     /// How many messages were sent before it.
     place: usize,
     code: u8,
+    packet: u64,
     second: Seconds,
 }
 
-/// What the messages that are still to be sent show of those received.
+/// What all messages of a session show of when those received were read.
 #[derive(Clone, Copy)]
 pub(crate) struct Foresight {
     /// How many messages were sent before the last OPEN or Cease.
@@ -64,25 +75,46 @@ pub(crate) struct Foresight {
 }
 
 /// The Hold Time in an OPEN (RFC 4271, 4.2).
-fn hold_time(message: &Message<'_>) -> Option<u16> {
-    let body = message_body(MessageType::Open, message.octets)?;
-    let octets = body.get(HOLD_TIME..HOLD_TIME + 2)?;
-    Some(BigEndian::read_u16(octets))
+fn hold_time(message: &Message<'_>) -> Option<u16>
+    ensures { result ≡ hold_in message.now.kind message.now.octets.now }
+{
+    match message.kind {
+        Some(MessageType::Open) => {
+            let high = *message.octets.get(HOLD_TIME)?;
+            let low = *message.octets.get(HOLD_TIME + 1)?;
+            Some(u16::from_be_bytes([high, low]))
+        }
+        _ => None,
+    }
 }
 
-/// The lesser Hold Time of both first messages, if both are OPENs.
-fn lesser_hold_time(received: &[Message<'_>], sent: &[Message<'_>]) -> Option<u16> {
-    let theirs = hold_time(received.first()?)?;
-    let ours = hold_time(sent.first()?)?;
-    Some(theirs.min(ours))
+/// The Hold Time in the first message, if that is an OPEN.
+fn first_hold_time(messages: &[Message<'_>]) -> Option<u16>
+    ensures { result ≡ first_hold (values_of messages.now) }
+{
+    hold_time(messages.first()?)
 }
 
-fn first_notification(sent: &[Message<'_>]) -> Option<FirstNotification> {
+/// The lesser Hold Time of both, if there are two.
+fn lesser(one: Option<u16>, other: Option<u16>) -> Option<u16>
+    ensures { result ≡ lesser one other }
+{
+    match (one, other) {
+        (Some(one), Some(other)) => Some(one.min(other)),
+        _ => None,
+    }
+}
+
+/// The first NOTIFICATION among the messages that were sent.
+fn first_notification(sent: &[Message<'_>]) -> Option<FirstNotification>
+    ensures { result ≡ notification_from 0 (values_of sent.now) }
+{
     for (place, message) in sent.iter().enumerate() {
         if let Some(code) = message.error_code() {
             return Some(FirstNotification {
                 place,
                 code,
+                packet: message.packet,
                 second: message.second,
             });
         }
@@ -90,110 +122,154 @@ fn first_notification(sent: &[Message<'_>]) -> Option<FirstNotification> {
     None
 }
 
-/// The type of the messages that a NOTIFICATION of this code can be about.
-fn blamed_type(code: u8) -> Option<MessageType> {
-    match code {
-        UPDATE_MESSAGE_ERROR => Some(MessageType::Update),
-        OPEN_MESSAGE_ERROR | STATE_MACHINE_ERROR => Some(MessageType::Open),
-        _ => None,
-    }
-}
-
-/// The place of the last message of this type that came before this packet.
-fn last_before(received: &[Message<'_>], kind: MessageType, packet: u64) -> Option<usize> {
-    received
-        .iter()
-        .rposition(|message| message.is(kind) && message.packet < packet)
-}
-
-/// Whether it is an OPEN, or a NOTIFICATION by which the local system ends a connection that it
-/// doesn't want (RFC 4271, 6.7).
-fn is_open_or_cease(message: &Message<'_>) -> bool {
-    message.is(MessageType::Open) || message.error_code() == Some(CEASE)
-}
-
-fn cause_of(received: &[Message<'_>], sent: &[Message<'_>], place: usize) -> Option<usize> {
-    let message = sent.get(place)?;
-    let kind = blamed_type(message.error_code()?)?;
-    last_before(received, kind, message.packet)
-}
-
-impl Foresight {
-    pub(crate) fn new(received: &[Message<'_>], sent: &[Message<'_>]) -> Foresight {
-        let notification = first_notification(sent);
-        Foresight {
-            last_open_or_cease: sent.iter().rposition(|message| is_open_or_cease(message)),
-            notification,
-            cause: notification.and_then(|first| cause_of(received, sent, first.place)),
-            hold: lesser_hold_time(received, sent),
-        }
-    }
-
-    /// Whether an OPEN or a Cease is still to be sent.
-    fn has_open_or_cease(&self, place: Place) -> bool {
-        self.last_open_or_cease
-            .is_some_and(|last| place.sent <= last)
-    }
-
-    /// Whether the first NOTIFICATION is still to be sent.
-    fn has_notification(&self, place: Place) -> bool {
-        self.notification
-            .is_some_and(|first| place.sent <= first.place)
-    }
-
-    /// Whether the message at this place seems to be the cause of the first NOTIFICATION.
-    fn is_cause(&self, place: Place) -> bool {
-        self.cause == Some(place.received)
-    }
-
-    /// Whether the next message that is sent is the NOTIFICATION for this cause.
-    fn is_cause_answered(&self, place: Place) -> bool {
-        self.is_cause(place)
-            && self
-                .notification
-                .is_some_and(|first| first.place == place.sent)
-    }
-
-    /// Whether the HoldTimer seems to have expired though the message had come.
-    fn came_unseen(&self, message: &Message<'_>) -> bool {
-        let (Some(first), Some(hold)) = (self.notification, self.hold) else {
-            return false;
-        };
-        first.code == HOLD_TIMER_EXPIRED
-            && u64::from(first.second) < u64::from(message.second) + u64::from(hold)
-    }
-
-    /// Whether the next message that is sent answers the next one received, by their types alone.
-    fn answers(state: State, message: &Message<'_>, next: &Message<'_>) -> bool {
-        let code = next.error_code();
-        match (state, message.kind) {
-            (State::Connect | State::Active, _) => next.rejects_opening(),
-            (State::OpenSent, Some(MessageType::Open)) => {
-                next.is(MessageType::Keepalive) || code == Some(OPEN_MESSAGE_ERROR)
-            }
-            (State::OpenSent | State::OpenConfirm, None) => code == Some(MESSAGE_HEADER_ERROR),
-            (State::OpenSent, Some(_)) => code == Some(STATE_MACHINE_ERROR),
-            (State::OpenConfirm, Some(MessageType::Update)) => code == Some(STATE_MACHINE_ERROR),
-            (State::Established, None) => {
-                matches!(code, Some(MESSAGE_HEADER_ERROR | STATE_MACHINE_ERROR))
-            }
+impl FirstNotification {
+    /// Whether it can be about a message of this type (RFC 4271, 6.2, 6.3 and 6.6).
+    fn blames(&self, kind: Option<MessageType>) -> bool
+        ensures { result ≡ blames self.now.code kind }
+    {
+        match self.code {
+            UPDATE_MESSAGE_ERROR => matches!(kind, Some(MessageType::Update)),
+            OPEN_MESSAGE_ERROR | STATE_MACHINE_ERROR => matches!(kind, Some(MessageType::Open)),
             _ => false,
         }
     }
 
-    /// Whether the next message that is sent is an answer to the next one received.
+    /// Whether it can be about a received message, which came before it was made.
+    fn is_about(&self, message: &Message<'_>) -> bool
+        ensures { result ≡ is_blamed self.now (message_value message.now) }
+    {
+        message.packet < self.packet && self.blames(message.kind)
+    }
+
+    /// How many messages were received before its cause: the last one that it can be about.
+    fn cause(&self, received: &[Message<'_>]) -> Option<usize>
+        ensures { result ≡ last_index (is_blamed self.now) (values_of received.now) }
+    {
+        let mut left = received.len();
+        while left > 0 {
+            left -= 1;
+            if self.is_about(&received[left]) {
+                return Some(left);
+            }
+        }
+        None
+    }
+}
+
+/// Whether it is an OPEN, or a NOTIFICATION by which the local system ends a connection that it
+/// doesn't want (RFC 4271, 6.7).
+fn is_open_or_cease(message: &Message<'_>) -> bool
+    ensures { result ≡ is_open_or_cease (message_value message.now) }
+{
+    matches!(message.kind, Some(MessageType::Open)) || message.has_code(CEASE)
+}
+
+/// How many messages were sent before the last OPEN or Cease.
+fn last_open_or_cease(sent: &[Message<'_>]) -> Option<usize>
+    ensures { result ≡ last_index is_open_or_cease (values_of sent.now) }
+{
+    let mut left = sent.len();
+    while left > 0 {
+        left -= 1;
+        if is_open_or_cease(&sent[left]) {
+            return Some(left);
+        }
+    }
+    None
+}
+
+/// How many messages were received before the cause of the first NOTIFICATION, if there are both.
+fn cause_of(received: &[Message<'_>], notification: Option<FirstNotification>) -> Option<usize>
+    ensures { result ≡ cause_of (values_of received.now) notification }
+{
+    match notification {
+        Some(first) => first.cause(received),
+        None => None,
+    }
+}
+
+impl Foresight {
+    /// What all messages of a session show.
+    pub(crate) fn new(received: &[Message<'_>], sent: &[Message<'_>]) -> Foresight
+        ensures { result ≡ foresight_of (values_of received.now) (values_of sent.now) }
+    {
+        let notification = first_notification(sent);
+        Foresight {
+            last_open_or_cease: last_open_or_cease(sent),
+            notification,
+            cause: cause_of(received, notification),
+            hold: lesser(first_hold_time(received), first_hold_time(sent)),
+        }
+    }
+
+    /// Whether an OPEN or a Cease is still to be sent.
+    fn has_open_or_cease(&self, place: Place) -> bool
+        ensures { result ≡ isnt_after place.sent self.now.last_open_or_cease }
+    {
+        match self.last_open_or_cease {
+            Some(last) => place.sent <= last,
+            None => false,
+        }
+    }
+
+    /// Whether the first NOTIFICATION is still to be sent.
+    fn has_notification(&self, place: Place) -> bool
+        ensures { result ≡ isnt_after_first place.sent self.now.notification }
+    {
+        match self.notification {
+            Some(first) => place.sent <= first.place,
+            None => false,
+        }
+    }
+
+    /// Whether the message at this place seems to be the cause of the first NOTIFICATION.
+    fn is_cause(&self, place: Place) -> bool
+        ensures { result ≡ is_at place.received self.now.cause }
+    {
+        match self.cause {
+            Some(cause) => cause == place.received,
+            None => false,
+        }
+    }
+
+    /// Whether the next message that is sent is the NOTIFICATION for this cause.
+    fn is_cause_answered(&self, place: Place) -> bool
+        ensures { result ≡ is_cause_answered self.now place }
+    {
+        self.is_cause(place)
+            && match self.notification {
+                Some(first) => first.place == place.sent,
+                None => false,
+            }
+    }
+
+    /// Whether the HoldTimer seems to have expired though the message had come.
+    fn came_unseen(&self, message: &Message<'_>) -> bool
+        ensures { result ≡ came_unseen self.now (message_value message.now) }
+    {
+        let (Some(first), Some(hold)) = (self.notification, self.hold) else {
+            return false;
+        };
+        keeps_alive(message.kind)
+            && first.code == HOLD_TIMER_EXPIRED
+            && u64::from(first.second) < u64::from(message.second) + u64::from(hold)
+    }
+
+    /// Whether the next message that is sent is an answer to the next one received, which is of
+    /// this type.
     pub(crate) fn is_answered(
         &self,
         state: State,
         place: Place,
-        message: &Message<'_>,
+        kind: Option<MessageType>,
         next: Option<&Message<'_>>,
-    ) -> bool {
+    ) -> bool
+        ensures { result ≡ is_answered self.now place state kind (option_map (λ m. message_value m.now) next.entry) }
+    {
         let Some(next) = next else {
             return false;
         };
-        Foresight::answers(state, message, next)
-            || (state.has_link() && self.is_cause_answered(place))
+        answers(state, kind, next) || (state.has_link() && self.is_cause_answered(place))
     }
 
     /// Why the next message received waits, or doesn't.
@@ -203,21 +279,24 @@ impl Foresight {
         place: Place,
         message: &Message<'_>,
         next: Option<&Message<'_>>,
-    ) -> Waiting {
+    ) -> Waiting
+        ensures { result ≡ reason_of self.now place standing.state standing.is_answering
+            (message_value message.now) (option_map (λ m. message_value m.now) next.entry) }
+    {
         let state = standing.state;
         if standing.is_answering {
             Waiting::AnAnswerIsUnderWay
         } else if state.is_before_open() {
             Waiting::BeforeTheOwnOpen
-        } else if self.is_answered(state, place, message, next) {
+        } else if self.is_answered(state, place, message.kind, next) {
             Waiting::ItsAnswerIsNext
-        } else if message.is(MessageType::Notification) {
+        } else if matches!(message.kind, Some(MessageType::Notification)) {
             Waiting::ItEndsTheSession
         } else if would_be_answered(state, message.kind) {
             Waiting::ItWouldBeAnswered
         } else if state.has_link() && self.is_cause(place) {
             Waiting::ItIsTheCause
-        } else if state == State::Established && keeps_alive(message) && self.came_unseen(message) {
+        } else if state.is_established() && self.came_unseen(message) {
             Waiting::ItCameUnseen
         } else {
             Waiting::Nothing
@@ -225,7 +304,9 @@ impl Foresight {
     }
 
     /// Whether the next message received waits for this reason, where this is the next one sent.
-    pub(crate) fn waits(&self, why: Waiting, place: Place, next: Option<&Message<'_>>) -> bool {
+    pub(crate) fn waits(&self, why: Waiting, place: Place, next: Option<&Message<'_>>) -> bool
+        ensures { result ≡ waits_for why self.now place (option_map (λ m. message_value m.now) next.entry) }
+    {
         match why {
             Waiting::AnAnswerIsUnderWay | Waiting::ItWouldBeAnswered | Waiting::ItCameUnseen => {
                 true
@@ -238,8 +319,29 @@ impl Foresight {
     }
 }
 
+/// Whether the next message that is sent answers one of this type, by their types alone.
+fn answers(state: State, kind: Option<MessageType>, next: &Message<'_>) -> bool
+    ensures { result ≡ answers state kind (message_value next.now) }
+{
+    match (state, kind) {
+        (State::Connect | State::Active, _) => next.rejects_opening(),
+        (State::OpenSent, Some(MessageType::Open)) => {
+            matches!(next.kind, Some(MessageType::Keepalive)) || next.has_code(OPEN_MESSAGE_ERROR)
+        }
+        (State::OpenSent, Some(_)) => next.has_code(STATE_MACHINE_ERROR),
+        (State::OpenSent | State::OpenConfirm, None) => next.has_code(MESSAGE_HEADER_ERROR),
+        (State::OpenConfirm, Some(MessageType::Update)) => next.has_code(STATE_MACHINE_ERROR),
+        (State::Established, None) => {
+            next.has_code(MESSAGE_HEADER_ERROR) || next.has_code(STATE_MACHINE_ERROR)
+        }
+        _ => false,
+    }
+}
+
 /// Whether the session answers a message of this type in this state, whatever it says.
-fn would_be_answered(state: State, kind: Option<MessageType>) -> bool {
+fn would_be_answered(state: State, kind: Option<MessageType>) -> bool
+    ensures { result ≡ would_be_answered state kind }
+{
     match (state, kind) {
         (State::OpenSent, _) => true,
         (State::OpenConfirm | State::Established, None) => true,
@@ -248,7 +350,12 @@ fn would_be_answered(state: State, kind: Option<MessageType>) -> bool {
     }
 }
 
-/// Whether the message restarts the HoldTimer.
-fn keeps_alive(message: &Message<'_>) -> bool {
-    message.is(MessageType::Keepalive) || message.is(MessageType::Update)
+/// Whether a message of this type restarts the HoldTimer.
+fn keeps_alive(kind: Option<MessageType>) -> bool
+    ensures { result ≡ is_keepalive kind || is_update kind }
+{
+    matches!(
+        kind,
+        Some(MessageType::Keepalive) | Some(MessageType::Update)
+    )
 }

@@ -1,5 +1,5 @@
 -- A capture that is read for a session which may have a ROUTE-REFRESH is read the same for one which may have none.
-use Rattle.std.proofs.Common.{◌≡◌, ◌≢◌, ◌∙◌, ◌⊎◌, ◌<◌, ℕ, List, [], ◌∷◌, Option, None, false, refl, sym, ap, subst, inl, inr}
+use Rattle.std.proofs.Common.{◌≡◌, ◌≢◌, ◌∙◌, ◌⊎◌, ◌<◌, ℕ, List, [], ◌∷◌, Option, None, refl, sym, ap, subst, inl, inr}
 use Rattle.bgp_prefix.specs.Shown.{ShownRecord}
 use Rattle.bgp_prefix.specs.declared.session.Session.{Session}
 use Rattle.mrt.specs.Capture.{Piece, Other, OtherEnds, Shown, ArePieces, Spells, last_after, last_of, judgement_of_piece, octets_of}

@@ -1,5 +1,5 @@
 -- The lines of entries' records, so far and of those that are left.
-use Rattle.std.proofs.Common.{◌≡◌, ◌+◌, ◌<◌, ◌≤◌, ℕ, List, [], ◌∷◌, ◌++◌, drop, get_or, length, refl, sym, subst, append-nil, append_assoc}
+use Rattle.std.proofs.Common.{◌+◌, ◌<◌, ◌≤◌, ℕ, List, [], ◌++◌, drop, get_or, length, refl, sym, subst, append-nil, append_assoc}
 use Rattle.std.proofs.Math.ListN.{drop_of_length-le}
 use Rattle.std.specs.List.{AllByRecursion}
 use Rattle.bgp_prefix.specs.Shown.{ShownRecord, Received, Sent, Changed}

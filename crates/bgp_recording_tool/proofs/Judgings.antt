@@ -15,7 +15,7 @@ use Rattle.bgp_import.specs.Refreshes.{IsRefreshIn}
 use Rattle.bgp_import.specs.declared.importing.Import.{Import}
 use Rattle.bgp_import.specs.declared.refusal.Refusal.{Refusal}
 use Rattle.bgp_recording_tool.specs.declared.remark.Remark.{Remark}
-use Rattle.bgp_recording_tool.specs.Connections.{IsJudged, HasRefresh, IsTold, AddsTold}
+use Rattle.bgp_recording_tool.specs.Connections.{IsJudged, IsTold, AddsTold}
 use Rattle.bgp_recording_tool.specs.Remarks.{notes_of, remarks_on}
 use Rattle.bgp_recording_tool.specs.Told.{Judged, Refused}
 use Rattle.bgp_recording_tool.proofs.Numbers.{number_is}

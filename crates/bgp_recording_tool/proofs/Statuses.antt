@@ -1,6 +1,6 @@
 -- The status over several connections, one after another.
-use Rattle.std.proofs.Common.{◌≡◌, ℕ, List, [], ◌∷◌, Bool, true, false, cond, nat_eq, ◌||◌, refl, arith}
-use Rattle.bgp_recording_tool.specs.Told.{has_status, status_over, IsNoAmong, NoIsTold}
+use Rattle.std.proofs.Common.{◌≡◌, ℕ, List, [], ◌∷◌, Bool, true, false, cond, nat_eq, ◌||◌, arith}
+use Rattle.bgp_recording_tool.specs.Told.{has_status, status_over, NoIsTold}
 
 -- the status over connections by what is among theirs
 abbrev pub ranked : Bool → Bool → Bool → Bool → Bool → Bool → ℕ

@@ -1,5 +1,5 @@
 -- Each end that is listed of made records is that of a run which tells the connection; and the capture of these records is judged as they are.
-use Rattle.std.proofs.Common.{◌≡◌, ◌∙◌, ℕ, Bool, List, [], ◌∷◌, false, IsTrue, sym, ap, subst, inl, inr}
+use Rattle.std.proofs.Common.{◌≡◌, ◌∙◌, ℕ, Bool, List, [], ◌∷◌, false, IsTrue, map, refl, sym, ap, subst, inl, inr}
 use Rattle.std.specs.List.{AllByRecursion}
 use Rattle.bgp_prefix.specs.Shown.{ShownRecord}
 use Rattle.bgp_prefix.specs.declared.session.Session.{Session}
@@ -7,6 +7,7 @@ use Rattle.bgp_wire.specs.Header.{limit_with}
 use Rattle.streams.specs.declared.connection.Connection.{Connection}
 use Rattle.mrt.specs.Capture.{Spells}
 use Rattle.mrt.specs.CaptureLaws.{OneSpelling}
+use Rattle.mrt.specs.Reader.{shown_of}
 use Rattle.mrt.specs.Written.{capture_octets}
 use Rattle.bgp_machine.specs.Lists.{Has, Each}
 use Rattle.bgp_machine.specs.Run.{IsComplete}
@@ -14,12 +15,15 @@ use Rattle.bgp_open.specs.declared.config.Config.{Config}
 use Rattle.bgp_judge.specs.Verdict.{HasVerdict, HasOneVerdict}
 use Rattle.bgp_recording.specs.Captured.{CanBeNamed, MadeRecordsAreRead, IsNoRefresh, records_of}
 use Rattle.bgp_recording.specs.Recorded.{IsRecorded}
+use Rattle.bgp_recording.specs.Tells.{Numbered, numbered_of}
 use Rattle.bgp_recording.specs.declared.entry.Entry.{Entry}
 use Rattle.bgp_import.specs.Captures.{IsCapture}
 use Rattle.bgp_import.specs.Importing.{IsMadeOf}
+use Rattle.bgp_import.specs.Once.{RecordingsAreMadeOnce}
 use Rattle.bgp_import.specs.declared.importing.Import.{Import}
 use Rattle.bgp_import.specs.declared.note.Notes.{Notes}
-use Rattle.bgp_recording_tool.specs.Headline.{EachEndIsShown, ImportAndJudgeAgree}
+use Rattle.bgp_import.specs.declared.selection.Selection.{Selection}
+use Rattle.bgp_recording_tool.specs.Headline.{Agrees, EachEndIsShown, ImportAndJudgeAgree}
 use Rattle.bgp_recording_tool.specs.Options.{calm}
 use Rattle.bgp_recording_tool.proofs.Calm.{spells_same, written_same}
 
@@ -32,7 +36,7 @@ of_each P (y ∷ ys) x each (inr has) = of_each P ys x each.1 has
 pub each_end : EachEndIsShown
 each_end config wanted connection entries notes ends e same made lists has = record {
   complete = of_each (IsComplete config (records_of entries)) ends e lists.each has;
-  recorded = subst (λ (s : Session). IsRecorded (limit_with s.extended) wanted.within connection entries notes.received notes.sent) same made.recorded;
+  recorded = subst (λ (s : Session). IsRecorded (limit_with s.extended) wanted.within connection entries notes.received notes.sent) same made.recorded.told;
 }
 
 -- ---- the capture
@@ -49,7 +53,7 @@ module _ (read : MadeRecordsAreRead) (spelling : OneSpelling) (verdicts : HasOne
   session = config.parts.session
 
   recorded : IsRecorded (limit_with session.extended) wanted.within connection entries notes.received notes.sent
-  recorded = subst (λ (b : Bool). IsRecorded (limit_with b) wanted.within connection entries notes.received notes.sent) (ap (λ (s : Session). s.extended) same) made.recorded
+  recorded = subst (λ (b : Bool). IsRecorded (limit_with b) wanted.within connection entries notes.received notes.sent) (ap (λ (s : Session). s.extended) same) made.recorded.told
 
   whole : octets ≡ capture_octets (calm session) capture.numbers.peer capture.numbers.local (records_of entries)
   whole =
@@ -75,8 +79,10 @@ module _ (read : MadeRecordsAreRead) (spelling : OneSpelling) (verdicts : HasOne
   shows : (records : List ShownRecord) → Spells session octets records → records_of entries ≡ records
   shows records spells = spelling (calm session) octets (records_of entries) records read_back (spells_same session octets records spells)
 
-pub agree : MadeRecordsAreRead → OneSpelling → HasOneVerdict → ImportAndJudgeAgree
-agree read spelling verdicts config wanted connection entries notes octets can same made capture = record {
+agree_one : MadeRecordsAreRead → OneSpelling → HasOneVerdict → (config : Config) (wanted : Import) (connection : Connection) (entries : List Entry) (notes : Notes) (octets : List ℕ)
+    → CanBeNamed config.parts.session → calm wanted.selection.session ≡ calm config.parts.session → IsMadeOf wanted connection entries notes
+    → IsCapture wanted.selection.session entries octets → Agrees config entries octets
+agree_one read spelling verdicts config wanted connection entries notes octets can same made capture = record {
   reads = reads read spelling verdicts config wanted connection entries notes octets can same made capture;
   shows = shows read spelling verdicts config wanted connection entries notes octets can same made capture;
   one = λ records verdict judged spells is also.
@@ -84,3 +90,28 @@ agree read spelling verdicts config wanted connection entries notes octets can s
       (subst (λ (rs : List ShownRecord). HasVerdict config rs judged)
       (shows read spelling verdicts config wanted connection entries notes octets can same made capture records spells) also);
 }
+
+-- ---- whatever is judged
+
+records_by : (entries : List Entry) → records_of entries ≡ map (λ (n : Numbered). n.shown) (map numbered_of entries)
+records_by [] = refl
+records_by (e ∷ later) = ap (λ (rs : List ShownRecord). shown_of e.record ∷ rs) (records_by later)
+
+agrees_as : (config : Config) (entries judged : List Entry) (octets : List ℕ) → records_of entries ≡ records_of judged → Agrees config entries octets → Agrees config judged octets
+agrees_as config entries judged octets same agrees = record {
+  reads = subst (λ (rs : List ShownRecord). (IsTrue config.parts.session.refresh → AllByRecursion IsNoRefresh rs) → Spells config.parts.session octets rs) same agrees.reads;
+  shows = λ records spells. sym same ∙ agrees.shows records spells;
+  one = λ records verdict judged' spells is also.
+      agrees.one records verdict judged' spells is (subst (λ (rs : List ShownRecord). HasVerdict config rs judged') (sym same) also);
+}
+
+pub agree : MadeRecordsAreRead → OneSpelling → HasOneVerdict → RecordingsAreMadeOnce → ImportAndJudgeAgree
+agree read spelling verdicts once config imports judges number packets entries judged notes told octets can session mean made capture also =
+    let calm_same : calm imports.selection.session ≡ calm config.parts.session = ap (λ (s : Selection). s.session) mean.selection ∙ ap calm session in
+    let same = once imports judges number packets entries judged notes told mean made also in
+    let records : records_of entries ≡ records_of judged = records_by entries ∙ ap (λ (ns : List Numbered). map (λ (n : Numbered). n.shown) ns) same.0 ∙ sym (records_by judged) in (
+      same.1,
+      records,
+      agrees_as config entries judged octets records
+          (agree_one read spelling verdicts config imports made.connection entries notes octets can calm_same made.made capture),
+    )

@@ -1,11 +1,12 @@
 -- The laws on what a yes is worth that is answered of a recording, and that what is imported of it
 -- is judged the same.
-use Rattle.std.specs.Prelude.{◌≡◌, ℕ, List, IsTrue}
+use Rattle.std.specs.Prelude.{◌≡◌, ℕ, List, Option, IsTrue}
 use Rattle.std.specs.List.{AllByRecursion}
 use Rattle.bgp_prefix.specs.Shown.{ShownRecord}
 use Rattle.bgp_wire.specs.Header.{limit_with}
 use Rattle.streams.specs.declared.connection.Connection.{Connection}
 use Rattle.mrt.specs.Capture.{Spells}
+use Rattle.packets.specs.Packet.{Recorded}
 use Rattle.bgp_open.specs.declared.config.Config.{Config}
 use Rattle.bgp_machine.specs.Lists.{Has}
 use Rattle.bgp_machine.specs.Run.{End, IsComplete}
@@ -16,9 +17,9 @@ use Rattle.bgp_recording.specs.Recorded.{IsRecorded}
 use Rattle.bgp_recording.specs.declared.entry.Entry.{Entry}
 use Rattle.bgp_import.specs.Captures.{IsCapture}
 use Rattle.bgp_import.specs.Importing.{IsMadeOf}
+use Rattle.bgp_import.specs.Once.{IsMadeOfPackets, MeanTheSame}
 use Rattle.bgp_import.specs.declared.importing.Import.{Import}
 use Rattle.bgp_import.specs.declared.note.Notes.{Notes}
-use Rattle.bgp_recording_tool.specs.Options.{calm}
 
 -- Some run of the session machine ends so and shows just the records of these entries, and they
 -- tell the connection: its messages, in an order that is allowed within the patience, and the
@@ -52,13 +53,18 @@ pub record Agrees (config : Config) (entries : List Entry) (octets : List ℕ) :
       → Spells config.parts.session octets records → HasVerdict config records verdict
       → HasVerdict config (records_of entries) judged → verdict ≡ judged
 
--- So is the capture of the entries that are made of a connection, whether the session of the import
--- may have a ROUTE-REFRESH or not.
+-- Whatever is imported of packets and whatever is judged of them, of the same session, number and
+-- patience, are one list of records, of which the same is told, and the capture of the former is
+-- judged as the latter are. Whether the session of the import may have a ROUTE-REFRESH plays no
+-- part.
 abbrev pub ImportAndJudgeAgree : Type 0
 ImportAndJudgeAgree =
-    (config : Config) (wanted : Import) (connection : Connection) (entries : List Entry)
-    (notes : Notes) (octets : List ℕ)
+    (config : Config) (imports judges : Import) (number : Option ℕ) (packets : List Recorded)
+    (entries judged : List Entry) (notes told : Notes) (octets : List ℕ)
     → CanBeNamed config.parts.session
-    → calm wanted.selection.session ≡ calm config.parts.session
-    → IsMadeOf wanted connection entries notes
-    → IsCapture wanted.selection.session entries octets → Agrees config entries octets
+    → judges.selection.session ≡ config.parts.session
+    → MeanTheSame imports judges
+    → IsMadeOfPackets imports number packets entries notes
+    → IsCapture imports.selection.session entries octets
+    → IsMadeOfPackets judges number packets judged told
+    → (notes ≡ told) × (records_of entries ≡ records_of judged) × Agrees config judged octets

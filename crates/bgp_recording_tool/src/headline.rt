@@ -7,6 +7,7 @@ ghost use Rattle.bgp_recording_tool.specs.Judging.{JudgesRecording};
 
 use crate::judging::{Judged, judge_source, misfit};
 use crate::options::{import_of, misfit_of};
+use bgp_import::recordings_are_made_once;
 use bgp_judge::{Tracker, records_have_just_one_verdict};
 use bgp_open::Config;
 use bgp_recording::made_records_are_read;
@@ -96,9 +97,10 @@ pub fn each_end_is_shown()
 
 /// Law: what is imported of a recording is judged as the recording is.
 ///
-/// The capture that [`import_recording`](bgp_import::import_recording) writes reads as just the
-/// records that are judged, and whatever verdict holds of what it reads as is the one that is
-/// answered of the recording. A reader refuses such a capture for a ROUTE-REFRESH alone, of a
+/// Whatever is imported of a recording and whatever is judged of it, each by its own contract, are
+/// one list of records ([`recordings_are_made_once`]). The capture that
+/// [`import_recording`](bgp_import::import_recording) writes reads as just these, and whatever
+/// verdict holds of what it reads as is the one that is answered of the recording. A reader refuses such a capture for a ROUTE-REFRESH alone, of a
 /// session that may have one, and there the recording is refused, too (18 RouteRefresh).
 pub fn import_and_judge_agree()
     ensures { ImportAndJudgeAgree }
@@ -106,6 +108,7 @@ pub fn import_and_judge_agree()
     each_capture_has_one_reading();
     made_records_are_read();
     records_have_just_one_verdict();
+    recordings_are_made_once();
 }
 
 /// Law: over several connections the exit status is 1 exactly where one of them is told no, and no

@@ -12,5 +12,5 @@ returns g c = record {
       c.deref.ensures.value c.deref-2.ensures.value c.in_ok-received.ensures c.in_ok-sent.ensures
       (c.in_ok-entries.ensures.told
       (is_told_by c.args.limit connection _ received.messages.items sent.messages.items received.rest sent.rest refl refl refl c.deref.ensures.value c.deref-2.ensures.value clocked
-      c.in_ok-received.ensures c.in_ok-sent.ensures)) c.in_ok-entries.ensures.seconds;
+      c.in_ok-received.ensures c.in_ok-sent.ensures)) c.in_ok-entries.ensures.seconds c.in_ok-entries.ensures.order;
 }

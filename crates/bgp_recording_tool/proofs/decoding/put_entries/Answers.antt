@@ -1,6 +1,5 @@
 use Rattle.std.proofs.Common.{◌++◌, [], None}
 use Rattle.bgp_text.proofs.Pieces.{Joins, nothing_yet, and_then}
-use Rattle.bgp_import.specs.Captures.{shown_by}
 use Rattle.bgp_import.proofs.Entries.{here_and_behind, all_behind}
 use Rattle.bgp_recording_tool.specs.Decoding.{HasLine}
 use Rattle.bgp_recording_tool.proofs.EntryLines.{line_same, one_line_more, no_line_left}
