@@ -118,7 +118,12 @@ fn list_from<R: Print + Eprint + AllocGlobal, F: Read + Drop>(
     };
     let mut sink = FromWrite::new(io::writer(rt));
     match list_recording(rt.alloc(), port, &mut source, &mut sink) {
-        Ok(()) => Status::Done.code(),
+        Ok(listed) => {
+            if let Some(nothing) = listed.nothing() {
+                let _ = eprintln!(rt; "bgp: {nothing}");
+            }
+            Status::Done.code()
+        }
         Err(Stopped::Refused(refusal)) => tell_cause(rt, file, &source, refusal),
         Err(Stopped::Unwritten) => {
             tell_unwritten(rt, &sink, None);

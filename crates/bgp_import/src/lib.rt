@@ -18,6 +18,7 @@ mod capture;
 mod gathering;
 mod importing;
 mod laws;
+mod listed;
 mod listing;
 mod note;
 mod refresh;
@@ -29,6 +30,7 @@ pub use capture::{notes_on, write_capture};
 pub use gathering::{Gathered, gather, refused};
 pub use importing::{Import, Stopped, import_recording, records_of};
 pub use laws::recordings_are_made_once;
+pub use listed::{Listed, NothingListed};
 pub use listing::{
     end_of, list_recording, other_side, put_counts, put_end, put_opening, put_refusal, put_refused,
 };

@@ -10,6 +10,7 @@ ghost use Rattle.bgp_import.specs.ListText.{refused_text, octets_text};
 
 use crate::gathering::refused;
 use crate::importing::Stopped;
+use crate::listed::Listed;
 use crate::refusal::{Place, Refusal, direction};
 use crate::selection::{Selection, passed};
 use bgp_prefix::Session;
@@ -362,13 +363,17 @@ fn put_talks<W: Sink, A: Allocator + Copy>(
     lines: &mut Lines<'_, W>,
     talks: &Talks<A>,
     last_packet: u64,
-) -> Result<(), Refusal> {
+) -> Result<Listed, Refusal> {
     match talks.lines() {
         Ok(listed) => {
             for (packet, line) in &listed {
                 put_line(lines, talks, *packet, *line);
             }
-            Ok(())
+            Ok(Listed {
+                port: talks.port,
+                lines: listed.len(),
+                packets: last_packet,
+            })
         }
         Err(AllocError) => Err(Refusal::Memory {
             packet: last_packet,
@@ -400,13 +405,14 @@ fn take_all<A: Allocator + Copy, R: Source>(
 
 /// Writes a line for each connection in a recording that holds octets and one of whose ports is
 /// this, in the order of their first packets; for two addresses of whose connections none can be
-/// told a line that says why; and last, where the recording is refused, that refusal.
+/// told a line that says why; and last, where the recording is refused, that refusal. Answers how
+/// many lines and packets there were.
 pub fn list_recording<A: Allocator + Copy, R: Source, W: Sink>(
     alloc: A,
     port: u16,
     source: &mut R,
     sink: &mut W,
-) -> Result<(), Stopped>
+) -> Result<Listed, Stopped>
     requires source_failures { R.failures source.old < u64.MAX }
     requires sink_failures { W.failures sink.old < u64.MAX }
 {

@@ -110,12 +110,17 @@ fn list(alloc: Global, words: &str, source: &mut MemSource) -> io::Result<String
         return Err(malformed());
     };
     let mut sink = MemSink::new(alloc);
-    let listed = list_recording(alloc, port, source, &mut sink);
-    let status = match listed {
-        Ok(()) => 0,
-        Err(stopped) => status_of(stopped),
-    };
-    printed(alloc, status, sink.into_octets())
+    match list_recording(alloc, port, source, &mut sink) {
+        Ok(listed) => {
+            let mut text = printed(alloc, 0, sink.into_octets())?;
+            if let Some(nothing) = listed.nothing() {
+                add(&mut text, "\nnote ")?;
+                add(&mut text, nothing)?;
+            }
+            Ok(text)
+        }
+        Err(stopped) => printed(alloc, status_of(stopped), sink.into_octets()),
+    }
 }
 
 /// The status, and the lines that were printed.
