@@ -1,8 +1,9 @@
 #!/usr/bin/env bash
 # How fast `bgp list` reads a recording, beside `md5sum` over the same octets: one of packets between
 # other hosts, and one of a session's UPDATEs. What `bgp judge` of a recording with 100,000 UPDATEs
-# costs, beside `bgp judge` of the capture that `bgp import` makes of it, and that import. And how
-# much memory judging needs behind 10 MB and behind 200 MB of packets between other hosts.
+# costs, beside `bgp judge` of the capture that `bgp import` makes of it, and that import; and the
+# memory of the three. And how much memory judging needs behind 10 MB and behind 200 MB of packets
+# between other hosts.
 # bench/recordings.py makes the recordings.
 # Wants bash, coreutils, python3 and the program that `rt run` built in crates/bgp/out/bgp. Prints
 # figures; it is no test. Words: the program, if it is another one, and how many octets the long
@@ -53,6 +54,14 @@ peak() {
     rm "$work/pipe"
 }
 
+# The greatest resident memory in KiB of a run to its end.
+whole() {
+    python3 -c 'import resource, subprocess, sys
+quiet = subprocess.DEVNULL
+subprocess.run(sys.argv[1:], stdout=quiet, stderr=quiet)
+print(resource.getrusage(resource.RUSAGE_CHILDREN).ru_maxrss)' "$@"
+}
+
 # Prints what listing a recording costs beside md5sum.
 listing() {
     local list md5
@@ -78,6 +87,11 @@ read -r verdict < <("$bgp" "${judge[@]}" "$work/updates" 2> "$work/notes")
 echo "100,000 UPDATEs, judge of the recording: $of_recording ms, of the capture made of it:" \
     "$of_capture ms, recording to capture: $((of_recording * 100 / of_capture))/100," \
     "import: $importing ms"
+in_recording=$(whole "$bgp" "${judge[@]}" "$work/updates")
+in_capture=$(whole "$bgp" "${judge[@]}" "$work/made")
+in_import=$(whole "$bgp" import "${ends[@]}" "$work/updates" "$work/again")
+echo "its $(stat -c %s "$work/updates") octets, peak memory of judging them: $in_recording KiB, of" \
+    "judging the capture: $in_capture KiB, of the import: $in_import KiB"
 
 recording few others 10000000
 echo "peak memory of judging: $(peak few) KiB at $(stat -c %s "$work/few") octets," \
