@@ -4,7 +4,7 @@ use bgp_compact::CompactTracker;
 use bgp_open::Config;
 use bgp_prefix::Session;
 use bgp_recording_tool::{FileOutcome, RecordingOptions, decode_file, judge_file};
-use bgp_tool::{Note, Outcome, decode_opened};
+use bgp_tool::{ErrorWords, Note, Outcome, decode_opened};
 use bgp_wire::Limit;
 use mrt::FromWrite;
 use std::alloc::Global;
@@ -152,6 +152,6 @@ pub fn tell_note<R: Eprint>(rt: &R, note: &Note<'_>) {
 /// Tells why standard output can't be written, unless a pipe was closed.
 pub fn tell_unwritten<R: Eprint>(rt: &R, error: &io::Error) {
     if error.kind() != ErrorKind::BrokenPipe {
-        let _ = eprintln!(rt; "bgp: standard output: {error}");
+        let _ = eprintln!(rt; "bgp: standard output: {}", ErrorWords(error.kind()));
     }
 }

@@ -13,7 +13,7 @@ use bgp_import::{
 use bgp_prefix::Session;
 use bgp_recording::Recording;
 use bgp_recording_tool::{RecordingOptions, import_of};
-use bgp_tool::{Note, Status, unopened, unwritten};
+use bgp_tool::{ErrorWords, Note, Status, unopened, unwritten};
 use mrt::{FromRead, FromWrite};
 use std::alloc::Global;
 use std::io::{Read, Write};
@@ -177,7 +177,8 @@ fn tell_unwritten<R: Eprint, W: Write>(rt: &R, sink: &FromWrite<W>, out: Option<
         Some(file) => {
             if let Some(error) = sink.last_error() {
                 let octet = sink.taken();
-                let _ = eprintln!(rt; "bgp: {file:?}: write failed at octet {octet}: {error}");
+                let words = ErrorWords(error);
+                let _ = eprintln!(rt; "bgp: {file:?}: write failed at octet {octet}: {words}");
             }
         }
         None => {

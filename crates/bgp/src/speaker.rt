@@ -8,7 +8,7 @@ use crate::devices::tell;
 use bgp_compact::CompactTracker;
 use bgp_open::Config;
 use bgp_talk::SocketWire;
-use bgp_tool::{Note, Speaking, Start, Status, pair_session, speak_session};
+use bgp_tool::{ErrorWords, Note, Speaking, Start, Status, pair_session, speak_session};
 use bgp_watch::Watched;
 use mrt::FromWrite;
 use std::alloc::Global;
@@ -143,7 +143,10 @@ fn tell_waiting<R: Eprint>(rt: &R, speaking: &Speaking) {
 fn tell_refusal<R: Net + Clock + Eprint>(rt: &R, wire: &SocketWire<'_, R>) {
     if let Some(error) = wire.refusal() {
         let port = wire.port();
-        let _ = eprintln!(rt; "bgp: no connection at 127.0.0.1:{port}: {error}");
+        let _ = eprintln!(rt;
+            "bgp: no connection at 127.0.0.1:{port}: {}",
+            ErrorWords(error)
+        );
     }
 }
 
@@ -159,7 +162,8 @@ fn tell_end<R: Eprint, F: Write, O: Write>(
         let _ = eprintln!(rt; "bgp: memory was refused");
     } else if let Some(error) = capture.last_error() {
         let octet = capture.taken();
-        let _ = eprintln!(rt; "bgp: {file:?}: write failed at octet {octet}: {error}");
+        let words = ErrorWords(error);
+        let _ = eprintln!(rt; "bgp: {file:?}: write failed at octet {octet}: {words}");
     } else if let Some(error) = output.last_error() {
         tell_unprinted(rt, output.taken(), error);
     }
@@ -182,6 +186,9 @@ fn unopened<R: Eprint>(rt: &R, file: &str, error: ErrorKind) -> u8 {
 /// Tells that a port can't be listened on, and answers the exit status.
 fn unheard<R: Eprint>(rt: &R, start: Start, error: ErrorKind) -> u8 {
     let port = port_of(start);
-    let _ = eprintln!(rt; "bgp: can't listen at 127.0.0.1:{port}: {error}");
+    let _ = eprintln!(rt;
+        "bgp: can't listen at 127.0.0.1:{port}: {}",
+        ErrorWords(error)
+    );
     Status::Device.code()
 }

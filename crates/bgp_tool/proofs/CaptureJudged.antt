@@ -1,25 +1,29 @@
 -- A capture's judging that began with a fresh text, told by what the sink took.
-use Rattle.std.proofs.Common.{◌≡◌, ◌∙◌, ◌⊎◌, ◌+◌, ◌++◌, ◌≤◌, ℕ, List, [], Bool, IsTrue, IsFalse, arith, refl, sym, ap, subst, inl, inr, map, Option, Result, Ok, Err}
-use Rattle.bgp_prefix.specs.Shown.{ShownRecord}
+use Rattle.std.proofs.Common.{◌≡◌, ◌∙◌, ◌⊎◌, ◌+◌, ◌++◌, ◌≤◌, ◌==◌, ℕ, zero, suc, List, [], Bool, true, IsTrue, IsFalse, arith, refl, sym, ap, subst, inl, inr, map, Option, Result, Ok, Err}
+use Rattle.std.proofs.Math.Dec.{eqb-suc-zero}
 use Rattle.bgp_open.specs.declared.config.Config.{Config}
 use Rattle.mrt.specs.declared.fault.CaptureFault.{CaptureFault}
 use Rattle.mrt.specs.declared.fault.FaultKind.{FaultKind}
 use Rattle.mrt.specs.declared.fault.FaultKind.TheVariants as kinds
 use Rattle.mrt.specs.declared.sink.Sink as sinks
-use Rattle.mrt.specs.Capture.{joined}
+use Rattle.bgp_prefix.specs.Shown.{ShownRecord}
+use Rattle.mrt.specs.Capture.{joined, records_of}
 use Rattle.mrt.specs.Progress.{failures_of}
 use Rattle.mrt.specs.ReadBy.{ReadBy}
 use Rattle.mrt.specs.Reader.{ReaderState}
 use Rattle.bgp_judge.specs.declared.verdict.Verdict.{Verdict}
 use Rattle.bgp_judge.specs.declared.verdict.Verdict.TheVariants.{Yes, No, Unfinished}
 use Rattle.bgp_judge.specs.Ends.{end_value}
-use Rattle.bgp_judge.specs.Judging.{Judges, EndsBy, ReadsWith, fault_in}
+use Rattle.bgp_judge.specs.Judging.{Judges, EndsBy, fault_in}
 use Rattle.bgp_text.specs.declared.lines.Lines.{Lines}
 use Rattle.bgp_text.specs.Lines.{Writes}
 use Rattle.bgp_text.proofs.Fresh.{IsFresh, put_is, nothing_left, none_counted, one_counted}
 use Rattle.bgp_tool.specs.Answer.{answer_text, answer_status, IsWritten}
 use Rattle.bgp_tool.specs.CaptureDecoding.{status_by}
 use Rattle.bgp_tool.specs.Judging.{TellsVerdict, TellsFault, JudgesCapture}
+use Rattle.bgp_tool.specs.Front.{kept}
+use Rattle.bgp_tool.specs.Seen.{JudgesSeeing, lacking_by, lacking_in, seen_in}
+use Rattle.bgp_tool.specs.declared.seen.Seen.{Seen}
 use Rattle.bgp_tool.specs.OpenedJudging.{fault_told}
 
 module _ {R : Type 0} (gives : R → R → List ℕ → Type 0) (has_ended : R → Bool) (counts : R → ℕ) (config : Config)
@@ -140,6 +144,25 @@ module _ {F R : Type 0} (view : F → R) (has_ended : R → Bool) (config : Conf
     place = is.place;
   })
 
+-- what is lacking in records of which all is seen
+same_lacking : (code : ℕ) (seen : Seen) (records : List ShownRecord) → (code ≡ 0 → seen ≡ seen_in records)
+    → lacking_by (code == 0) seen ≡ lacking_in code records
+same_lacking zero seen records shows = ap (λ (s : Seen). lacking_by true s) (shows refl)
+same_lacking (suc code) seen records shows =
+    let no = eqb-suc-zero code in ap (λ (b : Bool). lacking_by b seen) no ∙ sym (ap (λ (b : Bool). lacking_by b (seen_in records)) no)
+
+-- What was read by a reader of captures, and what is told of it.
+module _ {R W : Type 0} (takes : W → W → List ℕ → Type 0) (failures : W → ℕ) (gives : R → R → List ℕ → Type 0)
+    (has_ended : R → Bool) (counts : R → ℕ) (config : Config) (source source' : R)
+    (may_lack : Config → List ShownRecord → ShownRecord → Type 0) (sink sink' : W) where
+  pub record ToldOf (reader : ReaderState) (status : ℕ) (first : List ℕ) (refused : Option CaptureFault) (seen : Seen) : Type 0 where
+    pub read : ReadBy gives config.parts.session source source' reader
+        (λ given. JudgesCapture given has_ended takes counts failures config source source' may_lack sink sink' status)
+    pub ends : EndsBy read.pieces read.rest (fault_told read.holds.answer)
+    pub front : first ≡ kept (joined read.pieces ++ read.rest)
+    pub fault : refused ≡ fault_told read.holds.answer
+    pub lacking : lacking_by (read.holds.code == 0) seen ≡ lacking_in read.holds.code (records_of read.pieces)
+
 -- And it is told of just the octets of which a reader of captures knows all pieces.
 module _ {F R W : Type 0} (view : F → R) (takes : W → W → List ℕ → Type 0) (failures : W → ℕ) (gives : R → R → List ℕ → Type 0)
     (has_ended : R → Bool) (counts : R → ℕ) (config : Config) (source source' : F)
@@ -154,28 +177,34 @@ module _ {F R W : Type 0} (view : F → R) (takes : W → W → List ℕ → Typ
   told_in given (Ok Unfinished) judged counted = refl
   told_in given (Err fault) judged counted = refl
 
-  pub judges_read : {X : Type 0} (reader : ReaderState) (answer : Result (Verdict X) CaptureFault) (status : ℕ)
-      → ReadsWith (λ from to some. gives (view from) (view to) some) config.parts.session source source' reader (fault_in answer)
-      (λ given. Judges given (λ state. has_ended (view state)) config source source' may_lack answer)
+  -- and the source keeps its front
+  pub judges_read : {X : Type 0} (front_of : F → List ℕ) (reader : ReaderState) (answer : Result (Verdict X) CaptureFault) (status : ℕ)
+      (refused : Option CaptureFault) (seen : Seen) → front_of source ≡ []
+      → JudgesSeeing (λ from to some. gives (view from) (view to) some × (front_of to ≡ kept (front_of from ++ some)))
+      (λ state. has_ended (view state)) config source source' may_lack reader answer seen
       → counts (view source') ≡ counts (view source) + failures_of answer
       → IsWritten takes failures (answer_text answer) (answer_status answer) sink sink' status
-      → (read : ReadBy gives config.parts.session (view source) (view source') reader
-      (λ given. JudgesCapture given has_ended takes counts failures config (view source) (view source') may_lack sink sink' status))
-      × EndsBy read.pieces read.rest (fault_told read.holds.answer)
+      → refused ≡ fault_in answer
+      → ToldOf takes failures gives has_ended counts config (view source) (view source') may_lack sink sink' reader status (front_of source') refused seen
   unfolding judges_capture
-  judges_read reader answer status (by, ends) counted wrote =
-      let judged = viewed view has_ended config source source' may_lack (joined by.pieces ++ by.rest) answer by.holds in (
-        record {
+  judges_read front_of reader answer status refused seen none ((by, ends), shows) counted wrote is =
+      let octets = joined by.pieces ++ by.rest in
+      let judged = viewed view has_ended config source source' may_lack octets answer by.holds in
+      let told = told_in (λ from to some. some ≡ octets) answer judged counted in record {
+        read = record {
           pieces = by.pieces;
           rest = by.rest;
           knows = by.knows;
-          gave = by.gave;
+          gave = by.gave.0;
           each = by.each;
-          holds = judges_capture takes failures (λ from to some. some ≡ joined by.pieces ++ by.rest) has_ended counts config (view source) (view source') may_lack sink sink' answer status
+          holds = judges_capture takes failures (λ from to some. some ≡ octets) has_ended counts config (view source) (view source') may_lack sink sink' answer status
               judged counted wrote;
-        },
-        subst (λ (f : Option CaptureFault). EndsBy by.pieces by.rest f) (told_in (λ from to some. some ≡ joined by.pieces ++ by.rest) answer judged counted) ends,
-      )
+        };
+        ends = subst (λ (f : Option CaptureFault). EndsBy by.pieces by.rest f) told ends;
+        front = by.gave.1 ∙ ap (λ (o : List ℕ). kept (o ++ octets)) none;
+        fault = is ∙ told;
+        lacking = same_lacking (answer_status answer) seen (records_of by.pieces) shows;
+      }
 
 module _ {W : Type 0} {sinks' : sinks.Ghosts W} (lines lines' : Lines W sinks') (sink sink' : W) (fresh : IsFresh lines)
     (first : lines.outlet.sink.now ≡ sink) (last : sink' ≡ lines'.outlet.sink.now) where

@@ -7,6 +7,7 @@ pub mod OneText
 pub mod CaptureLines
 pub mod CaptureDecoded
 pub mod CaptureJudged
+pub mod SeenSoFar
 pub mod ToldCapture
 pub mod OneVerdict
 pub mod Fronts

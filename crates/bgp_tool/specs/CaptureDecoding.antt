@@ -1,6 +1,6 @@
 -- What decoding a capture reads, writes and answers.
 use Rattle.std.specs.Prelude.{◌≡◌, ◌⊎◌, ◌++◌, ◌+◌, ℕ, Bool, List, [], length, IsTrue, IsFalse}
-use Rattle.std.specs.Prelude.{None, Result, Ok, Err, IsOk}
+use Rattle.std.specs.Prelude.{Option, None, Result, Ok, Err, IsOk}
 use Rattle.bgp_prefix.specs.declared.session.Session.{Session}
 use Rattle.mrt.specs.Capture.{Piece, ArePieces, IsBegun, joined, last_of, records_of}
 use Rattle.mrt.specs.Reader.{ReaderState}
@@ -11,6 +11,7 @@ use Rattle.mrt.specs.declared.fault.CaptureFault.{CaptureFault}
 use Rattle.mrt.specs.declared.fault.FaultKind.{FaultKind}
 use Rattle.mrt.specs.declared.fault.FaultKind.TheVariants as kinds
 use Rattle.mrt.specs.declared.sink.Sink as sinks
+use Rattle.bgp_judge.specs.Judging.{fault_in}
 use Rattle.bgp_text.specs.declared.lines.Lines.{Lines}
 use Rattle.bgp_text.specs.Lines.{Writes}
 use Rattle.bgp_text.specs.Capture.{AreRecordLines, refused_line}
@@ -91,6 +92,15 @@ pub record DecodesCapture {R W : Type 0} (gives : R → R → List ℕ → Type 
   pub begun : lines ++ last_line_for answer ≡ written ++ left
   pub all : ((failures sink' ≡ failures sink) × (left ≡ []) × (status ≡ status_for answer))
       ⊎ ((failures sink' ≡ failures sink + 1) × (status ≡ 5))
+
+-- and this is why the octets are refused, if they are
+abbrev pub DecodesWith : {R W : Type 0} → (R → R → List ℕ → Type 0) → (R → Bool)
+    → (W → W → List ℕ → Type 0) → (R → ℕ) → (W → ℕ) → Session → R → R → W → W → ReaderState → ℕ
+    → Option CaptureFault → Type 0
+DecodesWith gives has_ended takes source_failures failures session source source' sink sink'
+    reader' status refused =
+    (decodes : DecodesCapture gives has_ended takes source_failures failures session source source'
+    sink sink' reader' status) × (refused ≡ fault_in decodes.answer)
 
 -- The last line was put, and the text handed over; the status is 5 where the sink failed.
 pub record Finishes {W X : Type 0} {sink : sinks.Ghosts W} (lines lines' : Lines W sink)

@@ -1,9 +1,10 @@
--- What a file is that is no raw stream, by its first octets, of which 16 are kept.
+-- What a file is, by its first octets, of which 16 are kept.
 use Rattle.std.specs.Prelude.{◌==◌, ◌&&◌, ◌||◌, ℕ, Bool, false, List, [], ◌∷◌, length, take}
 use Rattle.std.specs.Prelude.{Option, None, Some, if◌then◌else◌, nat_le, slice_index}
 use Rattle.std.specs.List.{list_all, starts_with}
 use Rattle.bgp_tool.specs.declared.front.Form.{Form}
-use Rattle.bgp_tool.specs.declared.front.Form.TheVariants.{Pcap, Pcapng, Mrt, Text}
+use Rattle.bgp_tool.specs.declared.front.Form.TheVariants.{Pcap, Pcapng, Gzip, Bzip2, Xz, Zstd}
+use Rattle.bgp_tool.specs.declared.front.Form.TheVariants.{Mrt, Stream, Text}
 
 -- the front begins with these octets
 abbrev pub begins : List ℕ → List ℕ → Bool
@@ -19,6 +20,22 @@ is_pcap front =
 abbrev pub is_pcapng : List ℕ → Bool
 is_pcapng front = begins front (10 ∷ 13 ∷ 13 ∷ 10 ∷ [])
 
+-- deflated by gzip (RFC 1952, 2.3.1): ID1, ID2, and the only method, 8
+abbrev pub is_gzip : List ℕ → Bool
+is_gzip front = begins front (31 ∷ 139 ∷ 8 ∷ [])
+
+-- of bzip2: BZh
+abbrev pub is_bzip2 : List ℕ → Bool
+is_bzip2 front = begins front (66 ∷ 90 ∷ 104 ∷ [])
+
+-- of xz: fd, 7zXZ and 00
+abbrev pub is_xz : List ℕ → Bool
+is_xz front = begins front (253 ∷ 55 ∷ 122 ∷ 88 ∷ 90 ∷ 0 ∷ [])
+
+-- of zstd (RFC 8878, 3.1.1): the magic number fd2fb528, its last octet first
+abbrev pub is_zstd : List ℕ → Bool
+is_zstd front = begins front (40 ∷ 181 ∷ 47 ∷ 253 ∷ [])
+
 -- TABLE_DUMP, TABLE_DUMP_V2, BGP4MP or BGP4MP_ET (RFC 6396, 4)
 abbrev pub is_mrt_type : ℕ → Bool
 is_mrt_type number = number == 12 || (number == 13 || (number == 16 || number == 17))
@@ -28,6 +45,14 @@ abbrev pub is_mrt : List ℕ → Bool
 is_mrt front =
     nat_le 8 (length front) && (slice_index front 4 == 0
     && (is_mrt_type (slice_index front 5) && slice_index front 6 == 0))
+
+-- a raw stream of messages: the Marker of the first one, 16 octets of ones (RFC 4271, 4.1)
+abbrev pub eight_ones : List ℕ → List ℕ
+eight_ones octets =
+    255 ∷ 255 ∷ 255 ∷ 255 ∷ 255 ∷ 255 ∷ 255 ∷ 255 ∷ octets
+
+abbrev pub is_stream : List ℕ → Bool
+is_stream front = begins front (eight_ones (eight_ones []))
 
 -- an octet of a text: printable, a tab or an end of line
 abbrev pub is_text_octet : ℕ → Bool
@@ -43,7 +68,17 @@ is_text (octet ∷ octets) = list_all is_text_octet (octet ∷ octets)
 abbrev pub form_of : List ℕ → Option Form
 form_of front =
     if is_pcap front then Some Pcap else (if is_pcapng front then Some Pcapng
-    else (if is_mrt front then Some Mrt else (if is_text front then Some Text else None)))
+    else (if is_gzip front then Some Gzip else (if is_bzip2 front then Some Bzip2
+    else (if is_xz front then Some Xz else (if is_zstd front then Some Zstd
+    else (if is_mrt front then Some Mrt else (if is_stream front then Some Stream
+    else (if is_text front then Some Text else None))))))))
+
+-- what it is where its front is that of no raw stream, and where it is that of no capture
+abbrev pub no_stream : List ℕ → Option Form
+no_stream front = if is_stream front then None else form_of front
+
+abbrev pub no_capture : List ℕ → Option Form
+no_capture front = if is_mrt front then None else form_of front
 
 -- what is kept of octets, and of more behind them
 abbrev pub kept : List ℕ → List ℕ

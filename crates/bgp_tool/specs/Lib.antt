@@ -6,6 +6,7 @@ pub mod Front
 pub mod FrontLaws
 pub mod Opened
 pub mod CaptureDecoding
+pub mod Seen
 pub mod OpenedCapture
 pub mod Answer
 pub mod Judging

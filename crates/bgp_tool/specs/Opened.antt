@@ -13,7 +13,7 @@ use Rattle.bgp_tool.specs.declared.note.Note.TheVariants.{Unopened, Unread, Unwr
 use Rattle.bgp_tool.specs.declared.note.Note.TheVariants.{OutOfMemory, NoStream}
 use Rattle.bgp_tool.specs.declared.opened.Outcome.{Outcome}
 use Rattle.bgp_tool.specs.Decoding.{IsDecoded, IsSoFar, IsBeginning}
-use Rattle.bgp_tool.specs.Front.{form_of, kept}
+use Rattle.bgp_tool.specs.Front.{no_stream, kept}
 
 -- what is told of a writer that failed: nothing where a pipe was closed
 abbrev pub TellsWriter : {W : Type 0} → WriterState W → Option Note → Type 0
@@ -35,7 +35,7 @@ pub record Tells {W : Type 0} (limit : Limit) (file : Bor (List ℕ)) (given wri
   pub quiet : ((outcome.status ≡ 0) ⊎ (outcome.status ≡ 2)) → outcome.note ≡ None
   -- a file that is no raw stream is told by its front
   pub refused : outcome.status ≡ 3 →
-      outcome.note ≡ option_map (NoStream file) (form_of (kept given))
+      outcome.note ≡ option_map (NoStream file) (no_stream (kept given))
   pub memory : outcome.status ≡ 4 → outcome.note ≡ Some (OutOfMemory file (length given))
   -- the reader failed, and the lines of the frames that it gave are written; or the writer did
   pub device : outcome.status ≡ 5 →

@@ -1,30 +1,78 @@
 -- What a decoding of a capture that a reader gives leaves in a writer, as far as both tell their
 -- octets, and what is told of its end on standard error.
-use Rattle.std.specs.Prelude.{◌≡◌, ◌<◌, ◌+◌, ℕ, List, Option, None, Some, is_some}
-use Rattle.std.specs.Prelude.{if◌then◌else◌}
+use Rattle.std.specs.Prelude.{◌≡◌, ◌<◌, ◌+◌, ◌++◌, ℕ, Bool, true, false, List}
+use Rattle.std.specs.Prelude.{Option, None, Some, is_some, option_map}
 use Rattle.std.specs.Borrow.{Bor}
 use Rattle.bgp_prefix.specs.declared.session.Session.{Session}
+use Rattle.mrt.specs.Capture.{joined}
+use Rattle.mrt.specs.declared.fault.CaptureFault.{CaptureFault}
+use Rattle.mrt.specs.declared.fault.FaultKind.{FaultKind}
+use Rattle.mrt.specs.declared.fault.FaultKind.TheVariants as kinds
+use Rattle.mrt.specs.declared.record.Endpoints.{Endpoints}
 use Rattle.mrt.specs.FromRead.{ReaderState, fresh_reader, Gives}
 use Rattle.mrt.specs.FromWrite.{WriterState, Takes}
 use Rattle.mrt.specs.Reader as records
+use Rattle.bgp_judge.specs.Judging.{fault_in}
+use Rattle.bgp_tool.specs.declared.front.Form.{Form}
+use Rattle.bgp_tool.specs.declared.note.CaptureCommand.{CaptureCommand}
+use Rattle.bgp_tool.specs.declared.note.CaptureCommand.TheVariants.{Decode}
 use Rattle.bgp_tool.specs.declared.note.Note.{Note}
 use Rattle.bgp_tool.specs.declared.note.Note.TheVariants.{Unread, OutOfMemory, NoSession}
+use Rattle.bgp_tool.specs.declared.note.Note.TheVariants.{NoCapture, NothingDone, Refused}
+use Rattle.bgp_tool.specs.declared.note.Unmet.{Unmet}
 use Rattle.bgp_tool.specs.declared.opened.Outcome.{Outcome}
+use Rattle.bgp_tool.specs.declared.seen.Seen.{Seen}
 use Rattle.bgp_tool.specs.CaptureDecoding.{DecodesCapture}
+use Rattle.bgp_tool.specs.Front.{kept, no_capture}
 use Rattle.bgp_tool.specs.Opened.{TellsWriter}
 
--- what is told where a capture was read and no record was the session's: the addresses of the first
--- record of another one
-abbrev pub told_of : Bor (List ℕ) → records.ReaderState → Option Note
-told_of file found = if is_some found.last then None else Some (NoSession file found.other)
+-- A record that is refused so may be one of the session: it is, where its addresses come before
+-- what is refused (the rules of mrt's specs/Rules, in their order); and it isn't known to be one,
+-- where its length is refused first.
+abbrev pub may_be_of_session : FaultKind → Bool
+may_be_of_session kinds.Truncated = false
+may_be_of_session kinds.TooLong = false
+may_be_of_session kinds.Body = true
+may_be_of_session kinds.BadState = true
+may_be_of_session kinds.NotAMessage = true
+may_be_of_session kinds.TimeBack = true
+may_be_of_session kinds.RouteRefresh = true
+may_be_of_session kinds.AddPath = true
+may_be_of_session kinds.Device = false
+may_be_of_session kinds.Memory = false
 
--- What is told of a decoding that ended with this status: of the writer, where it failed, and else
--- of what was read.
-pub record TellsCapture {R W : Type 0} (file : Bor (List ℕ)) (source : ReaderState R)
-    (found : records.ReaderState) (old new : WriterState W) (status : ℕ) (note : Option Note)
-    : Type 0 where
+-- no record of the session was met, and this is the first of another one
+abbrev pub unmet_by : Bool → Option Endpoints → Option Unmet
+unmet_by true other = None
+unmet_by false other = Some (record { other = other })
+
+-- What is told of what was read of a capture, by whether a record of the session was read, what the
+-- file is if it is no capture, why it is refused if it is, what is lacking in it if it is judged
+-- yes, and the addresses of the first record of another session.
+module _ (command : CaptureCommand) (file : Bor (List ℕ)) where
+  abbrev pub told_by : Bool → Option Form → Option CaptureFault → Option Seen → Option Endpoints
+      → Option Note
+  told_by true form None lacking other = option_map (NothingDone file) lacking
+  told_by true form (Some fault) lacking other = Some (Refused file fault None)
+  told_by false (Some form) fault lacking other = Some (NoCapture file form command)
+  told_by false None None lacking other = Some (NoSession file other)
+  told_by false None (Some fault) lacking other =
+      Some (Refused file fault (unmet_by (may_be_of_session fault.kind) other))
+
+  -- by the first octets and what was found
+  abbrev pub told_of : List ℕ → records.ReaderState → Option CaptureFault → Option Seen
+      → Option Note
+  told_of octets found fault lacking =
+      told_by (is_some found.last) (no_capture (kept octets)) fault lacking found.other
+
+-- What is told of a command that ended with this status: of the writer, where it failed, and else
+-- of the octets that were read.
+pub record TellsCapture {R W : Type 0} (command : CaptureCommand) (file : Bor (List ℕ))
+    (source : ReaderState R) (octets : List ℕ) (found : records.ReaderState)
+    (fault : Option CaptureFault) (lacking : Option Seen) (old new : WriterState W) (status : ℕ)
+    (note : Option Note) : Type 0 where
   pub writer : new.failures ≡ old.failures + 1 → TellsWriter new note
-  pub read : status < 4 → note ≡ told_of file found
+  pub read : status < 4 → note ≡ told_of command file octets found fault lacking
   pub memory : status ≡ 4 → note ≡ Some (OutOfMemory file source.given)
   -- the writer took all of the text, so that it was the reader that failed
   pub reader : status ≡ 5 → new.failures ≡ old.failures →
@@ -40,4 +88,5 @@ pub record DecodesOpened {R W : Type 0} (remaining : R → Option (List ℕ))
   pub decoded : DecodesCapture (Gives remaining) (λ state. state.has_ended) (Takes contents)
       (λ state. state.failures) (λ state. state.failures) session (fresh_reader reader) source
       old new found outcome.status
-  pub told : TellsCapture file source found old new outcome.status outcome.note
+  pub told : TellsCapture Decode file source (joined decoded.pieces ++ decoded.rest) found
+      (fault_in decoded.answer) None old new outcome.status outcome.note

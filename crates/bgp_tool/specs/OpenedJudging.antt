@@ -1,19 +1,22 @@
 -- What judging a capture that a reader gives leaves in a writer, as far as both tell their octets,
 -- and what is told of its end on standard error.
-use Rattle.std.specs.Prelude.{◌⊎◌, ℕ, Bool, List, Option, None, Some}
+use Rattle.std.specs.Prelude.{◌⊎◌, ◌++◌, ℕ, Bool, List, Option, None, Some}
 use Rattle.std.proofs.Common.{inl, inr}
 use Rattle.std.specs.Borrow.{Bor}
 use Rattle.bgp_prefix.specs.Shown.{ShownRecord}
 use Rattle.bgp_open.specs.declared.config.Config.{Config}
+use Rattle.mrt.specs.Capture.{joined, records_of}
 use Rattle.mrt.specs.FromRead.{ReaderState, fresh_reader, Gives}
 use Rattle.mrt.specs.FromWrite.{WriterState, Takes}
 use Rattle.mrt.specs.ReadBy.{ReadBy}
 use Rattle.mrt.specs.Reader as records
 use Rattle.mrt.specs.declared.fault.CaptureFault.{CaptureFault}
 use Rattle.bgp_judge.specs.Judging.{EndsBy}
+use Rattle.bgp_tool.specs.declared.note.CaptureCommand.TheVariants.{Judge}
 use Rattle.bgp_tool.specs.declared.opened.Outcome.{Outcome}
 use Rattle.bgp_tool.specs.Judging.{TellsVerdict, TellsFault, JudgesCapture}
 use Rattle.bgp_tool.specs.OpenedCapture.{TellsCapture}
+use Rattle.bgp_tool.specs.Seen.{lacking_in}
 
 -- the fault that is told, if it isn't a verdict
 abbrev pub fault_told : {R : Type 0} {gives : R → R → List ℕ → Type 0} {has_ended : R → Bool}
@@ -38,4 +41,7 @@ pub record JudgesOpened {R W : Type 0} (remaining : R → Option (List ℕ))
       (λ state. state.failures) (λ state. state.failures) config (fresh_reader reader) source
       may_lack old new outcome.status)
   pub ends : EndsBy judged.pieces judged.rest (fault_told judged.holds.answer)
-  pub told : TellsCapture file source found old new outcome.status outcome.note
+  -- also where a yes says nothing of the local system
+  pub told : TellsCapture Judge file source (joined judged.pieces ++ judged.rest) found
+      (fault_told judged.holds.answer) (lacking_in judged.holds.code (records_of judged.pieces))
+      old new outcome.status outcome.note

@@ -1,12 +1,13 @@
 //! `bgp decode --mrt`: the records of one session in a capture (RFC 6396).
 
 ghost use Rattle.std.specs.Prelude.{◌≡◌, ◌<◌, ◌+◌, ◌^◌, ◌⊎◌, [], IsTrue, IsFalse};
+ghost use Rattle.bgp_judge.specs.Judging.{fault_in};
 ghost use Rattle.bgp_text.specs.Lines.{Writes};
 ghost use Rattle.mrt.specs.Progress.{failures_of};
 ghost use Rattle.mrt.specs.Reader.{fresh_reader};
 ghost use Rattle.bgp_tool.specs.Status.{code_of};
 ghost use Rattle.bgp_tool.specs.CaptureDecoding.{status_by, PutsRecords, Finishes};
-ghost use Rattle.bgp_tool.specs.CaptureDecoding.{DecodesCapture};
+ghost use Rattle.bgp_tool.specs.CaptureDecoding.{DecodesCapture, DecodesWith};
 
 use crate::status::Status;
 use bgp_prefix::Session;
@@ -109,10 +110,48 @@ pub fn decode_capture<R: Source, W: Sink, A: Allocator + Copy>(
     ensures { DecodesCapture R.gives R.has_ended W.takes R.failures W.failures session.now
         source.old source.new sink.old sink.new reader.new result }
 {
+    decode_with(reader, session, source, sink).status
+}
+
+/// How decoding a capture ended.
+#[derive(Clone, Copy)]
+pub(crate) struct Decoded {
+    /// The exit status.
+    pub(crate) status: u8,
+    /// Why the capture is refused, if it is.
+    pub(crate) refused: Option<CaptureFault>,
+}
+
+/// Decodes a capture of one session, and says besides the status why the capture is refused.
+pub(crate) fn decode_with<R: Source, W: Sink, A: Allocator + Copy>(
+    reader: &mut Reader<A>,
+    session: &Session,
+    source: &mut R,
+    sink: &mut W,
+) -> Decoded
+    requires fresh { reader.old ≡ fresh_reader }
+    requires source { R.failures source.old < 2 ^ 63 }
+    requires sink { W.failures sink.old < 2 ^ 63 }
+    ensures { DecodesWith R.gives R.has_ended W.takes R.failures W.failures session.now
+        source.old source.new sink.old sink.new reader.new result.status result.refused }
+{
     let mut lines = Lines::new(sink);
     let read = put_records(reader, session, source, &mut lines);
-    let status = finish(&mut lines, read);
+    let status = finish(&mut lines, read).code();
     // No effect: it ends the loan of the sink.
     lines.into_sink();
-    status.code()
+    Decoded {
+        status,
+        refused: refused_by(&read),
+    }
+}
+
+/// Why a capture is refused, if it is.
+pub(crate) fn refused_by<X>(answer: &Result<X, CaptureFault>) -> Option<CaptureFault>
+    ensures { result ≡ fault_in answer.now }
+{
+    match answer {
+        Ok(_) => None,
+        Err(fault) => Some(*fault),
+    }
 }

@@ -1,4 +1,4 @@
-//! The first octets of a source, which tell files that are no raw stream.
+//! The first octets of a source, which tell what it is.
 
 ghost use Rattle.std.specs.Prelude.{◌≡◌, ◌≤◌, ◌<◌, ◌^◌, ◌++◌, List, ℕ, [], length, take};
 ghost use Rattle.std.specs.Prelude.{IfOk, OnErr};
@@ -11,22 +11,32 @@ use mrt::{Failed, Source};
 /// How many octets are kept.
 const FRONT: usize = 16;
 
-/// What a file is that is no raw stream.
+/// What a file is, by its first octets.
 #[derive(Clone, Copy, Debug, PartialEq, Eq)]
 pub enum Form {
     /// A packet capture as libpcap writes it.
     Pcap,
     /// A packet capture of the newer form.
     Pcapng,
+    /// Compressed by gzip (RFC 1952).
+    Gzip,
+    /// Compressed by bzip2.
+    Bzip2,
+    /// Compressed by xz.
+    Xz,
+    /// Compressed by zstd (RFC 8878).
+    Zstd,
     /// Records of RFC 6396.
     Mrt,
+    /// A raw stream: messages, one after another (RFC 4271, 4.1).
+    Stream,
     /// Text.
     Text,
 }
 
 /// A source that keeps the first 16 octets that it gave.
 #[derive(Drop)]
-pub(crate) struct WithFront<S> {
+pub struct WithFront<S> {
     source: S,
     front: ArrayVec<u8, FRONT>,
     ghost within: { length front.items ≤ 16 },
@@ -34,7 +44,7 @@ pub(crate) struct WithFront<S> {
 
 impl<S: Source> WithFront<S> {
     /// A source that has given nothing yet.
-    pub(crate) fn new(source: S) -> WithFront<S>
+    pub fn new(source: S) -> WithFront<S>
         ensures source { result.source ≡ source }
         ensures front { result.front.items ≡ [] }
     {
@@ -45,17 +55,17 @@ impl<S: Source> WithFront<S> {
     }
 
     /// The source itself.
-    pub(crate) fn source(&self) -> &S
+    pub fn source(&self) -> &S
         ensures { result.now ≡ self.now.source }
     {
         &self.source
     }
 
-    /// What the octets are, if they are the front of no raw stream.
-    pub(crate) fn form(&self) -> Option<Form>
-        ensures { result ≡ spec.form_of self.now.front.items }
+    /// The octets that it keeps.
+    pub fn front(&self) -> &[u8]
+        ensures { result.now ≡ self.now.front.items }
     {
-        form_of(self.front.as_slice())
+        self.front.as_slice()
     }
 
     // Keeps what there is room for.
@@ -109,6 +119,24 @@ impl<S: Source> Source for WithFront<S> {
 }
 
 /// What a file with this front is, if it is no raw stream.
+pub(crate) fn no_stream(front: &[u8]) -> Option<Form>
+    ensures { result ≡ spec.no_stream front.now }
+{
+    if is_stream(front) {
+        None
+    } else {
+        form_of(front)
+    }
+}
+
+/// What a file with this front is, if it is no capture.
+pub(crate) fn no_capture(front: &[u8]) -> Option<Form>
+    ensures { result ≡ spec.no_capture front.now }
+{
+    if is_mrt(front) { None } else { form_of(front) }
+}
+
+/// What a file with this front is, if that can be told.
 fn form_of(front: &[u8]) -> Option<Form>
     ensures { result ≡ spec.form_of front.now }
 {
@@ -116,8 +144,18 @@ fn form_of(front: &[u8]) -> Option<Form>
         Some(Form::Pcap)
     } else if is_pcapng(front) {
         Some(Form::Pcapng)
+    } else if is_gzip(front) {
+        Some(Form::Gzip)
+    } else if is_bzip2(front) {
+        Some(Form::Bzip2)
+    } else if is_xz(front) {
+        Some(Form::Xz)
+    } else if is_zstd(front) {
+        Some(Form::Zstd)
     } else if is_mrt(front) {
         Some(Form::Mrt)
+    } else if is_stream(front) {
+        Some(Form::Stream)
     } else if is_text(front) {
         Some(Form::Text)
     } else {
@@ -143,6 +181,34 @@ fn is_pcapng(front: &[u8]) -> bool
     front.starts_with(&[0x0a, 0x0d, 0x0d, 0x0a])
 }
 
+/// Whether what gzip compressed begins so (RFC 1952, 2.3.1).
+fn is_gzip(front: &[u8]) -> bool
+    ensures { result ≡ spec.is_gzip front.now }
+{
+    front.starts_with(&[0x1f, 0x8b, 0x08])
+}
+
+/// Whether what bzip2 compressed begins so.
+fn is_bzip2(front: &[u8]) -> bool
+    ensures { result ≡ spec.is_bzip2 front.now }
+{
+    front.starts_with(b"BZh")
+}
+
+/// Whether what xz compressed begins so.
+fn is_xz(front: &[u8]) -> bool
+    ensures { result ≡ spec.is_xz front.now }
+{
+    front.starts_with(&[0xfd, 0x37, 0x7a, 0x58, 0x5a, 0x00])
+}
+
+/// Whether what zstd compressed begins so (RFC 8878, 3.1.1).
+fn is_zstd(front: &[u8]) -> bool
+    ensures { result ≡ spec.is_zstd front.now }
+{
+    front.starts_with(&[0x28, 0xb5, 0x2f, 0xfd])
+}
+
 /// Whether a record of RFC 6396 begins so: behind its timestamp TABLE_DUMP, TABLE_DUMP_V2, BGP4MP
 /// or BGP4MP_ET, and a subtype.
 fn is_mrt(front: &[u8]) -> bool
@@ -152,6 +218,16 @@ fn is_mrt(front: &[u8]) -> bool
         [_, _, _, _, 0, kind, 0, _, ..] => matches!(*kind, 12 | 13 | 16 | 17),
         _ => false,
     }
+}
+
+/// Whether a raw stream begins so: with the Marker of a message (RFC 4271, 4.1).
+fn is_stream(front: &[u8]) -> bool
+    ensures { result ≡ spec.is_stream front.now }
+{
+    front.starts_with(&[
+        0xff, 0xff, 0xff, 0xff, 0xff, 0xff, 0xff, 0xff, 0xff, 0xff, 0xff, 0xff, 0xff, 0xff, 0xff,
+        0xff,
+    ])
 }
 
 /// Whether a text begins so.

@@ -19,7 +19,8 @@ use mrt::{
 use std::alloc::Allocator;
 
 /// Judges the capture that a source gives: whether its records are those of a run of the session
-/// machine (RFC 4271, 8.2.2), under this configuration and of the session that it names.
+/// machine (RFC 4271 with RFC 7606, and each choice of docs/SESSION-MACHINE.md), under this
+/// configuration and of the session that it names.
 ///
 /// And the capture of whatever the speaker's core does is answered `yes`, with the state and the
 /// routes in which the core ended among the ends, where both addresses are of one family and no

@@ -4,13 +4,15 @@
 //! in `specs/VerdictText.antt`; what it answers is an exit status:
 //!
 //! ```text
-//! let status = decode_raw(alloc, &mut source, &mut sink);
+//! let status = decode_raw(Limit::Plain, alloc, &mut source, &mut sink);
 //! ```
 #![tactic(auto)]
 
 mod captures;
 mod decoding;
+mod error_words;
 mod front;
+mod front_note;
 mod headline;
 mod judging;
 mod laws;
@@ -21,6 +23,9 @@ mod opened_judging;
 mod pair_end;
 mod pair_judging;
 mod pairing;
+mod refusal_note;
+mod seeing;
+mod seen;
 mod speaking;
 mod status;
 mod verdicts;
@@ -29,19 +34,21 @@ mod words;
 pub use bgp_words::{Command, Speaking, Start, command_line};
 pub use captures::{decode_capture, hand_over};
 pub use decoding::decode_raw;
-pub use front::Form;
+pub use error_words::ErrorWords;
+pub use front::{Form, WithFront};
 pub use headline::{
     each_capture_has_one_verdict, each_drive_is_judged_yes, judge_capture, text_and_status,
 };
 pub use judging::put_answer;
 pub use laws::each_stream_has_one_text;
-pub use note::Note;
+pub use note::{CaptureCommand, Note, Unmet};
 pub use opened::{Outcome, decode_opened, unopened, unwritten};
-pub use opened_capture::decode_opened_capture;
+pub use opened_capture::{decode_opened_capture, note_of};
 pub use opened_judging::judge_opened;
 pub use pair_end::{PairEnd, PairFault};
 pub use pair_judging::judge_pair;
 pub use pairing::pair_session;
+pub use seen::Seen;
 pub use speaking::speak_session;
 pub use status::Status;
 pub use verdicts::{put_end, put_verdict};

@@ -1,10 +1,30 @@
-//! What the program tells on standard error.
+//! What the program says on standard error.
 
+use crate::error_words::ErrorWords;
 use crate::front::Form;
+use crate::front_note::put_form;
 use crate::pair_end::{PairEnd, PairFault};
-use mrt::Endpoints;
+use crate::refusal_note::put_refusal;
+use crate::seen::Seen;
+use mrt::{CaptureFault, Endpoints};
 use std::fmt;
 use std::io::ErrorKind;
+
+/// A command that reads a capture.
+#[derive(Clone, Copy, Debug, PartialEq, Eq)]
+pub enum CaptureCommand {
+    /// `bgp decode --mrt`.
+    Decode,
+    /// `bgp judge`.
+    Judge,
+}
+
+/// That no record of a session was met.
+#[derive(Clone, Copy, Debug, PartialEq, Eq)]
+pub struct Unmet {
+    /// The addresses of the first record of another session, if there was one.
+    pub other: Option<Endpoints>,
+}
 
 /// What there is to tell of a command's end, besides its exit status: one sentence.
 #[derive(Clone, Copy, Debug, PartialEq, Eq)]
@@ -39,7 +59,7 @@ pub enum Note<'a> {
         /// How many of its octets were read.
         octet: u64,
     },
-    /// No record of the session was read: the capture has none, or is refused before.
+    /// No record of the session is in the capture.
     NoSession {
         /// Its name, or `-` for standard input.
         file: &'a str,
@@ -53,6 +73,31 @@ pub enum Note<'a> {
         /// What it is.
         form: Form,
     },
+    /// The file is no capture.
+    NoCapture {
+        /// Its name, or `-` for standard input.
+        file: &'a str,
+        /// What it is.
+        form: Form,
+        /// What read it.
+        command: CaptureCommand,
+    },
+    /// The capture is refused.
+    Refused {
+        /// Its name, or `-` for standard input.
+        file: &'a str,
+        /// Why, and where.
+        fault: CaptureFault,
+        /// Whether no record of the session was met, neither before nor at that place.
+        unmet: Option<Unmet>,
+    },
+    /// The capture is judged yes, and doesn't show that the router did anything.
+    NothingDone {
+        /// Its name, or `-` for standard input.
+        file: &'a str,
+        /// What it shows: no change that leaves Idle, or no message that was sent.
+        seen: Seen,
+    },
     /// A pair of ends gave up.
     Pair {
         /// The name of the left end's capture.
@@ -64,7 +109,7 @@ pub enum Note<'a> {
 
 /// What is read as it is told: a file's name, or standard input for `-`.
 #[derive(Clone, Copy)]
-struct Told<'a>(&'a str);
+pub(crate) struct Told<'a>(pub(crate) &'a str);
 
 impl fmt::Display for Told<'_> {
     fn fmt<W: fmt::Write>(&self, f: &mut fmt::Formatter<W>) -> fmt::Result {
@@ -95,16 +140,31 @@ impl fmt::Display for Name<'_> {
 impl fmt::Display for Note<'_> {
     fn fmt<W: fmt::Write>(&self, f: &mut fmt::Formatter<W>) -> fmt::Result {
         match *self {
-            Note::Unopened { file, error } => write!(f, "{}: {error}", Told(file)),
+            Note::Unopened { file, error } => write!(f, "{}: {}", Told(file), ErrorWords(error)),
             Note::Unread { file, octet, error } => put_unread(f, file, octet, error),
             Note::Unwritten { octet, error } => put_unwritten(f, octet, error),
             Note::OutOfMemory { file, octet } => {
                 write!(f, "{}: memory was refused at octet {octet}", Told(file))
             }
             Note::NoSession { file, other } => put_no_session(f, file, other),
-            Note::NoStream { file, form } => write!(f, "{} {form}", Told(file)),
+            Note::NoStream { file, form } => put_form(f, file, form, "bgp decode"),
+            Note::NoCapture {
+                file,
+                form,
+                command,
+            } => put_form(f, file, form, typed(command)),
+            Note::Refused { file, fault, unmet } => put_refusal(f, file, fault, unmet),
+            Note::NothingDone { file, seen } => put_nothing_done(f, file, seen),
             Note::Pair { file, fault } => put_pair(f, file, fault),
         }
+    }
+}
+
+/// A command as it is typed, with two dots for its options.
+fn typed(command: CaptureCommand) -> &'static str {
+    match command {
+        CaptureCommand::Decode => "bgp decode --mrt ..",
+        CaptureCommand::Judge => "bgp judge ..",
     }
 }
 
@@ -117,7 +177,10 @@ fn put_unread<W: fmt::Write>(
 ) -> fmt::Result {
     let file = Told(file);
     match error {
-        Some(error) => write!(f, "{file}: read failed at octet {octet}: {error}"),
+        Some(error) => {
+            let words = ErrorWords(error);
+            write!(f, "{file}: read failed at octet {octet}: {words}")
+        }
         None => write!(f, "{file}: too long, read up to octet {octet}"),
     }
 }
@@ -129,7 +192,10 @@ fn put_unwritten<W: fmt::Write>(
     error: Option<ErrorKind>,
 ) -> fmt::Result {
     match error {
-        Some(error) => write!(f, "standard output: write failed at octet {octet}: {error}"),
+        Some(error) => {
+            let words = ErrorWords(error);
+            write!(f, "standard output: write failed at octet {octet}: {words}")
+        }
         None => write!(f, "standard output: write failed at octet {octet}"),
     }
 }
@@ -140,22 +206,48 @@ fn put_no_session<W: fmt::Write>(
     file: &str,
     other: Option<Endpoints>,
 ) -> fmt::Result {
-    let file = Told(file);
-    match other {
+    write!(f, "{}: ", Told(file))?;
+    put_unmet(f, Unmet { other })
+}
+
+/// That no record of the session was read, and whose the first of another one is.
+pub(crate) fn put_unmet<W: fmt::Write>(f: &mut fmt::Formatter<W>, unmet: Unmet) -> fmt::Result {
+    f.write_str("no record of this session was read")?;
+    match unmet.other {
         Some(Endpoints { peer, local }) => write!(
             f,
-            "{file}: no record of this session was read; the first of another one has the peer \
-             {peer} and the local address {local}"
+            "; the first of another one has the peer {peer} and the local address {local}"
         ),
-        None => write!(f, "{file}: no record of this session was read"),
+        None => Ok(()),
     }
+}
+
+/// The sentence on a capture that is judged yes and shows nothing that the router did.
+fn put_nothing_done<W: fmt::Write>(
+    f: &mut fmt::Formatter<W>,
+    file: &str,
+    seen: Seen,
+) -> fmt::Result {
+    let lacks = match (seen.left_idle, seen.sent) {
+        (true, _) => "no message that was sent",
+        (false, true) => "no change of state that leaves Idle",
+        (false, false) => "no change of state that leaves Idle and no message that was sent",
+    };
+    write!(
+        f,
+        "{}: {lacks} is in the capture: neither yes nor no says anything of the router then, since \
+         that takes what it sent, what it received and its changes of state, from Idle on",
+        Told(file)
+    )
 }
 
 /// The sentence on a pair of ends that gave up.
 fn put_pair<W: fmt::Write>(f: &mut fmt::Formatter<W>, file: &str, fault: PairFault) -> fmt::Result {
     let (end, error) = match fault {
         PairFault::Capture(end, error) => (end, error),
-        PairFault::Connection(error) => return write!(f, "the connection on 127.0.0.1: {error}"),
+        PairFault::Connection(error) => {
+            return write!(f, "the connection on 127.0.0.1: {}", ErrorWords(error));
+        }
         PairFault::Memory => return f.write_str("memory was refused"),
     };
     write!(f, "{}", Name(file))?;
@@ -163,26 +255,7 @@ fn put_pair<W: fmt::Write>(f: &mut fmt::Formatter<W>, file: &str, fault: PairFau
         f.write_str(".right")?;
     }
     match error {
-        Some(error) => write!(f, ": {error}"),
+        Some(error) => write!(f, ": {}", ErrorWords(error)),
         None => f.write_str(": too long"),
-    }
-}
-
-impl fmt::Display for Form {
-    fn fmt<W: fmt::Write>(&self, f: &mut fmt::Formatter<W>) -> fmt::Result {
-        f.write_str(match self {
-            Form::Pcap | Form::Pcapng => {
-                "is a recording of packets: name one session of it, as in `bgp decode --mrt --peer \
-                 192.0.2.2 --local 192.0.2.1 FILE`; `bgp list FILE` tells the sessions"
-            }
-            Form::Mrt => {
-                "seems to be a capture of MRT records: name one session of it, as in `bgp decode \
-                 --mrt --peer 192.0.2.2 --local 192.0.2.1 FILE`"
-            }
-            Form::Text => {
-                "seems to be text: give the raw octets of one direction of a connection, and not \
-                 their hexadecimal digits"
-            }
-        })
     }
 }

@@ -5,11 +5,11 @@ ghost use Rattle.std.specs.IoError.{error_kind};
 ghost use Rattle.mrt.specs.FromRead.{reader_state};
 ghost use Rattle.mrt.specs.FromWrite.{writer_state};
 ghost use Rattle.bgp_tool.specs.declared.note.Note.TheVariants as notes;
-ghost use Rattle.bgp_tool.specs.Front.{form_of};
+ghost use Rattle.bgp_tool.specs.Front.{no_stream as no_stream_by};
 ghost use Rattle.bgp_tool.specs.Opened.{DecodesReader, TellsWriter, IsUnopened};
 
 use crate::decoding::decode_raw;
-use crate::front::WithFront;
+use crate::front::{WithFront, no_stream};
 use crate::note::Note;
 use crate::status::Status;
 use bgp_wire::Limit;
@@ -31,7 +31,7 @@ pub struct Outcome<'a> {
 /// [`decode_raw`](crate::decode_raw) does, and says what went wrong, if anything did
 /// (`specs/Opened.antt`).
 ///
-/// A file whose first header is wrong and whose front is that of a capture or of text is told as
+/// A file that is refused and whose front is that of something else than a raw stream is told as
 /// that. A closed pipe is status 5 and not told.
 pub fn decode_opened<'a, R: Read + Drop, W: Write, A: Allocator + Copy>(
     limit: Limit,
@@ -98,7 +98,7 @@ fn note_of<'a, R: Read, W: Write>(
 ) -> Option<Note<'a>>
     ensures quiet { status < 3 → result ≡ None }
     ensures refused { status ≡ 3 → result
-        ≡ option_map (notes.NoStream file.entry) (form_of source.now.front.items) }
+        ≡ option_map (notes.NoStream file.entry) (no_stream_by source.now.front.items) }
     ensures memory { status ≡ 4 → result
         ≡ Some (notes.OutOfMemory file.entry (reader_state source.now.source).given) }
     ensures reader { status ≡ 5 → 0 < (reader_state source.now.source).failures → result
@@ -109,7 +109,7 @@ fn note_of<'a, R: Read, W: Write>(
 {
     let octet = source.source().given();
     match status {
-        3 => source.form().map(|form| Note::NoStream { file, form }),
+        3 => no_stream(source.front()).map(|form| Note::NoStream { file, form }),
         4 => Some(Note::OutOfMemory { file, octet }),
         5 if source.failures() > 0 => Some(Note::Unread {
             file,

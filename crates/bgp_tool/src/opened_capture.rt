@@ -1,26 +1,31 @@
 //! A capture over any reader and any writer: what stands between a file and `decode_capture`.
 
-ghost use Rattle.std.specs.Prelude.{◌≡◌, ◌≤◌, ◌<◌, ◌^◌, Some, IfOk, IfErr};
+ghost use Rattle.std.specs.Prelude.{◌≡◌, ◌≤◌, ◌<◌, ◌^◌, Some, IfOk, IfErr, is_some};
 ghost use Rattle.std.specs.IoError.{error_kind};
 ghost use Rattle.mrt.specs.FromRead.{reader_state};
 ghost use Rattle.mrt.specs.FromWrite.{writer_state};
 ghost use Rattle.bgp_tool.specs.declared.note.Note.TheVariants as notes;
+ghost use Rattle.bgp_tool.specs.Front.{no_capture as no_capture_by};
 ghost use Rattle.bgp_tool.specs.Opened.{IsUnopened};
-ghost use Rattle.bgp_tool.specs.OpenedCapture.{told_of, DecodesOpened};
+ghost use Rattle.bgp_tool.specs.OpenedCapture.{told_by, unmet_by, may_be_of_session};
+ghost use Rattle.bgp_tool.specs.OpenedCapture.{DecodesOpened};
 
-use crate::captures::decode_capture;
-use crate::note::Note;
+use crate::captures::decode_with;
+use crate::front::{WithFront, no_capture};
+use crate::note::{CaptureCommand, Note, Unmet};
 use crate::opened::{Outcome, unopened, unwritten};
+use crate::seen::Seen;
 use bgp_prefix::Session;
-use mrt::{FromRead, FromWrite, Reader, Sink};
+use mrt::{CaptureFault, Endpoints, FaultKind, FromRead, FromWrite, Reader, Sink};
 use std::alloc::Allocator;
 use std::io;
 use std::io::{Read, Write};
 
 /// Decodes a capture of one session that a reader gives, if it could be opened, as
-/// [`decode_capture`](crate::decode_capture) does, and says what went wrong, if anything did, or
-/// that no record was the session's (`specs/OpenedCapture.antt`). A closed pipe is status 5 and not
-/// told; where the reader failed, too, the writer's failure is told.
+/// [`decode_capture`](crate::decode_capture) does, and says what went wrong, if anything did: why
+/// the capture is refused; that no record was the session's, or what the file is, where it is no
+/// capture (`specs/OpenedCapture.antt`). A closed pipe is status 5 and not told; where the reader
+/// failed, too, the writer's failure is told.
 ///
 /// The reader is asked for few octets at a time: put a buffer before a file.
 pub fn decode_opened_capture<'a, R: Read + Drop, W: Write, A: Allocator + Copy>(
@@ -56,53 +61,108 @@ fn decode_reader<'a, R: Read + Drop, W: Write, A: Allocator + Copy>(
         (writer_state sink.old) (writer_state sink.new) result }
     ensures statuses { result.status ≤ 5 }
 {
-    let mut source = FromRead::new(reader);
+    let mut source = WithFront::new(FromRead::new(reader));
     let mut records = Reader::new(alloc);
     let failures = sink.failures();
-    let status = decode_capture(&mut records, session, &mut source, sink);
+    let decoded = decode_with(&mut records, session, &mut source, sink);
+    let status = decoded.status;
     let note = if sink.failures() > failures {
         unwritten(sink)
     } else {
-        note_of(status, file, &source, &records)
+        let command = CaptureCommand::Decode;
+        note_of(
+            command,
+            status,
+            file,
+            &source,
+            &records,
+            decoded.refused,
+            None,
+        )
     };
     Outcome { status, note }
 }
 
-/// What to tell of a decoding that ended with this status, where the sink took all of its text.
-pub(crate) fn note_of<'a, R: Read, A: Allocator + Copy>(
+/// What to tell of a command that ended with this status, where the sink took all of its text, and
+/// why the capture is refused or what is lacking in it, if it is or anything is.
+pub fn note_of<'a, R: Read, A: Allocator + Copy>(
+    command: CaptureCommand,
     status: u8,
     file: &'a str,
-    source: &FromRead<R>,
+    source: &WithFront<FromRead<R>>,
     records: &Reader<A>,
+    refused: Option<CaptureFault>,
+    lacking: Option<Seen>,
 ) -> Option<Note<'a>>
-    ensures read { status < 4 → result ≡ told_of file.entry records.now }
+    ensures read { status < 4 → result ≡ told_by command file.entry (is_some records.now.last)
+        (no_capture_by source.now.front.items) refused lacking records.now.other }
     ensures memory { status ≡ 4 → result
-        ≡ Some (notes.OutOfMemory file.entry (reader_state source.now).given) }
+        ≡ Some (notes.OutOfMemory file.entry (reader_state source.now.source).given) }
     ensures reader { status ≡ 5 → result ≡ Some (notes.Unread file.entry
-        (reader_state source.now).given (reader_state source.now).last_error) }
+        (reader_state source.now.source).given (reader_state source.now.source).last_error) }
 {
-    let octet = source.given();
+    let octet = source.source().given();
     match status {
         4 => Some(Note::OutOfMemory { file, octet }),
         5 => Some(Note::Unread {
             file,
             octet,
-            error: source.last_error(),
+            error: source.source().last_error(),
         }),
-        _ => no_session(file, records),
+        _ => told(command, file, source.front(), records, refused, lacking),
     }
 }
 
-/// What to tell where no record was the session's.
-fn no_session<'a, A: Allocator + Copy>(file: &'a str, records: &Reader<A>) -> Option<Note<'a>>
-    ensures { result ≡ told_of file.entry records.now }
+/// What to tell of what was read of a capture that begins so.
+fn told<'a, A: Allocator + Copy>(
+    command: CaptureCommand,
+    file: &'a str,
+    front: &[u8],
+    records: &Reader<A>,
+    refused: Option<CaptureFault>,
+    lacking: Option<Seen>,
+) -> Option<Note<'a>>
+    ensures { result ≡ told_by command file.entry (is_some records.now.last)
+        (no_capture_by front.now) refused lacking records.now.other }
 {
     if records.has_answered() {
-        None
-    } else {
-        Some(Note::NoSession {
+        let unmet = None;
+        return match refused {
+            Some(fault) => Some(Note::Refused { file, fault, unmet }),
+            None => lacking.map(|seen| Note::NothingDone { file, seen }),
+        };
+    }
+    if let Some(form) = no_capture(front) {
+        return Some(Note::NoCapture {
             file,
-            other: records.first_other(),
-        })
+            form,
+            command,
+        });
+    }
+    let other = records.first_other();
+    match refused {
+        Some(fault) => {
+            let unmet = unmet_at(fault.kind, other);
+            Some(Note::Refused { file, fault, unmet })
+        }
+        None => Some(Note::NoSession { file, other }),
+    }
+}
+
+/// That no record of the session was met where a capture is refused so before one was read, unless
+/// the record that is refused may be one.
+fn unmet_at(kind: FaultKind, other: Option<Endpoints>) -> Option<Unmet>
+    ensures { result ≡ unmet_by (may_be_of_session kind) other }
+{
+    match kind {
+        FaultKind::Truncated | FaultKind::TooLong | FaultKind::Device | FaultKind::Memory => {
+            Some(Unmet { other })
+        }
+        FaultKind::Body
+        | FaultKind::BadState
+        | FaultKind::NotAMessage
+        | FaultKind::TimeBack
+        | FaultKind::RouteRefresh
+        | FaultKind::AddPath => None,
     }
 }

@@ -6,10 +6,15 @@ ghost use Rattle.mrt.specs.FromWrite.{writer_state};
 ghost use Rattle.bgp_tool.specs.Opened.{IsUnopened};
 ghost use Rattle.bgp_tool.specs.OpenedJudging.{JudgesOpened};
 
+use crate::captures::refused_by;
+use crate::front::WithFront;
 use crate::judging::write_answer;
+use crate::note::CaptureCommand;
 use crate::opened::{Outcome, unopened, unwritten};
 use crate::opened_capture::note_of;
-use bgp_judge::{Tracker, judge_with};
+use crate::seeing::judge_seeing;
+use crate::seen::Seen;
+use bgp_judge::Tracker;
 use bgp_open::Config;
 use mrt::{FromRead, FromWrite, Reader, Sink};
 use std::alloc::Allocator;
@@ -17,9 +22,11 @@ use std::io;
 use std::io::{Read, Write};
 
 /// Judges a capture that a reader gives, if it could be opened, as
-/// [`judge_capture`](crate::judge_capture) does, and says what went wrong, if anything did, or that
-/// no record was the session's (`specs/OpenedJudging.antt`). A closed pipe is status 5 and not
-/// told; where the reader failed, too, the writer's failure is told.
+/// [`judge_capture`](crate::judge_capture) does, and says what went wrong, if anything did: why the
+/// capture is refused; that no record was the session's, or what the file is, where it is no
+/// capture; that a capture which is judged yes shows nothing that the local system did
+/// (`specs/OpenedJudging.antt`). A closed pipe is status 5 and not told; where the reader
+/// failed, too, the writer's failure is told.
 ///
 /// The reader is asked for few octets at a time: put a buffer before a file.
 pub fn judge_opened<'a, A: Allocator + Copy, T: Tracker<A>, R: Read + Drop, W: Write>(
@@ -55,15 +62,25 @@ fn judge_reader<'a, A: Allocator + Copy, T: Tracker<A>, R: Read + Drop, W: Write
         (writer_state sink.old) (writer_state sink.new) result }
     ensures statuses { result.status ≤ 5 }
 {
-    let mut source = FromRead::new(reader);
+    let mut source = WithFront::new(FromRead::new(reader));
     let mut records = Reader::new(alloc);
     let failures = sink.failures();
-    let answer = judge_with::<A, T, FromRead<R>>(&mut records, alloc, config, &mut source);
+    let mut seen = Seen::nothing();
+    let answer = judge_seeing::<A, T, WithFront<FromRead<R>>>(
+        &mut records,
+        alloc,
+        config,
+        &mut source,
+        &mut seen,
+    );
+    let refused = refused_by(&answer);
     let status = write_answer(sink, &answer);
     let note = if sink.failures() > failures {
         unwritten(sink)
     } else {
-        note_of(status, file, &source, &records)
+        let command = CaptureCommand::Judge;
+        let lacking = seen.lacking(status);
+        note_of(command, status, file, &source, &records, refused, lacking)
     };
     Outcome { status, note }
 }

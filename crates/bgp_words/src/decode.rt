@@ -17,7 +17,7 @@ use bgp_prefix::Session;
 use clap::ArgMatches;
 use std::alloc::{AllocError, Global};
 
-/// What help tells after the words of `decode`: the statuses, and the lines with an example each.
+/// What help says after the words of `decode`: the statuses, and the lines with an example each.
 const LINES: &str = "\
 Exit status:
   0   all octets were whole messages, or the capture was read to its end; or help was asked for
@@ -37,7 +37,7 @@ decode prints one line a message:
   update malformed      an UPDATE in which a length, a prefix or the last attribute doesn't fit
   notification 6/2 -    error code, subcode, data in hexadecimal
   keepalive
-and last, where there is something to tell:
+and last, where the stream doesn't end with a message:
   rest 10               the stream ends 10 octets into a message
   fault at 19 1/2       the header at octet 19 is wrong: 1/1 its marker, 1/2 its length,
                         1/3 its type
@@ -59,7 +59,7 @@ then the lines are those of the capture that bgp import makes of it, or
                         place in the stream from 0
 A dash stands for nothing.
 
-The manual is README.md, at the top of the repository.";
+The manual is docs/bgp.1.md, at the top of the repository.";
 
 /// The words after `decode`.
 static WORDS: [Word<'static>; 5] = [

@@ -18,7 +18,7 @@ use bgp_prefix::Session;
 use clap::ArgMatches;
 use std::alloc::{AllocError, Global};
 
-/// What help tells after the words of `import`: what it does, what it tells, an example and the
+/// What help says after the words of `import`: what it does, what it says, an example and the
 /// statuses.
 const IMPORTED: &str = "\
 import makes a capture of a recording. FILE is a packet capture, as tcpdump -w writes it (pcap or
@@ -27,7 +27,7 @@ one of its connections: MRT records, in one order in which the local system may 
 message stands before its packet came, and none waits longer than --within seconds. Where the
 recording is refused, nothing is written.
 
-On standard error it tells what isn't in the capture:
+On standard error it says what isn't in the capture:
   bgp: recording refused: 14 Missing at packet 7 received octet 49
                         no capture can be made: the reason's number and name, the packet's number
                         from 1, and the octet's place in the stream from 0
@@ -47,7 +47,7 @@ Exit status:
   5   a file can't be opened or read, or the capture can't be written
   64  the command line is none that the program knows
 
-The manual is README.md, at the top of the repository.";
+The manual is docs/bgp.1.md, at the top of the repository.";
 
 /// The words after `import`, but those that are for recordings alone.
 static WORDS: [Word<'static>; 5] = [

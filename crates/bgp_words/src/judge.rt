@@ -18,35 +18,47 @@ use crate::words::Command;
 use clap::ArgMatches;
 use std::alloc::{AllocError, Global};
 
-/// What help tells after the words of `judge`: the verdicts with an example each, when to believe
-/// them, and the statuses.
+/// What help says after the words of `judge`: the verdicts with an example each, why a capture is
+/// refused, when to believe an answer, and the statuses.
 const VERDICTS: &str = "\
-judge tells whether a system that keeps to RFC 4271 can have done what the capture shows. FILE is a
-capture of MRT records that the local system made, or a recording: a packet capture, as tcpdump -w
-writes it (pcap or pcapng), made at either end or between. Its first octets tell which:
-  yes                   it can; then each state in which it can be at the end:
+judge says whether a router that keeps to the standard (RFC 4271 with RFC 7606, and the choices that
+docs/SESSION-MACHINE.md names) can have done what the capture shows. FILE is a capture of MRT
+records that the router at --local made, or a recording: a packet capture, as tcpdump -w writes it
+(pcap or pcapng), made at either end or between. Its first octets say which. The answer is one of:
+  yes                   a router that keeps to the standard can have done this; each end is a state
+                        in which it may now be, with the families that it ignores:
   end Established disabled -
-                        the state, and the families that it has disabled: -, v4, v6 or v4,v6
+                        the families are -, v4, v6 or v4,v6
   route 10.2.0.0/16 via 192.0.2.2 path 65002 origin 0
                         each route that it has from the peer in that state
-  no at record 6        it can't: the first 5 records of the session are possible, and not 6
-  unfinished            it can so far, but the capture ends where it has still to send or to change
+  no at record 6        it can have done what the first 5 records show, and not the 6th
+  unfinished            it can so far, but still owes something
   capture refused: 1 Truncated at 36
                         the capture can't be judged: the reason's number and name, and the offset
-                        of the record
+                        of the record; standard error says what helps
+
+A capture is refused for one of these reasons:
+  1 Truncated           it ends inside a record, or is compressed: zcat FILE.gz | bgp judge .. -
+  2 TooLong             a record's body has more than 8192 octets, or than 65583 with --extended
+  3 Body                a record lacks fields, or its addresses are of no known family
+  4 BadState            a change of state names one that RFC 6396 doesn't have; FRR writes 7 and 8
+  5 NotAMessage         a record doesn't hold one whole message
+  6 TimeBack            a record's second is below that of the session's record before it
+  7 RouteRefresh        a ROUTE-REFRESH isn't judged; --no-refresh if the router didn't offer it
+  8 AddPath             a record has additional paths (RFC 8050), which aren't read
+  9 Device              a read failed; standard error says why
+  10 Memory             memory was refused
 
 Of a recording each connection between --local and --peer at --port is judged, in one order in which
-the local system may have worked, as bgp import makes it. Where there are several and --connection
-names none, a line before each answer tells which it is of, and the status is the greatest:
+the router may have worked, as bgp import makes it; a no is about that one order, which standard
+error says. Where there are several and --connection names none, a line before each answer says
+which it is of, and the status is the first of 5, 4, 1, 3, 2, 0 that one of them has:
   connection 2 from 192.0.2.2 40001 to 192.0.2.1 179 at 1500000060
                         who opened it, to whom, and the second of its first packet
   recording refused: 14 Missing at packet 7 received octet 49
                         it can't be judged: the reason's number and name, the packet's number from
                         1, and the octet's place in the stream from 0
 --port, --local-port, --connection and --within are for recordings alone.
-
-Believe a no only of a whole capture, in the order in which the system worked, and with the options
-that the system has. A no of a recording is about that one order, which standard error says.
 
 Exit status:
   0   yes; or help was asked for
@@ -57,7 +69,11 @@ Exit status:
   5   a file can't be opened or read, or output can't be written
   64  the command line is none that the program knows
 
-The manual is README.md, at the top of the repository.";
+Check the capture before you believe an answer: it must hold the messages of both directions from
+the start of the session, in the order in which the router handled them; and the options must be the
+router's. On received messages alone neither yes nor no says anything of it.
+
+The manual is docs/bgp.1.md, at the top of the repository.";
 
 /// What the words of `judge` may be.
 pub(crate) fn judge_words<'a>(alloc: Global) -> Result<clap::Command<'a>, AllocError>
@@ -65,7 +81,7 @@ pub(crate) fn judge_words<'a>(alloc: Global) -> Result<clap::Command<'a>, AllocE
     ensures local { IfOk result (λ judge. (fields_of judge).has_globals ≡ false) }
 {
     let judge = clap::Command::new(alloc, "judge")
-        .about("Tells whether a recording or a capture of a session is one that RFC 4271 allows")
+        .about("Says whether a router that keeps to the standard can have done what FILE shows")
         .after_help(VERDICTS);
     let judge = with_word(alloc, judge, READ)?;
     let judge = with_settings(alloc, judge)?;

@@ -15,11 +15,11 @@ use crate::words::Command;
 use clap::ArgMatches;
 use std::alloc::{AllocError, Global};
 
-/// What help tells after the words of `list`: what it prints, and the statuses.
+/// What help says after the words of `list`: what it prints, and the statuses.
 const LISTED: &str = "\
-list tells which connections at --port a recording holds, for whoever doesn't know the addresses.
-FILE is a packet capture, as tcpdump -w writes it (pcap or pcapng). A line is one of these, in the
-order of first packets:
+list prints the connections at --port in a recording, for whoever doesn't know the addresses. FILE
+is a packet capture, as tcpdump -w writes it (pcap or pcapng). A line is one of these, in the order
+of first packets:
   connection 1 from 192.0.2.2 40000 to 192.0.2.1 179 at 1500000000 octets 114 84
                         its number between its two addresses, which --connection of judge, decode
                         and import takes; who opened it, from which port; to whom, at which port;
@@ -28,7 +28,9 @@ order of first packets:
                         its octets aren't whole: the reason's number and name, and the packet's
                         number from 1
   session 192.0.2.1 192.0.2.2 refused 7 Fragment at packet 4
-                        a packet between two addresses can't be read, and it doesn't tell its ports
+                        a packet between two addresses can't be read, and doesn't tell its ports:
+                        a fragment, or 8 Cut where it was cut before them. It may be of any of
+                        their connections, so none of these is listed
 and last, where the file can't be read on:
   recording refused: 2 Truncated at packet 9
                         the reason's number and name, and the packet's number
@@ -40,7 +42,7 @@ Exit status:
   5   a file can't be opened or read, or output can't be written
   64  the command line is none that the program knows
 
-The manual is README.md, at the top of the repository.";
+The manual is docs/bgp.1.md, at the top of the repository.";
 
 /// What the words of `list` may be.
 pub(crate) fn list_words<'a>(alloc: Global) -> Result<clap::Command<'a>, AllocError>

@@ -14,7 +14,7 @@ use crate::words::Command;
 use clap::ArgMatches;
 use std::alloc::{AllocError, Global};
 
-/// What help tells after the words of `pair`: what it does, what it prints, and the statuses.
+/// What help says after the words of `pair`: what it does, what it prints, and the statuses.
 const PAIRED: &str = "\
 pair lets two ends speak with one another over TCP on 127.0.0.1, both in this program, and judges
 what each did. It has no options: the left end is AS 65001 at 192.0.2.1 and announces 10.1.0.0/16,
@@ -39,7 +39,7 @@ Exit status: the greater one of both verdicts'.
   5   a file or the connection can't be opened, read or written, or output can't be written
   64  the command line is none that the program knows
 
-The manual is README.md, at the top of the repository.";
+The manual is docs/bgp.1.md, at the top of the repository.";
 
 /// The file of `pair`.
 const CAPTURE: Word<'static> = Word::File(

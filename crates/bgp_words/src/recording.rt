@@ -43,7 +43,7 @@ static WORDS: [Word<'static>; 4] = [
     ),
     Word::Option(
         "connection",
-        "The number of the connection in a recording that is meant, as bgp list tells it",
+        "The number of the connection in a recording that is meant, as bgp list prints it",
     ),
     Word::Default(
         "within",

@@ -47,7 +47,7 @@ pub struct Speaking {
     pub quiet: bool,
 }
 
-/// What help tells after the words of `speak`: what it does, what it prints, an example and the
+/// What help says after the words of `speak`: what it does, what it prints, an example and the
 /// statuses.
 const SPOKEN: &str = "\
 speak is one end of a session over TCP on 127.0.0.1: it connects to a port where the peer listens,
@@ -69,12 +69,13 @@ Example: connect to a peer of AS 65002 that listens at port 1179, and announce a
     --announce 10.1.0.0/16 session.mrt
 
 Exit status:
-  0   it spoke, or the peer refused the connection, which the capture shows; or help was asked for
+  0   the talk went to its end, which doesn't say that there was a session: the peer may have
+      refused the connection, as the capture shows; or help was asked for
   4   memory was refused
   5   the capture or the port can't be opened, or the capture or output can't be written
   64  the command line is none that the program knows
 
-The manual is README.md, at the top of the repository.";
+The manual is docs/bgp.1.md, at the top of the repository.";
 
 /// The file of `speak`.
 const CAPTURE: Word<'static> = Word::File("FILE", "The capture to write; - is a file of that name");

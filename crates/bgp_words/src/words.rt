@@ -95,7 +95,7 @@ pub enum Command<'a> {
     },
 }
 
-/// What help tells after the commands: the statuses.
+/// What help says after the commands: the statuses.
 const STATUSES: &str = "\
 Exit status:
   0   all octets were whole messages, or the capture or the recording was read to its end, or the
@@ -107,15 +107,15 @@ Exit status:
   5   a file or a port can't be opened, a file can't be read, or output can't be written
   64  the command line is none that the program knows
 
-bgp COMMAND --help tells what a command prints, with examples.
-The manual is README.md, at the top of the repository.";
+bgp COMMAND --help says what a command prints, with examples.
+The manual is docs/bgp.1.md, at the top of the repository.";
 
 /// What the program's words may be.
 fn program<'a>(alloc: Global) -> Result<clap::Command<'a>, AllocError>
     ensures { IfOk result (λ program. app_of program ≡ program_words) }
 {
     let program = clap::Command::new(alloc, "bgp")
-        .version("0.1.0")
+        .version("0.4.0")
         .about("Reads BGP-4 messages, captures and recordings, judges sessions, and speaks in one")
         .after_help(STATUSES)
         .subcommand_required(true);

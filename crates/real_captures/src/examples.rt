@@ -37,8 +37,8 @@ struct Example<'a> {
     status: u8,
 }
 
-/// Whether judging an example with a tracker writes its text, answers its status and has nothing
-/// to tell.
+/// Whether judging an example with a tracker writes its text, answers its status, and has something
+/// to say on standard error just where the capture is refused.
 fn is_answered<T: Tracker<Global>>(alloc: Global, example: &Example<'_>) -> bool {
     let mut sink = FromWrite::new(Vec::new(alloc));
     let outcome = judge_opened::<Global, T, &[u8], Vec<u8>>(
@@ -51,7 +51,7 @@ fn is_answered<T: Tracker<Global>>(alloc: Global, example: &Example<'_>) -> bool
     let written = sink.into_inner();
     written.as_slice() == example.text.as_bytes()
         && outcome.status == example.status
-        && outcome.note.is_none()
+        && outcome.note.is_some() == (example.status == 3)
 }
 
 /// Whether the words of an example are a judging, and both trackers answer it as it says.

@@ -6,30 +6,67 @@ use super::devices::{Given, giving};
 use super::opened::{Task, config_of, done, ends, file_of};
 use super::*;
 use bgp_open::Config;
+use mrt::{CaptureFault, FaultKind};
 use std::io::ErrorKind;
 
 /// What is told, and its words.
-static NOTES: [(Note<'static>, &str); 15] = [
+static NOTES: [(Note<'static>, &str); 14] = [
+    (
+        Note::NothingDone {
+            file: "a.mrt",
+            seen: Seen {
+                left_idle: true,
+                sent: false,
+            },
+        },
+        "a.mrt: no message that was sent is in the capture: neither yes nor no says anything of the \
+         router then, since that takes what it sent, what it received and its changes of state, \
+         from Idle on",
+    ),
+    (
+        Note::NothingDone {
+            file: "-",
+            seen: Seen {
+                left_idle: false,
+                sent: true,
+            },
+        },
+        "standard input: no change of state that leaves Idle is in the capture: neither yes nor no \
+         says anything of the router then, since that takes what it sent, what it received and its \
+         changes of state, from Idle on",
+    ),
+    (
+        Note::NothingDone {
+            file: "a.mrt",
+            seen: Seen {
+                left_idle: false,
+                sent: false,
+            },
+        },
+        "a.mrt: no change of state that leaves Idle and no message that was sent is in the capture: \
+         neither yes nor no says anything of the router then, since that takes what it sent, what \
+         it received and its changes of state, from Idle on",
+    ),
     (
         Note::Unopened {
             file: "a.bgp",
             error: ErrorKind::PermissionDenied,
         },
-        "a.bgp: permission denied",
+        "a.bgp: Permission denied",
     ),
     (
         Note::Unopened {
             file: "a\n\u{1b}[2J",
             error: ErrorKind::NotFound,
         },
-        "\"a\\n\\u{1b}[2J\": entity not found",
+        "\"a\\n\\u{1b}[2J\": No such file or directory",
     ),
     (
         Note::Unopened {
             file: "",
             error: ErrorKind::NotFound,
         },
-        "\"\": entity not found",
+        "\"\": No such file or directory",
     ),
     (
         Note::Unread {
@@ -37,7 +74,7 @@ static NOTES: [(Note<'static>, &str); 15] = [
             octet: 7,
             error: Some(ErrorKind::TimedOut),
         },
-        "a.bgp: read failed at octet 7: timed out",
+        "a.bgp: read failed at octet 7: Connection timed out",
     ),
     (
         Note::Unread {
@@ -52,7 +89,7 @@ static NOTES: [(Note<'static>, &str); 15] = [
             octet: 5,
             error: Some(ErrorKind::StorageFull),
         },
-        "standard output: write failed at octet 5: no storage space",
+        "standard output: write failed at octet 5: No space left on device",
     ),
     (
         Note::Unwritten {
@@ -69,43 +106,11 @@ static NOTES: [(Note<'static>, &str); 15] = [
         "standard input: memory was refused at octet 65536",
     ),
     (
-        Note::NoStream {
-            file: "a.pcap",
-            form: Form::Pcap,
-        },
-        "a.pcap is a recording of packets: name one session of it, as in `bgp decode --mrt --peer \
-         192.0.2.2 --local 192.0.2.1 FILE`; `bgp list FILE` tells the sessions",
-    ),
-    (
-        Note::NoStream {
-            file: "a.pcapng",
-            form: Form::Pcapng,
-        },
-        "a.pcapng is a recording of packets: name one session of it, as in `bgp decode --mrt --peer \
-         192.0.2.2 --local 192.0.2.1 FILE`; `bgp list FILE` tells the sessions",
-    ),
-    (
-        Note::NoStream {
-            file: "a.mrt",
-            form: Form::Mrt,
-        },
-        "a.mrt seems to be a capture of MRT records: name one session of it, as in `bgp \
-         decode --mrt --peer 192.0.2.2 --local 192.0.2.1 FILE`",
-    ),
-    (
-        Note::NoStream {
-            file: "-",
-            form: Form::Text,
-        },
-        "standard input seems to be text: give the raw octets of one direction of a \
-         connection, and not their hexadecimal digits",
-    ),
-    (
         Note::Unopened {
             file: "a.bgp",
             error: ErrorKind::NotFound,
         },
-        "a.bgp: entity not found",
+        "a.bgp: No such file or directory",
     ),
     (
         Note::NoSession {
@@ -124,9 +129,259 @@ static NOTES: [(Note<'static>, &str); 15] = [
     ),
 ];
 
+/// What is told of a file to each command that can't read it.
+static FORMS: [(Note<'static>, &str); 16] = [
+    (
+        Note::NoStream {
+            file: "a.pcap",
+            form: Form::Pcap,
+        },
+        "a.pcap is a recording of packets, which `bgp judge`, `bgp import` and `bgp decode --mrt` \
+         read: name one session of it, as in `bgp decode --mrt --peer 192.0.2.2 --local 192.0.2.1 \
+         a.pcap`; `bgp list a.pcap` tells the sessions",
+    ),
+    (
+        Note::NoStream {
+            file: "-",
+            form: Form::Pcapng,
+        },
+        "standard input is a recording of packets, which `bgp judge`, `bgp import` and `bgp decode \
+         --mrt` read: name one session of it, as in `bgp decode --mrt --peer 192.0.2.2 --local \
+         192.0.2.1 FILE`; `bgp list FILE` tells the sessions",
+    ),
+    (
+        Note::NoStream {
+            file: "a.mrt",
+            form: Form::Mrt,
+        },
+        "a.mrt seems to be a capture of MRT records: name one session of it, as in `bgp decode \
+         --mrt --peer 192.0.2.2 --local 192.0.2.1 a.mrt`",
+    ),
+    (
+        Note::NoStream {
+            file: "-",
+            form: Form::Text,
+        },
+        "standard input seems to be text: give octets, and not their hexadecimal digits, as in \
+         `xxd -r -p FILE | bgp decode -`",
+    ),
+    (
+        Note::NoStream {
+            file: "a.bgp.gz",
+            form: Form::Gzip,
+        },
+        "a.bgp.gz is compressed by gzip: `zcat a.bgp.gz | bgp decode -`",
+    ),
+    (
+        Note::NoCapture {
+            file: "a.mrt.gz",
+            form: Form::Gzip,
+            command: CaptureCommand::Judge,
+        },
+        "a.mrt.gz is compressed by gzip: `zcat a.mrt.gz | bgp judge .. -`",
+    ),
+    (
+        Note::NoCapture {
+            file: "a.mrt.gz",
+            form: Form::Gzip,
+            command: CaptureCommand::Decode,
+        },
+        "a.mrt.gz is compressed by gzip: `zcat a.mrt.gz | bgp decode --mrt .. -`",
+    ),
+    (
+        Note::NoCapture {
+            file: "of june/a.mrt.bz2",
+            form: Form::Bzip2,
+            command: CaptureCommand::Judge,
+        },
+        "of june/a.mrt.bz2 is compressed by bzip2: `bzcat FILE | bgp judge .. -`",
+    ),
+    (
+        Note::NoCapture {
+            file: "-a.xz",
+            form: Form::Xz,
+            command: CaptureCommand::Judge,
+        },
+        "-a.xz is compressed by xz: `xzcat FILE | bgp judge .. -`",
+    ),
+    (
+        Note::NoCapture {
+            file: "2026-11/rrc00,a_1@b:c%2+d.zst",
+            form: Form::Zstd,
+            command: CaptureCommand::Judge,
+        },
+        "2026-11/rrc00,a_1@b:c%2+d.zst is compressed by zstd: `zstdcat \
+         2026-11/rrc00,a_1@b:c%2+d.zst | bgp judge .. -`",
+    ),
+    (
+        Note::NoCapture {
+            file: "a.bgp",
+            form: Form::Stream,
+            command: CaptureCommand::Judge,
+        },
+        "a.bgp is a raw stream, the messages of one direction of a connection without their times: \
+         `bgp decode a.bgp` prints them",
+    ),
+    (
+        Note::NoCapture {
+            file: "a.txt",
+            form: Form::Text,
+            command: CaptureCommand::Judge,
+        },
+        "a.txt seems to be text: give octets, and not their hexadecimal digits, as in `xxd -r -p \
+         a.txt | bgp judge .. -`",
+    ),
+    (
+        Note::NoCapture {
+            file: "$(a)",
+            form: Form::Bzip2,
+            command: CaptureCommand::Decode,
+        },
+        "$(a) is compressed by bzip2: `bzcat FILE | bgp decode --mrt .. -`",
+    ),
+    (
+        Note::NoCapture {
+            file: "é.xz",
+            form: Form::Xz,
+            command: CaptureCommand::Decode,
+        },
+        "é.xz is compressed by xz: `xzcat FILE | bgp decode --mrt .. -`",
+    ),
+    (
+        Note::NoCapture {
+            file: "a'",
+            form: Form::Zstd,
+            command: CaptureCommand::Decode,
+        },
+        "a' is compressed by zstd: `zstdcat FILE | bgp decode --mrt .. -`",
+    ),
+    (
+        Note::NoCapture {
+            file: "",
+            form: Form::Gzip,
+            command: CaptureCommand::Decode,
+        },
+        "\"\" is compressed by gzip: `zcat FILE | bgp decode --mrt .. -`",
+    ),
+];
+
+/// Whether each note of a table has its words.
+fn have_words(alloc: Global, notes: &[(Note<'static>, &str)]) -> Result<bool, Fail> {
+    for (note, words) in notes {
+        let told = format!(in alloc; "{note}")?;
+        if told.as_str() != *words {
+            return Ok(false);
+        }
+    }
+    Ok(true)
+}
+
 #[test]
 fn each_note_has_its_words(rt: HostRuntime) -> Result<(), Fail> {
-    for (note, words) in &NOTES {
+    assert!(rt; have_words(rt.alloc(), &NOTES)?);
+    assert!(rt; have_words(rt.alloc(), &FORMS)?);
+    Ok(())
+}
+
+/// What is told of a capture that is refused at an octet, for each cause.
+static REFUSALS: [(FaultKind, u64, Option<Unmet>, &str); 12] = [
+    (
+        FaultKind::Truncated,
+        36,
+        None,
+        "a.mrt: the capture ends inside the record at octet 36: it was cut short, or is still \
+         being written; `head -c 36 a.mrt` is what comes before",
+    ),
+    (
+        FaultKind::Truncated,
+        0,
+        Some(Unmet { other: None }),
+        "a.mrt: the capture ends inside the record at octet 0: it was cut short, or is still being \
+         written; no record of this session was read",
+    ),
+    (
+        FaultKind::Truncated,
+        72,
+        Some(Unmet { other: Some(FIRST) }),
+        "a.mrt: the capture ends inside the record at octet 72: it was cut short, or is still \
+         being written; `head -c 72 a.mrt` is what comes before; no record of this session was \
+         read; the first of another one has the peer 192.0.2.2 and the local address 192.0.2.1",
+    ),
+    (
+        FaultKind::TooLong,
+        36,
+        None,
+        "a.mrt: the record at octet 36 is longer than any that is read: --extended reads messages \
+         of up to 65535 octets (RFC 8654), or no record begins there",
+    ),
+    (
+        FaultKind::Body,
+        36,
+        None,
+        "a.mrt: the record at octet 36 doesn't have the fields of its subtype (RFC 6396, 4.4): \
+         what wrote or copied the file broke it there",
+    ),
+    (
+        FaultKind::BadState,
+        454,
+        None,
+        "a.mrt: the change of state at octet 454 names a state that RFC 6396, 4.4.1, doesn't have, \
+         as FRR does with 7 and 8: leave such changes out",
+    ),
+    (
+        FaultKind::NotAMessage,
+        36,
+        None,
+        "a.mrt: the record at octet 36 doesn't hold just one whole message: give each message a \
+         record of its own, with all of its octets",
+    ),
+    (
+        FaultKind::TimeBack,
+        36,
+        None,
+        "a.mrt: the record at octet 36 has an earlier second than the session's record before it: \
+         give the records in the order in which the router handled them",
+    ),
+    (
+        FaultKind::RouteRefresh,
+        36,
+        None,
+        "a.mrt: the record at octet 36 holds a ROUTE-REFRESH (RFC 2918), which isn't judged: \
+         --no-refresh says that the router doesn't offer it",
+    ),
+    (
+        FaultKind::AddPath,
+        18446744073709551615,
+        None,
+        "a.mrt: the record at octet 18446744073709551615 has additional paths (RFC 8050), which \
+         aren't read: make a capture of the session without them (RFC 7911)",
+    ),
+    (
+        FaultKind::Device,
+        36,
+        None,
+        "a.mrt: the capture can't be read at octet 36",
+    ),
+    (
+        FaultKind::Memory,
+        36,
+        None,
+        "a.mrt: memory was refused at octet 36",
+    ),
+];
+
+#[test]
+fn each_refusal_has_its_sentence(rt: HostRuntime) -> Result<(), Fail> {
+    for (kind, offset, unmet, words) in &REFUSALS {
+        let fault = CaptureFault {
+            kind: *kind,
+            offset: *offset,
+        };
+        let note = Note::Refused {
+            file: "a.mrt",
+            fault,
+            unmet: *unmet,
+        };
         let told = format!(in rt.alloc(); "{note}")?;
         assert!(rt; told.as_str() == *words, "{words}");
     }
@@ -163,9 +418,25 @@ fn a_stream_has_its_status_and_nothing_is_told(rt: HostRuntime) -> Result<(), Fa
     Ok(())
 }
 
-/// The 20 octets of a file, and what they are: what follows its front is zeros, or more of its
-/// text.
-static FRONTS: [(&[u8; 20], Option<Form>); 13] = [
+/// The 20 octets of a file, and what they are: what follows its front is zeros, or more of it. The
+/// compressed ones are what gzip, bzip2, xz and zstd make of the text `hello`.
+static FRONTS: [(&[u8; 20], Option<Form>); 17] = [
+    (
+        b"\x1f\x8b\x08\x08\xb0\xa3\x06\x6b\x00\x03\x68\x00\xcb\x48\xcd\xc9\xc9\x07\x00\x86",
+        Some(Form::Gzip),
+    ),
+    (
+        b"\x42\x5a\x68\x39\x31\x41\x59\x26\x53\x59\x19\x31\x65\x3d\x00\x00\x00\x81\x00\x02",
+        Some(Form::Bzip2),
+    ),
+    (
+        b"\xfd\x37\x7a\x58\x5a\x00\x00\x04\xe6\xd6\xb4\x46\x02\x00\x21\x01\x16\x00\x00\x00",
+        Some(Form::Xz),
+    ),
+    (
+        b"\x28\xb5\x2f\xfd\x24\x05\x29\x00\x00\x68\x65\x6c\x6c\x6f\xa3\x6d\x9f\x88\x00\x00",
+        Some(Form::Zstd),
+    ),
     (
         b"\xa1\xb2\xc3\xd4\x00\x02\x00\x04\x00\x00\x00\x00\x00\x00\x00\x00\x00\x00\x00\x00",
         Some(Form::Pcap),
@@ -232,6 +503,76 @@ fn a_file_that_is_no_stream_is_told_by_its_front(rt: HostRuntime) -> Result<(), 
         let is_so = are_told(rt.alloc(), &config, giving(octets.as_slice()), *form)
             && are_told(rt.alloc(), &config, one_by_one, *form);
         assert!(rt; is_so, "{octets:?}");
+    }
+    Ok(())
+}
+
+/// The front of a raw stream: a KEEPALIVE, and the first octet of another message.
+const STREAM: [u8; 20] = [
+    255, 255, 255, 255, 255, 255, 255, 255, 255, 255, 255, 255, 255, 255, 255, 255, 0, 19, 4, 255,
+];
+
+/// What is told to a command of captures of a file with this front, which is refused.
+fn refused_note(task: Task, form: Option<Form>) -> Note<'static> {
+    let file = file_of(task);
+    let command = match task {
+        Task::Decode | Task::DecodeCapture => CaptureCommand::Decode,
+        Task::JudgePlain | Task::JudgeCompact => CaptureCommand::Judge,
+    };
+    match form {
+        Some(form) if form != Form::Mrt => Note::NoCapture {
+            file,
+            form,
+            command,
+        },
+        _ => Note::Refused {
+            file,
+            fault: CaptureFault {
+                kind: FaultKind::Truncated,
+                offset: 0,
+            },
+            unmet: Some(Unmet { other: None }),
+        },
+    }
+}
+
+/// Whether a command of captures refuses these octets, and it is told what they are, or why.
+fn are_refused(
+    alloc: Global,
+    task: Task,
+    config: &Config,
+    octets: Given<'_>,
+    form: Option<Form>,
+) -> bool {
+    let (outcome, written) = done(alloc, alloc, task, config, Ok(octets), None);
+    let note = Some(refused_note(task, form));
+    outcome == Outcome { status: 3, note }
+        && written.starts_with(b"capture refused: 1 Truncated at")
+}
+
+/// The commands of captures.
+static OF_CAPTURES: [Task; 3] = [Task::DecodeCapture, Task::JudgePlain, Task::JudgeCompact];
+
+#[test]
+fn a_file_that_is_no_capture_is_told_by_its_front(rt: HostRuntime) -> Result<(), Fail> {
+    let config = config_of(SESSION)?;
+    for task in &OF_CAPTURES {
+        for (octets, form) in &FRONTS {
+            let one_by_one = Given {
+                octets: octets.as_slice(),
+                most: 1,
+                error: None,
+            };
+            let whole = giving(octets.as_slice());
+            let is_so = are_refused(rt.alloc(), *task, &config, whole, *form)
+                && are_refused(rt.alloc(), *task, &config, one_by_one, *form);
+            assert!(rt; is_so, "{task:?}: {octets:?}");
+        }
+        let stream = giving(&STREAM);
+        assert!(rt;
+            are_refused(rt.alloc(), *task, &config, stream, Some(Form::Stream)),
+            "{task:?}"
+        );
     }
     Ok(())
 }

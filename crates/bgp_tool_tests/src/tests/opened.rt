@@ -3,14 +3,16 @@
 
 use super::captures::{CHANGE, EXCHANGED, FIRST, SESSION, changes};
 use super::devices::{Given, Paper, breaking, giving};
-use super::judging::PARTS_A;
+use super::judging::{PARTS_A, RECORDS, capture_of};
 use super::*;
 use bgp_compact::CompactTracker;
 use bgp_judge::PlainTracker;
 use bgp_open::{Config, ConfigParts};
 use bgp_prefix::Session;
 use bgp_wire::Limit;
-use mrt::{Endpoints, FromWrite};
+use bgp_wire::vectors::OPEN_A;
+use mrt::Record::{self, Change, In, Out};
+use mrt::{CaptureFault, Endpoints, FaultKind, FromWrite};
 use std::io::{self, ErrorKind};
 
 /// What is done with what a reader gives.
@@ -243,50 +245,135 @@ const CHANGE_CUT: [u8; 35] = [
     0x00, 0x01, 0x00,
 ];
 
-/// A session and a capture; the text and the status; and whether it is told that none of the
-/// session's records was read, and then the ends of the first record of another one.
-type Told = (
-    Session,
-    &'static [u8],
-    &'static str,
-    u8,
-    Option<Option<Endpoints>>,
-);
-
-/// Captures that are decoded.
-static DECODED: [Told; 3] = [
-    (SESSION, &CHANGE, "@100 change 1 2\n", 0, None),
-    (EXCHANGED, &CHANGE, "", 0, Some(Some(FIRST))),
-    (SESSION, &[], "", 0, Some(None)),
+/// [`CHANGE`] to a state 9, which there isn't.
+const CHANGE_TO_9: [u8; 36] = [
+    0x00, 0x00, 0x00, 0x64, 0x00, 0x10, 0x00, 0x05, 0x00, 0x00, 0x00, 0x18, 0x00, 0x00, 0xfd, 0xea,
+    0x00, 0x00, 0xfd, 0xe9, 0x00, 0x00, 0x00, 0x01, 0xc0, 0x00, 0x02, 0x02, 0xc0, 0x00, 0x02, 0x01,
+    0x00, 0x01, 0x00, 0x09,
 ];
 
-/// Captures that are judged.
-static JUDGED: [Told; 4] = [
-    (SESSION, &CHANGE, CONNECT, 0, None),
-    (EXCHANGED, &CHANGE, IDLE, 0, Some(Some(FIRST))),
-    (SESSION, &[], IDLE, 0, Some(None)),
+/// A change left Idle, and no message was sent.
+const LEFT_IDLE: Seen = Seen {
+    left_idle: true,
+    sent: false,
+};
+
+/// What is told of a capture.
+#[derive(Clone, Copy)]
+enum Tells {
+    Nothing,
+    NothingDone(Seen),
+    NoSession(Option<Endpoints>),
+    Refused(FaultKind, u64, Option<Unmet>),
+}
+
+/// A session and the parts of a capture; the text and the status; and what is told.
+type Told = (Session, &'static [&'static [u8]], &'static str, u8, Tells);
+
+/// Captures that are decoded.
+static DECODED: [Told; 5] = [
+    (SESSION, &[&CHANGE], "@100 change 1 2\n", 0, Tells::Nothing),
+    (EXCHANGED, &[&CHANGE], "", 0, Tells::NoSession(Some(FIRST))),
+    (SESSION, &[], "", 0, Tells::NoSession(None)),
     (
         SESSION,
-        &CHANGE_CUT,
-        "capture refused: 1 Truncated at 0\n",
+        &[&CHANGE, &CHANGE_TO_9],
+        "@100 change 1 2\ncapture refused: 4 BadState at 36\n",
         3,
-        Some(None),
+        Tells::Refused(FaultKind::BadState, 36, None),
+    ),
+    (
+        EXCHANGED,
+        &[&CHANGE, &CHANGE_CUT],
+        "capture refused: 1 Truncated at 36\n",
+        3,
+        Tells::Refused(FaultKind::Truncated, 36, Some(Unmet { other: Some(FIRST) })),
     ),
 ];
 
+/// Captures that are judged.
+static JUDGED: [Told; 7] = [
+    (
+        SESSION,
+        &[&CHANGE],
+        CONNECT,
+        0,
+        Tells::NothingDone(LEFT_IDLE),
+    ),
+    (
+        EXCHANGED,
+        &[&CHANGE],
+        IDLE,
+        0,
+        Tells::NoSession(Some(FIRST)),
+    ),
+    (SESSION, &[], IDLE, 0, Tells::NoSession(None)),
+    (
+        SESSION,
+        &[&CHANGE_CUT],
+        "capture refused: 1 Truncated at 0\n",
+        3,
+        Tells::Refused(FaultKind::Truncated, 0, Some(Unmet { other: None })),
+    ),
+    (
+        SESSION,
+        &[&CHANGE, &CHANGE_CUT],
+        "capture refused: 1 Truncated at 36\n",
+        3,
+        Tells::Refused(FaultKind::Truncated, 36, None),
+    ),
+    // The first record of the session is the one that is refused.
+    (
+        SESSION,
+        &[&CHANGE_TO_9],
+        "capture refused: 4 BadState at 0\n",
+        3,
+        Tells::Refused(FaultKind::BadState, 0, None),
+    ),
+    // One of another session is skipped, whatever states it names.
+    (
+        EXCHANGED,
+        &[&CHANGE_TO_9],
+        IDLE,
+        0,
+        Tells::NoSession(Some(FIRST)),
+    ),
+];
+
+/// The note by which a task says so.
+fn note_by(task: Task, tells: Tells) -> Option<Note<'static>> {
+    let file = file_of(task);
+    match tells {
+        Tells::Nothing => None,
+        Tells::NothingDone(seen) => Some(Note::NothingDone { file, seen }),
+        Tells::NoSession(other) => Some(Note::NoSession { file, other }),
+        Tells::Refused(kind, offset, unmet) => Some(Note::Refused {
+            file,
+            fault: CaptureFault { kind, offset },
+            unmet,
+        }),
+    }
+}
+
 /// Whether a task ends as it is told.
 fn is_told(alloc: Global, task: Task, told: &Told) -> Result<bool, Fail> {
-    let (session, octets, text, status, other) = *told;
-    let (file, config) = (file_of(task), config_of(session)?);
-    let ended = Outcome {
-        status,
-        note: other.map(|other| Note::NoSession { file, other }),
-    };
-    Ok(ends(alloc, alloc, task, &config, Ok(giving(octets)), text, ended))
+    let (session, parts, text, status, tells) = *told;
+    let (octets, config) = (joined(alloc, parts)?, config_of(session)?);
+    let note = note_by(task, tells);
+    let ended = Outcome { status, note };
+    Ok(ends(
+        alloc,
+        alloc,
+        task,
+        &config,
+        Ok(giving(&octets)),
+        text,
+        ended,
+    ))
 }
 
 #[test]
-fn what_has_no_record_of_the_session_is_told(rt: HostRuntime) -> Result<(), Fail> {
+fn a_refusal_and_a_missing_session_are_told(rt: HostRuntime) -> Result<(), Fail> {
     for told in &DECODED {
         let is_so = is_told(rt.alloc(), Task::DecodeCapture, told)?;
         assert!(rt; is_so, "decoded: {}", told.2);
@@ -333,10 +420,79 @@ fn refused_memory_is_told_and_ample_memory_is_not(rt: HostRuntime) -> Result<(),
         };
         let ended = Outcome {
             status: if refused.is_some() { 4 } else { 0 },
-            note: refused.map(|octet| Note::OutOfMemory { file, octet }),
+            note: match refused {
+                Some(octet) => Some(Note::OutOfMemory {
+                    file,
+                    octet: *octet,
+                }),
+                None => note_by(*task, Tells::NothingDone(LEFT_IDLE)),
+            },
         };
         let is_so = ends(&heap, rt.alloc(), *task, &config, Ok(octets), text, ended);
         assert!(rt; is_so, "{task:?}: on a heap of {size}");
+    }
+    Ok(())
+}
+
+/// No change left Idle, and no message was sent.
+const NOTHING: Seen = Seen {
+    left_idle: false,
+    sent: false,
+};
+
+/// Records of the session, the status, and what is told of them.
+static SHOWN: [(&[Record<'static>], u8, Tells); 8] = [
+    (&[], 0, Tells::NoSession(None)),
+    (&[Change(100, 1, 2)], 0, Tells::NothingDone(LEFT_IDLE)),
+    (&[Change(100, 1, 2), Out(100, &OPEN_A)], 2, Tells::Nothing),
+    (
+        &[Change(100, 1, 2), Out(100, &OPEN_A), Change(100, 2, 4)],
+        0,
+        Tells::Nothing,
+    ),
+    (&[In(101, &OPEN_B)], 0, Tells::NothingDone(NOTHING)),
+    // An OPEN ends the attempt (RFC 4271, 8.2.2, Connect, Event 19).
+    (
+        &[Change(100, 1, 2), In(101, &OPEN_B), Change(101, 2, 1)],
+        0,
+        Tells::NothingDone(LEFT_IDLE),
+    ),
+    (&[Change(100, 2, 4)], 1, Tells::Nothing),
+    (&[Out(100, &OPEN_A)], 1, Tells::Nothing),
+];
+
+/// Whether judging a capture of these records ends so.
+fn is_shown(
+    alloc: Global,
+    task: Task,
+    config: &Config,
+    records: &[Record<'_>],
+    status: u8,
+    tells: Tells,
+) -> bool {
+    match capture_of(alloc, records) {
+        Some(octets) => {
+            let (outcome, _) = done(alloc, alloc, task, config, Ok(giving(&octets)), None);
+            let note = note_by(task, tells);
+            outcome == Outcome { status, note }
+        }
+        None => false,
+    }
+}
+
+#[test]
+fn a_yes_that_says_nothing_of_the_router_is_told(rt: HostRuntime) -> Result<(), Fail> {
+    let config = config_of(PARTS_A.session)?;
+    for task in &JUDGES {
+        for (records, status, tells) in &SHOWN {
+            assert!(rt;
+                is_shown(rt.alloc(), *task, &config, records, *status, *tells),
+                "{task:?}: {records:?}"
+            );
+        }
+        let tells = Tells::Nothing;
+        let is_so = is_shown(rt.alloc(), *task, &config, &RECORDS, 0, tells);
+        assert!(rt; is_so, "{task:?}");
     }
     Ok(())
 }

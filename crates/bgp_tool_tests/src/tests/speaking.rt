@@ -189,15 +189,15 @@ fn each_end_of_a_pair_is_judged(rt: HostRuntime) -> Result<(), Fail> {
 static FAULTS: [(PairFault, &str); 4] = [
     (
         PairFault::Capture(PairEnd::Left, Some(ErrorKind::PermissionDenied)),
-        "-: permission denied",
+        "-: Permission denied",
     ),
     (
         PairFault::Capture(PairEnd::Right, Some(ErrorKind::StorageFull)),
-        "-.right: no storage space",
+        "-.right: No space left on device",
     ),
     (
         PairFault::Connection(ErrorKind::ConnectionReset),
-        "the connection on 127.0.0.1: connection reset",
+        "the connection on 127.0.0.1: Connection reset by peer",
     ),
     (PairFault::Memory, "memory was refused"),
 ];

@@ -1,15 +1,4 @@
-use Rattle.std.proofs.Common.{rules, ◌∙◌}
-use Rattle.bgp_text.proofs.Pieces.{Joins}
-use Rattle.bgp_text.proofs.Fresh.{IsFresh}
-use Rattle.bgp_tool.proofs.CaptureDecoded.{decodes_capture}
 use Rattle.bgp_tool.proofs.captures.decode_capture.Goals as goal
 
 pub returns : goal.returns
-returns g c =
-    let law : Joins g.W.Sink = record { joined = g.met.W.Sink.joined } in
-    let fresh : IsFresh c.new-lines.result = record { empty = c.new-lines.ensures.empty; calm = c.new-lines.ensures.fresh } in
-    let ends = c.finish-status.ensures in
-    let same = ends.wrote.same_sink ∙ c.put_records-read.ensures.puts.wrote.same_sink ∙ c.new-lines.ensures.same in
-    rw c.code.ensures (decodes_capture law g.R.Source.gives g.R.Source.has_ended g.R.Source.failures c.args.session.now c.args.source.now c.put_records-read.new.source
-    c.new-lines.result c.put_records-read.new.lines c.finish-status.new.lines c.args.sink.now _ fresh c.put_records-read.new.reader c.new-lines.ensures.now (search rules)
-    c.put_records-read.result _ c.put_records-read.ensures.puts ends c.put_records-read.ensures.failures)
+returns g c = c.decode_with.ensures.0

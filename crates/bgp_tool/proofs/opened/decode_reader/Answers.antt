@@ -2,7 +2,7 @@ use Rattle.std.proofs.Common.{rules, ◌≡◌, ◌∙◌, ◌++◌, ℕ, List, 
 use Rattle.std.specs.Io.KnownBytes.{Consumes}
 use Rattle.mrt.specs.FromRead.{ReaderState, reader_state, fresh_reader}
 use Rattle.bgp_tool.specs.declared.note.Note.TheVariants.{Unread, OutOfMemory, NoStream}
-use Rattle.bgp_tool.specs.Front.{form_of, kept}
+use Rattle.bgp_tool.specs.Front.{no_stream, kept}
 use Rattle.bgp_tool.proofs.opened.decode_reader.Goals as goal
 
 pub returns-clause-decoded : goal.returns-clause-decoded
@@ -35,7 +35,7 @@ returns-clause-decoded g c =
           | inl done ↦ omega (arith, done)
           | inr cut ↦ omega (arith, cut)
         ]);
-        refused = λ is. note.refused is ∙ ap (λ (octets : List ℕ). option_map (NoStream file) (form_of octets)) front;
+        refused = λ is. note.refused is ∙ ap (λ (octets : List ℕ). option_map (NoStream file) (no_stream octets)) front;
         memory = λ is. note.memory is ∙ ap (λ (octet : ℕ). Some (OutOfMemory file octet)) given;
         device = λ is. elim counts [
           | inl source ↦ inl (

@@ -1,25 +1,38 @@
-use Rattle.std.proofs.Common.{◌≡◌, ◌∙◌, ◌+◌, ◌++◌, ap, subst, arith, inl, inr}
+use Rattle.std.proofs.Common.{◌≡◌, ◌∙◌, ◌+◌, ◌++◌, List, ℕ, ap, subst, arith, inl, inr, is_some, None}
 use Rattle.mrt.specs.Capture.{joined}
 use Rattle.mrt.specs.FromRead.{ReaderState, reader_state, fresh_reader, Gives}
 use Rattle.mrt.specs.FromWrite.{writer_state}
 use Rattle.mrt.specs.Progress.{failures_of}
+use Rattle.bgp_judge.specs.Judging.{fault_in}
+use Rattle.bgp_tool.specs.Front.{kept, no_capture}
+use Rattle.bgp_tool.specs.OpenedCapture.{told_by}
+use Rattle.bgp_tool.specs.declared.note.CaptureCommand.TheVariants.{Decode}
 use Rattle.bgp_tool.proofs.ToldCapture.{of_writer, of_reader}
 use Rattle.bgp_tool.proofs.opened_capture.decode_reader.Goals.{then-failures, else-failures}
 use Rattle.bgp_tool.proofs.opened_capture.decode_reader.Goals as goal
 
 pub returns-clause-decoded : goal.returns-clause-decoded
 returns-clause-decoded g c =
-    let decoded = c.decode_capture-status.ensures in
-    let last = reader_state c.decode_capture-status.new.source in
-    let fresh : reader_state c.new-source.result ≡ fresh_reader c.args.reader = c.new-source.ensures in record {
+    let (decoded, refused) = c.decode_with-decoded.ensures in
+    let file = c.args.file in
+    let found = c.decode_with-decoded.new.reader in
+    let status = c.decode_with-decoded.result.status in
+    let octets = joined decoded.pieces ++ decoded.rest in
+    let last = reader_state c.decode_with-decoded.new.source.source in
+    let old = writer_state c.args.sink.now in
+    let new = writer_state c.decode_with-decoded.new.sink in
+    let fresh : reader_state c.new-source.result.source ≡ fresh_reader c.args.reader =
+    ap reader_state c.new-source.ensures.source ∙ c.new.ensures in
+    let front : c.decode_with-decoded.new.source.front.items ≡ kept octets =
+    decoded.gave.1 ∙ ap (λ (o : List ℕ). kept (o ++ octets)) c.new-source.ensures.front in record {
       source = last;
-      found = c.decode_capture-status.new.reader;
+      found = found;
       decoded = record {
         pieces = decoded.pieces;
         rest = decoded.rest;
         knows = decoded.knows;
         answer = decoded.answer;
-        gave = subst (λ (s : ReaderState _). Gives g.R.Read.remaining s last (joined decoded.pieces ++ decoded.rest)) fresh decoded.gave;
+        gave = subst (λ (s : ReaderState _). Gives g.R.Read.remaining s last octets) fresh decoded.gave.0;
         each = decoded.each;
         ends = decoded.ends;
         counted = decoded.counted ∙ ap (λ (s : ReaderState _). s.failures + failures_of decoded.answer) fresh;
@@ -32,15 +45,16 @@ returns-clause-decoded g c =
         all = decoded.all;
       };
       told = elim c.if-failures.branch [
-        | then-failures w ↦ rw w.note-is (of_writer c.args.file last c.decode_capture-status.new.reader (writer_state c.args.sink.now)
-            (writer_state c.decode_capture-status.new.sink) c.decode_capture-status.result w.unwritten-note.result
+        | then-failures w ↦ rw w.note-is (of_writer Decode file last octets found (fault_in decoded.answer) None old new status w.unwritten-note.result
             (elim decoded.all [
               | inl calm ↦ inl calm.0
               | inr broken ↦ inr broken.1
             ]) (omega (arith, w.if-failures.true, c.failures.ensures, c.failures-failures.ensures)) w.unwritten-note.ensures)
-        | else-failures w ↦ rw w.note-is (of_reader c.args.file last c.decode_capture-status.new.reader (writer_state c.args.sink.now)
-            (writer_state c.decode_capture-status.new.sink) c.decode_capture-status.result w.note_of-note.result
+        | else-failures w ↦ rw w.note-is (of_reader Decode file last octets found (fault_in decoded.answer) None old new status w.note_of-note.result
             (omega (arith, w.if-failures.false, c.failures.ensures, c.failures-failures.ensures))
-            w.note_of-note.ensures.read w.note_of-note.ensures.memory w.note_of-note.ensures.reader)
+            (λ less. w.note_of-note.ensures.read less
+            ∙ ap (λ (o : List ℕ). told_by Decode file (is_some found.last) (no_capture o) c.decode_with-decoded.result.refused None found.other) front
+            ∙ ap (λ f. told_by Decode file (is_some found.last) (no_capture (kept octets)) f None found.other) refused)
+            w.note_of-note.ensures.memory w.note_of-note.ensures.reader)
       ];
     }

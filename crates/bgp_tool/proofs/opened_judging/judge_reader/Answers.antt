@@ -1,45 +1,69 @@
-use Rattle.std.proofs.Common.{◌≡◌, subst, arith, inl, inr}
+use Rattle.std.proofs.Common.{◌≡◌, ◌∙◌, ◌++◌, ◌⊎◌, ◌+◌, ◌≤◌, ◌==◌, List, ℕ, ap, subst, arith, inl, inr, is_some}
+use Rattle.mrt.specs.Capture.{joined, records_of}
 use Rattle.mrt.specs.FromRead.{ReaderState, reader_state, fresh_reader, Gives}
 use Rattle.mrt.specs.FromWrite.{writer_state, Takes}
-use Rattle.mrt.specs.ReadBy.{ReadBy}
-use Rattle.bgp_judge.specs.Judging.{EndsBy}
-use Rattle.bgp_tool.specs.Judging.{JudgesCapture}
+use Rattle.mrt.specs.declared.source.FromRead.{FromRead}
+use Rattle.bgp_tool.specs.Front.{kept, no_capture}
+use Rattle.bgp_tool.specs.OpenedCapture.{told_by}
 use Rattle.bgp_tool.specs.OpenedJudging.{fault_told}
-use Rattle.bgp_tool.proofs.CaptureJudged.{judges_read}
+use Rattle.bgp_tool.specs.Seen.{lacking_by, lacking_in}
+use Rattle.bgp_tool.specs.declared.front.WithFront.{WithFront}
+use Rattle.bgp_tool.specs.declared.note.CaptureCommand.TheVariants.{Judge}
+use Rattle.bgp_tool.proofs.CaptureJudged.{ToldOf, judges_read}
 use Rattle.bgp_tool.proofs.ToldCapture.{of_writer, of_reader}
 use Rattle.bgp_tool.proofs.opened_judging.judge_reader.Goals.{then-failures, else-failures}
 use Rattle.bgp_tool.proofs.opened_judging.judge_reader.Goals as goal
 
+-- where the writer didn't fail, the status is that of what it was told
+same_code : {P : Type 0} {new old status code : ℕ} → ((new ≡ old) × P × (status ≡ code)) ⊎ ((new ≡ old + 1) × (status ≡ 5)) → new ≤ old → status ≡ code
+same_code (inl calm) none = calm.2
+same_code (inr broken) none = let more = broken.0 in absurd (omega (arith, more, none))
+
 pub returns-clause-judged : goal.returns-clause-judged
 returns-clause-judged g c =
-    let last = reader_state c.judge_with-answer.new.source in
-    let found = c.judge_with-answer.new.reader in
+    let file = c.args.file in
+    let config = c.args.config.now in
+    let first = c.new-source.result in
+    let seen = c.judge_seeing-answer.new.source in
+    let last = reader_state seen.source in
+    let found = c.judge_seeing-answer.new.reader in
     let old = writer_state c.args.sink.now in
     let new = writer_state c.write_answer-status.new.sink in
     let status = c.write_answer-status.result in
     let wrote = c.write_answer-status.ensures.writes in
-    let fresh : reader_state c.new-source.result ≡ fresh_reader c.args.reader = c.new-source.ensures in
-    let (judged, ends) = subst
-    (λ (s : ReaderState _). (read : ReadBy (Gives g.R.Read.remaining) c.args.config.now.parts.session s last found
-    (λ gives. JudgesCapture gives (λ state. state.has_ended) (Takes g.W.Write.contents) (λ state. state.failures) (λ state. state.failures)
-    c.args.config.now s last g.T.Tracker.may_lack old new status)) × EndsBy read.pieces read.rest (fault_told read.holds.answer))
+    let fresh : reader_state first.source ≡ fresh_reader c.args.reader =
+    ap reader_state c.new-source.ensures.source ∙ c.new.ensures in
+    let refused = c.refused_by-refused.result in
+    let shows = c.judge_seeing-answer.new.seen in
+    let told = subst
+    (λ (s : ReaderState _). ToldOf (Takes g.W.Write.contents) (λ state. state.failures) (Gives g.R.Read.remaining) (λ state. state.has_ended)
+    (λ state. state.failures) config s last g.T.Tracker.may_lack old new found status seen.front.items refused shows)
     fresh
-    (judges_read reader_state (Takes g.W.Write.contents) (λ state. state.failures) (Gives g.R.Read.remaining) (λ state. state.has_ended) (λ state. state.failures)
-    c.args.config.now c.new-source.result c.judge_with-answer.new.source g.T.Tracker.may_lack old new found c.judge_with-answer.result status c.judge_with-answer.ensures.judged
-    c.judge_with-answer.ensures.failures
-    (record { written = wrote.written; left = wrote.left; took = wrote.took; begun = wrote.begun; all = wrote.all })) in record {
+    (judges_read (λ (a : WithFront (FromRead _)). reader_state a.source) (Takes g.W.Write.contents) (λ state. state.failures) (Gives g.R.Read.remaining)
+    (λ state. state.has_ended) (λ state. state.failures) config first seen g.T.Tracker.may_lack old new (λ (a : WithFront (FromRead _)). a.front.items) found
+    c.judge_seeing-answer.result status refused shows c.new-source.ensures.front c.judge_seeing-answer.ensures.judged c.judge_seeing-answer.ensures.failures
+    (record { written = wrote.written; left = wrote.left; took = wrote.took; begun = wrote.begun; all = wrote.all }) c.refused_by-refused.ensures) in
+    let octets = joined told.read.pieces ++ told.read.rest in
+    let fault = fault_told told.read.holds.answer in
+    let lacking = lacking_in told.read.holds.code (records_of told.read.pieces) in record {
       source = last;
       found = found;
-      judged = judged;
-      ends = ends;
+      judged = told.read;
+      ends = told.ends;
       told = elim c.if-failures.branch [
-        | then-failures w ↦ rw w.note-is (of_writer c.args.file last found old new status w.unwritten-note.result
+        | then-failures w ↦ rw w.note-is (of_writer Judge file last octets found fault lacking old new status w.unwritten-note.result
             (elim wrote.all [
               | inl calm ↦ inl calm.0
               | inr broken ↦ inr broken.1
             ]) (omega (arith, w.if-failures.true, c.failures.ensures, c.failures-failures.ensures)) w.unwritten-note.ensures)
-        | else-failures w ↦ rw w.note-is (of_reader c.args.file last found old new status w.note_of-note.result
+        | else-failures w ↦ rw w.note-is (of_reader Judge file last octets found fault lacking old new status w.note_of-note.result
             (omega (arith, w.if-failures.false, c.failures.ensures, c.failures-failures.ensures))
-            w.note_of-note.ensures.read w.note_of-note.ensures.memory w.note_of-note.ensures.reader)
+            (λ less. w.note_of-note.ensures.read less
+            ∙ ap (λ l. told_by Judge file (is_some found.last) (no_capture seen.front.items) refused l found.other) w.lacking-lacking.ensures
+            ∙ ap (λ (o : List ℕ). told_by Judge file (is_some found.last) (no_capture o) refused (lacking_by (status == 0) shows) found.other) told.front
+            ∙ ap (λ f. told_by Judge file (is_some found.last) (no_capture (kept octets)) f (lacking_by (status == 0) shows) found.other) told.fault
+            ∙ ap (λ l. told_by Judge file (is_some found.last) (no_capture (kept octets)) fault l found.other)
+            (ap (λ (n : ℕ). lacking_by (n == 0) shows) (same_code told.read.holds.all (omega (arith, w.if-failures.false, c.failures.ensures, c.failures-failures.ensures))) ∙ told.lacking))
+            w.note_of-note.ensures.memory w.note_of-note.ensures.reader)
       ];
     }
