@@ -43,6 +43,7 @@ fn run<R: Files + Net + Clock + Env + Input + Print + Eprint + AllocGlobal, E: P
             Command::Judge {
                 config,
                 recording,
+                explain: _,
                 file,
             },
         ) => devices::judge(rt, &config, &recording, file),

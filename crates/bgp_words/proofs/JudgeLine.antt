@@ -10,13 +10,13 @@ use Rattle.bgp_words.specs.Judge.{IsJudge, IsJudgeLine, IsJudgeOf}
 use Rattle.bgp_words.specs.Recording.{AreRecordingOptions, usual_recording}
 use Rattle.bgp_words.specs.declared.recording.RecordingOptions.{RecordingOptions}
 use Rattle.bgp_words.specs.Spelled.{IsUsed, Names, NamesBy, NamesJudge}
-use Rattle.bgp_words.specs.Values.{IsFamiliesText, IsHoldText, IsPortText, IsPositiveText, IsSecondsText}
+use Rattle.bgp_words.specs.Values.{IsFamiliesText, IsHoldText, IsPortText, IsPositiveText, IsSecondsText, is_given}
 use Rattle.bgp_words.specs.Words.{program_words}
 use Rattle.bgp_words.specs.declared.words.Command.{Command}
 use Rattle.bgp_words.specs.declared.words.Command.TheVariants.{Decode, Capture, Judge, Import, List as Listing, Speak, Pair}
 use Rattle.bgp_words.proofs.NamedCommand.{two_names}
 use Rattle.bgp_words.proofs.PlainWords.{plain}
-use Rattle.bgp_words.proofs.SpelledJudge.{AreJudged, faultless, file_found, found_rows, named_judge, parts_found, parts_told, usual_found, usual_told}
+use Rattle.bgp_words.proofs.SpelledJudge.{AreJudged, faultless, file_found, found_rows, named_judge, parts_found, parts_told, unexplained, usual_found, usual_told}
 
 -- the values of what isn't told
 ninety : IsHoldText (codes "90") 90
@@ -94,6 +94,11 @@ module _ (words : List Text) (parts : ConfigParts) (file : Text) (line : IsJudge
       (plain line.local_as line.no_flags.0) (plain line.peer_as line.no_flags.1) (plain line.local_id line.no_flags.2)
       (plain line.local line.no_flags.3) (plain line.peer line.no_flags.4) (plain file line.no_flags.5) recording are
 
+  no_reason : is_given (codes "explain") rows ≡ false
+  no_reason = unexplained line.name line.local_as line.peer_as line.local_id line.local line.peer file
+      (plain line.local_as line.no_flags.0) (plain line.peer_as line.no_flags.1) (plain line.local_id line.no_flags.2)
+      (plain line.local line.no_flags.3) (plain line.peer line.no_flags.4) (plain file line.no_flags.5)
+
   of_judging : (command : Command) → NamesBy (codes "judge") rows command → IsJudgeOf words command
   of_judging (Decode extended f) is = two_names (codes "judge") (codes "decode") (λ e. omega (arith, e)) is.0
   of_judging (Capture session recording f) is = two_names (codes "judge") (codes "decode") (λ e. omega (arith, e)) is.0
@@ -101,11 +106,11 @@ module _ (words : List Text) (parts : ConfigParts) (file : Text) (line : IsJudge
   of_judging (Listing port f) is = two_names (codes "judge") (codes "list") (λ e. omega (arith, e)) is.0
   of_judging (Speak config speaking f) is = two_names (codes "judge") (codes "speak") (λ e. omega (arith, e)) is.0
   of_judging (Pair f) is = two_names (codes "judge") (codes "pair") (λ e. omega (arith, e)) is.0
-  of_judging (Judge config recording f) is =
+  of_judging (Judge config recording explain f) is =
       let tells = parts_told line.name line.local_as line.peer_as line.local_id line.local line.peer file
       (plain line.local_as line.no_flags.0) (plain line.peer_as line.no_flags.1) (plain line.local_id line.no_flags.2)
       (plain line.local line.no_flags.3) (plain line.peer line.no_flags.4) (plain file line.no_flags.5) config.parts is.1.0 in (
-        subst (IsJudgeLine words config.parts) (same_Some _ _ (sym there ∙ is.1.2)) (record {
+        subst (IsJudgeLine words config.parts) (same_Some _ _ (sym there ∙ is.1.3)) (record {
           name = line.name;
           local_as = line.local_as;
           peer_as = line.peer_as;
@@ -124,6 +129,7 @@ module _ (words : List Text) (parts : ConfigParts) (file : Text) (line : IsJudge
           flags = (tells.10, tells.11);
         }),
         is_usual recording is.1.1,
+        is.1.2 ∙ no_reason,
       )
 
   pub judge_of_line : (command : Command) → Names (subcommand_of program_words words) command → IsJudgeOf words command
@@ -131,7 +137,7 @@ module _ (words : List Text) (parts : ConfigParts) (file : Text) (line : IsJudge
 
 -- such a line of a configuration names it
 pub names_judge : (words : List Text) (config : Config) (file : Text) → IsJudgeLine words config.parts file
-    → NamesJudge config usual_recording file (subcommand_of program_words words)
+    → NamesJudge config usual_recording false file (subcommand_of program_words words)
 names_judge words config file line =
-    subst (IsUsed (codes "judge") (IsJudge config usual_recording file)) (sym (used words config.parts file line))
-    (refl, (are_parts words config.parts file line, usual words config.parts file line, there words config.parts file line))
+    subst (IsUsed (codes "judge") (IsJudge config usual_recording false file)) (sym (used words config.parts file line))
+    (refl, (are_parts words config.parts file line, usual words config.parts file line, sym (no_reason words config.parts file line), there words config.parts file line))

@@ -33,7 +33,7 @@ of_decode rows file (Capture session recording name) is also =
     let (_file, not_mrt, _peer, _local, _plain) = is in
     let (_file, mrt, _peer, _local, _refresh, _long, _recording) = also.1 in
     let bad : false ≡ true = sym not_mrt ∙ mrt in absurd (cc)
-of_decode rows file (Judge config recording name) is also = absurd (two_names (codes "decode") (codes "judge") (λ e. omega (arith, e)) also.0)
+of_decode rows file (Judge config recording explain name) is also = absurd (two_names (codes "decode") (codes "judge") (λ e. omega (arith, e)) also.0)
 of_decode rows file (Import session recording name out) is also = absurd (two_names (codes "decode") (codes "import") (λ e. omega (arith, e)) also.0)
 of_decode rows file (Listing port name) is also = absurd (two_names (codes "decode") (codes "list") (λ e. omega (arith, e)) also.0)
 of_decode rows file (Speak config speaking name) is also = absurd (two_names (codes "decode") (codes "speak") (λ e. omega (arith, e)) also.0)
@@ -51,18 +51,18 @@ pub none_decoded : (rows : List Row) → ((extended : Bool) (file : Text) → Is
     → (command : Command) → NamesBy (codes "decode") rows command → ⊥
 none_decoded rows stream capture (Decode extended file) is = stream extended file.now is.1
 none_decoded rows stream capture (Capture session recording file) is = capture session recording file.now is.1
-none_decoded rows stream capture (Judge config recording file) is = two_names (codes "decode") (codes "judge") (λ e. omega (arith, e)) is.0
+none_decoded rows stream capture (Judge config recording explain file) is = two_names (codes "decode") (codes "judge") (λ e. omega (arith, e)) is.0
 none_decoded rows stream capture (Import session recording file out) is = two_names (codes "decode") (codes "import") (λ e. omega (arith, e)) is.0
 none_decoded rows stream capture (Listing port file) is = two_names (codes "decode") (codes "list") (λ e. omega (arith, e)) is.0
 none_decoded rows stream capture (Speak config speaking file) is = two_names (codes "decode") (codes "speak") (λ e. omega (arith, e)) is.0
 none_decoded rows stream capture (Pair file) is = two_names (codes "decode") (codes "pair") (λ e. omega (arith, e)) is.0
 
 -- the same of `judge`
-pub none_judged : (rows : List Row) → ((config : Config) (recording : RecordingOptions) (file : Text) → IsJudge config recording file rows → ⊥)
+pub none_judged : (rows : List Row) → ((config : Config) (recording : RecordingOptions) (explain : Bool) (file : Text) → IsJudge config recording explain file rows → ⊥)
     → (command : Command) → NamesBy (codes "judge") rows command → ⊥
 none_judged rows none (Decode extended file) is = two_names (codes "judge") (codes "decode") (λ e. omega (arith, e)) is.0
 none_judged rows none (Capture session recording file) is = two_names (codes "judge") (codes "decode") (λ e. omega (arith, e)) is.0
-none_judged rows none (Judge config recording file) is = none config recording file.now is.1
+none_judged rows none (Judge config recording explain file) is = none config recording explain file.now is.1
 none_judged rows none (Import session recording file out) is = two_names (codes "judge") (codes "import") (λ e. omega (arith, e)) is.0
 none_judged rows none (Listing port file) is = two_names (codes "judge") (codes "list") (λ e. omega (arith, e)) is.0
 none_judged rows none (Speak config speaking file) is = two_names (codes "judge") (codes "speak") (λ e. omega (arith, e)) is.0
@@ -73,7 +73,7 @@ pub none_spoken : (rows : List Row) → ((config : Config) (speaking : Speaking)
     → (command : Command) → NamesBy (codes "speak") rows command → ⊥
 none_spoken rows none (Decode extended file) is = two_names (codes "speak") (codes "decode") (λ e. omega (arith, e)) is.0
 none_spoken rows none (Capture session recording file) is = two_names (codes "speak") (codes "decode") (λ e. omega (arith, e)) is.0
-none_spoken rows none (Judge config recording file) is = two_names (codes "speak") (codes "judge") (λ e. omega (arith, e)) is.0
+none_spoken rows none (Judge config recording explain file) is = two_names (codes "speak") (codes "judge") (λ e. omega (arith, e)) is.0
 none_spoken rows none (Import session recording file out) is = two_names (codes "speak") (codes "import") (λ e. omega (arith, e)) is.0
 none_spoken rows none (Listing port file) is = two_names (codes "speak") (codes "list") (λ e. omega (arith, e)) is.0
 none_spoken rows none (Speak config speaking file) is = none config speaking file.now is.1
@@ -84,7 +84,7 @@ pub none_imported : (rows : List Row) → ((session : Session) (recording : Reco
     → (command : Command) → NamesBy (codes "import") rows command → ⊥
 none_imported rows none (Decode extended file) is = two_names (codes "import") (codes "decode") (λ e. omega (arith, e)) is.0
 none_imported rows none (Capture session recording file) is = two_names (codes "import") (codes "decode") (λ e. omega (arith, e)) is.0
-none_imported rows none (Judge config recording file) is = two_names (codes "import") (codes "judge") (λ e. omega (arith, e)) is.0
+none_imported rows none (Judge config recording explain file) is = two_names (codes "import") (codes "judge") (λ e. omega (arith, e)) is.0
 none_imported rows none (Import session recording file out) is = none session recording file.now out.now is.1
 none_imported rows none (Listing port file) is = two_names (codes "import") (codes "list") (λ e. omega (arith, e)) is.0
 none_imported rows none (Speak config speaking file) is = two_names (codes "import") (codes "speak") (λ e. omega (arith, e)) is.0
@@ -95,7 +95,7 @@ pub none_listed : (rows : List Row) → ((port : ℕ) (file : Text) → IsListin
     → (command : Command) → NamesBy (codes "list") rows command → ⊥
 none_listed rows none (Decode extended file) is = two_names (codes "list") (codes "decode") (λ e. omega (arith, e)) is.0
 none_listed rows none (Capture session recording file) is = two_names (codes "list") (codes "decode") (λ e. omega (arith, e)) is.0
-none_listed rows none (Judge config recording file) is = two_names (codes "list") (codes "judge") (λ e. omega (arith, e)) is.0
+none_listed rows none (Judge config recording explain file) is = two_names (codes "list") (codes "judge") (λ e. omega (arith, e)) is.0
 none_listed rows none (Import session recording file out) is = two_names (codes "list") (codes "import") (λ e. omega (arith, e)) is.0
 none_listed rows none (Listing port file) is = none port file.now is.1
 none_listed rows none (Speak config speaking file) is = two_names (codes "list") (codes "speak") (λ e. omega (arith, e)) is.0
@@ -117,7 +117,7 @@ few_turns (Some word) turns is = is.1
 can_by : (p : Text × List Row) (command : Command) → Names (Some p) command → CanSpeak command
 can_by p (Decode extended file) is = tt
 can_by p (Capture session recording file) is = tt
-can_by p (Judge config recording file) is = tt
+can_by p (Judge config recording explain file) is = tt
 can_by p (Import session recording file out) is = tt
 can_by p (Listing port file) is = tt
 can_by p (Speak config speaking file) is = (is.1.1, few_turns (first_of (codes "turns") p.1) speaking.turns is.1.2.turns)
@@ -131,7 +131,7 @@ can_speak (Some p) command is = can_by p command is
 can_import_by : (p : Text × List Row) (command : Command) → Names (Some p) command → CanImport command
 can_import_by p (Decode extended file) is = tt
 can_import_by p (Capture session recording file) is = tt
-can_import_by p (Judge config recording file) is = tt
+can_import_by p (Judge config recording explain file) is = tt
 can_import_by p (Import session recording file out) is = (is.1.1, is.1.3)
 can_import_by p (Listing port file) is = tt
 can_import_by p (Speak config speaking file) is = tt

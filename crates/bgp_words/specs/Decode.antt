@@ -44,7 +44,7 @@ IsDecode words file = (name : Text)
 abbrev pub IsDecodeOf : Text → Command → Type 0
 IsDecodeOf text (Decode extended file) = (extended ≡ false) × (file.now ≡ text)
 IsDecodeOf text (Capture session recording file) = ⊥
-IsDecodeOf text (Judge config recording file) = ⊥
+IsDecodeOf text (Judge config recording explain file) = ⊥
 IsDecodeOf text (Import session recording file out) = ⊥
 IsDecodeOf text (Listing port file) = ⊥
 IsDecodeOf text (Speak config speaking file) = ⊥

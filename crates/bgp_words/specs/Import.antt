@@ -33,7 +33,7 @@ IsListing port file rows =
 abbrev pub CanImport : Command → Type 0
 CanImport (Decode extended file) = Unit {0}
 CanImport (Capture session recording file) = Unit {0}
-CanImport (Judge config recording file) = Unit {0}
+CanImport (Judge config recording explain file) = Unit {0}
 CanImport (Import session recording file out) =
     IsOfOneFamily session × AreApart session recording.local_port
 CanImport (Listing port file) = Unit {0}

@@ -1,6 +1,6 @@
 -- The values of `judge`: what the local system is configured to do, the session, what is told of a
--- recording, and a file.
-use Rattle.std.specs.Prelude.{◌≡◌, true, false, not, List, [], ◌∷◌, Some, codes}
+-- recording, whether the reason is wanted, and a file.
+use Rattle.std.specs.Prelude.{◌≡◌, Bool, true, false, not, List, [], ◌∷◌, Some, codes}
 use Rattle.clap.specs.Words.{Row, Text, first_of}
 use Rattle.bgp_prefix.specs.Notation.{IsAddressText}
 use Rattle.bgp_open.specs.declared.config.Config.{Config}
@@ -15,11 +15,12 @@ use Rattle.bgp_words.specs.declared.words.Command.TheVariants.{Import, List as L
 use Rattle.bgp_words.specs.declared.words.Command.TheVariants.{Speak, Pair}
 
 -- the values of `judge`: a configuration, and a file; `--no-refresh`: the local system offers no
--- route refresh
-abbrev pub IsJudge : Config → RecordingOptions → Text → List Row → Type 0
-IsJudge config recording file rows =
+-- route refresh; `--explain`: the reason is wanted
+abbrev pub IsJudge : Config → RecordingOptions → Bool → Text → List Row → Type 0
+IsJudge config recording explain file rows =
     AreParts config.parts (not (is_given (codes "no-refresh") rows)) rows
-    × AreRecordingOptions recording rows × (first_of (codes "FILE") rows ≡ Some file)
+    × AreRecordingOptions recording rows × (explain ≡ is_given (codes "explain") rows)
+    × (first_of (codes "FILE") rows ≡ Some file)
 
 -- The words are `judge FILE` with just the options that it has to have, in this order, behind the
 -- program's name; each value is a word of its own, and no flag. What isn't told has its default.
@@ -44,12 +45,14 @@ pub record IsJudgeLine (words : List Text) (parts : ConfigParts) (file : Text) :
   pub families : parts.families ≡ record { v4 = true; v6 = false }
   pub flags : (parts.as4 ≡ true) × (parts.delay_open ≡ false)
 
--- the command is `judge` with what these words tell, and nothing is told of a recording
+-- the command is `judge` with what these words tell; nothing is told of a recording, and no reason
+-- is wanted
 abbrev pub IsJudgeOf : List Text → Command → Type 0
 IsJudgeOf words (Decode extended file) = ⊥
 IsJudgeOf words (Capture session recording file) = ⊥
-IsJudgeOf words (Judge config recording file) =
+IsJudgeOf words (Judge config recording explain file) =
     IsJudgeLine words config.parts file.now × (recording ≡ usual_recording)
+    × (explain ≡ false)
 IsJudgeOf words (Import session recording file out) = ⊥
 IsJudgeOf words (Listing port file) = ⊥
 IsJudgeOf words (Speak config speaking file) = ⊥

@@ -42,7 +42,7 @@ IsSpeak config speaking file rows =
 abbrev pub CanSpeak : Command → Type 0
 CanSpeak (Decode extended file) = Unit {0}
 CanSpeak (Capture session recording file) = Unit {0}
-CanSpeak (Judge config recording file) = Unit {0}
+CanSpeak (Judge config recording explain file) = Unit {0}
 CanSpeak (Import session recording file out) = Unit {0}
 CanSpeak (Listing port file) = Unit {0}
 CanSpeak (Speak config speaking file) =

@@ -32,7 +32,7 @@ IsUsed name values (Some used) = (used.0 ≡ name) × values used.1
 abbrev pub name_of : Command → Text
 name_of (Decode extended file) = codes "decode"
 name_of (Capture session recording file) = codes "decode"
-name_of (Judge config recording file) = codes "judge"
+name_of (Judge config recording explain file) = codes "judge"
 name_of (Import session recording file out) = codes "import"
 name_of (Listing port file) = codes "list"
 name_of (Speak config speaking file) = codes "speak"
@@ -42,7 +42,7 @@ name_of (Pair file) = codes "pair"
 abbrev pub AreValuesOf : Command → List Row → Type 0
 AreValuesOf (Decode extended file) = IsStream extended file.now
 AreValuesOf (Capture session recording file) = IsCapture session recording file.now
-AreValuesOf (Judge config recording file) = IsJudge config recording file.now
+AreValuesOf (Judge config recording explain file) = IsJudge config recording explain file.now
 AreValuesOf (Import session recording file out) = IsImport session recording file.now out.now
 AreValuesOf (Listing port file) = IsListing port file.now
 AreValuesOf (Speak config speaking file) = IsSpeak config speaking file.now
@@ -60,9 +60,11 @@ NamesBy name rows = Names (Some (name, rows))
 abbrev pub NamesDecode : Bool → Text → Option (Text × List Row) → Type 0
 NamesDecode extended file = IsUsed (codes "decode") (IsStream extended file)
 
--- `judge` was named, with this configuration, what is told of a recording, and this file
-abbrev pub NamesJudge : Config → RecordingOptions → Text → Option (Text × List Row) → Type 0
-NamesJudge config recording file = IsUsed (codes "judge") (IsJudge config recording file)
+-- `judge` was named, with this configuration, what is told of a recording, the wish for the reason
+-- or none, and this file
+abbrev pub NamesJudge : Config → RecordingOptions → Bool → Text → Option (Text × List Row) → Type 0
+NamesJudge config recording explain file =
+    IsUsed (codes "judge") (IsJudge config recording explain file)
 
 -- the words spell the command: nothing is wrong with them, and they name it
 abbrev pub Spells : List Text → Command → Type 0

@@ -64,9 +64,12 @@ with_choices command =
 abbrev pub with_settings : App → App
 with_settings command = with_choices (with_needs command)
 
--- `judge FILE` with the options that tell of the session, and those that are for recordings
+-- `judge FILE` with the options that tell of the session, those that are for recordings, and
+-- `--explain` or without
 abbrev pub judge_words : App
-judge_words = with_recording (with_settings (with_file (codes "judge")))
+judge_words =
+    with_rule (with_recording (with_settings (with_file (codes "judge"))))
+    (flag_word (codes "explain"))
 
 -- `import --local A --peer A FILE OUT`, with `--extended` or without, and with the options that are
 -- for recordings

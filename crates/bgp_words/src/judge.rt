@@ -1,6 +1,6 @@
 //! The words of `judge`.
 
-ghost use Rattle.std.specs.Prelude.{◌≡◌, ℕ, List, IfOk, IsErr, false, codes};
+ghost use Rattle.std.specs.Prelude.{◌≡◌, ℕ, Bool, List, IfOk, IsErr, false, codes};
 ghost use Rattle.clap.specs.Words.{app_of, found_of, rows_of};
 ghost use Rattle.clap.specs.declared.builder.command.Command.TheViews.{out-Command as fields_of};
 ghost use Rattle.bgp_open.specs.declared.config.Config.{Config as Configured};
@@ -10,7 +10,7 @@ ghost use Rattle.bgp_words.specs.Spelled.{NamesBy};
 ghost use Rattle.bgp_words.specs.declared.recording.RecordingOptions.{RecordingOptions as Told};
 
 use crate::misfit::Misfit;
-use crate::options::{READ, with_word};
+use crate::options::{READ, Word, with_word};
 use crate::recording::{recording_of, with_recording};
 use crate::settings::{config_of, with_settings};
 use crate::values::{has_flag, value_of};
@@ -36,6 +36,9 @@ records that the router at --local made, or a recording: a packet capture, as tc
   capture refused: 1 Truncated at 36
                         the capture can't be judged: the reason's number and name, and the offset
                         of the record; standard error says what helps
+
+With --explain the reason follows a no and an unfinished, in lines of its own: the record, the state
+before it, the message received last, and every record that could have stood there, and no other.
 
 A capture is refused for one of these reasons:
   1 Truncated           it ends inside a record, or is compressed: zcat FILE.gz | bgp judge .. -
@@ -75,6 +78,12 @@ router's. On received messages alone neither yes nor no says anything of it.
 
 The manual is docs/bgp.1.md, at the top of the repository.";
 
+/// The flag that asks for the reason.
+const EXPLAIN: Word<'static> = Word::Flag(
+    "explain",
+    "Says why it is a no or unfinished, in lines of their own",
+);
+
 /// What the words of `judge` may be.
 pub(crate) fn judge_words<'a>(alloc: Global) -> Result<clap::Command<'a>, AllocError>
     ensures words { IfOk result (λ judge. app_of judge ≡ judge_words) }
@@ -85,21 +94,25 @@ pub(crate) fn judge_words<'a>(alloc: Global) -> Result<clap::Command<'a>, AllocE
         .after_help(VERDICTS);
     let judge = with_word(alloc, judge, READ)?;
     let judge = with_settings(alloc, judge)?;
-    with_recording(alloc, judge)
+    let judge = with_recording(alloc, judge)?;
+    with_word(alloc, judge, EXPLAIN)
 }
 
 /// The command that the values of `judge` are.
 pub(crate) fn judge_of<'a>(judge: &ArgMatches<'a>) -> Result<Command<'a>, Misfit<'a>>
     ensures ok { IfOk result (NamesBy (codes "judge") (rows_of (found_of judge.now))) }
-    ensures err { IsErr result → (config : Configured) (recording : Told) (file : List ℕ) →
-        IsJudge config recording file (rows_of (found_of judge.now)) → ⊥ }
+    ensures err { IsErr result →
+        (config : Configured) (recording : Told) (explain : Bool) (file : List ℕ) →
+        IsJudge config recording explain file (rows_of (found_of judge.now)) → ⊥ }
 {
     let config = config_of(judge, !has_flag(judge, "no-refresh"))?;
     let recording = recording_of(judge)?;
+    let explain = has_flag(judge, "explain");
     let file = value_of(judge, "FILE")?;
     Ok(Command::Judge {
         config,
         recording,
+        explain,
         file,
     })
 }

@@ -55,6 +55,8 @@ pub enum Command<'a> {
         config: Config,
         /// What is told of the recording, if the file is one.
         recording: RecordingOptions,
+        /// Whether the reason of the verdict is wanted too.
+        explain: bool,
         /// The file's path, or `-` for standard input.
         file: &'a str,
     },
@@ -187,8 +189,9 @@ fn named<'a>(matches: &ArgMatches<'a>) -> Result<Command<'a>, Misfit<'a>>
     ensures ok { IfOk result (Names (subcommand_rows_of matches.now)) }
     ensures no_stream { IsErr result → (extended : Bool) (file : List ℕ) →
         NamesDecode extended file (subcommand_rows_of matches.now) → ⊥ }
-    ensures no_judge { IsErr result → (config : Configured) (recording : Told) (file : List ℕ) →
-        NamesJudge config recording file (subcommand_rows_of matches.now) → ⊥ }
+    ensures no_judge { IsErr result →
+        (config : Configured) (recording : Told) (explain : Bool) (file : List ℕ) →
+        NamesJudge config recording explain file (subcommand_rows_of matches.now) → ⊥ }
     ensures none { IsErr result → (command : Command) →
         Names (subcommand_rows_of matches.now) command → ⊥ }
 {

@@ -83,12 +83,14 @@ fn answer_to(alloc: Global, block: &str) -> io::Result<Answer> {
             Command::Judge {
                 config,
                 recording,
+                explain,
                 file,
             },
         ) => {
             let parts = parts_text(alloc, &config.parts)?;
             let told = unusual_text(alloc, &recording)?;
-            format!(in alloc; "judge {parts}{told} file {file:?}")?
+            let explain = if explain { " explain" } else { "" };
+            format!(in alloc; "judge {parts}{told}{explain} file {file:?}")?
         }
         Ok(
             Command::Import {

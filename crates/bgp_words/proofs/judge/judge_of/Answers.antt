@@ -11,6 +11,7 @@ returns-clause-ok c =
       (
         subst (λ (given : Bool). AreParts config.parts (not given) rows) c.has_flag.ensures ((c.in_ok-config.ensures config).0 refl),
         (c.in_ok-recording.ensures c.in_ok-recording.recording).0 refl,
+        c.has_flag-explain.ensures,
         c.in_ok-file.ensures.ok,
       ),
     )

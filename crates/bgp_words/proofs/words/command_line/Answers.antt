@@ -134,7 +134,7 @@ returns-clause-judge g c config file line =
     let words = map g.S.AsStr.text c.args.words.now in
     let app = c.in_ok-program.ensures in
     let subs = (c.in_ok-matches.ensures.matches (ap is_simple app)).1 ∙ ap (λ (a : App). subcommand_of a words) app in
-    absurd (c.in-Err.ensures.no_judge refl config usual_recording file (subst (NamesJudge config usual_recording file) (sym subs) (names_judge words config file line)))
+    absurd (c.in-Err.ensures.no_judge refl config usual_recording false file (subst (NamesJudge config usual_recording false file) (sym subs) (names_judge words config file line)))
 
 pub returns-in-Ok-clause-speakable : goal.returns-in-Ok-clause-speakable
 returns-in-Ok-clause-speakable g c = can_speak (subcommand_rows_of c.in_ok-matches.matches) c.in-Ok.command c.in-Ok.ensures.ok
