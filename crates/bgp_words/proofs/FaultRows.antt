@@ -25,7 +25,7 @@ all_rows name (row ∷ rows) are = All-cons (IsRow name) row rows are.0 (all_row
 
 are_rows : (name : Text) → AreRows name fault_rows
 unfolding clap_on_literals
-are_rows name = (refl, (refl, (refl, (refl, (refl, (refl, (refl, (refl, (refl, (refl, (refl, (refl, (refl, (refl, (refl, (refl, (refl, (refl, (refl, (refl, (refl, (refl, (refl, (refl, (refl, (refl, (refl, (refl, (refl, (refl, (refl, (refl, (refl, tt)))))))))))))))))))))))))))))))))
+are_rows name = (refl, (refl, (refl, (refl, (refl, (refl, (refl, (refl, (refl, (refl, (refl, (refl, (refl, (refl, (refl, (refl, (refl, (refl, (refl, (refl, (refl, (refl, (refl, (refl, (refl, (refl, (refl, (refl, (refl, (refl, (refl, (refl, (refl, (refl, (refl, (refl, tt))))))))))))))))))))))))))))))))))))
 
 pub each_row : (words : List Text) (r : Result Command Error) (name : Text)
     → ((kind : ErrorKind) → fault_of program_words words ≡ kind ∷ [] → IsFault kind r)

@@ -13,7 +13,7 @@ use Rattle.bgp_words.specs.Spelled.{IsUsed, Names, NamesBy, NamesJudge}
 use Rattle.bgp_words.specs.Values.{IsFamiliesText, IsHoldText, IsPortText, IsPositiveText, IsSecondsText, is_given}
 use Rattle.bgp_words.specs.Words.{program_words}
 use Rattle.bgp_words.specs.declared.words.Command.{Command}
-use Rattle.bgp_words.specs.declared.words.Command.TheVariants.{Decode, Capture, Judge, Import, List as Listing, Speak, Pair}
+use Rattle.bgp_words.specs.declared.words.Command.TheVariants.{Decode, Capture, Judge, Import, List as Listing, Check, Speak, Pair}
 use Rattle.bgp_words.proofs.NamedCommand.{two_names}
 use Rattle.bgp_words.proofs.PlainWords.{plain}
 use Rattle.bgp_words.proofs.SpelledJudge.{AreJudged, faultless, file_found, found_rows, named_judge, parts_found, parts_told, unexplained, usual_found, usual_told}
@@ -104,6 +104,7 @@ module _ (words : List Text) (parts : ConfigParts) (file : Text) (line : IsJudge
   of_judging (Capture session recording f) is = two_names (codes "judge") (codes "decode") (λ e. omega (arith, e)) is.0
   of_judging (Import session recording f out) is = two_names (codes "judge") (codes "import") (λ e. omega (arith, e)) is.0
   of_judging (Listing port f) is = two_names (codes "judge") (codes "list") (λ e. omega (arith, e)) is.0
+  of_judging (Check port within routes f) is = two_names (codes "judge") (codes "check") (λ e. omega (arith, e)) is.0
   of_judging (Speak config speaking f) is = two_names (codes "judge") (codes "speak") (λ e. omega (arith, e)) is.0
   of_judging (Pair f) is = two_names (codes "judge") (codes "pair") (λ e. omega (arith, e)) is.0
   of_judging (Judge config recording explain f) is =

@@ -6,7 +6,7 @@ use Rattle.clap.specs.Words.{Row, Text, first_of}
 use Rattle.bgp_words.specs.Decode.{IsCapture, IsStream, IsDecodeOf}
 use Rattle.bgp_words.specs.Judge.{IsJudge}
 use Rattle.bgp_words.specs.Values.{IsTurnsText}
-use Rattle.bgp_words.specs.Import.{CanImport, IsImport, IsListing}
+use Rattle.bgp_words.specs.Import.{CanImport, IsChecking, IsImport, IsListing}
 use Rattle.bgp_words.specs.Speak.{CanSpeak, IsSpeak}
 use Rattle.bgp_words.specs.declared.recording.RecordingOptions.{RecordingOptions}
 use Rattle.bgp_words.specs.declared.speak.Speaking.{Speaking}
@@ -14,7 +14,7 @@ use Rattle.bgp_prefix.specs.declared.session.Session.{Session}
 use Rattle.bgp_open.specs.declared.config.Config.{Config}
 use Rattle.bgp_words.specs.Spelled.{Names, NamesBy, NamesDecode}
 use Rattle.bgp_words.specs.declared.words.Command.{Command}
-use Rattle.bgp_words.specs.declared.words.Command.TheVariants.{Decode, Capture, Judge, Import, List as Listing, Speak, Pair}
+use Rattle.bgp_words.specs.declared.words.Command.TheVariants.{Decode, Capture, Judge, Import, List as Listing, Check, Speak, Pair}
 
 -- names that begin differently are two
 abbrev first : Text → ℕ
@@ -36,6 +36,7 @@ of_decode rows file (Capture session recording name) is also =
 of_decode rows file (Judge config recording explain name) is also = absurd (two_names (codes "decode") (codes "judge") (λ e. omega (arith, e)) also.0)
 of_decode rows file (Import session recording name out) is also = absurd (two_names (codes "decode") (codes "import") (λ e. omega (arith, e)) also.0)
 of_decode rows file (Listing port name) is also = absurd (two_names (codes "decode") (codes "list") (λ e. omega (arith, e)) also.0)
+of_decode rows file (Check port within routes name) is also = absurd (two_names (codes "decode") (codes "check") (λ e. omega (arith, e)) also.0)
 of_decode rows file (Speak config speaking name) is also = absurd (two_names (codes "decode") (codes "speak") (λ e. omega (arith, e)) also.0)
 of_decode rows file (Pair name) is also = absurd (two_names (codes "decode") (codes "pair") (λ e. omega (arith, e)) also.0)
 
@@ -54,6 +55,7 @@ none_decoded rows stream capture (Capture session recording file) is = capture s
 none_decoded rows stream capture (Judge config recording explain file) is = two_names (codes "decode") (codes "judge") (λ e. omega (arith, e)) is.0
 none_decoded rows stream capture (Import session recording file out) is = two_names (codes "decode") (codes "import") (λ e. omega (arith, e)) is.0
 none_decoded rows stream capture (Listing port file) is = two_names (codes "decode") (codes "list") (λ e. omega (arith, e)) is.0
+none_decoded rows stream capture (Check port within routes file) is = two_names (codes "decode") (codes "check") (λ e. omega (arith, e)) is.0
 none_decoded rows stream capture (Speak config speaking file) is = two_names (codes "decode") (codes "speak") (λ e. omega (arith, e)) is.0
 none_decoded rows stream capture (Pair file) is = two_names (codes "decode") (codes "pair") (λ e. omega (arith, e)) is.0
 
@@ -65,6 +67,7 @@ none_judged rows none (Capture session recording file) is = two_names (codes "ju
 none_judged rows none (Judge config recording explain file) is = none config recording explain file.now is.1
 none_judged rows none (Import session recording file out) is = two_names (codes "judge") (codes "import") (λ e. omega (arith, e)) is.0
 none_judged rows none (Listing port file) is = two_names (codes "judge") (codes "list") (λ e. omega (arith, e)) is.0
+none_judged rows none (Check port within routes file) is = two_names (codes "judge") (codes "check") (λ e. omega (arith, e)) is.0
 none_judged rows none (Speak config speaking file) is = two_names (codes "judge") (codes "speak") (λ e. omega (arith, e)) is.0
 none_judged rows none (Pair file) is = two_names (codes "judge") (codes "pair") (λ e. omega (arith, e)) is.0
 
@@ -76,6 +79,7 @@ none_spoken rows none (Capture session recording file) is = two_names (codes "sp
 none_spoken rows none (Judge config recording explain file) is = two_names (codes "speak") (codes "judge") (λ e. omega (arith, e)) is.0
 none_spoken rows none (Import session recording file out) is = two_names (codes "speak") (codes "import") (λ e. omega (arith, e)) is.0
 none_spoken rows none (Listing port file) is = two_names (codes "speak") (codes "list") (λ e. omega (arith, e)) is.0
+none_spoken rows none (Check port within routes file) is = two_names (codes "speak") (codes "check") (λ e. omega (arith, e)) is.0
 none_spoken rows none (Speak config speaking file) is = none config speaking file.now is.1
 none_spoken rows none (Pair file) is = two_names (codes "speak") (codes "pair") (λ e. omega (arith, e)) is.0
 
@@ -87,6 +91,7 @@ none_imported rows none (Capture session recording file) is = two_names (codes "
 none_imported rows none (Judge config recording explain file) is = two_names (codes "import") (codes "judge") (λ e. omega (arith, e)) is.0
 none_imported rows none (Import session recording file out) is = none session recording file.now out.now is.1
 none_imported rows none (Listing port file) is = two_names (codes "import") (codes "list") (λ e. omega (arith, e)) is.0
+none_imported rows none (Check port within routes file) is = two_names (codes "import") (codes "check") (λ e. omega (arith, e)) is.0
 none_imported rows none (Speak config speaking file) is = two_names (codes "import") (codes "speak") (λ e. omega (arith, e)) is.0
 none_imported rows none (Pair file) is = two_names (codes "import") (codes "pair") (λ e. omega (arith, e)) is.0
 
@@ -98,8 +103,21 @@ none_listed rows none (Capture session recording file) is = two_names (codes "li
 none_listed rows none (Judge config recording explain file) is = two_names (codes "list") (codes "judge") (λ e. omega (arith, e)) is.0
 none_listed rows none (Import session recording file out) is = two_names (codes "list") (codes "import") (λ e. omega (arith, e)) is.0
 none_listed rows none (Listing port file) is = none port file.now is.1
+none_listed rows none (Check port within routes file) is = two_names (codes "list") (codes "check") (λ e. omega (arith, e)) is.0
 none_listed rows none (Speak config speaking file) is = two_names (codes "list") (codes "speak") (λ e. omega (arith, e)) is.0
 none_listed rows none (Pair file) is = two_names (codes "list") (codes "pair") (λ e. omega (arith, e)) is.0
+
+-- and of `check`
+pub none_checked : (rows : List Row) → ((port within : ℕ) (routes : Bool) (file : Text) → IsChecking port within routes file rows → ⊥)
+    → (command : Command) → NamesBy (codes "check") rows command → ⊥
+none_checked rows none (Decode extended file) is = two_names (codes "check") (codes "decode") (λ e. omega (arith, e)) is.0
+none_checked rows none (Capture session recording file) is = two_names (codes "check") (codes "decode") (λ e. omega (arith, e)) is.0
+none_checked rows none (Judge config recording explain file) is = two_names (codes "check") (codes "judge") (λ e. omega (arith, e)) is.0
+none_checked rows none (Import session recording file out) is = two_names (codes "check") (codes "import") (λ e. omega (arith, e)) is.0
+none_checked rows none (Listing port file) is = two_names (codes "check") (codes "list") (λ e. omega (arith, e)) is.0
+none_checked rows none (Check port within routes file) is = none port within routes file.now is.1
+none_checked rows none (Speak config speaking file) is = two_names (codes "check") (codes "speak") (λ e. omega (arith, e)) is.0
+none_checked rows none (Pair file) is = two_names (codes "check") (codes "pair") (λ e. omega (arith, e)) is.0
 
 -- the command that was met, by its name and its rows
 pub met_command : {X : Type 0} (name_in : X → Text) (rows_in : X → List Row) (o : Option X) (name : Text) (rows : List Row)
@@ -120,6 +138,7 @@ can_by p (Capture session recording file) is = tt
 can_by p (Judge config recording explain file) is = tt
 can_by p (Import session recording file out) is = tt
 can_by p (Listing port file) is = tt
+can_by p (Check port within routes file) is = tt
 can_by p (Speak config speaking file) is = (is.1.1, few_turns (first_of (codes "turns") p.1) speaking.turns is.1.2.turns)
 can_by p (Pair file) is = tt
 
@@ -134,6 +153,7 @@ can_import_by p (Capture session recording file) is = tt
 can_import_by p (Judge config recording explain file) is = tt
 can_import_by p (Import session recording file out) is = (is.1.1, is.1.3)
 can_import_by p (Listing port file) is = tt
+can_import_by p (Check port within routes file) is = tt
 can_import_by p (Speak config speaking file) is = tt
 can_import_by p (Pair file) is = tt
 

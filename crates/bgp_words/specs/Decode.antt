@@ -9,7 +9,7 @@ use Rattle.bgp_words.specs.Recording.{AreRecordingOptions}
 use Rattle.bgp_words.specs.declared.recording.RecordingOptions.{RecordingOptions}
 use Rattle.bgp_words.specs.declared.words.Command.{Command}
 use Rattle.bgp_words.specs.declared.words.Command.TheVariants.{Decode, Capture, Judge}
-use Rattle.bgp_words.specs.declared.words.Command.TheVariants.{Import, List as Listing}
+use Rattle.bgp_words.specs.declared.words.Command.TheVariants.{Check, Import, List as Listing}
 use Rattle.bgp_words.specs.declared.words.Command.TheVariants.{Speak, Pair}
 
 -- the values of `decode FILE` or `decode --extended FILE`: no other word of a capture is given
@@ -47,5 +47,6 @@ IsDecodeOf text (Capture session recording file) = ⊥
 IsDecodeOf text (Judge config recording explain file) = ⊥
 IsDecodeOf text (Import session recording file out) = ⊥
 IsDecodeOf text (Listing port file) = ⊥
+IsDecodeOf text (Check port within routes file) = ⊥
 IsDecodeOf text (Speak config speaking file) = ⊥
 IsDecodeOf text (Pair file) = ⊥

@@ -1,15 +1,16 @@
 -- The values of `import`: the session, what is told of the recording, and two files; and those of
--- `list`.
-use Rattle.std.specs.Prelude.{◌≡◌, ◌≢◌, ◌⊎◌, ℕ, true, false, List, Option, Some, is_some, codes}
+-- `list` and of `check`.
+use Rattle.std.specs.Prelude.{◌≡◌, ◌≢◌, ◌⊎◌, ℕ, Bool, true, false, List, Option, Some}
+use Rattle.std.specs.Prelude.{is_some, codes}
 use Rattle.clap.specs.Words.{Row, Text, first_of}
 use Rattle.bgp_prefix.specs.declared.session.Session.{Session}
-use Rattle.bgp_words.specs.Values.{IsPortText, IsValue}
+use Rattle.bgp_words.specs.Values.{IsPortText, IsSecondsText, IsValue, is_given}
 use Rattle.bgp_words.specs.Settings.{IsOfOneFamily, IsSession}
 use Rattle.bgp_words.specs.Recording.{AreRecordingOptions}
 use Rattle.bgp_words.specs.declared.recording.RecordingOptions.{RecordingOptions}
 use Rattle.bgp_words.specs.declared.words.Command.{Command}
 use Rattle.bgp_words.specs.declared.words.Command.TheVariants.{Decode, Capture, Judge}
-use Rattle.bgp_words.specs.declared.words.Command.TheVariants.{Import, List as Listing}
+use Rattle.bgp_words.specs.declared.words.Command.TheVariants.{Check, Import, List as Listing}
 use Rattle.bgp_words.specs.declared.words.Command.TheVariants.{Speak, Pair}
 
 -- the ends of a session can be told apart in a recording: their addresses differ, or the local
@@ -29,6 +30,14 @@ abbrev pub IsListing : ℕ → Text → List Row → Type 0
 IsListing port file rows =
     IsValue IsPortText (codes "port") rows port × (first_of (codes "FILE") rows ≡ Some file)
 
+-- the values of `check`: the port of the connections, the patience, whether routes are wanted, and
+-- a file
+abbrev pub IsChecking : ℕ → ℕ → Bool → Text → List Row → Type 0
+IsChecking port within routes file rows =
+    IsValue IsPortText (codes "port") rows port
+    × IsValue IsSecondsText (codes "within") rows within
+    × (routes ≡ is_given (codes "routes") rows) × (first_of (codes "FILE") rows ≡ Some file)
+
 -- a command to import can be done: its session is of one family, and its ends can be told apart
 abbrev pub CanImport : Command → Type 0
 CanImport (Decode extended file) = Unit {0}
@@ -37,5 +46,6 @@ CanImport (Judge config recording explain file) = Unit {0}
 CanImport (Import session recording file out) =
     IsOfOneFamily session × AreApart session recording.local_port
 CanImport (Listing port file) = Unit {0}
+CanImport (Check port within routes file) = Unit {0}
 CanImport (Speak config speaking file) = Unit {0}
 CanImport (Pair file) = Unit {0}

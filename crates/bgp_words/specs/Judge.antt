@@ -11,7 +11,7 @@ use Rattle.bgp_words.specs.Recording.{AreRecordingOptions, usual_recording}
 use Rattle.bgp_words.specs.declared.recording.RecordingOptions.{RecordingOptions}
 use Rattle.bgp_words.specs.declared.words.Command.{Command}
 use Rattle.bgp_words.specs.declared.words.Command.TheVariants.{Decode, Capture, Judge}
-use Rattle.bgp_words.specs.declared.words.Command.TheVariants.{Import, List as Listing}
+use Rattle.bgp_words.specs.declared.words.Command.TheVariants.{Check, Import, List as Listing}
 use Rattle.bgp_words.specs.declared.words.Command.TheVariants.{Speak, Pair}
 
 -- the values of `judge`: a configuration, and a file; `--no-refresh`: the local system offers no
@@ -55,5 +55,6 @@ IsJudgeOf words (Judge config recording explain file) =
     × (explain ≡ false)
 IsJudgeOf words (Import session recording file out) = ⊥
 IsJudgeOf words (Listing port file) = ⊥
+IsJudgeOf words (Check port within routes file) = ⊥
 IsJudgeOf words (Speak config speaking file) = ⊥
 IsJudgeOf words (Pair file) = ⊥

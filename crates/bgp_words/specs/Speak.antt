@@ -12,7 +12,7 @@ use Rattle.bgp_words.specs.declared.speak.Start.{Start}
 use Rattle.bgp_words.specs.declared.speak.Start.TheVariants.{Connect, Listen}
 use Rattle.bgp_words.specs.declared.words.Command.{Command}
 use Rattle.bgp_words.specs.declared.words.Command.TheVariants.{Decode, Capture, Judge}
-use Rattle.bgp_words.specs.declared.words.Command.TheVariants.{Import, List as Listing}
+use Rattle.bgp_words.specs.declared.words.Command.TheVariants.{Check, Import, List as Listing}
 use Rattle.bgp_words.specs.declared.words.Command.TheVariants.{Speak, Pair}
 
 -- one of `--connect` and `--listen` is given, with this port
@@ -45,6 +45,7 @@ CanSpeak (Capture session recording file) = Unit {0}
 CanSpeak (Judge config recording explain file) = Unit {0}
 CanSpeak (Import session recording file out) = Unit {0}
 CanSpeak (Listing port file) = Unit {0}
+CanSpeak (Check port within routes file) = Unit {0}
 CanSpeak (Speak config speaking file) =
     IsOfOneFamily config.parts.session × (speaking.turns < 2 ^ 63)
 CanSpeak (Pair file) = Unit {0}

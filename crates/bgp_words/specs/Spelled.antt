@@ -13,14 +13,14 @@ use Rattle.clap.specs.declared.error.kind.ErrorKind.TheVariants.{ValueValidation
 use Rattle.bgp_open.specs.declared.config.Config.{Config}
 use Rattle.bgp_words.specs.Decode.{IsStream, IsCapture, IsDecodeOf}
 use Rattle.bgp_words.specs.Judge.{IsJudge, IsJudgeOf}
-use Rattle.bgp_words.specs.Import.{IsImport, IsListing}
+use Rattle.bgp_words.specs.Import.{IsChecking, IsImport, IsListing}
 use Rattle.bgp_words.specs.Speak.{IsSpeak}
 use Rattle.bgp_words.specs.Pair.{IsPair}
 use Rattle.bgp_words.specs.Words.{program_words}
 use Rattle.bgp_words.specs.declared.recording.RecordingOptions.{RecordingOptions}
 use Rattle.bgp_words.specs.declared.words.Command.{Command}
 use Rattle.bgp_words.specs.declared.words.Command.TheVariants.{Decode, Capture, Judge}
-use Rattle.bgp_words.specs.declared.words.Command.TheVariants.{Import, List as Listing}
+use Rattle.bgp_words.specs.declared.words.Command.TheVariants.{Check, Import, List as Listing}
 use Rattle.bgp_words.specs.declared.words.Command.TheVariants.{Speak, Pair}
 
 -- a command was named, and its values are such
@@ -35,6 +35,7 @@ name_of (Capture session recording file) = codes "decode"
 name_of (Judge config recording explain file) = codes "judge"
 name_of (Import session recording file out) = codes "import"
 name_of (Listing port file) = codes "list"
+name_of (Check port within routes file) = codes "check"
 name_of (Speak config speaking file) = codes "speak"
 name_of (Pair file) = codes "pair"
 
@@ -45,6 +46,7 @@ AreValuesOf (Capture session recording file) = IsCapture session recording file.
 AreValuesOf (Judge config recording explain file) = IsJudge config recording explain file.now
 AreValuesOf (Import session recording file out) = IsImport session recording file.now out.now
 AreValuesOf (Listing port file) = IsListing port file.now
+AreValuesOf (Check port within routes file) = IsChecking port within routes file.now
 AreValuesOf (Speak config speaking file) = IsSpeak config speaking file.now
 AreValuesOf (Pair file) = IsPair file.now
 
@@ -145,6 +147,9 @@ fault_rows =
     ∷ (codes "list" ∷ [], MissingRequiredArgument)
     ∷ (codes "list" ∷ codes "--help" ∷ [], DisplayHelp)
     ∷ (codes "list" ∷ codes "-h" ∷ [], DisplayHelp)
+    ∷ (codes "check" ∷ [], MissingRequiredArgument)
+    ∷ (codes "check" ∷ codes "--help" ∷ [], DisplayHelp)
+    ∷ (codes "check" ∷ codes "-h" ∷ [], DisplayHelp)
     ∷ (codes "speak" ∷ [], MissingRequiredArgument)
     ∷ (codes "speak" ∷ codes "--help" ∷ [], DisplayHelp)
     ∷ (codes "speak" ∷ codes "-h" ∷ [], DisplayHelp)

@@ -30,11 +30,13 @@ with_file name = with_rule (new_app name) (file_word (codes "FILE"))
 abbrev pub port_word : Rule
 port_word = default_word (codes "port") (codes "179")
 
+abbrev pub within_word : Rule
+within_word = default_word (codes "within") (codes "10")
+
 abbrev pub with_recording : App → App
 with_recording command =
     with_rule (with_rule (with_rule (with_rule command port_word)
-    (option_word (codes "local-port"))) (option_word (codes "connection")))
-    (default_word (codes "within") (codes "10"))
+    (option_word (codes "local-port"))) (option_word (codes "connection"))) within_word
 
 -- `decode FILE`, `decode --mrt --peer A --local A FILE`, each with `--extended` or without, and
 -- with the options that are for recordings
@@ -83,6 +85,12 @@ import_words =
 abbrev pub list_words : App
 list_words = with_rule (with_file (codes "list")) port_word
 
+-- `check FILE`, with the port, the patience and the wish for routes, or without
+abbrev pub check_words : App
+check_words =
+    with_rule (with_rule (with_rule (with_file (codes "check")) port_word) within_word)
+    (flag_word (codes "routes"))
+
 -- the options of `speak` that `judge` hasn't
 abbrev pub with_speaking : App → App
 with_speaking command =
@@ -103,8 +111,8 @@ pair_words = with_file (codes "pair")
 -- the commands that read a file
 abbrev pub with_readers : App → App
 with_readers program =
-    with_subcommand (with_subcommand (with_subcommand (with_subcommand program
-    decode_words.top) judge_words.top) import_words.top) list_words.top
+    with_subcommand (with_subcommand (with_subcommand (with_subcommand (with_subcommand program
+    decode_words.top) judge_words.top) import_words.top) list_words.top) check_words.top
 
 -- the commands that speak
 abbrev pub with_speakers : App → App

@@ -7,6 +7,7 @@
 //! ```
 #![tactic(auto)]
 
+mod check;
 mod decode;
 mod import;
 mod judge;

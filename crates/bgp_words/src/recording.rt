@@ -34,6 +34,13 @@ pub(crate) const PORT: Word<'static> = Word::Default(
     "The session's TCP port in a recording: 1 to 65535",
 );
 
+/// For how long a message of a recording may wait.
+pub(crate) const WITHIN: Word<'static> = Word::Default(
+    "within",
+    "10",
+    "How many seconds a received message of a recording may wait: 0 to 65535",
+);
+
 /// The words that are for recordings alone.
 static WORDS: [Word<'static>; 4] = [
     PORT,
@@ -45,11 +52,7 @@ static WORDS: [Word<'static>; 4] = [
         "connection",
         "The number of the connection in a recording that is meant, as bgp list prints it",
     ),
-    Word::Default(
-        "within",
-        "10",
-        "How many seconds a received message of a recording may wait: 0 to 65535",
-    ),
+    WITHIN,
 ];
 
 /// The command with the words that are for recordings after its own.

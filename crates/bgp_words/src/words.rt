@@ -13,6 +13,7 @@ ghost use Rattle.bgp_words.specs.Spelled.{IsDecodeOrMemory, IsJudgeOrMemory, IsF
 ghost use Rattle.bgp_words.specs.Spelled.{fault_rows, value_rows};
 ghost use Rattle.bgp_words.specs.declared.recording.RecordingOptions.{RecordingOptions as Told};
 
+use crate::check::{check_of, check_words};
 use crate::decode::{decode_of, decode_words};
 use crate::import::{import_of, import_words};
 use crate::judge::{judge_of, judge_words};
@@ -79,6 +80,17 @@ pub enum Command<'a> {
         /// The recording's path, or `-` for standard input.
         file: &'a str,
     },
+    /// Check both ends of each connection in a recording, whose settings aren't known.
+    Check {
+        /// The port of the connections, which isn't 0.
+        port: u16,
+        /// How many seconds after it came a received message is handled at the latest.
+        within: u16,
+        /// Whether the routes of each possible end are printed.
+        routes: bool,
+        /// The recording's path, or `-` for standard input.
+        file: &'a str,
+    },
     /// Speak with a peer over TCP, and write down the session as a capture.
     Speak {
         /// What the local system is configured to do, and the session's ends: their addresses are
@@ -136,11 +148,13 @@ fn with_readers<'a>(
     let judge = judge_words(alloc)?;
     let import = import_words(alloc)?;
     let list = list_words(alloc)?;
+    let check = check_words(alloc)?;
     program
         .subcommand(decode)?
         .subcommand(judge)?
         .subcommand(import)?
-        .subcommand(list)
+        .subcommand(list)?
+        .subcommand(check)
 }
 
 /// The program with the commands that speak.
@@ -207,6 +221,9 @@ fn named<'a>(matches: &ArgMatches<'a>) -> Result<Command<'a>, Misfit<'a>>
     if let Some(list) = matches.subcommand_matches("list") {
         return list_of(list);
     }
+    if let Some(check) = matches.subcommand_matches("check") {
+        return check_of(check);
+    }
     if let Some(speak) = matches.subcommand_matches("speak") {
         return speak_of(speak);
     }
@@ -232,6 +249,7 @@ fn words_of<'a>(alloc: Global, matches: &ArgMatches<'_>) -> Result<clap::Command
         Some("judge") => judge_words(alloc)?.bin_name("bgp judge"),
         Some("import") => import_words(alloc)?.bin_name("bgp import"),
         Some("list") => list_words(alloc)?.bin_name("bgp list"),
+        Some("check") => check_words(alloc)?.bin_name("bgp check"),
         Some("speak") => speak_words(alloc)?.bin_name("bgp speak"),
         Some("pair") => pair_words(alloc)?.bin_name("bgp pair"),
         _ => program(alloc),

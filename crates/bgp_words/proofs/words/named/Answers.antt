@@ -1,12 +1,19 @@
 use Rattle.std.proofs.Common.{refl, subst, codes}
 use Rattle.clap.specs.Words.{found_of, rows_of}
 use Rattle.bgp_words.specs.Spelled.{Names, NamesJudge}
-use Rattle.bgp_words.proofs.NamedCommand.{met_command, none_decoded, none_imported, none_judged, none_listed, none_spoken}
+use Rattle.bgp_words.proofs.NamedCommand.{met_command, none_checked, none_decoded, none_imported, none_judged, none_listed, none_spoken}
 use Rattle.bgp_words.proofs.words.named.Goals as goal
 
 pub returns-in-Some-subcommand_matches-4-clause-none : goal.returns-in-Some-subcommand_matches-4-clause-none
 returns-in-Some-subcommand_matches-4-clause-none c err command names =
     let met = c.in-Some-subcommand_matches-4 in
+    let rows = rows_of (found_of met.check.now) in
+    none_checked rows (c.check_of.ensures.err err) command
+    (subst (λ used. Names used command) (met_command _ _ _ (codes "check") rows (met.ensures.found.0 refl) met.ensures.rows) names)
+
+pub returns-in-Some-subcommand_matches-5-clause-none : goal.returns-in-Some-subcommand_matches-5-clause-none
+returns-in-Some-subcommand_matches-5-clause-none c err command names =
+    let met = c.in-Some-subcommand_matches-5 in
     let rows = rows_of (found_of met.speak.now) in
     none_spoken rows (c.speak_of.ensures.err err) command
     (subst (λ used. Names used command) (met_command _ _ _ (codes "speak") rows (met.ensures.found.0 refl) met.ensures.rows) names)
