@@ -6,6 +6,7 @@ mod devices;
 mod recordings;
 mod speaker;
 
+use bgp_check_tool::CheckOptions;
 use bgp_tool::{Command, Status, command_line, words_status};
 use bgp_wire::Limit;
 use clap::Error;
@@ -56,6 +57,21 @@ fn run<R: Files + Net + Clock + Env + Input + Print + Eprint + AllocGlobal, E: P
             },
         ) => recordings::import(rt, &session, &recording, file, out),
         Ok(Command::List { port, file }) => recordings::list(rt, port, file),
+        Ok(
+            Command::Check {
+                port,
+                within,
+                routes,
+                file,
+            },
+        ) => {
+            let options = CheckOptions {
+                port,
+                within,
+                routes,
+            };
+            recordings::check(rt, &options, file)
+        }
         Ok(
             Command::Speak {
                 config,

@@ -1,4 +1,4 @@
-//! `bgp import` and `bgp list`: files as the sources and sinks of `bgp_import`'s calls.
+//! `bgp import`, `bgp list` and `bgp check`: files as the sources and sinks of their calls.
 
 ghost use Rattle.std.specs.Prelude.{◌≡◌, ◌<◌};
 ghost use Rattle.std.specs.List.{AllByRecursion};
@@ -7,6 +7,8 @@ ghost use Rattle.mrt.specs.FromWrite.{writer_state};
 ghost use Rattle.bgp_import.specs.Captures.{CanBeWritten};
 
 use crate::devices::{buffered, open, tell, tell_note};
+use bgp_check_tool::{CheckOptions, check_recording};
+use bgp_compact::CompactTracker;
 use bgp_import::{
     Cause, Import, Refusal, Stopped, gather, list_recording, notes_on, records_of, write_capture,
 };
@@ -14,11 +16,14 @@ use bgp_prefix::Session;
 use bgp_recording::Recording;
 use bgp_recording_tool::{RecordingOptions, import_of};
 use bgp_tool::{ErrorWords, Note, Status, unopened, unwritten};
-use mrt::{FromRead, FromWrite};
+use mrt::{FromRead, FromWrite, Sink};
 use std::alloc::Global;
 use std::io::{Read, Write};
 use std::rt::Files;
 use std::{fs, io};
+
+/// The number of the refusal of a file that is no recording.
+const NO_RECORDING: u8 = 1;
 
 /// Runs `import` on a recording, or on standard input for `-`, and answers the exit status. The
 /// capture's file is made, or emptied, once the recording is accepted; `-` is standard output.
@@ -46,6 +51,52 @@ pub fn list<R: Files + Input + Print + Eprint + AllocGlobal>(rt: &R, port: u16, 
     } else {
         list_from(rt, port, file, open(rt, file))
     }
+}
+
+/// Runs `check` on a recording, or on standard input for `-`, and answers the exit status.
+pub fn check<R: Files + Input + Print + Eprint + AllocGlobal>(
+    rt: &R,
+    options: &CheckOptions,
+    file: &str,
+) -> u8 {
+    if file == "-" {
+        check_from(rt, options, file, Ok(rt.reader()))
+    } else {
+        check_from(rt, options, file, open(rt, file))
+    }
+}
+
+/// Checks the connections of the recording that a file's reader gives.
+fn check_from<R: Print + Eprint + AllocGlobal, F: Read + Drop>(
+    rt: &R,
+    options: &CheckOptions,
+    file: &str,
+    opened: io::Result<F>,
+) -> u8 {
+    let mut source = match buffered(rt, opened) {
+        Ok(reader) => FromRead::new(reader),
+        Err(error) => return tell_unopened(rt, file, &error),
+    };
+    let mut sink = FromWrite::new(io::writer(rt));
+    let checked = check_recording::<Global, CompactTracker<Global>, _, _>(
+        rt.alloc(),
+        options,
+        &mut source,
+        &mut sink,
+    );
+    if sink.failures() > 0 {
+        tell_unwritten(rt, &sink, None);
+        return checked.status;
+    }
+    if let Some(refusal) = checked.refusal {
+        tell_cause(rt, file, &source, refusal);
+        if refusal.number() == NO_RECORDING {
+            let _ = eprintln!(rt;
+                "bgp: {file:?} is no recording of packets: bgp judge takes captures"
+            );
+        }
+    }
+    checked.status
 }
 
 /// Makes the capture of the recording that a file's reader gives.

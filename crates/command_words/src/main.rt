@@ -108,6 +108,17 @@ fn answer_to(alloc: Global, block: &str) -> io::Result<Answer> {
         }
         Ok(Command::List { port, file }) => format!(in alloc; "list port {port} file {file:?}")?,
         Ok(
+            Command::Check {
+                port,
+                within,
+                routes,
+                file,
+            },
+        ) => {
+            let routes = if routes { " routes" } else { "" };
+            format!(in alloc; "check port {port} within {within}{routes} file {file:?}")?
+        }
+        Ok(
             Command::Speak {
                 config,
                 speaking,
