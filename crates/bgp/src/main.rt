@@ -3,6 +3,7 @@
 #![tactic(auto)]
 
 mod devices;
+mod explaining;
 mod recordings;
 mod speaker;
 
@@ -44,10 +45,16 @@ fn run<R: Files + Net + Clock + Env + Input + Print + Eprint + AllocGlobal, E: P
             Command::Judge {
                 config,
                 recording,
-                explain: _,
+                explain,
                 file,
             },
-        ) => devices::judge(rt, &config, &recording, file),
+        ) => {
+            if explain {
+                explaining::explain(rt, &config, file)
+            } else {
+                devices::judge(rt, &config, &recording, file)
+            }
+        }
         Ok(
             Command::Import {
                 session,

@@ -1,0 +1,38 @@
+-- What a record lacks, and an UPDATE asks for, is what is told of it.
+use Rattle.std.proofs.Common.{◌≡◌, ◌++◌, List, ℕ, refl, ap}
+use Rattle.bgp_prefix.specs.Shown.{ShownRecord, Received, Sent, Changed}
+use Rattle.bgp_open.specs.declared.config.Config.{Config}
+use Rattle.bgp_open.specs.declared.link.Link.{Link}
+use Rattle.bgp_reason.specs.declared.kinds.Possible.{Possible}
+use Rattle.bgp_reason_text.specs.declared.lacks.Lacks.{Lacks}
+use Rattle.bgp_reason_text.specs.declared.lacks.Lacks.TheVariants as lacks
+use Rattle.bgp_reason_text.specs.Lacks.{AreLacks, AreSentLacks}
+use Rattle.bgp_reason_text.specs.Possible.{possible_but_lines}
+use Rattle.bgp_explain.specs.Lacked.{RecordLacks, SentLacks, following_lines, lacked_of}
+use Rattle.std.specs.Prelude.{Option}
+use Rattle.bgp_reason_text.specs.declared.applying.AskedUpdate.{AskedUpdate}
+use Rattle.bgp_reason_text.specs.Applying.{last_update_line}
+use Rattle.bgp_explain.specs.Updates.{asking_of, update_line}
+
+pub same_lines : {X : Type 0} (p : Possible) (v : Lacks X) → possible_but_lines p v ≡ following_lines p (lacked_of v)
+same_lines p lacks.Nothing = refl
+same_lines p (lacks.Open parts) = refl
+same_lines p (lacks.Update parts) = refl
+same_lines p (lacks.Notification code parts) = refl
+
+same_sent : {X : Type 0} (config : Config) (link : Option Link) (possible : Possible) (second : ℕ) (octets : List ℕ) (v : Lacks X)
+    → AreSentLacks config link possible second octets v → SentLacks config link possible second octets (lacked_of v)
+same_sent config link possible second octets lacks.Nothing is = is
+same_sent config link possible second octets (lacks.Open parts) is = is
+same_sent config link possible second octets (lacks.Update parts) is = is
+same_sent config link possible second octets (lacks.Notification code parts) is = is
+
+pub same_lacks : {X : Type 0} (config : Config) (link : Option Link) (possible : Possible) (shown : ShownRecord) (v : Lacks X)
+    → AreLacks config link possible shown v → RecordLacks config link possible shown (lacked_of v)
+same_lacks config link possible (Received second octets) v is = ap lacked_of is
+same_lacks config link possible (Sent second octets) v is = same_sent config link possible second octets v is
+same_lacks config link possible (Changed second old new) v is = ap lacked_of is
+
+pub same_line : {X : Type 0} (number : ℕ) (asked : AskedUpdate X) → last_update_line number asked ≡ update_line number (asking_of asked)
+unfolding last_update_line update_line
+same_line number asked = refl

@@ -1,0 +1,9 @@
+pub mod OpenedBy
+pub mod LinkKept
+pub mod Keeping
+pub mod Reading
+pub mod Standing
+pub mod Telling
+pub mod LackedText
+pub mod Naming
+pub mod NoRoom

@@ -1,0 +1,406 @@
+-- What is explained, told by its text.
+use Rattle.std.proofs.Common.{◌≡◌, ◌∙◌, ◌⊎◌, ◌+◌, ◌++◌, ◌==◌, ℕ, zero, suc, List, [], Bool, true, arith, refl, sym, ap, subst, inl, inr, map, take, length, append-nil, IsTrue, is_some, false, Option, None, Some, Result, Ok, Err}
+use Rattle.bgp_prefix.specs.Shown.{ShownRecord}
+use Rattle.bgp_open.specs.declared.config.Config.{Config}
+use Rattle.mrt.specs.declared.fault.CaptureFault.{CaptureFault}
+use Rattle.mrt.specs.Capture.{ArePieces, Piece, Spells, joined, records_of}
+use Rattle.mrt.proofs.OneReading.{one_spelling}
+use Rattle.bgp_judge.proofs.CaptureSoFar.{spelled}
+use Rattle.bgp_tool.proofs.SeenSoFar.{fault_is_no_yes}
+use Rattle.bgp_tool.specs.Front.{kept}
+use Rattle.bgp_tool.specs.Seen.{lacking_by, lacking_in, seen_in}
+use Rattle.std.proofs.Math.Dec.{eqb-suc-zero}
+use Rattle.mrt.specs.declared.fault.FaultKind.TheVariants.{Memory}
+use Rattle.mrt.specs.Progress.{failures_of}
+use Rattle.mrt.specs.ReadBy.{ReadBy}
+use Rattle.mrt.specs.Reader.{ReaderState}
+use Rattle.bgp_judge.specs.declared.verdict.Verdict.{Verdict}
+use Rattle.bgp_judge.specs.declared.verdict.Verdict.TheVariants.{Yes, No, Unfinished}
+use Rattle.bgp_judge.specs.Ends.{end_value}
+use Rattle.bgp_judge.specs.Judging.{EndsBy, IsRefusal, ReadsWith, fault_in}
+use Rattle.bgp_judge.specs.Verdict.{IsVerdict}
+use Rattle.bgp_reason.specs.declared.told.Told.{Told}
+use Rattle.bgp_open.specs.declared.link.Link.{Link}
+use Rattle.bgp_reason.specs.Sending.{sending_link}
+use Rattle.bgp_reason.specs.Told.{last_message, told}
+use Rattle.bgp_reason_text.specs.Record.{record_line}
+use Rattle.bgp_text.specs.Capture.{refused_line}
+use Rattle.bgp_tool.specs.Answer.{IsWritten, answer_status, answer_text, verdict_status}
+use Rattle.bgp_tool.specs.Judging.{TellsFault}
+use Rattle.bgp_tool.specs.VerdictText.{verdict_text}
+use Rattle.bgp_explain.specs.declared.explained.Explained.{Explained}
+use Rattle.bgp_explain.specs.declared.explained.Impossible.{Impossible}
+use Rattle.bgp_explain.specs.declared.explained.Reason.{Reason}
+use Rattle.bgp_explain.specs.declared.explained.Totals.{Totals}
+use Rattle.bgp_explain.specs.Capture.{ExplainsCapture, SaysExplained, TellsExplained, TellsNoRoom, TellsWhy, TellsWhyNot}
+use Rattle.bgp_explain.specs.Details.{next_in}
+use Rattle.bgp_explain.specs.Explaining.{Explains, ExplainsBy}
+use Rattle.bgp_explain.specs.Kept.{shown_by}
+use Rattle.bgp_explain.specs.Opened.{fault_told}
+use Rattle.bgp_explain.specs.Reason.{AreSummed, HasReason, IsNext, IsReasonAt}
+use Rattle.bgp_explain.specs.Text.{CanBePut, CanBePutOf, IsExplainedText, IsImpossibleLine, IsMoreBy, IsMoreOf, IsSaidOf, IsWhy}
+use Rattle.bgp_explain.specs.Tally.{tally_of, yes_lines}
+use Rattle.bgp_explain.specs.declared.tally.Tally.{Tally}
+use Rattle.bgp_tool.specs.declared.seen.Seen.{Seen}
+
+module _ {X : Type 0} (config : Config) where
+  same_why : (records : List ShownRecord) (reason : Reason X) (next : Option (ℕ × ShownRecord)) (text : List ℕ) → IsReasonAt config records reason
+      → IsWhy config reason.told reason.link reason.last_message.items reason.possible next text
+      → IsWhy config (told records) (sending_link config records) (last_message records) reason.possible next text
+  same_why records reason next text at why =
+      subst (λ (t : Told). IsWhy config t (sending_link config records) (last_message records) reason.possible next text) at.told
+      (subst (λ (l : Option Link). IsWhy config reason.told l (last_message records) reason.possible next text) at.link
+      (subst (λ (o : List ℕ). IsWhy config reason.told reason.link o reason.possible next text) at.last_message why))
+
+  tells_why : (records : List ShownRecord) (reason : Reason X) (next : Option (ℕ × ShownRecord)) (text : List ℕ) → IsReasonAt config records reason
+      → IsWhy config reason.told reason.link reason.last_message.items reason.possible next text → TellsWhy config records next text
+  tells_why records reason next text at why = record {
+    possible = reason.possible;
+    are = at.possible;
+    why = same_why records reason next text at why;
+  }
+
+  tells_not : (before records : List ShownRecord) (reason : Reason X) (o : Option (Impossible X)) (first rest : List ℕ)
+      → IsNext config before o records → IsImpossibleLine config.parts.session o first → IsReasonAt config before reason
+      → IsWhy config reason.told reason.link reason.last_message.items reason.possible (next_in o) rest
+      → TellsWhyNot config before records (first ++ rest)
+  tells_not before records reason None first rest next line at why = absurd next
+  tells_not before records reason (Some i) first rest next line at why = record {
+    shown = shown_by i.«record»;
+    next = next.1;
+    line = line.0;
+    is_line = line.1;
+    rest = rest;
+    why = tells_why before reason (Some (length before + 1, shown_by i.«record»)) rest at
+        (subst (λ (n : ℕ). IsWhy config reason.told reason.link reason.last_message.items reason.possible (Some (n, shown_by i.«record»)) rest) next.0.number why);
+    whole = ap (λ (f : List ℕ). f ++ rest) (line.2 ∙ ap (λ (n : ℕ). record_line n line.0) next.0.number);
+  }
+
+  -- what stands after a no
+  more_of_no : (Y : Type 0) (records : List ShownRecord) (count : ℕ) (why : Option (Reason X)) (more : List ℕ) → HasReason {X = Y} config records (No count) why
+      → IsMoreBy config why more → TellsWhyNot config (take count records) (take (count + 1) records) more
+  more_of_no Y records count None more has is = absurd has
+  more_of_no Y records count (Some reason) more has is =
+      subst (λ (t : List ℕ). TellsWhyNot config (take count records) (take (count + 1) records) t) (sym is.whole)
+      (tells_not (take count records) (take (count + 1) records) reason reason.impossible is.first is.rest has.1 is.impossible has.0 is.why)
+
+  -- and after an unfinished
+  more_of_unfinished : (Y : Type 0) (records : List ShownRecord) (why : Option (Reason X)) (more : List ℕ) → HasReason {X = Y} config records Unfinished why
+      → IsMoreBy config why more → TellsWhy config records None more
+  more_of_unfinished Y records None more has is = absurd has
+  more_of_unfinished Y records (Some reason) more has is =
+      let none : is.first ≡ [] = subst (λ (o : Option (Impossible X)). IsImpossibleLine config.parts.session o is.first) has.1 is.impossible in
+      let why = subst (λ (o : Option (Impossible X)). IsWhy config reason.told reason.link reason.last_message.items reason.possible (next_in o) is.rest) has.1 is.why in
+      let whole = is.whole ∙ ap (λ (f : List ℕ). f ++ is.rest) none in
+      subst (λ (t : List ℕ). TellsWhy config records None t) (sym whole) (tells_why records reason None is.rest has.0 why)
+
+says : {X Y : Type 0} (config : Config) (records : List ShownRecord) (verdict : Verdict X) (why : Option (Reason Y)) (totals : Totals) (more text : List ℕ)
+    → IsVerdict config records verdict → HasReason config records verdict why → AreSummed records verdict totals.tally totals.seen
+    → IsMoreOf config (Ok verdict) why totals more → text ≡ verdict_text verdict ++ more
+    → SaysExplained config records text (verdict_status verdict)
+says config records (Yes ends) why totals more text is has sums tells whole = record {
+  first = verdict_text (Yes ends);
+  more = more;
+  says = inl record { ends = map end_value ends.items; some = is.0; lists = is.1; prints = refl; tells = refl };
+  explains = tells ∙ ap (λ (t : Tally). yes_lines t totals.seen.left_idle) sums.0 ∙ ap (λ (v : Seen). yes_lines (tally_of records) v.left_idle) sums.1;
+  whole = whole;
+}
+says {X} config records (No count) why totals more text is has sums tells whole = record {
+  first = verdict_text {X = X} (No count);
+  more = more;
+  says = inr (inl record { count = count; within = is.0; before = is.1; behind = is.2; prints = refl; tells = refl });
+  explains = more_of_no config X records count why more has tells;
+  whole = whole;
+}
+says {X} config records Unfinished why totals more text is has sums tells whole = record {
+  first = verdict_text {X = X} Unfinished;
+  more = more;
+  says = inr (inr record { begins = is.0; none = is.1; prints = refl; tells = refl });
+  explains = more_of_unfinished config X records why more has tells;
+  whole = whole;
+}
+
+module _ {R : Type 0} (gives : R → R → List ℕ → Type 0) (has_ended : R → Bool) (counts : R → ℕ) (config : Config)
+    (source source' : R) (may_lack : Config → List ShownRecord → ShownRecord → Type 0) where
+  same_count : counts source' ≡ counts source + 0 → counts source' ≡ counts source
+  same_count counted = omega arith
+
+  -- what is explained is told by its text and status
+  tells_it : {X Y : Type 0} (answer : Result (Verdict X) CaptureFault) (why : Option (Reason Y)) (totals : Totals) (more text : List ℕ) (code : ℕ) → code ≡ answer_status answer
+      → ExplainsBy gives has_ended config source source' may_lack answer why totals → counts source' ≡ counts source + failures_of answer → IsMoreOf config answer why totals more
+      → text ≡ answer_text answer ++ more
+      → TellsExplained gives has_ended counts config source source' text code
+      ⊎ TellsFault gives has_ended counts config source source' may_lack text code
+      ⊎ TellsNoRoom gives has_ended counts config source source' text code
+  tells_it (Ok verdict) why totals more text code same is counted tell whole = inl record {
+    octets = is.octets;
+    records = is.records;
+    gave = is.gave;
+    ended = is.ended;
+    spells = is.spells;
+    says = subst (λ (n : ℕ). SaysExplained config is.records text n) (sym same) (says config is.records verdict why totals more text is.verdict is.reason is.summed tell whole);
+    counted = same_count counted;
+  }
+  tells_it (Err fault) why totals more text code same is counted tell whole =
+      let none : more ≡ [] = subst (λ (w : Option (Reason _)). IsMoreBy config w more) is.1 tell in inr (inl record {
+        fault = fault;
+        why = is.0;
+        prints = whole ∙ ap (λ (m : List ℕ). refused_line fault.kind fault.offset ++ m) none ∙ append-nil (refused_line fault.kind fault.offset);
+        tells = same;
+        counted = counted;
+      })
+
+  -- or that there was no memory for its details
+  tells_no_room : {X Y : Type 0} (answer : Result (Verdict X) CaptureFault) (why : Option (Reason Y)) (totals : Totals) (text : List ℕ) (code : ℕ)
+      → ExplainsBy gives has_ended config source source' may_lack answer why totals → counts source' ≡ counts source + failures_of answer → IsTrue (is_some why)
+      → text ≡ refused_line Memory totals.octets → code ≡ 4 → TellsNoRoom gives has_ended counts config source source' text code
+  tells_no_room (Ok verdict) why totals text code is counted some prints four = record {
+    octets = is.octets;
+    records = is.records;
+    gave = is.gave;
+    ended = is.ended;
+    spells = is.spells;
+    prints = prints ∙ ap (refused_line Memory) is.count;
+    tells = four;
+    counted = same_count counted;
+  }
+  tells_no_room (Err fault) why totals text code is counted some prints four =
+      absurd (let k : is_some why ≡ false = ap is_some is.1 in let none : ⊥ = cc in none)
+
+  pub tells : {X : Type 0} (explained : Explained X) (text : List ℕ) (code : ℕ) → Explains gives has_ended config source source' may_lack explained
+      → counts source' ≡ counts source + failures_of explained.answer → IsSaidOf config explained text code
+      → TellsExplained gives has_ended counts config source source' text code
+      ⊎ TellsFault gives has_ended counts config source source' may_lack text code
+      ⊎ TellsNoRoom gives has_ended counts config source source' text code
+  tells explained text code is counted (inl said) =
+      tells_it explained.answer explained.reason explained.totals said.0.more text code said.1 is counted said.0.is_more said.0.whole
+  tells explained text code is counted (inr said) =
+      inr (inr (tells_no_room explained.answer explained.reason explained.totals text code is counted said.0 said.1 said.2))
+
+  -- a record that is kept can be put
+  can_put : {X Y : Type 0} (answer : Result (Verdict X) CaptureFault) (why : Option (Reason Y)) (totals : Totals) → ExplainsBy gives has_ended config source source' may_lack answer why totals
+      → CanBePutOf config.parts.session why
+  can_put (Ok (Yes ends)) why octets is = subst (λ (w : Option (Reason _)). CanBePutOf config.parts.session w) (sym is.reason) tt
+  can_put (Ok (No count)) None octets is = absurd is.reason
+  can_put (Ok (No count)) (Some reason) octets is = next_can (take count is.records) (take (count + 1) is.records) reason.impossible is.reason.1 where
+    next_can : {Y : Type 0} (before records : List ShownRecord) (o : Option (Impossible Y)) → IsNext config before o records → CanBePut config.parts.session o
+    next_can before records None next = absurd next
+    next_can before records (Some i) next = next.0.allowed
+  can_put (Ok Unfinished) None octets is = absurd is.reason
+  can_put (Ok Unfinished) (Some reason) octets is = subst (λ (o : Option (Impossible _)). CanBePut config.parts.session o) (sym is.reason.1) tt
+  can_put (Err fault) why octets is = subst (λ (w : Option (Reason _)). CanBePutOf config.parts.session w) (sym is.1) tt
+
+pub can_be_put : {S X : Type 0} (gives : S → S → List ℕ → Type 0) (has_ended : S → Bool) (config : Config) (source new : S)
+    (may_lack : Config → List ShownRecord → ShownRecord → Type 0) (reader : ReaderState) (explained : Explained X)
+    → ReadsWith gives config.parts.session source new reader (fault_in explained.answer) (λ given. Explains given has_ended config source new may_lack explained)
+    → CanBePutOf config.parts.session explained.reason
+can_be_put gives has_ended config source new may_lack reader explained (by, ends) =
+    can_put (λ from to octets. octets ≡ joined by.pieces ++ by.rest) has_ended (λ s. 0) config source new may_lack explained.answer explained.reason explained.totals by.holds
+
+-- Of a source that is seen as another, what was explained is explained of that one.
+module _ {F R : Type 0} (view : F → R) (has_ended : R → Bool) (config : Config) (source source' : F)
+    (may_lack : Config → List ShownRecord → ShownRecord → Type 0) (octets : List ℕ) where
+  refusal_viewed : (fault : CaptureFault) → IsRefusal (λ from to some. some ≡ octets) (λ state. has_ended (view state)) config source source' may_lack fault
+      → IsRefusal (λ from to some. some ≡ octets) has_ended config (view source) (view source') may_lack fault
+  refusal_viewed fault (inl is) = inl record {
+    octets = is.octets;
+    records = is.records;
+    gave = is.gave;
+    first = is.first;
+  }
+  refusal_viewed fault (inr (inl is)) = inr (inl record {
+    pieces = is.pieces;
+    rest = is.rest;
+    gave = is.gave;
+    each = is.each;
+    kind = is.kind;
+    offset = is.offset;
+    begun = is.begun;
+  })
+  refusal_viewed fault (inr (inr is)) = inr (inr record {
+    pieces = is.pieces;
+    rest = is.rest;
+    gave = is.gave;
+    each = is.each;
+    kind = is.kind;
+    offset = is.offset;
+    place = is.place;
+  })
+
+  viewed : {X Y : Type 0} (answer : Result (Verdict X) CaptureFault) (why : Option (Reason Y)) (totals : Totals)
+      → ExplainsBy (λ from to some. some ≡ octets) (λ state. has_ended (view state)) config source source' may_lack answer why totals
+      → ExplainsBy (λ from to some. some ≡ octets) has_ended config (view source) (view source') may_lack answer why totals
+  viewed (Ok verdict) why totals is = record {
+    count = is.count;
+    summed = is.summed;
+    octets = is.octets;
+    records = is.records;
+    gave = is.gave;
+    ended = is.ended;
+    spells = is.spells;
+    verdict = is.verdict;
+    reason = is.reason;
+  }
+  viewed (Err fault) why totals is = (refusal_viewed fault is.0, is.1)
+
+-- what is lacking in records of which all is seen
+same_lacking : (code : ℕ) (seen : Seen) (records : List ShownRecord) → (code ≡ 0 → seen ≡ seen_in records)
+    → lacking_by (code == 0) seen ≡ lacking_in code records
+same_lacking zero seen records shows = ap (λ (s : Seen). lacking_by true s) (shows refl)
+same_lacking (suc code) seen records shows =
+    let no = eqb-suc-zero code in ap (λ (b : Bool). lacking_by b seen) no ∙ sym (ap (λ (b : Bool). lacking_by b (seen_in records)) no)
+
+-- What was read by a reader of captures, and what is told of it.
+module _ {R W : Type 0} (takes : W → W → List ℕ → Type 0) (failures : W → ℕ) (gives : R → R → List ℕ → Type 0)
+    (has_ended : R → Bool) (counts : R → ℕ) (config : Config) (source source' : R)
+    (may_lack : Config → List ShownRecord → ShownRecord → Type 0) (sink sink' : W) where
+  pub record ToldOf (reader : ReaderState) (status : ℕ) (first : List ℕ) (refused : Option CaptureFault) (seen : Seen) : Type 0 where
+    pub read : ReadBy gives config.parts.session source source' reader
+        (λ given. ExplainsCapture given has_ended takes counts failures config source source' may_lack sink sink' status)
+    pub ends : EndsBy read.pieces read.rest (fault_told read.holds.answer)
+    pub front : first ≡ kept (joined read.pieces ++ read.rest)
+    pub fault : refused ≡ fault_told read.holds.answer
+    pub lacking : lacking_by (read.holds.code == 0) seen ≡ lacking_in read.holds.code (records_of read.pieces)
+
+-- And it is told of just the octets of which a reader of captures knows all pieces.
+module _ {F R W : Type 0} (view : F → R) (takes : W → W → List ℕ → Type 0) (failures : W → ℕ) (gives : R → R → List ℕ → Type 0)
+    (has_ended : R → Bool) (counts : R → ℕ) (config : Config) (source source' : F)
+    (may_lack : Config → List ShownRecord → ShownRecord → Type 0) (sink sink' : W) where
+  told_in : {X Y : Type 0} (given : R → R → List ℕ → Type 0) (answer : Result (Verdict X) CaptureFault) (why : Option (Reason Y)) (totals : Totals) (more text : List ℕ)
+      (code : ℕ) (same : code ≡ answer_status answer)
+      → (is : ExplainsBy given has_ended config (view source) (view source') may_lack answer why totals)
+      → (counted : counts (view source') ≡ counts (view source) + failures_of answer) (tell : IsMoreOf config answer why totals more) (whole : text ≡ answer_text answer ++ more)
+      → fault_in answer ≡ fault_told (tells_it given has_ended counts config (view source) (view source') may_lack answer why totals more text code same is counted tell whole)
+  unfolding tells_it
+  told_in given (Ok verdict) why totals more text code same is counted tell whole = refl
+  told_in given (Err fault) why totals more text code same is counted tell whole = refl
+
+  -- there is a verdict where there is a reason
+  no_fault : {X Y : Type 0} (given : R → R → List ℕ → Type 0) (answer : Result (Verdict X) CaptureFault) (why : Option (Reason Y)) (totals : Totals)
+      → ExplainsBy given has_ended config (view source) (view source') may_lack answer why totals → IsTrue (is_some why) → fault_in answer ≡ None
+  no_fault given (Ok verdict) why totals is some = refl
+  no_fault given (Err fault) why totals is some = absurd (let k : is_some why ≡ false = ap is_some is.1 in let none : ⊥ = cc in none)
+
+  told_at : {X : Type 0} (given : R → R → List ℕ → Type 0) (explained : Explained X) (text : List ℕ) (code : ℕ)
+      → (is : Explains given has_ended config (view source) (view source') may_lack explained)
+      → (counted : counts (view source') ≡ counts (view source) + failures_of explained.answer) (said : IsSaidOf config explained text code)
+      → fault_in explained.answer ≡ fault_told (tells given has_ended counts config (view source) (view source') may_lack explained text code is counted said)
+  unfolding tells
+  told_at given explained text code is counted (inl said) =
+      told_in given explained.answer explained.reason explained.totals said.0.more text code said.1 is counted said.0.is_more said.0.whole
+  told_at given explained text code is counted (inr said) = no_fault given explained.answer explained.reason explained.totals is said.0
+
+  -- what the records show is known where the verdict is yes
+  shows : {X : Type 0} (explained : Explained X) (text : List ℕ) (code : ℕ) (pieces : List Piece) (rest : List ℕ)
+      → ExplainsBy (λ from to some. some ≡ joined pieces ++ rest) has_ended config (view source) (view source') may_lack explained.answer explained.reason explained.totals
+      → ArePieces config.parts.session None pieces → EndsBy pieces rest (fault_in explained.answer) → IsSaidOf config explained text code → code ≡ 0
+      → explained.totals.seen ≡ seen_in (records_of pieces)
+  shows explained text code pieces rest is each ends (inr said) naught = absurd (omega (arith, said.2, naught))
+  shows explained text code pieces rest is each ends (inl said) naught =
+      go explained.answer explained.reason explained.totals is ends (sym said.1 ∙ naught) where
+        go : {X Y : Type 0} (answer : Result (Verdict X) CaptureFault) (why : Option (Reason Y)) (totals : Totals)
+            → ExplainsBy (λ from to some. some ≡ joined pieces ++ rest) has_ended config (view source) (view source') may_lack answer why totals
+            → EndsBy pieces rest (fault_in answer) → answer_status answer ≡ 0 → totals.seen ≡ seen_in (records_of pieces)
+        go (Ok (Yes ends)) why totals is none naught =
+            let octets : is.octets ≡ joined pieces = is.gave ∙ ap (λ (o : List ℕ). joined pieces ++ o) none ∙ append-nil (joined pieces) in
+            is.summed.1 ∙ ap seen_in (one_spelling config.parts.session (joined pieces) is.records (records_of pieces)
+            (subst (λ (o : List ℕ). Spells config.parts.session o is.records) octets is.spells) (spelled config pieces each))
+        go (Ok (No count)) why totals is none naught = absurd (let e : 1 ≡ 0 = naught in omega (arith, e))
+        go (Ok Unfinished) why totals is none naught = absurd (let e : 2 ≡ 0 = naught in omega (arith, e))
+        go (Err fault) why totals is none naught = fault_is_no_yes fault (totals.seen ≡ seen_in (records_of pieces)) naught
+
+  -- and the source keeps its front
+  pub explains_read : {X : Type 0} (front_of : F → List ℕ) (reader : ReaderState) (explained : Explained X) (status : ℕ) (refused : Option CaptureFault)
+      → front_of source ≡ []
+      → ReadsWith (λ from to some. gives (view from) (view to) some × (front_of to ≡ kept (front_of from ++ some))) config.parts.session source source' reader
+      (fault_in explained.answer) (λ given. Explains given (λ state. has_ended (view state)) config source source' may_lack explained)
+      → counts (view source') ≡ counts (view source) + failures_of explained.answer
+      → (text : List ℕ) × (code : ℕ) × IsSaidOf config explained text code × IsWritten takes failures text code sink sink' status
+      → refused ≡ fault_in explained.answer
+      → ToldOf takes failures gives has_ended counts config (view source) (view source') may_lack sink sink' reader status (front_of source') refused
+      explained.totals.seen
+  explains_read front_of reader explained status refused nothing (by, ends) counted (text, code, said, wrote) is =
+      let octets = joined by.pieces ++ by.rest in
+      let given = λ (from to : R) (some : List ℕ). some ≡ octets in
+      let seen = viewed view has_ended config source source' may_lack octets explained.answer explained.reason explained.totals by.holds in
+      let told = told_at given explained text code seen counted said in record {
+        read = record {
+          pieces = by.pieces;
+          rest = by.rest;
+          knows = by.knows;
+          gave = by.gave.0;
+          each = by.each;
+          holds = record {
+            text = text;
+            code = code;
+            answer = tells given has_ended counts config (view source) (view source') may_lack explained text code seen counted said;
+            wrote = wrote;
+          };
+        };
+        ends = subst (λ (f : Option CaptureFault). EndsBy by.pieces by.rest f) told ends;
+        front = by.gave.1 ∙ ap (λ (o : List ℕ). kept (o ++ octets)) nothing;
+        fault = is ∙ told;
+        lacking = same_lacking code explained.totals.seen (records_of by.pieces) (shows explained text code by.pieces by.rest seen by.each ends said);
+      }
+
+-- what is explained of octets that were given is explained of what was given
+module _ {S : Type 0} (has_ended : S → Bool) (config : Config) (source new : S) (may_lack : Config → List ShownRecord → ShownRecord → Type 0)
+    (just gives : S → S → List ℕ → Type 0)
+    (given : (octets : List ℕ) → just source new octets → gives source new octets) where
+  refusal_given : (fault : CaptureFault) → IsRefusal just has_ended config source new may_lack fault → IsRefusal gives has_ended config source new may_lack fault
+  refusal_given fault (inl is) = inl record {
+    octets = is.octets;
+    records = is.records;
+    gave = given is.octets is.gave;
+    first = is.first;
+  }
+  refusal_given fault (inr (inl is)) = inr (inl record {
+    pieces = is.pieces;
+    rest = is.rest;
+    gave = given (joined is.pieces ++ is.rest) is.gave;
+    each = is.each;
+    kind = is.kind;
+    offset = is.offset;
+    begun = is.begun;
+  })
+  refusal_given fault (inr (inr is)) = inr (inr record {
+    pieces = is.pieces;
+    rest = is.rest;
+    gave = given (joined is.pieces ++ is.rest) is.gave;
+    each = is.each;
+    kind = is.kind;
+    offset = is.offset;
+    place = is.place;
+  })
+
+  explains_given : {X Y : Type 0} (answer : Result (Verdict X) CaptureFault) (why : Option (Reason Y)) (totals : Totals) → ExplainsBy just has_ended config source new may_lack answer why totals
+      → ExplainsBy gives has_ended config source new may_lack answer why totals
+  explains_given (Ok verdict) why totals is = record {
+    count = is.count;
+    summed = is.summed;
+    octets = is.octets;
+    records = is.records;
+    gave = given is.octets is.gave;
+    ended = is.ended;
+    spells = is.spells;
+    verdict = is.verdict;
+    reason = is.reason;
+  }
+  explains_given (Err fault) why totals is = (refusal_given fault is.0, is.1)
+
+module _ {R W : Type 0} (takes : W → W → List ℕ → Type 0) (failures : W → ℕ) (gives : R → R → List ℕ → Type 0) (has_ended : R → Bool) (counts : R → ℕ)
+    (config : Config) (source source' : R) (may_lack : Config → List ShownRecord → ShownRecord → Type 0) (sink sink' : W) where
+  pub explains_capture : {X : Type 0} (reader : ReaderState) (explained : Explained X) (status : ℕ)
+      → ReadsWith gives config.parts.session source source' reader (fault_in explained.answer) (λ given. Explains given has_ended config source source' may_lack explained)
+      → counts source' ≡ counts source + failures_of explained.answer
+      → (text : List ℕ) × (code : ℕ) × IsSaidOf config explained text code × IsWritten takes failures text code sink sink' status
+      → ExplainsCapture gives has_ended takes counts failures config source source' may_lack sink sink' status
+  explains_capture reader explained status (by, ends) counted (text, code, said, wrote) = record {
+    text = text;
+    code = code;
+    answer = tells gives has_ended counts config source source' may_lack explained text code
+        (explains_given has_ended config source source' may_lack (λ from to octets. octets ≡ joined by.pieces ++ by.rest) gives
+        (λ octets is. subst (λ (o : List ℕ). gives source source' o) (sym is) by.gave) explained.answer explained.reason explained.totals by.holds)
+        counted said;
+    wrote = wrote;
+  }

@@ -1,0 +1,28 @@
+use Rattle.std.proofs.Common.{◌≡◌, ◌∙◌, ◌+◌, ◌++◌, ◌∷◌, [], ℕ, ap, length, refl, sym}
+use Rattle.mrt.specs.Reader.{shown_of}
+use Rattle.bgp_machine.specs.declared.fsm.Fsm.{Fsm}
+use Rattle.bgp_reason.specs.declared.told.Told.{Told}
+use Rattle.bgp_reason.specs.Told.{told, told_with}
+use Rattle.bgp_tool.specs.declared.seen.Seen.{Seen}
+use Rattle.bgp_tool.specs.Seen.{seen_with}
+use Rattle.bgp_tool.proofs.SeenSoFar.{seen_more}
+use Rattle.bgp_explain.specs.declared.tally.Tally.{Tally}
+use Rattle.bgp_explain.specs.Tally.{tally_of, tally_with}
+use Rattle.bgp_explain.proofs.Keeping.{so_then, tally_more, told_more}
+use Rattle.bgp_explain.proofs.so_far.Progress.keep.Goals as goal
+
+pub returns-clause-told : goal.returns-clause-told
+returns-clause-told g c = λ records is begins.
+    let shown = shown_of c.args.shown.now in
+    let law = c.records_tell_one_by_one.ensures in
+    let state = ap (λ (t : Told). t.state) is.told ∙ law.state records in
+    let told_then : c.with-self-3.result ≡ told (records ++ shown ∷ []) =
+    c.with-self-3.ensures ∙ ap (λ (n : ℕ). told_with (n + 1) shown c.args.self.now.told) is.count ∙ ap (λ (t : Told). told_with (length records + 1) shown t) is.told ∙ sym (law.one_more records shown) in
+    let after = ap (λ (t : Told). t.state) told_then ∙ law.state (records ++ shown ∷ []) in
+    so_then c.keep_message.result
+    (λ last. told_more law.one_more records shown c.args.config.now c.args.self.now _ is
+    (c.with-self-4.ensures records state after begins is.sending)
+    (c.with-self.ensures ∙ ap (λ (t : Tally). tally_with t c.args.self.now.told.state shown) is.tally ∙ ap (λ (f : Fsm). tally_with (tally_of records) f shown) state ∙ tally_more records shown)
+    (c.with-self-2.ensures ∙ ap (λ (s : Seen). seen_with s shown) is.seen ∙ seen_more records shown)
+    refl c.with-self-3.ensures last)
+    c.keep_message.ensures.ok

@@ -1,0 +1,64 @@
+-- What is told of a no: which records could have stood in the place of the first impossible one, and
+-- what this lacks of them.
+use Rattle.std.specs.Prelude.{◌≡◌, ◌↔◌, ◌+◌, ◌++◌, ℕ, List, [], ◌∷◌, None, IsTrue, take}
+use Rattle.bgp_prefix.specs.Shown.{ShownRecord}
+use Rattle.bgp_open.specs.declared.config.Config.{Config}
+use Rattle.bgp_machine.specs.Run.{Begins}
+use Rattle.bgp_judge.specs.Verdict.{HasVerdict, No}
+use Rattle.bgp_parts.specs.NotificationParts.{HasNoPart}
+use Rattle.bgp_parts.specs.OwnOpenParts.{LacksNothing}
+use Rattle.bgp_reason.specs.declared.kinds.Possible.{Possible}
+use Rattle.bgp_reason.specs.Possible.{ArePossible, IsAmong, IsCapturable}
+use Rattle.bgp_reason.specs.Sending.{sending_link}
+use Rattle.bgp_reason_text.specs.NotWhole.{IsWhyNotSent}
+use Rattle.bgp_explain.specs.Lacked.{Lacked, Nothing, Open, Update, Notification, RecordLacks}
+
+-- Of records whose verdict is a no, after so many, and of what is possible there.
+module _ (config : Config) (records : List ShownRecord) (count : ℕ) (possible : Possible) where
+  -- a record is among those that are told
+  abbrev pub IsTold : ShownRecord → Type 0
+  IsTold shown = IsAmong config (sending_link config (take count records)) possible shown
+
+  -- In the place of the first impossible record each of those could have stood, and no other that a
+  -- capture can hold. It is none of them, and there is one.
+  pub record CouldStand : Type 0 where
+    pub each : (shown : ShownRecord) → IsCapturable config (take count records) shown
+        → IsTold shown ↔ Begins config (take count records ++ shown ∷ [])
+    pub not_this : (shown : ShownRecord) → IsCapturable config (take count records) shown
+        → take (count + 1) records ≡ take count records ++ shown ∷ [] → ¬ IsTold shown
+    pub some : (shown : ShownRecord) × IsCapturable config (take count records) shown
+        × IsTold shown
+
+abbrev pub CouldHaveStood : Type 0
+CouldHaveStood =
+    (config : Config) (records : List ShownRecord) (count : ℕ) (possible : Possible)
+    → HasVerdict config records (No count) → ArePossible config (take count records) possible
+    → CouldStand config records count possible
+
+-- ---- what it lacks
+
+-- the item that a record resembles is among those that are possible
+abbrev pub IsItemThere : Possible → Lacked → Type 0
+IsItemThere possible Nothing = ⊥
+IsItemThere possible (Open parts) = IsTrue possible.own_open
+IsItemThere possible (Update parts) = IsTrue possible.update
+IsItemThere possible (Notification code parts) = Unit {0}
+
+-- there is no part
+abbrev pub NamesNothing : Lacked → Type 0
+NamesNothing Nothing = Unit {0}
+NamesNothing (Open parts) = LacksNothing parts
+NamesNothing (Update parts) = parts ≡ []
+NamesNothing (Notification code parts) = HasNoPart parts
+
+-- Of a record that is impossible after these, and is a whole message where it was sent, a part is
+-- named wherever the item that it resembles is told.
+abbrev pub NamesWhatLacks : Type 0
+NamesWhatLacks =
+    (config : Config) (records : List ShownRecord) (possible : Possible) (shown : ShownRecord)
+    (lacked : Lacked)
+    → ArePossible config records possible → IsCapturable config records shown
+    → ¬ Begins config (records ++ shown ∷ [])
+    → IsWhyNotSent (sending_link config records) shown None
+    → RecordLacks config (sending_link config records) possible shown lacked
+    → IsItemThere possible lacked → ¬ NamesNothing lacked

@@ -1,0 +1,14 @@
+pub mod Settled
+pub mod Sending
+pub mod Kept
+pub mod Tally
+pub mod Reason
+pub mod Progress
+pub mod Explaining
+pub mod Laws
+pub mod Updates
+pub mod Lacked
+pub mod Details
+pub mod Text
+pub mod Capture
+pub mod Opened

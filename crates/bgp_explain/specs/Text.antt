@@ -1,0 +1,145 @@
+-- The text of what is explained: the verdict's own text, and then that of its reason.
+use Rattle.std.specs.Prelude.{◌≡◌, ◌≤◌, ◌⊎◌, ◌++◌, ℕ, List, [], Option, None, Some, IsSome}
+use Rattle.std.specs.Prelude.{Result, Ok, Err, length}
+use Rattle.bgp_prefix.specs.Shown.{ShownRecord}
+use Rattle.bgp_prefix.specs.declared.session.Session.{Session}
+use Rattle.bgp_open.specs.declared.config.Config.{Config}
+use Rattle.bgp_open.specs.declared.link.Link.{Link}
+use Rattle.mrt.specs.Written.{IsAllowed}
+use Rattle.mrt.specs.declared.fault.CaptureFault.{CaptureFault}
+use Rattle.mrt.specs.declared.fault.FaultKind.TheVariants.{Memory}
+use Rattle.bgp_judge.specs.declared.verdict.Verdict.{Verdict}
+use Rattle.bgp_judge.specs.declared.verdict.Verdict.TheVariants.{Yes}
+use Rattle.bgp_reason.specs.declared.kinds.Possible.{Possible}
+use Rattle.bgp_reason.specs.declared.told.Told.{Told}
+use Rattle.bgp_reason_text.specs.declared.notes.Notes.{Notes}
+use Rattle.bgp_reason_text.specs.Asked.{Asks, last_received_line}
+use Rattle.bgp_reason_text.specs.declared.whole.NotWhole.{NotWhole}
+use Rattle.bgp_reason_text.specs.NotWhole.{IsWhyNotSent, not_whole_line}
+use Rattle.bgp_reason_text.specs.Notes.{AreEndNotes, AreNotes, notes_text}
+use Rattle.bgp_reason_text.specs.Record.{record_line, state_line}
+use Rattle.bgp_text.specs.Capture.{IsRecordLine, refused_line}
+use Rattle.bgp_tool.specs.Answer.{answer_status, answer_text}
+use Rattle.bgp_explain.specs.declared.explained.Explained.{Explained}
+use Rattle.bgp_explain.specs.declared.explained.Impossible.{Impossible}
+use Rattle.bgp_explain.specs.declared.explained.Reason.{Reason}
+use Rattle.bgp_explain.specs.declared.explained.Totals.{Totals}
+use Rattle.bgp_explain.specs.declared.texts.Received.{Received}
+use Rattle.bgp_explain.specs.Details.{AreLacksOf, IsAskedBy, next_in}
+use Rattle.bgp_explain.specs.Kept.{shown_by}
+use Rattle.bgp_explain.specs.Lacked.{Lacked, following_lines}
+use Rattle.bgp_explain.specs.Tally.{yes_lines}
+use Rattle.bgp_explain.specs.Updates.{Asking, update_line}
+
+-- the message that was received last, by what the records tell, and what its octets ask for
+abbrev pub IsReceivedBy : Config → Told → List ℕ → Option ℕ → Option Received → Type 0
+IsReceivedBy config told octets None None = Unit {0}
+IsReceivedBy config told octets None (Some received) = ⊥
+IsReceivedBy config told octets (Some number) None = ⊥
+IsReceivedBy config told octets (Some number) (Some received) =
+    (received.number ≡ number) × (received.asked.state ≡ told.state)
+    × (19 ≤ length octets → Asks config octets received.asked.message)
+
+abbrev pub IsReceived : Config → Told → List ℕ → Option Received → Type 0
+IsReceived config told octets received =
+    IsReceivedBy config told octets told.last_received received
+
+-- its line, where one was received since Idle was told: of an UPDATE in Established it has all that
+-- may become of it
+abbrev pub received_text : Option Received → Option Asking → List ℕ
+received_text None asking = []
+received_text (Some received) None = last_received_line received.number received.asked
+received_text (Some received) (Some asking) = update_line received.number asking
+
+-- ---- why the next record is impossible, or what may follow where there is none
+
+-- why it isn't a whole message, where it was sent
+abbrev pub IsUnwholeOf : Option Link → Option (ℕ × ShownRecord) → Option NotWhole → Type 0
+IsUnwholeOf link None unwhole = unwhole ≡ None
+IsUnwholeOf link (Some next) unwhole = IsWhyNotSent link next.1 unwhole
+
+abbrev pub AreNotesOf : Config → Told → Option Link → List ℕ → Possible
+    → Option (ℕ × ShownRecord) → Notes → Type 0
+AreNotesOf config told link octets possible None notes = AreEndNotes config told octets notes
+AreNotesOf config told link octets possible (Some next) notes =
+    AreNotes config told link octets possible next.0 next.1 notes
+
+-- what the records tell; the message received last; whether the next record is whole; what may
+-- follow, and what the next record lacks of it; and the notes
+abbrev pub why_text : Told → Option Received → Option Asking → Option NotWhole → Possible → Lacked
+    → Notes → List ℕ
+why_text told received asking unwhole possible lacked notes =
+    state_line told ++ (received_text received asking ++ (not_whole_line unwhole
+    ++ (following_lines possible lacked ++ notes_text notes)))
+
+pub record IsWhy (config : Config) (told : Told) (link : Option Link) (octets : List ℕ)
+    (possible : Possible) (next : Option (ℕ × ShownRecord)) (text : List ℕ) : Type 0 where
+  pub received : Option Received
+  pub asking : Option Asking
+  pub unwhole : Option NotWhole
+  pub lacked : Lacked
+  pub notes : Notes
+  pub is_received : IsReceived config told octets received
+  pub is_asked : IsAskedBy config told link octets asking
+  pub is_unwhole : IsUnwholeOf link next unwhole
+  pub are_lacks : AreLacksOf config link possible next lacked
+  pub are_notes : AreNotesOf config told link octets possible next notes
+  pub whole : text ≡ why_text told received asking unwhole possible lacked notes
+
+-- ---- of a reason
+
+-- the line of the first impossible record, where there is one
+abbrev pub IsImpossibleLine : {X : Type 0} → Session → Option (Impossible X) → List ℕ → Type 0
+IsImpossibleLine session None text = text ≡ []
+IsImpossibleLine session (Some impossible) text =
+    (line : List ℕ) × IsRecordLine session (shown_by impossible.«record») line
+    × (text ≡ record_line impossible.number line)
+
+pub record IsReasonText {X : Type 0} (config : Config) (reason : Reason X) (text : List ℕ)
+    : Type 0 where
+  pub first : List ℕ
+  pub rest : List ℕ
+  pub impossible : IsImpossibleLine config.parts.session reason.impossible first
+  pub why : IsWhy config reason.told reason.link reason.last_message.items reason.possible
+      (next_in reason.impossible) rest
+  pub whole : text ≡ first ++ rest
+
+-- ---- of what is explained
+
+abbrev pub IsMoreBy : {X : Type 0} → Config → Option (Reason X) → List ℕ → Type 0
+IsMoreBy config None more = more ≡ []
+IsMoreBy config (Some reason) more = IsReasonText config reason more
+
+-- after a yes what its records are, and else the reason, where there is one
+abbrev pub IsMoreOf : {X Y : Type 0} → Config → Result (Verdict X) CaptureFault → Option (Reason Y)
+    → Totals → List ℕ → Type 0
+IsMoreOf config (Ok (Yes ends)) reason totals more =
+    more ≡ yes_lines totals.tally totals.seen.left_idle
+IsMoreOf config answer reason totals more = IsMoreBy config reason more
+
+-- the verdict's own text, and then what comes after it
+pub record IsExplainedText {X : Type 0} (config : Config) (explained : Explained X)
+    (text : List ℕ) : Type 0 where
+  pub more : List ℕ
+  pub is_more : IsMoreOf config explained.answer explained.reason explained.totals more
+  pub whole : text ≡ answer_text explained.answer ++ more
+
+-- What is said of it, with its exit status: its text; or where there is a verdict and memory was
+-- refused for the details of its reason, that fault, at the capture's end.
+abbrev pub IsSaidOf : {X : Type 0} → Config → Explained X → List ℕ → ℕ → Type 0
+IsSaidOf config explained text code =
+    (IsExplainedText config explained text × (code ≡ answer_status explained.answer))
+    ⊎ (IsSome explained.reason × (text ≡ refused_line Memory explained.totals.octets)
+    × (code ≡ 4))
+
+-- ---- what can be put
+
+-- a capture of the session can hold the first impossible record
+abbrev pub CanBePut : {X : Type 0} → Session → Option (Impossible X) → Type 0
+CanBePut session None = Unit {0}
+CanBePut session (Some impossible) =
+    (last : Option ℕ) × IsAllowed session last (shown_by impossible.«record»)
+
+abbrev pub CanBePutOf : {X : Type 0} → Session → Option (Reason X) → Type 0
+CanBePutOf session None = Unit {0}
+CanBePutOf session (Some reason) = CanBePut session reason.impossible

@@ -1,0 +1,129 @@
+//! The verdict on one session of a capture (RFC 6396) with its reason, read in one pass.
+
+ghost use Rattle.std.specs.Prelude.{◌≡◌, ◌<◌, ◌+◌, []};
+ghost use Rattle.mrt.specs.declared.fault.FaultKind.TheVariants.{Memory};
+ghost use Rattle.mrt.specs.Progress.{failures_of};
+ghost use Rattle.mrt.specs.Reader.{fresh_reader};
+ghost use Rattle.bgp_judge.specs.Judging.{Judges, ReadsWith, fault_in};
+ghost use Rattle.bgp_explain.specs.Explaining.{Explains, Follows, MayLack};
+ghost use Rattle.bgp_explain.specs.Progress.{IsAt};
+
+use crate::explained::{Explained, Totals};
+use crate::so_far::Progress;
+use crate::tally::Tally;
+use bgp_judge::Tracker;
+use bgp_open::Config;
+use bgp_tool::Seen;
+use mrt::{CaptureFault, FaultKind, Reader, Source};
+use std::alloc::Allocator;
+
+/// No memory at this octet.
+pub(crate) fn out_of_memory(offset: u64) -> CaptureFault
+    ensures { result ≡ record { kind = Memory; offset = offset } }
+{
+    CaptureFault {
+        kind: FaultKind::Memory,
+        offset,
+    }
+}
+
+/// Nothing to explain but a fault.
+pub(crate) fn refused<A: Allocator>(fault: CaptureFault) -> Explained<A>
+    ensures answer { result.answer ≡ Err fault }
+    ensures reason { result.reason ≡ None }
+{
+    Explained {
+        answer: Err(fault),
+        reason: None,
+        totals: Totals {
+            octets: 0,
+            tally: Tally::nothing(),
+            seen: Seen::nothing(),
+        },
+    }
+}
+
+/// Reads the records of the session, to the end of the capture or to its first fault, and lets the
+/// tracker take them, to the first impossible one. What is told of them is kept.
+fn follow<A: Allocator + Copy, T: Tracker<A>, S: Source>(
+    progress: &mut Progress<A>,
+    alloc: A,
+    tracker: &mut T,
+    reader: &mut Reader<A>,
+    config: &Config,
+    source: &mut S,
+) -> Result<(), CaptureFault>
+    requires at { IsAt (T.stands_for tracker.old) config.now [] progress.old }
+    requires count { progress.old.count ≡ 0 }
+    requires fresh { reader.old ≡ fresh_reader }
+    requires failures { S.failures source.old < u64.MAX }
+    ensures follows { ReadsWith S.gives config.now.parts.session source.old source.new reader.new
+        (fault_in result)
+        (λ gives. Follows gives S.has_ended config.now source.old source.new
+        (MayLack T.may_lack) (λ records. IsAt (T.stands_for tracker.new) config.now records progress.new)
+        reader.new.place result) }
+    ensures failures { S.failures source.new ≡ S.failures source.old + failures_of result }
+{
+    loop {
+        let advanced = match reader.next_record(source, &config.parts.session) {
+            Ok(Some(shown)) => progress.advance(alloc, tracker, config, &shown),
+            Ok(None) => return Ok(()),
+            Err(fault) => return Err(fault),
+        };
+        match advanced {
+            Ok(()) => {}
+            Err(_) => return Err(out_of_memory(reader.place())),
+        }
+    }
+}
+
+/// The verdict, or the fault, that [`judge_with`](bgp_judge::judge_with) answers, and why the
+/// verdict is a no or unfinished, by a reader that has read nothing. It tells afterwards whether it
+/// found a record of the session, and the addresses of the first record of another one.
+///
+/// It reads in one pass, and holds one record at a time, and beside it the message that was received
+/// last and the first impossible record. Memory may be refused for these and for what could have
+/// stood in the place of that record, too: then the fault is at that record, or at one that holds a
+/// received message; of records that are unfinished it is at the capture's length.
+pub fn explain_with<A: Allocator + Copy, T: Tracker<A>, S: Source>(
+    reader: &mut Reader<A>,
+    alloc: A,
+    config: &Config,
+    source: &mut S,
+) -> Explained<A>
+    requires fresh { reader.old ≡ fresh_reader }
+    requires failures { S.failures source.old < u64.MAX }
+    ensures judged { ReadsWith S.gives config.now.parts.session source.old source.new reader.new
+        (fault_in result.answer)
+        (λ gives. Judges gives S.has_ended config.now source.old source.new
+        (MayLack T.may_lack) result.answer) }
+    ensures explained { ReadsWith S.gives config.now.parts.session source.old source.new reader.new
+        (fault_in result.answer)
+        (λ gives. Explains gives S.has_ended config.now source.old source.new
+        (MayLack T.may_lack) result) }
+    ensures failures { S.failures source.new
+        ≡ S.failures source.old + failures_of result.answer }
+{
+    let started: Result<T, _> = T::start(alloc, config);
+    let Ok(mut tracker) = started else {
+        return refused(out_of_memory(0));
+    };
+    let mut progress = Progress::new(alloc);
+    match follow(&mut progress, alloc, &mut tracker, reader, config, source) {
+        Ok(()) => {}
+        Err(fault) => return refused(fault),
+    }
+    let totals = Totals {
+        octets: reader.place(),
+        tally: progress.tally,
+        seen: progress.seen,
+    };
+    match progress.conclude(alloc, &tracker, config) {
+        Ok((verdict, reason)) => Explained {
+            answer: Ok(verdict),
+            reason,
+            totals,
+        },
+        Err(_) => refused(out_of_memory(totals.octets)),
+    }
+}

@@ -1,0 +1,59 @@
+//! What is answered of a capture that is explained.
+
+use crate::kept::KeptRecord;
+use crate::tally::Tally;
+use bgp_judge::Verdict;
+use bgp_open::Link;
+use bgp_reason::{Possible, Told};
+use bgp_tool::Seen;
+use mrt::CaptureFault;
+use std::alloc::{Allocator, Global};
+
+/// The first impossible record of a session, which is kept.
+#[derive(Drop)]
+pub struct Impossible<A: Allocator = Global> {
+    /// Its number among the session's records, from 1.
+    pub number: u64,
+    /// The record.
+    pub record: KeptRecord<A>,
+}
+
+/// Why a verdict is a no or unfinished: what the records tell, and all that may follow them. Of a no
+/// it is those before the first impossible record.
+#[derive(Drop)]
+pub struct Reason<A: Allocator = Global> {
+    /// What the records tell.
+    pub told: Told,
+    /// The link on which a message is sent that follows them.
+    pub link: Option<Link>,
+    /// The message that was received last; empty where none was.
+    pub last_message: Vec<u8, A>,
+    /// The first impossible record, where the verdict is a no.
+    pub impossible: Option<Impossible<A>>,
+    /// What may follow the records: all of it, and nothing else.
+    pub possible: Possible,
+}
+
+/// What a capture holds that was read to its end. What its records show is told of all of them
+/// where they are judged yes.
+#[derive(Clone, Copy, Debug, PartialEq, Eq)]
+pub struct Totals {
+    /// How many octets it has.
+    pub octets: u64,
+    /// How many records of the session.
+    pub tally: Tally,
+    /// What these show of what the local system did.
+    pub seen: Seen,
+}
+
+/// What judging a capture answers, and why.
+#[derive(Drop)]
+pub struct Explained<A: Allocator = Global> {
+    /// The verdict, or the fault for which there is none, as
+    /// [`judge_with`](bgp_judge::judge_with) answers it.
+    pub answer: Result<Verdict<A>, CaptureFault>,
+    /// Why the verdict is a no or unfinished. A yes has its ends, and a fault its place.
+    pub reason: Option<Reason<A>>,
+    /// What the capture holds, where there is a verdict.
+    pub totals: Totals,
+}

@@ -1,0 +1,107 @@
+//! What explaining a capture promises.
+
+ghost use Rattle.std.specs.Prelude.{◌<◌, ◌≤◌, ◌^◌, ℕ, List};
+ghost use Rattle.bgp_tool.specs.Answer.{answer_status, IsWritten};
+ghost use Rattle.bgp_explain.specs.Capture.{ExplainedAsJudged, ExplainsCapture};
+ghost use Rattle.bgp_explain.specs.Details.{AreDetailsOf};
+ghost use Rattle.bgp_explain.specs.Explaining.{MayLack};
+ghost use Rattle.bgp_explain.specs.Text.{CanBePutOf, IsExplainedText, IsSaidOf};
+
+use crate::capture::{explain_with, out_of_memory, refused};
+use crate::details::{Details, details_of};
+use crate::explained::Explained;
+use crate::texts::put_explained;
+use bgp_judge::Tracker;
+use bgp_open::Config;
+use bgp_text::Lines;
+use bgp_tool::{each_capture_has_one_verdict, hand_over};
+use mrt::{Reader, Sink, Source};
+use std::alloc::Allocator;
+
+/// Writes the text of what is explained, with the details of its reason, and answers its exit
+/// status, or that of a device where the sink failed.
+fn write_with<W: Sink, A: Allocator + Copy>(
+    sink: &mut W,
+    config: &Config,
+    explained: &Explained<A>,
+    details: &Option<Details<'_, A>>,
+) -> u8
+    requires failures { W.failures sink.old < 2 ^ 63 }
+    requires can { CanBePutOf config.now.parts.session explained.now.reason }
+    requires details { AreDetailsOf config.now explained.now.reason details.now }
+    ensures writes { (text : List ℕ) × IsExplainedText config.now explained.now text
+        × IsWritten W.takes W.failures text (answer_status explained.now.answer)
+        sink.old sink.new result }
+    ensures statuses { result ≤ 5 }
+{
+    let mut lines = Lines::new(sink);
+    let status = put_explained(&mut lines, config, explained, details);
+    let status = hand_over(&mut lines, status);
+    // No effect: it ends the loan of the sink.
+    lines.into_sink();
+    status.code()
+}
+
+/// Writes the text of what is explained, and answers its exit status, or that of a device where the
+/// sink failed. Where memory is refused for the details of the reason, it is that of a fault at the
+/// capture's end.
+pub(crate) fn write_explained<W: Sink, A: Allocator + Copy>(
+    sink: &mut W,
+    alloc: A,
+    config: &Config,
+    explained: &Explained<A>,
+) -> u8
+    requires failures { W.failures sink.old < 2 ^ 63 }
+    requires can { CanBePutOf config.now.parts.session explained.now.reason }
+    ensures writes { (text : List ℕ) × (code : ℕ) × IsSaidOf config.now explained.now text code
+        × IsWritten W.takes W.failures text code sink.old sink.new result }
+    ensures statuses { result ≤ 5 }
+{
+    match details_of(alloc, config, &explained.reason) {
+        Ok(details) => write_with(sink, config, explained, &details),
+        Err(_) => {
+            let fault: Explained<A> = refused(out_of_memory(explained.totals.octets));
+            write_with(sink, config, &fault, &None)
+        }
+    }
+}
+
+/// Judges the capture that a source gives, as [`judge_capture`](bgp_tool::judge_capture) does, and
+/// explains a no and an unfinished.
+///
+/// It writes exactly the text of the one verdict on the records that the octets spell, answers its
+/// exit status, and then writes:
+///
+/// * after a no the line of the first impossible record; the state that the records before it
+///   tell; the message received last, and what it asks for; each kind of record that could have
+///   stood in its place, and no other, with what the record lacks of it; and notes.
+/// * after an unfinished the same, of what may follow all records.
+///
+/// After a yes and a refusal it writes nothing more. Where the sink failed, a beginning of that
+/// text is written, and the status is 5. Where memory was refused for what an UPDATE lacks or asks
+/// for, it is that of `capture refused: 10 Memory at OFFSET`, the capture's length.
+///
+/// It rests on the contract of [`Tracker`] alone, and so holds with every tracker.
+pub fn explain_capture<A: Allocator + Copy, T: Tracker<A>, R: Source, W: Sink>(
+    alloc: A,
+    config: &Config,
+    source: &mut R,
+    sink: &mut W,
+) -> u8
+    requires source { R.failures source.old < 2 ^ 63 }
+    requires sink { W.failures sink.old < 2 ^ 63 }
+    ensures { ExplainsCapture R.gives R.has_ended W.takes R.failures W.failures config.now
+        source.old source.new (MayLack T.may_lack) sink.old sink.new result }
+{
+    let mut reader = Reader::new(alloc);
+    let explained = explain_with::<A, T, R>(&mut reader, alloc, config, source);
+    write_explained(sink, alloc, config, &explained)
+}
+
+/// Law: what is explained is judged. The text of what is explained begins with that of the one
+/// verdict which judging the capture tells, and the exit status is the same.
+pub fn explained_as_judged()
+    ensures { ExplainedAsJudged }
+{
+    each_capture_has_one_verdict();
+}

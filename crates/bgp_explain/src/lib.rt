@@ -1,0 +1,33 @@
+//! The verdict on one session of a capture (RFC 6396), and why it is a no or unfinished: what the
+//! records before tell, and all that could have stood in the place of the first impossible one.
+//!
+//! ```text
+//! let explained = explain_with::<A, CompactTracker<A>, _>(&mut reader, alloc, &config, &mut source);
+//! if let Some(reason) = &explained.reason {
+//!     print(reason.told.state, reason.possible);
+//! }
+//! ```
+#![tactic(auto)]
+
+mod capture;
+mod details;
+mod explained;
+mod headline;
+mod kept;
+mod laws;
+mod opened;
+mod progress;
+mod sending;
+mod so_far;
+mod tally;
+mod texts;
+
+pub use capture::explain_with;
+pub use details::Details;
+pub use explained::{Explained, Impossible, Reason, Totals};
+pub use headline::{explain_capture, explained_as_judged};
+pub use kept::KeptRecord;
+pub use laws::{a_no_names_what_lacks, what_could_have_stood_is_told};
+pub use opened::explain_opened;
+pub use tally::Tally;
+pub use texts::{put_explained, put_reason};

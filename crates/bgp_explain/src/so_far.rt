@@ -1,0 +1,34 @@
+//! What is kept of a session's records while they are judged.
+
+ghost use Rattle.std.specs.Prelude.{◌≤◌};
+
+use crate::explained::Impossible;
+use crate::sending::Sending;
+use crate::tally::Tally;
+use bgp_reason::{Possible, Told};
+use bgp_tool::Seen;
+use std::alloc::{Allocator, Global};
+
+/// Where the records stop being those of a run: the first impossible one, and what was possible in
+/// its place.
+#[derive(Drop)]
+pub(crate) struct Stop<A: Allocator = Global> {
+    pub(crate) impossible: Impossible<A>,
+    pub(crate) possible: Possible,
+}
+
+/// What is kept of the records so far, up to the first impossible one: beside a few words two
+/// messages at the most.
+#[derive(Drop)]
+pub(crate) struct Progress<A: Allocator = Global> {
+    /// How many records begin a run.
+    pub(crate) count: u64,
+    pub(crate) told: Told,
+    pub(crate) sending: Sending,
+    pub(crate) tally: Tally,
+    pub(crate) seen: Seen,
+    pub(crate) last_message: Vec<u8, A>,
+    pub(crate) stop: Option<Stop<A>>,
+    ghost few: { (tally.received ≤ count) × (tally.sent ≤ count) × (tally.changes ≤ count)
+        × (tally.ignored ≤ count) },
+}

@@ -1,0 +1,119 @@
+//! How many records of a session there are, kind by kind.
+
+ghost use Rattle.std.specs.Prelude.{◌≡◌, ◌<◌};
+ghost use Rattle.mrt.specs.Reader.{shown_of};
+ghost use Rattle.bgp_text.specs.Lines.{Writes};
+ghost use Rattle.bgp_explain.specs.Tally.{idle_note, ignored_line, ignored_with, no_tally};
+ghost use Rattle.bgp_explain.specs.Tally.{records_line, tally_with, yes_lines};
+
+use bgp_machine::Fsm;
+use bgp_text::Lines;
+use mrt::{Record, Sink};
+
+/// How many records of a session there are.
+#[derive(Clone, Copy, Debug, PartialEq, Eq)]
+pub struct Tally {
+    /// Messages that were received.
+    pub received: u64,
+    /// Messages that were sent.
+    pub sent: u64,
+    /// Changes of state.
+    pub changes: u64,
+    /// Messages that were received while Idle was told: a router ignores just these.
+    pub ignored: u64,
+}
+
+/// How many are ignored, with one more received in this state.
+fn ignored_with(state: Fsm, count: u64) -> u64
+    requires { count < u64.MAX }
+    ensures { result ≡ ignored_with state count }
+{
+    match state {
+        Fsm::Idle => count + 1,
+        _ => count,
+    }
+}
+
+impl Tally {
+    /// Of no record.
+    pub(crate) fn nothing() -> Tally
+        ensures { result ≡ no_tally }
+    {
+        Tally {
+            received: 0,
+            sent: 0,
+            changes: 0,
+            ignored: 0,
+        }
+    }
+
+    /// With one record more, in a state that is told.
+    pub(crate) fn with(self, state: Fsm, shown: &Record<'_>) -> Tally
+        requires received { self.received < u64.MAX }
+        requires sent { self.sent < u64.MAX }
+        requires changes { self.changes < u64.MAX }
+        requires ignored { self.ignored < u64.MAX }
+        ensures { result ≡ tally_with self state (shown_of shown.now) }
+    {
+        match *shown {
+            Record::In(_, _) => Tally {
+                received: self.received + 1,
+                ignored: ignored_with(state, self.ignored),
+                ..self
+            },
+            Record::Out(_, _) => Tally {
+                sent: self.sent + 1,
+                ..self
+            },
+            Record::Change(_, _, _) => Tally {
+                changes: self.changes + 1,
+                ..self
+            },
+        }
+    }
+}
+
+/// The line on the records.
+fn put_records<W: Sink>(lines: &mut Lines<'_, W>, tally: &Tally)
+    ensures { Writes lines.old lines.new (records_line tally.now) }
+{
+    let all = u128::from(tally.received) + u128::from(tally.sent) + u128::from(tally.changes);
+    lines.put(b"records ");
+    lines.put_decimal(all);
+    lines.put(b": ");
+    lines.put_decimal(tally.received);
+    lines.put(b" received, ");
+    lines.put_decimal(tally.sent);
+    lines.put(b" sent, ");
+    lines.put_decimal(tally.changes);
+    lines.put(b" changes\n");
+}
+
+/// The line on what is ignored.
+fn put_ignored<W: Sink>(lines: &mut Lines<'_, W>, tally: &Tally)
+    ensures { Writes lines.old lines.new (ignored_line tally.now) }
+{
+    lines.put(b"ignored in Idle ");
+    lines.put_decimal(tally.ignored);
+    lines.put(b"\n");
+}
+
+/// That nothing was judged, where no change leaves Idle.
+fn idle_note(left_idle: bool) -> &'static [u8]
+    ensures { result.now ≡ idle_note left_idle }
+{
+    if left_idle {
+        b""
+    } else {
+        b"note no record leaves Idle: nothing was judged\n"
+    }
+}
+
+/// Puts the lines after a yes.
+pub(crate) fn put_yes_lines<W: Sink>(lines: &mut Lines<'_, W>, tally: &Tally, left_idle: bool)
+    ensures { Writes lines.old lines.new (yes_lines tally.now left_idle) }
+{
+    put_records(lines, tally);
+    put_ignored(lines, tally);
+    lines.put(idle_note(left_idle));
+}

@@ -1,0 +1,233 @@
+//! The text of what is explained: the verdict's own, and then why it is a no or unfinished.
+
+ghost use Rattle.std.specs.Prelude.{◌≡◌, ℕ, List};
+ghost use Rattle.bgp_text.specs.Lines.{Writes};
+ghost use Rattle.bgp_tool.specs.Answer.{answer_status};
+ghost use Rattle.bgp_tool.specs.Status.{code_of};
+ghost use Rattle.bgp_explain.specs.Details.{AreDetails, AreDetailsOf, asking_in, next_in};
+ghost use Rattle.bgp_explain.specs.Lacked.{following_lines, lacked_of};
+ghost use Rattle.bgp_explain.specs.Text.{AreNotesOf, CanBePut, CanBePutOf, IsExplainedText};
+ghost use Rattle.bgp_explain.specs.Text.{IsMoreBy, IsMoreOf, IsReasonText, IsReceived};
+ghost use Rattle.bgp_explain.specs.Text.{IsUnwholeOf, received_text, why_text};
+ghost use Rattle.bgp_explain.specs.Updates.{asking_of, update_line};
+
+use crate::details::Details;
+use crate::explained::{Explained, Impossible, Reason, Totals};
+use crate::tally::put_yes_lines;
+use bgp_judge::Verdict;
+use bgp_open::Config;
+use bgp_reason::{Possible, Told};
+use bgp_reason_text::{
+    Asked, AskedUpdate, Lacks, NotWhole, Notes, put_last_received, put_last_update, put_not_whole,
+    put_notes, put_possible_but, put_record_line, put_state,
+};
+use bgp_text::Lines;
+use bgp_tool::{Status, put_answer};
+use mrt::Sink;
+use std::alloc::Allocator;
+
+/// The message that was received last, and what it asks for.
+#[derive(Clone, Copy)]
+pub(crate) struct Received {
+    /// The number of its record.
+    pub(crate) number: u64,
+    pub(crate) asked: Asked,
+}
+
+/// The message that was received last since Idle was told, if one was, and what it asks for.
+fn received_of<A: Allocator>(config: &Config, reason: &Reason<A>) -> Option<Received>
+    ensures { IsReceived config.now reason.now.told reason.now.last_message.items result }
+{
+    match reason.told.last_received {
+        None => None,
+        Some(number) => Some(Received {
+            number,
+            asked: Asked::of(config, reason.told.state, reason.last_message.as_slice()),
+        }),
+    }
+}
+
+/// Why the impossible record isn't a whole message, where there is one that was sent.
+fn unwhole_of<A: Allocator + Copy>(reason: &Reason<A>) -> Option<NotWhole>
+    ensures { IsUnwholeOf reason.now.link (next_in reason.now.impossible) result }
+{
+    match &reason.impossible {
+        None => None,
+        Some(Impossible { record, .. }) => {
+            let shown = record.as_record();
+            NotWhole::of(reason.link, &shown)
+        }
+    }
+}
+
+/// The notes on a reason.
+fn notes_of<A: Allocator + Copy>(config: &Config, reason: &Reason<A>) -> Notes
+    ensures { AreNotesOf config.now reason.now.told reason.now.link reason.now.last_message.items
+        reason.now.possible (next_in reason.now.impossible) result }
+{
+    let last = reason.last_message.as_slice();
+    match &reason.impossible {
+        None => Notes::on_the_end(config, &reason.told, last),
+        Some(Impossible { number, record }) => {
+            let shown = record.as_record();
+            let (told, link, possible) = (&reason.told, reason.link, &reason.possible);
+            Notes::on(config, told, link, last, possible, *number, &shown)
+        }
+    }
+}
+
+/// The line of an UPDATE that was received last, with all that may become of it.
+fn put_update<W: Sink, A: Allocator>(
+    lines: &mut Lines<'_, W>,
+    number: u64,
+    update: &AskedUpdate<'_, A>,
+)
+    ensures { Writes lines.old lines.new (update_line number (asking_of update.now)) }
+{
+    put_last_update(lines, number, update);
+}
+
+/// The line of the message that was received last, if one was.
+fn put_received<W: Sink, A: Allocator>(
+    lines: &mut Lines<'_, W>,
+    received: Option<Received>,
+    update: &Option<AskedUpdate<'_, A>>,
+)
+    ensures { Writes lines.old lines.new (received_text received (asking_in update.now)) }
+{
+    let Some(Received { number, asked }) = received else {
+        return;
+    };
+    match update {
+        None => put_last_received(lines, number, &asked),
+        Some(update) => put_update(lines, number, update),
+    }
+}
+
+/// The lines of what may follow, and what the impossible record lacks of it.
+fn put_following<W: Sink, A: Allocator>(
+    lines: &mut Lines<'_, W>,
+    possible: &Possible,
+    lacks: &Lacks<'_, A>,
+)
+    ensures { Writes lines.old lines.new (following_lines possible.now (lacked_of lacks.now)) }
+{
+    put_possible_but(lines, possible, lacks);
+}
+
+/// The lines on what the records tell, and what may follow them.
+fn put_why<W: Sink, A: Allocator>(
+    lines: &mut Lines<'_, W>,
+    told: &Told,
+    received: Option<Received>,
+    details: &Details<'_, A>,
+    unwhole: Option<NotWhole>,
+    possible: &Possible,
+    notes: &Notes,
+)
+    ensures { Writes lines.old lines.new (why_text told.now received (asking_in details.now.update)
+        unwhole possible.now (lacked_of details.now.lacks) notes.now) }
+{
+    put_state(lines, told);
+    put_received(lines, received, &details.update);
+    put_not_whole(lines, unwhole);
+    put_following(lines, possible, &details.lacks);
+    put_notes(lines, notes);
+}
+
+/// Puts why a verdict is a no or unfinished, with the details of the reason: the line of the first
+/// impossible record, if there is one; the state that the records before tell; the message that was
+/// received last; a line for each kind of record that could have stood in its place, or may follow,
+/// with what the impossible one lacks of it; and notes.
+pub fn put_reason<W: Sink, A: Allocator + Copy>(
+    lines: &mut Lines<'_, W>,
+    config: &Config,
+    reason: &Reason<A>,
+    details: &Details<'_, A>,
+)
+    requires can { CanBePut config.now.parts.session reason.now.impossible }
+    requires details { AreDetails config.now reason.now details.now }
+    ensures { (text : List ℕ) × IsReasonText config.now reason.now text
+        × Writes lines.old lines.new text }
+{
+    if let Some(impossible) = &reason.impossible {
+        let shown = impossible.record.as_record();
+        put_record_line(lines, impossible.number, &config.parts.session, &shown);
+    }
+    let received = received_of(config, reason);
+    let unwhole = unwhole_of(reason);
+    let notes = notes_of(config, reason);
+    put_why(
+        lines,
+        &reason.told,
+        received,
+        details,
+        unwhole,
+        &reason.possible,
+        &notes,
+    );
+}
+
+/// Puts a reason, where there is one.
+fn put_any_reason<W: Sink, A: Allocator + Copy>(
+    lines: &mut Lines<'_, W>,
+    config: &Config,
+    reason: &Option<Reason<A>>,
+    details: &Option<Details<'_, A>>,
+)
+    requires can { CanBePutOf config.now.parts.session reason.now }
+    requires details { AreDetailsOf config.now reason.now details.now }
+    ensures { (more : List ℕ) × IsMoreBy config.now reason.now more
+        × Writes lines.old lines.new more }
+{
+    match reason {
+        None => {}
+        Some(reason) => match details {
+            None => {}
+            Some(details) => put_reason(lines, config, reason, details),
+        },
+    }
+}
+
+/// Puts what stands after the verdict's own text: after a yes what its records are, and else why it
+/// is so, with the details of the reason.
+fn put_more<W: Sink, A: Allocator + Copy>(
+    lines: &mut Lines<'_, W>,
+    config: &Config,
+    explained: &Explained<A>,
+    details: &Option<Details<'_, A>>,
+)
+    requires can { CanBePutOf config.now.parts.session explained.now.reason }
+    requires details { AreDetailsOf config.now explained.now.reason details.now }
+    ensures { (more : List ℕ) × IsMoreOf config.now explained.now.answer explained.now.reason
+        explained.now.totals more × Writes lines.old lines.new more }
+{
+    match &explained.answer {
+        Ok(Verdict::Yes(_)) => {
+            let Totals { tally, seen, .. } = &explained.totals;
+            put_yes_lines(lines, tally, seen.left_idle);
+        }
+        Ok(Verdict::No(_)) => put_any_reason(lines, config, &explained.reason, details),
+        Ok(Verdict::Unfinished) => put_any_reason(lines, config, &explained.reason, details),
+        Err(_) => put_any_reason(lines, config, &explained.reason, details),
+    }
+}
+
+/// Puts the text of what is explained, with the details of its reason, and answers its exit status,
+/// that of the verdict.
+pub fn put_explained<W: Sink, A: Allocator + Copy>(
+    lines: &mut Lines<'_, W>,
+    config: &Config,
+    explained: &Explained<A>,
+    details: &Option<Details<'_, A>>,
+) -> Status
+    requires can { CanBePutOf config.now.parts.session explained.now.reason }
+    requires details { AreDetailsOf config.now explained.now.reason details.now }
+    ensures writes { (text : List ℕ) × IsExplainedText config.now explained.now text
+        × Writes lines.old lines.new text }
+    ensures status { code_of result ≡ answer_status explained.now.answer }
+{
+    let status = put_answer(lines, &explained.answer);
+    put_more(lines, config, explained, details);
+    status
+}

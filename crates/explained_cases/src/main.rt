@@ -1,0 +1,158 @@
+//! Compares what `bgp judge --explain` prints of captures with what another program printed of
+//! them, which was written from the same specification apart from ours: a table, a block of lines a
+//! case. Both trackers explain each.
+//!
+//! After a yes that program says besides how many records it skipped, which isn't printed here. Of
+//! its 300 cases five aren't in the table: four in which large communities are an attribute without
+//! a name, and one whose HoldTimer expires after the last second of 32 bits.
+#![tactic(auto)]
+
+use bgp_compact::CompactTracker;
+use bgp_explain::explain_capture;
+use bgp_judge::{PlainTracker, Tracker};
+use bgp_open::Config;
+use bgp_tool::{Command, command_line};
+use hex::FromHexError;
+use mrt::{MemSink, MemSource};
+use std::alloc::{AllocError, Global};
+use std::process::ExitCode;
+use std::rt::Files;
+use std::{fs, io};
+
+/// The table.
+const TABLE: &str = "explained.txt";
+
+fn main(rt: HostRuntime) -> ExitCode {
+    match compare(&rt) {
+        Ok(true) => ExitCode::SUCCESS,
+        Ok(false) => ExitCode::FAILURE,
+        Err(error) => {
+            let _ = eprintln!(rt; "{error}");
+            ExitCode::FAILURE
+        }
+    }
+}
+
+/// A capture, how it is explained, and what is printed and answered.
+#[derive(Drop)]
+struct Case {
+    config: Config,
+    capture: Vec<u8>,
+    text: String,
+    status: u8,
+}
+
+/// A fault of the table.
+fn malformed() -> io::Error {
+    io::Error::from(io::ErrorKind::InvalidData)
+}
+
+/// The octets that hexadecimal digits spell; a dash is none.
+fn octets_of(alloc: Global, digits: &str) -> io::Result<Vec<u8>> {
+    if digits == "-" {
+        return Ok(Vec::new(alloc));
+    }
+    match hex::decode(alloc, digits) {
+        Ok(octets) => Ok(octets),
+        Err(FromHexError::OutOfMemory) => Err(io::Error::from(AllocError)),
+        Err(_) => Err(malformed()),
+    }
+}
+
+/// The configuration that the words of a command line name, after the program's own.
+fn config_of(alloc: Global, words: &str) -> io::Result<Config> {
+    let mut line = Vec::new(alloc);
+    line.push("bgp")?;
+    for word in words.split(' ') {
+        line.push(word)?;
+    }
+    line.push("FILE")?;
+    match command_line(alloc, line.as_slice()) {
+        Ok(Command::Judge { config, .. }) => Ok(config),
+        _ => Err(malformed()),
+    }
+}
+
+/// Reads a block of lines: `args` and the words of the command; `octets` and the capture; `status`
+/// and a number; `>` and a line that is printed.
+fn read_case(alloc: Global, block: &str) -> io::Result<Case> {
+    let mut config = None;
+    let mut capture = Vec::new(alloc);
+    let mut text = String::new(alloc);
+    let mut status = None;
+    for line in block.split('\n') {
+        let (word, rest) = line.split_once(' ').unwrap_or((line, ""));
+        match word {
+            "args" => config = Some(config_of(alloc, rest)?),
+            "octets" => capture = octets_of(alloc, rest)?,
+            "status" => status = rest.parse::<u8>().ok(),
+            ">" => {
+                if !rest.starts_with("skipped ") {
+                    text.push_str(rest)?;
+                    text.push_str("\n")?;
+                }
+            }
+            _ => return Err(malformed()),
+        }
+    }
+    match (config, status) {
+        (Some(config), Some(status)) => Ok(Case {
+            config,
+            capture,
+            text,
+            status,
+        }),
+        _ => Err(malformed()),
+    }
+}
+
+/// What explaining a case with a tracker wrote and answered.
+fn answer_to<T: Tracker<Global>>(alloc: Global, case: &Case) -> Result<(Vec<u8>, u8), AllocError> {
+    let mut source = MemSource::new(Vec::from_slice(alloc, case.capture.as_slice())?);
+    let mut sink = MemSink::new(alloc);
+    let status = explain_capture::<Global, T, MemSource, MemSink>(
+        alloc,
+        &case.config,
+        &mut source,
+        &mut sink,
+    );
+    Ok((sink.into_octets(), status))
+}
+
+/// Prints what a tracker wrote of a case, if it isn't the table's. Answers whether it is.
+fn is_so<R: Print + AllocGlobal, T: Tracker<Global>>(
+    rt: &R,
+    count: u64,
+    case: &Case,
+) -> io::Result<bool> {
+    let (written, status) = answer_to::<T>(rt.alloc(), case)?;
+    if written.as_slice() == case.text.as_bytes() && status == case.status {
+        return Ok(true);
+    }
+    let text = String::from_utf8(written).map_err(|_| malformed())?;
+    println!(rt;
+        "case {count} is not so, with status {status}:\n{text}but\n{}",
+        case.text
+    )?;
+    Ok(false)
+}
+
+/// Prints each case that is not so, and then how many there were. Answers whether all are so.
+fn compare<R: Files + Print + AllocGlobal>(rt: &R) -> io::Result<bool> {
+    let table = fs::read_to_string(rt, TABLE)?;
+    let mut count = 0u64;
+    let mut all = true;
+    for block in table.split("\n\n") {
+        let block = block.trim_end();
+        if block.is_empty() {
+            continue;
+        }
+        count = count.saturating_add(1);
+        let case = read_case(rt.alloc(), block)?;
+        let plain = is_so::<R, PlainTracker<Global>>(rt, count, &case)?;
+        let compact = is_so::<R, CompactTracker<Global>>(rt, count, &case)?;
+        all = all && plain && compact;
+    }
+    println!(rt; "{count} captures are explained")?;
+    Ok(all)
+}
