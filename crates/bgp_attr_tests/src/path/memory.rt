@@ -190,13 +190,16 @@ static LONGEST_IN_FOUR: [(SegmentKind, &[u32]); 64] = [TWOS; 64];
 
 /// Whether a path is the first 63 of the longest segments and 64 others.
 fn is_joined(merged: &HeapPath<'_>) -> bool {
-    let Some(front) = merged.segments().get(..63) else {
-        return false;
-    };
-    let Some(behind) = merged.segments().get(63..) else {
-        return false;
-    };
-    are_of(front, &LONGEST[..63]) && are_of(behind, &LONGEST_IN_FOUR)
+    let mut is_joined = merged.segments().len() == 127;
+    for (place, segment) in merged.segments().iter().enumerate() {
+        let wanted = if place < 63 {
+            LONGEST.first()
+        } else {
+            LONGEST_IN_FOUR.first()
+        };
+        is_joined = is_segment_of(segment, wanted) && is_joined;
+    }
+    is_joined
 }
 
 /// Whether the longest paths merge as they are to.
