@@ -1,7 +1,7 @@
 use Rattle.std.proofs.Common.{sym, subst}
 use Rattle.streams.specs.Held.{AllSound}
-use Rattle.streams_tests.proofs.tests.gather.Goals as goal
-use Rattle.streams_tests.proofs.tests.gather.Goals.{in-Some+in_ok-take, in_default}
+use Rattle.packets_tests.proofs.stream.gather.Goals as goal
+use Rattle.packets_tests.proofs.stream.gather.Goals.{in-Some+in_ok-take, in_default}
 
 pub loop-i-preserved : goal.loop-i-preserved
 loop-i-preserved g c = elim c.match-get.branch [
