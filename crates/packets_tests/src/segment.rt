@@ -171,13 +171,15 @@ fn control_bits_are_flags(rt: HostRuntime) {
 /// What is kept of a packet of 43 octets.
 #[test]
 fn a_cut_packet_is_told(rt: HostRuntime) {
-    let cut = Segment {
-        octets: b"ab",
-        ..DATA
-    };
-    assert!(rt; is_found_with(&[], 43, &Found::Segment(DATA)));
-    assert!(rt; is_found_with(&[], 42, &Found::Segment(cut)));
-    for (kept, wanted) in [
+    static ROWS: [(usize, Found<'static>); 9] = [
+        (43, Found::Segment(DATA)),
+        (
+            42,
+            Found::Segment(Segment {
+                octets: b"ab",
+                ..DATA
+            }),
+        ),
         (39, Found::CutHeader(ENDS)),
         (24, Found::CutHeader(ENDS)),
         (23, Found::NoPorts(ADDRESSES)),
@@ -185,8 +187,9 @@ fn a_cut_packet_is_told(rt: HostRuntime) {
         (19, Found::Nothing),
         (1, Found::Nothing),
         (0, Found::Nothing),
-    ] {
-        assert!(rt; is_found_with(&[], kept, &wanted), "{kept}");
+    ];
+    for (kept, wanted) in &ROWS {
+        assert!(rt; is_found_with(&[], *kept, wanted), "{kept}");
     }
 }
 
@@ -214,14 +217,9 @@ fn other_headers_are_nothing(rt: HostRuntime) {
         &[(6, 0x1f), (7, 0xff)],
     ];
     for (count, changes) in FRAGMENTS.iter().enumerate() {
-        assert!(rt;
-            is_found_with(changes, 43, &Found::Fragment(ADDRESSES)),
-            "{count}"
-        );
-        assert!(rt;
-            is_found_with(changes, 20, &Found::Fragment(ADDRESSES)),
-            "{count}"
-        );
+        let is_whole_found = is_found_with(changes, 43, &Found::Fragment(ADDRESSES));
+        let is_header_found = is_found_with(changes, 20, &Found::Fragment(ADDRESSES));
+        assert!(rt; is_whole_found && is_header_found, "{count}");
     }
 }
 
@@ -229,45 +227,61 @@ fn other_headers_are_nothing(rt: HostRuntime) {
 /// total length is padding.
 #[test]
 fn lengths_say_where_the_data_is(rt: HostRuntime) {
-    let none = Segment {
-        octets: &[],
-        wire_count: 0,
-        ..DATA
-    };
-    let one = Segment {
-        octets: b"a",
-        wire_count: 1,
-        ..DATA
-    };
-    assert!(rt; is_found_with(&[(3, 40)], 43, &Found::Segment(none)));
-    assert!(rt; is_found_with(&[(3, 41)], 43, &Found::Segment(one)));
-    // A total length of 299: the rest was not kept.
-    let long = Segment {
-        wire_count: 259,
-        ..DATA
-    };
-    assert!(rt; is_found_with(&[(2, 1), (3, 43)], 43, &Found::Segment(long)));
-    // A TCP header of 24 octets, of a packet that had 47, of which 43 were kept.
-    assert!(rt; is_found_with(&[(3, 47), (32, 0x60)], 43, &Found::CutHeader(ENDS)));
+    static ROWS: [(&[Change], Found<'static>); 4] = [
+        (
+            &[(3, 40)],
+            Found::Segment(Segment {
+                octets: &[],
+                wire_count: 0,
+                ..DATA
+            }),
+        ),
+        (
+            &[(3, 41)],
+            Found::Segment(Segment {
+                octets: b"a",
+                wire_count: 1,
+                ..DATA
+            }),
+        ),
+        // A total length of 299: the rest was not kept.
+        (
+            &[(2, 1), (3, 43)],
+            Found::Segment(Segment {
+                wire_count: 259,
+                ..DATA
+            }),
+        ),
+        // A TCP header of 24 octets, of a packet that had 47, of which 43 were kept.
+        (&[(3, 47), (32, 0x60)], Found::CutHeader(ENDS)),
+    ];
+    for (count, (changes, wanted)) in ROWS.iter().enumerate() {
+        assert!(rt; is_found_with(changes, 43, wanted), "{count}");
+    }
 }
 
 /// A conversation of the two addresses, in either order, with the port of either end.
 #[test]
 fn a_conversation_has_its_segments(rt: HostRuntime) {
-    let here = Address::V4(0xc000_0201);
-    let there = Address::V4(0xc000_0202);
-    let other = Address::V4(0xc000_0203);
-    for (local, peer, port, is_of, is_between) in [
-        (here, there, 179u16, true, true),
-        (there, here, 179, true, true),
-        (here, there, 40000, true, true),
-        (here, there, 180, false, true),
-        (here, other, 179, false, false),
-        (other, there, 179, false, false),
-        (here, here, 179, false, false),
-    ] {
-        let conversation = Conversation { local, peer, port };
-        assert!(rt; answers(&conversation, is_of, is_between), "{port}");
+    const HERE: Address = Address::V4(0xc000_0201);
+    const THERE: Address = Address::V4(0xc000_0202);
+    const OTHER: Address = Address::V4(0xc000_0203);
+    static ROWS: [(Address, Address, u16, bool, bool); 7] = [
+        (HERE, THERE, 179, true, true),
+        (THERE, HERE, 179, true, true),
+        (HERE, THERE, 40000, true, true),
+        (HERE, THERE, 180, false, true),
+        (HERE, OTHER, 179, false, false),
+        (OTHER, THERE, 179, false, false),
+        (HERE, HERE, 179, false, false),
+    ];
+    for (local, peer, port, is_of, is_between) in &ROWS {
+        let conversation = Conversation {
+            local: *local,
+            peer: *peer,
+            port: *port,
+        };
+        assert!(rt; answers(&conversation, *is_of, *is_between), "{port}");
     }
 }
 
