@@ -9,6 +9,11 @@ use rows::{ROWS, STREAM};
 use std::alloc::{AllocError, Allocator, Global};
 use streams::*;
 
+/// The cases: each function that names a table itself is proved with all of it.
+fn all_cases() -> &'static [Case] {
+    &CASES
+}
+
 /// The connections of a case's segments.
 fn gather<A: Allocator + Copy>(alloc: A, case: &Case) -> Result<Connections<A>, AllocError> {
     let mut connections = Connections::new(alloc);
@@ -71,7 +76,7 @@ fn is_answered<A: Allocator + Copy>(connections: &Connections<A>, case: &Case) -
 
 #[test]
 fn connections_are_told_as_worked_out(rt: HostRuntime) {
-    for case in &CASES {
+    for case in all_cases() {
         let answered = match gather(rt.alloc(), case) {
             Ok(connections) => is_answered(&connections, case),
             Err(_) => false,
@@ -100,7 +105,7 @@ fn is_answered_over(alloc: Global, size: usize, case: &Case) -> Option<bool> {
 #[test]
 fn refused_memory_is_told(rt: HostRuntime) {
     let (mut refused, mut done) = (false, false);
-    for case in &CASES {
+    for case in all_cases() {
         for steps in 1..100 {
             let answered = is_answered_over(rt.alloc(), 64 * steps, case);
             assert!(rt; answered != Some(false), "{}", case.name);
@@ -131,7 +136,7 @@ fn are_opened<A: Allocator + Copy>(connections: &Connections<A>) -> bool {
 #[test]
 fn openings_are_told_without_streams(rt: HostRuntime) {
     let mut opened = false;
-    for case in &CASES {
+    for case in all_cases() {
         if case.name == "several connections" {
             opened = match gather(rt.alloc(), case) {
                 Ok(connections) => are_opened(&connections),
