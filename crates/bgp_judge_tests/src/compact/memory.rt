@@ -1,33 +1,14 @@
 //! Memory: enough of it, growths that are refused, and what is held.
 
 use super::*;
-use bgp_wire::vectors::{ANNOUNCES_10, KEEPALIVE, MP_REACH_TRANSITIVE, OPEN_A, OPEN_B};
+use crate::judge::memory::{ENDS, TWO_ENDS};
+use bgp_wire::vectors::KEEPALIVE;
 use linked_list_allocator::LocalHeap;
-use mrt::Record::{Change, In, Out};
-
-/// A session whose last UPDATE may disable IPv6 or not.
-static TWO_ENDS: [Record<'static>; 10] = [
-    Change(100, 1, 2),
-    Out(100, &OPEN_A),
-    Change(100, 2, 4),
-    In(101, &OPEN_B),
-    Out(101, &KEEPALIVE),
-    Change(101, 4, 5),
-    In(101, &KEEPALIVE),
-    Change(101, 5, 6),
-    In(102, &ANNOUNCES_10),
-    In(103, &MP_REACH_TRANSITIVE),
-];
-
-/// Its ends.
-static ENDS: [Expected<'static>; 2] = [
-    (Fsm::Established, NONE, &["10.0.0.0/8"]),
-    (Fsm::Established, V6, &["10.0.0.0/8"]),
-];
+use mrt::Record::{Change, In};
 
 /// A tracker of router A.
 fn started<A: Allocator + Copy, T: Tracker<A>>(alloc: A) -> Option<T> {
-    T::start(alloc, &router_a()?).ok()
+    T::start(alloc, &router_a(false)?).ok()
 }
 
 /// Whether a tracker takes each of the records.

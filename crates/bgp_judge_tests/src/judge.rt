@@ -3,7 +3,7 @@
 //! `bgp_wire::vectors`.
 
 mod captures;
-mod memory;
+pub(crate) mod memory;
 mod sessions;
 
 use bgp_judge::{End, PlainTracker, Verdict, judge, judge_records};
@@ -33,19 +33,19 @@ const PARTS_A: ConfigParts = ConfigParts {
 };
 
 /// No family.
-const NONE: Families = Families {
+pub(crate) const NONE: Families = Families {
     v4: false,
     v6: false,
 };
 
 /// IPv6 alone.
-const V6: Families = Families {
+pub(crate) const V6: Families = Families {
     v4: false,
     v6: true,
 };
 
 /// Router A, which may delay its OPEN or not.
-fn router_a(delay_open: bool) -> Option<Config> {
+pub(crate) fn router_a(delay_open: bool) -> Option<Config> {
     Config::new(ConfigParts {
         delay_open,
         ..PARTS_A
@@ -53,7 +53,7 @@ fn router_a(delay_open: bool) -> Option<Config> {
 }
 
 /// An end: the state, the disabled families and the prefixes of its routes.
-type Expected<'a> = (Fsm, Families, &'a [&'a str]);
+pub(crate) type Expected<'a> = (Fsm, Families, &'a [&'a str]);
 
 /// Whether an end is that.
 fn is_end<A: Allocator>(end: &End<A>, (fsm, disabled, texts): &Expected<'_>) -> bool {
@@ -68,7 +68,7 @@ fn is_end<A: Allocator>(end: &End<A>, (fsm, disabled, texts): &Expected<'_>) -> 
 }
 
 /// Whether these are just the ends, in this order.
-fn are_ends<A: Allocator>(ends: &[End<A>], expected: &[Expected<'_>]) -> bool {
+pub(crate) fn are_ends<A: Allocator>(ends: &[End<A>], expected: &[Expected<'_>]) -> bool {
     if ends.len() != expected.len() {
         return false;
     }

@@ -1,5 +1,5 @@
-//! Memory: enough of it, and growths that are refused. (What a tracker does then is asked by
-//! `bgp_compact_tests`.)
+//! Memory: enough of it, and growths that are refused. (What a tracker does then is asked in
+//! `compact`.)
 
 use super::sessions::is_verdict;
 use super::*;
@@ -12,7 +12,7 @@ use mrt::Reader;
 use mrt::Record::{Change, In, Out};
 
 /// A session whose last UPDATE may disable IPv6 or not.
-static TWO_ENDS: [Record<'static>; 10] = [
+pub(crate) static TWO_ENDS: [Record<'static>; 10] = [
     Change(100, 1, 2),
     Out(100, &OPEN_A),
     Change(100, 2, 4),
@@ -26,7 +26,7 @@ static TWO_ENDS: [Record<'static>; 10] = [
 ];
 
 /// Its ends.
-static ENDS: [Expected<'static>; 2] = [
+pub(crate) static ENDS: [Expected<'static>; 2] = [
     (Fsm::Established, NONE, &["10.0.0.0/8"]),
     (Fsm::Established, V6, &["10.0.0.0/8"]),
 ];

@@ -1,9 +1,0 @@
-//! Tests of `bgp_compact`: up to four ends, refused memory, and what is held. What is asked of each
-//! tracker is asked of the plain one of `bgp_judge`, too. (`real_captures` and `random_sessions`
-//! judge captures with both trackers.)
-//!
-//! They stand in a crate of their own, since a crate with tests is proved twice.
-#![tactic(auto)]
-
-#[cfg(test)]
-mod tests;
