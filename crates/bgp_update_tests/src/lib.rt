@@ -1,7 +1,15 @@
-//! Tests of `bgp_update`: UPDATEs whose outcomes were worked out by hand.
+//! Tests of messages: of `bgp_open`, OPEN and NOTIFICATION messages whose meaning was worked out by
+//! hand; of `bgp_update`, UPDATEs whose outcomes were; of `bgp_update_writer`, UPDATEs as they are
+//! written, octet for octet; and of `bgp_text`, texts of routes.
 //!
 //! They stand in a crate of their own, since a crate with tests is proved twice.
 #![tactic(auto)]
 
 #[cfg(test)]
-mod tests;
+mod opens;
+#[cfg(test)]
+mod texts;
+#[cfg(test)]
+mod update;
+#[cfg(test)]
+mod writer;
