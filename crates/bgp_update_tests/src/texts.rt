@@ -48,7 +48,7 @@ const PLAIN: Route<'static> = Route {
 
 /// Routes that have each of what a path can have. Sequences and sets stand behind one another with
 /// blanks, and `pref` behind `med`.
-const ROUTES: [Route<'static>; 7] = [
+static ROUTES: [Route<'static>; 7] = [
     Route {
         as_path: &[(SegmentKind::Sequence, &[65002])],
         text: "10.0.0.0/8 via 192.0.2.2 path 65002 origin 0",
@@ -211,7 +211,7 @@ fn a_route_prints_what_its_path_has(rt: HostRuntime) {
 
 /// Texts of addresses, and how the standard has them (RFC 5952, 4): the first of the longest runs
 /// of zero groups is left out, one group alone is not.
-const NEXT_HOPS: [(&str, &str); 6] = [
+static NEXT_HOPS: [(&str, &str); 6] = [
     ("2001:db8:0:0:1:0:0:1", "2001:db8::1:0:0:1"),
     ("2001:db8:0:1:1:1:1:1", "2001:db8:0:1:1:1:1:1"),
     ("2001:0:0:1:0:0:0:1", "2001:0:0:1::1"),

@@ -11,7 +11,7 @@ const ATTRIBUTES: [u8; 20] = [
 ];
 
 /// 2026 times 10.0.0.0/8.
-const TENS: [&[u8]; 2026] = [&[8, 10]; 2026];
+static TENS: [&[u8]; 2026] = [&[8, 10]; 2026];
 
 /// What the greatest UPDATE puts.
 const ALL: Shown = Shown {
