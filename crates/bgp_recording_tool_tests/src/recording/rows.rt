@@ -1,5 +1,6 @@
 //! Sessions of configurations with AS 65001 and 65002, their packets and their records.
 
+use super::memory::growths_are_refused;
 use super::*;
 use bgp_wire::vectors::*;
 
@@ -537,8 +538,10 @@ pub fn is_so(alloc: Global, row: &Row) -> Result<bool, AllocError> {
 }
 
 #[test]
-fn each_row_is_made(rt: HostRuntime) {
+fn each_row_is_made_and_growths_may_be_refused(rt: HostRuntime) {
     for row in &ROWS {
         assert!(rt; is_so(rt.alloc(), row) == Ok(true), "{}", row.name);
     }
+    // Here, since each function that names a table pays for its rows.
+    assert!(rt; growths_are_refused(rt.alloc(), &ROWS[0]) == Ok(true));
 }
