@@ -19,3 +19,4 @@ pub mod Behind
 pub mod Refusals
 pub mod OneTable
 pub mod RunTables
+mod WholeTracker

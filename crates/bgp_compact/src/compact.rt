@@ -122,6 +122,10 @@ impl<A: Allocator + Copy> Tracker<A> for CompactTracker<A> {
             → IfOk result (λ alive. IsTrue alive
             → TrackerStands self.new.config self.new.words self.new.table config
             (records ++ shown_of shown.now ∷ [])) }
+        ensures kept { (config : TheConfig) (records : List ShownRecord)
+            → TrackerStands self.old.config self.old.words self.old.table config records
+            → IfOk result (λ alive. ¬ IsTrue alive
+            → TrackerStands self.new.config self.new.words self.new.table config records) }
         ensures err { (config : TheConfig) (records : List ShownRecord)
             → TrackerStands self.old.config self.old.words self.old.table config records
             → OnErr result
@@ -132,9 +136,12 @@ impl<A: Allocator + Copy> Tracker<A> for CompactTracker<A> {
     {
         each_owed_want_can_be_met();
         let left = after_record(self.alloc, &self.config, self.words, shown)?;
+        if !is_alive(left.words) {
+            return Ok(false);
+        }
         follow(&mut self.table, &left)?;
         self.words = left.words;
-        Ok(is_alive(left.words))
+        Ok(true)
     }
 
     /// Whether it may take the record, as every tracker. It takes memory where `take` does, alone.

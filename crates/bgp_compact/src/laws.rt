@@ -1,6 +1,6 @@
 //! Laws: contracts of functions that do nothing.
 
-ghost use Rattle.std.specs.Prelude.{◌<◌, ◌≤◌, ◌+◌, length};
+ghost use Rattle.std.specs.Prelude.{◌≡◌, ◌≤◌, ◌+◌, length};
 ghost use Rattle.std.specs.Mem.{type_size};
 ghost use Rattle.std.specs.contracts.alloc.Global.{the_row as global_row};
 ghost use Rattle.bgp_open.specs.contracts.config.Config.{the_row as config_row};
@@ -10,13 +10,14 @@ ghost use Rattle.bgp_compact.specs.contracts.words.Words.{the_row as words_row};
 ghost use Rattle.bgp_compact.specs.Memory.{IsNeverImpossible};
 ghost use Rattle.bgp_compact.specs.Table.{EachRunEndsWithTheTable, RecordsMakeOneTable};
 
+use crate::compact::CompactTracker;
 use bgp_judge::impossible_only_where_owed;
 use bgp_open::{Config, Link};
 use std::alloc::{Allocator, Global};
 
 /// Law: a tracker over the program's own allocator takes at most 256 octets, whatever it took: its
-/// configuration, its words, at most 76 octets, and its one table, with nothing beside them but the
-/// fewer than 16 octets that its alignment asks for.
+/// configuration, its words, at most 76 octets, its one table, and the 12 octets that its alignment
+/// asks for, in which nothing is ([`trackers_hold_their_parts_alone`]).
 ///
 /// Words and configuration are `Copy`, so that nothing of them lies elsewhere. What does is the
 /// table's own: its routes, and room to note what one UPDATE writes, which stays until the session
@@ -25,8 +26,19 @@ pub fn trackers_have_a_fixed_size()
     ensures tracker { type_size (tracker_row global_row ⟦<Global as Allocator>⟧) ≤ 256 }
     ensures words { type_size words_row ≤ 76 }
     ensures alone { type_size (tracker_row global_row ⟦<Global as Allocator>⟧)
-        < type_size config_row + type_size words_row
-        + type_size (table_row global_row ⟦<Global as Allocator>⟧) + 16 }
+        ≡ type_size config_row + type_size words_row
+        + type_size (table_row global_row ⟦<Global as Allocator>⟧) + 12 }
+{}
+
+/// Law: trackers that have the same allocator, configuration, words and table are the same. So a
+/// tracker holds nothing beside these, as a link to a second table or to a copy of its records.
+pub fn trackers_hold_their_parts_alone<A: Allocator>(
+    tracker: &CompactTracker<A>,
+    other: &CompactTracker<A>,
+)
+    ensures { tracker.now.alloc ≡ other.now.alloc → tracker.now.config ≡ other.now.config
+        → tracker.now.words ≡ other.now.words → tracker.now.table ≡ other.now.table
+        → tracker.now ≡ other.now }
 {}
 
 /// Law: a session's records make at most one table (`specs/Table`). So the table of a tracker that

@@ -17,5 +17,5 @@ mod words;
 pub use compact::CompactTracker;
 pub use laws::{
     each_run_ends_with_the_table, memory_is_lacked_at_no_impossible_record, records_make_one_table,
-    trackers_have_a_fixed_size,
+    trackers_have_a_fixed_size, trackers_hold_their_parts_alone,
 };

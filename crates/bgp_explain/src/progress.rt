@@ -111,8 +111,7 @@ impl<A: Allocator + Copy> Progress<A> {
         if self.stop.is_some() {
             return Ok(());
         }
-        if tracker.may_take(shown)? {
-            tracker.take(shown)?;
+        if tracker.take(shown)? {
             self.keep(config, shown)
         } else {
             records_tell_one_by_one();

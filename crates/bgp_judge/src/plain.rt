@@ -50,9 +50,11 @@ impl<A: Allocator + Copy> Tracker<A> for PlainTracker<A> {
     fn take(&mut self, shown: &Record<'_>) -> Result<bool, AllocError> {
         each_owed_want_can_be_met();
         let next = next_members(self.alloc, &self.config, self.members.as_slice(), shown)?;
-        let alive = has_some(next.as_slice());
+        if !has_some(next.as_slice()) {
+            return Ok(false);
+        }
         self.members = next;
-        Ok(alive)
+        Ok(true)
     }
 
     fn may_take(&self, shown: &Record<'_>) -> Result<bool, AllocError> {

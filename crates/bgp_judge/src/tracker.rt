@@ -25,8 +25,8 @@ pub trait Tracker<A: Allocator + Copy>: Drop {
         ensures { IfOk result (λ tracker. stands_for tracker config.now []) };
 
     /// Takes one record more, and answers whether the records begin a run of the session machine.
-    /// Where they don't, nothing more is said of the tracker. Refused for memory, which is where
-    /// it may lack it alone, it stands for what it stood for.
+    /// Where they don't, and where memory is refused, which is where it may lack it alone, it
+    /// stands for what it stood for.
     fn take(&mut self, shown: &Record<'_>) -> Result<bool, AllocError>
         ensures alive { (config : TheConfig) (records : List ShownRecord)
             → stands_for self.old config records
@@ -36,6 +36,9 @@ pub trait Tracker<A: Allocator + Copy>: Drop {
             → stands_for self.old config records
             → IfOk result (λ alive. IsTrue alive
             → stands_for self.new config (records ++ shown_of shown.now ∷ [])) }
+        ensures kept { (config : TheConfig) (records : List ShownRecord)
+            → stands_for self.old config records
+            → IfOk result (λ alive. ¬ IsTrue alive → stands_for self.new config records) }
         ensures err { (config : TheConfig) (records : List ShownRecord)
             → stands_for self.old config records
             → OnErr result (stands_for self.new config records) }

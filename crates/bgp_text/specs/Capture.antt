@@ -1,6 +1,6 @@
 -- What decoding a capture writes: a line a record of the session, and a last one where the capture
 -- is refused.
-use Rattle.std.specs.Prelude.{◌≡◌, ◌⊎◌, ◌++◌, ℕ, List, [], ◌∷◌, is_some, codes}
+use Rattle.std.specs.Prelude.{◌≡◌, ◌⊎◌, ◌++◌, ℕ, List, [], ◌∷◌, codes}
 use Rattle.std.specs.Fmt.{decimal}
 use Rattle.bgp_prefix.specs.Shown.{ShownRecord, Received, Sent, Changed}
 use Rattle.bgp_prefix.specs.declared.session.Session.{Session}
@@ -12,47 +12,48 @@ use Rattle.bgp_wire.specs.Framing.{IsFrame, IsFaulty}
 use Rattle.mrt.specs.Fault.{fault_number, fault_name}
 use Rattle.mrt.specs.declared.fault.FaultKind.{FaultKind}
 use Rattle.bgp_text.specs.Message.{Message, Says}
-use Rattle.bgp_text.specs.Text.{line_of, subcode_text}
+use Rattle.bgp_text.specs.Text.{text_of, subcodes_text}
 
 -- a header with faults: their subcodes, ascending (RFC 4271, 6.1)
-unfoldable pub faulty_line : HeaderFaults → List ℕ
-faulty_line faults =
-    codes "fault"
-    ++ (subcode_text faults.marker (codes " 1/1")
-    ++ (subcode_text (is_some faults.length) (codes " 1/2")
-    ++ (subcode_text (is_some faults.kind) (codes " 1/3") ++ codes "\n")))
+unfoldable pub faulty_text : HeaderFaults → List ℕ
+faulty_text faults = codes "fault" ++ subcodes_text faults
 
--- What is told of a message's octets, where it may be so long: the line of what they say, or of a
+-- What is told of a message's octets, where it may be so long: the text of what they say, or of a
 -- header with faults.
 abbrev pub IsMessageText : Limit → List ℕ → List ℕ → Type 0
 IsMessageText limit octets text =
     (IsFrame limit octets
-    × ((message : Message) × Says octets message × (text ≡ line_of message)))
+    × ((message : Message) × Says octets message × (text ≡ text_of message)))
     ⊎ (IsFaulty limit octets
     × ((faults : HeaderFaults) × AreFaults limit (header_of octets) faults
-    × (text ≡ faulty_line faults)))
+    × (text ≡ faulty_text faults)))
 
 -- a message behind its second and how it went
-unfoldable pub message_line : ℕ → List ℕ → List ℕ → List ℕ
-message_line second went text = codes "@" ++ (decimal second ++ (went ++ text))
+unfoldable pub message_text : ℕ → List ℕ → List ℕ → List ℕ
+message_text second went text = codes "@" ++ (decimal second ++ (went ++ text))
 
 -- a change of state, from one number to another
-unfoldable pub change_line : ℕ → ℕ → ℕ → List ℕ
-change_line second old new =
+unfoldable pub change_text : ℕ → ℕ → ℕ → List ℕ
+change_text second old new =
     codes "@" ++ (decimal second ++ (codes " change " ++ (decimal old
-    ++ (codes " " ++ (decimal new ++ codes "\n")))))
+    ++ (codes " " ++ decimal new))))
 
--- The line of a record of the session. A message that was received may be as long as the local
--- system offers (RFC 8654, 4); one that was sent is told by the same limit, so that a longer one is
--- told as a fault where the peer alone offers longer ones.
+-- The line of a record of the session without its end. A message that was received may be as long
+-- as the local system offers (RFC 8654, 4); one that was sent is told by the same limit, so that a
+-- longer one is told as a fault where the peer alone offers longer ones.
+abbrev pub IsRecordText : Session → ShownRecord → List ℕ → Type 0
+IsRecordText session (Received second octets) text =
+    (told : List ℕ) × IsMessageText (limit_with session.extended) octets told
+    × (text ≡ message_text second (codes " received ") told)
+IsRecordText session (Sent second octets) text =
+    (told : List ℕ) × IsMessageText (limit_with session.extended) octets told
+    × (text ≡ message_text second (codes " sent ") told)
+IsRecordText session (Changed second old new) text = text ≡ change_text second old new
+
+-- the line of a record of the session
 abbrev pub IsRecordLine : Session → ShownRecord → List ℕ → Type 0
-IsRecordLine session (Received second octets) line =
-    (text : List ℕ) × IsMessageText (limit_with session.extended) octets text
-    × (line ≡ message_line second (codes " received ") text)
-IsRecordLine session (Sent second octets) line =
-    (text : List ℕ) × IsMessageText (limit_with session.extended) octets text
-    × (line ≡ message_line second (codes " sent ") text)
-IsRecordLine session (Changed second old new) line = line ≡ change_line second old new
+IsRecordLine session shown line =
+    (text : List ℕ) × IsRecordText session shown text × (line ≡ text ++ codes "\n")
 
 -- the lines of records, one after another
 abbrev pub AreRecordLines : Session → List ShownRecord → List ℕ → Type 0

@@ -1,4 +1,5 @@
--- The lines that a stream prints, as octets: one a message, and one for what is no message.
+-- The lines that a stream prints, as octets: one a message, and one for what is no message. A text
+-- is a line without its end, or a part of one.
 use Rattle.std.specs.Prelude.{◌++◌, ℕ, Bool, List, [], ◌∷◌, if◌then◌else◌, is_some, map, codes}
 use Rattle.std.specs.List.{flat_map, join_with_byte}
 use Rattle.std.specs.Fmt.{decimal}
@@ -33,16 +34,15 @@ capabilities_text [] = codes " -"
 capabilities_text (capability ∷ capabilities) = flat_map capability_text (capability ∷ capabilities)
 
 -- an OPEN: the AS number, the hold time, the identifier and the capabilities (RFC 4271, 4.2)
-unfoldable pub open_line : OpenFields → List ℕ
-open_line fields =
+unfoldable pub open_text : OpenFields → List ℕ
+open_text fields =
     codes "open as " ++ (decimal fields.my_as ++ (codes " hold " ++ (decimal fields.hold
     ++ (codes " id " ++ (address_text (V4 fields.id) ++ (codes " caps"
-    ++ (capabilities_text fields.capabilities ++ codes "\n")))))))
+    ++ capabilities_text fields.capabilities))))))
 
 -- an OPEN whose form is wrong: the number of its fault (RFC 4271, 6.2)
-unfoldable pub malformed_open_line : OpenFault → List ℕ
-malformed_open_line fault =
-    codes "open malformed " ++ (decimal (open_fault_number fault) ++ codes "\n")
+unfoldable pub malformed_open_text : OpenFault → List ℕ
+malformed_open_text fault = codes "open malformed " ++ decimal (open_fault_number fault)
 
 -- prefixes with blanks (octet 32) between them; a dash for none
 unfoldable pub prefixes_text : List PrefixBits → List ℕ
@@ -61,39 +61,46 @@ attributes_text (a ∷ attributes) = join_with_byte 32 (map attribute_text (a �
 
 -- an UPDATE: withdrawn prefixes, path attributes in wire order, and announced prefixes (RFC 4271,
 -- 4.3)
-unfoldable pub update_line : UpdateParts → List ℕ
-update_line parts =
+unfoldable pub update_text : UpdateParts → List ℕ
+update_text parts =
     codes "update " ++ (prefixes_text parts.withdrawn
     ++ (codes " | " ++ (attributes_text parts.attributes
-    ++ (codes " | " ++ (prefixes_text parts.nlri ++ codes "\n")))))
+    ++ (codes " | " ++ prefixes_text parts.nlri))))
 
 -- a NOTIFICATION: its error code and subcode, and its data (RFC 4271, 4.5)
-unfoldable pub notification_line : ℕ → ℕ → List ℕ → List ℕ
-notification_line code subcode detail =
+unfoldable pub notification_text : ℕ → ℕ → List ℕ → List ℕ
+notification_text code subcode detail =
     codes "notification " ++ (decimal code ++ (codes "/" ++ (decimal subcode
-    ++ (codes " " ++ (hex_text detail ++ codes "\n")))))
+    ++ (codes " " ++ hex_text detail))))
+
+-- the line of a message without its end
+abbrev pub text_of : Message → List ℕ
+text_of (open_message fields) = open_text fields
+text_of (malformed_open_message fault) = malformed_open_text fault
+text_of (update_message parts) = update_text parts
+text_of malformed_update_message = codes "update malformed"
+text_of (notification_message code subcode detail) = notification_text code subcode detail
+text_of keepalive_message = codes "keepalive"
 
 -- the line of a message
 abbrev pub line_of : Message → List ℕ
-line_of (open_message fields) = open_line fields
-line_of (malformed_open_message fault) = malformed_open_line fault
-line_of (update_message parts) = update_line parts
-line_of malformed_update_message = codes "update malformed\n"
-line_of (notification_message code subcode detail) = notification_line code subcode detail
-line_of keepalive_message = codes "keepalive\n"
+line_of message = text_of message ++ codes "\n"
 
 -- a subcode of Message Header Error after a blank, where it is at fault (RFC 4271, 6.1)
 abbrev pub subcode_text : Bool → List ℕ → List ℕ
 subcode_text at_fault subcode = if at_fault then subcode else []
 
--- a stream that stops being BGP: the offset of the faulty header, and the subcodes of its faults,
--- ascending
+-- the subcodes of a header's faults, ascending, each after a blank
+abbrev pub subcodes_text : HeaderFaults → List ℕ
+subcodes_text faults =
+    subcode_text faults.marker (codes " 1/1")
+    ++ (subcode_text (is_some faults.length) (codes " 1/2")
+    ++ subcode_text (is_some faults.kind) (codes " 1/3"))
+
+-- a stream that stops being BGP: the offset of the faulty header, and the subcodes of its faults
 unfoldable pub fault_line : ℕ → HeaderFaults → List ℕ
 fault_line offset faults =
-    codes "fault at " ++ (decimal offset
-    ++ (subcode_text faults.marker (codes " 1/1")
-    ++ (subcode_text (is_some faults.length) (codes " 1/2")
-    ++ (subcode_text (is_some faults.kind) (codes " 1/3") ++ codes "\n"))))
+    codes "fault at " ++ (decimal offset ++ (subcodes_text faults ++ codes "\n"))
 
 -- a stream that ends inside a message: how many octets of it came
 unfoldable pub rest_line : ℕ → List ℕ

@@ -1,14 +1,14 @@
 //! One line a message (RFC 4271, 4), and one for what is no message.
 
-ghost use Rattle.std.specs.Prelude.{◌≡◌, ◌++◌, codes, is_some};
+ghost use Rattle.std.specs.Prelude.{◌≡◌};
 ghost use Rattle.bgp_wire.specs.Header.{header_of, type_of};
 ghost use Rattle.bgp_wire.specs.Verdict.{type_code};
 ghost use Rattle.bgp_open.specs.Capability.{capability_of};
 ghost use Rattle.bgp_text.specs.Lines.{Writes};
 ghost use Rattle.bgp_text.specs.Message.{Message, Says};
-ghost use Rattle.bgp_text.specs.Text.{line_of, capability_text, capabilities_text, open_line};
-ghost use Rattle.bgp_text.specs.Text.{malformed_open_line, notification_line};
-ghost use Rattle.bgp_text.specs.Text.{subcode_text, fault_line, rest_line};
+ghost use Rattle.bgp_text.specs.Text.{line_of, text_of, capability_text, capabilities_text};
+ghost use Rattle.bgp_text.specs.Text.{open_text, malformed_open_text, notification_text};
+ghost use Rattle.bgp_text.specs.Text.{subcode_text, subcodes_text, fault_line, rest_line};
 
 use crate::lines::Lines;
 use crate::updates::put_update;
@@ -42,9 +42,9 @@ fn put_capabilities<W: Sink>(lines: &mut Lines<'_, W>, mut capabilities: Capabil
     }
 }
 
-/// The line of an OPEN.
+/// The text of an OPEN.
 fn put_open<W: Sink>(lines: &mut Lines<'_, W>, message: &Open<'_>)
-    ensures { Writes lines.old lines.new (open_line message.now) }
+    ensures { Writes lines.old lines.new (open_text message.now) }
 {
     lines.put(b"open as ");
     lines.put_decimal(message.my_as());
@@ -54,22 +54,20 @@ fn put_open<W: Sink>(lines: &mut Lines<'_, W>, message: &Open<'_>)
     lines.put_ipv4(message.id());
     lines.put(b" caps");
     put_capabilities(lines, message.caps());
-    lines.put(b"\n");
 }
 
-/// The line of an OPEN whose form is wrong.
+/// The text of an OPEN whose form is wrong.
 fn put_malformed_open<W: Sink>(lines: &mut Lines<'_, W>, fault: OpenFault)
-    ensures { Writes lines.old lines.new (malformed_open_line fault) }
+    ensures { Writes lines.old lines.new (malformed_open_text fault) }
 {
     lines.put(b"open malformed ");
     lines.put_decimal(fault.number());
-    lines.put(b"\n");
 }
 
-/// The line of a NOTIFICATION.
+/// The text of a NOTIFICATION.
 fn put_notification<W: Sink>(lines: &mut Lines<'_, W>, message: Notification<'_>)
     ensures { Writes lines.old lines.new
-        (notification_line message.entry.code message.entry.subcode message.entry.detail.now) }
+        (notification_text message.entry.code message.entry.subcode message.entry.detail.now) }
 {
     lines.put(b"notification ");
     lines.put_decimal(message.code);
@@ -77,7 +75,30 @@ fn put_notification<W: Sink>(lines: &mut Lines<'_, W>, message: Notification<'_>
     lines.put_decimal(message.subcode);
     lines.put(b" ");
     lines.put_hex(message.detail);
-    lines.put(b"\n");
+}
+
+/// The line of a frame whose header says this type, without its end.
+pub(crate) fn put_message_text<W: Sink>(lines: &mut Lines<'_, W>, kind: MessageType, frame: &[u8])
+    requires kind { type_code kind ≡ type_of (header_of frame.now) }
+    requires says { (message : Message) × Says frame.now message }
+    ensures { (message : Message) → Says frame.now message
+        → Writes lines.old lines.new (text_of message) }
+{
+    match kind {
+        MessageType::Open => match read_open(frame) {
+            Ok(message) => put_open(lines, &message),
+            Err(fault) => put_malformed_open(lines, fault),
+        },
+        MessageType::Update => match read_parts(frame) {
+            Some(parts) => put_update(lines, parts),
+            None => lines.put(b"update malformed"),
+        },
+        MessageType::Notification => match read_notification(frame) {
+            Some(message) => put_notification(lines, message),
+            None => unreachable!(),
+        },
+        MessageType::Keepalive => lines.put(b"keepalive"),
+    }
 }
 
 /// The line of a frame whose header says this type.
@@ -87,21 +108,8 @@ pub fn put_message<W: Sink>(lines: &mut Lines<'_, W>, kind: MessageType, frame: 
     ensures { (message : Message) → Says frame.now message
         → Writes lines.old lines.new (line_of message) }
 {
-    match kind {
-        MessageType::Open => match read_open(frame) {
-            Ok(message) => put_open(lines, &message),
-            Err(fault) => put_malformed_open(lines, fault),
-        },
-        MessageType::Update => match read_parts(frame) {
-            Some(parts) => put_update(lines, parts),
-            None => lines.put(b"update malformed\n"),
-        },
-        MessageType::Notification => match read_notification(frame) {
-            Some(message) => put_notification(lines, message),
-            None => unreachable!(),
-        },
-        MessageType::Keepalive => lines.put(b"keepalive\n"),
-    }
+    put_message_text(lines, kind, frame);
+    lines.put(b"\n");
 }
 
 /// A text where something is so, and nothing where it isn't.
@@ -111,16 +119,13 @@ fn text_if(is_so: bool, text: &str) -> &str
     if is_so { text } else { "" }
 }
 
-/// The subcodes of a header's faults, ascending, and the end of the line.
-pub fn put_subcodes<W: Sink>(lines: &mut Lines<'_, W>, faults: HeaderFaults)
-    ensures { Writes lines.old lines.new (subcode_text faults.marker (codes " 1/1")
-        ++ (subcode_text (is_some faults.length) (codes " 1/2")
-        ++ (subcode_text (is_some faults.kind) (codes " 1/3") ++ codes "\n"))) }
+/// The subcodes of a header's faults, ascending, each after a blank.
+pub(crate) fn put_subcodes<W: Sink>(lines: &mut Lines<'_, W>, faults: HeaderFaults)
+    ensures { Writes lines.old lines.new (subcodes_text faults) }
 {
     lines.put(text_if(faults.marker, " 1/1").as_bytes());
     lines.put(text_if(faults.length.is_some(), " 1/2").as_bytes());
     lines.put(text_if(faults.kind.is_some(), " 1/3").as_bytes());
-    lines.put(b"\n");
 }
 
 /// The line of a header with faults, which stands at this offset of the stream.
@@ -130,6 +135,7 @@ pub fn put_fault<W: Sink>(lines: &mut Lines<'_, W>, offset: u64, faults: HeaderF
     lines.put(b"fault at ");
     lines.put_decimal(offset);
     put_subcodes(lines, faults);
+    lines.put(b"\n");
 }
 
 /// The line of a stream that ends this many octets after its last whole message.

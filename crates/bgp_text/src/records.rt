@@ -6,24 +6,24 @@ ghost use Rattle.mrt.specs.Reader.{shown_of};
 ghost use Rattle.mrt.specs.Rules.{HasOtherLength};
 ghost use Rattle.mrt.specs.Written.{IsAllowed};
 ghost use Rattle.bgp_text.specs.Lines.{Writes};
-ghost use Rattle.bgp_text.specs.Capture.{faulty_line, IsMessageText, change_line, IsRecordLine};
-ghost use Rattle.bgp_text.specs.Capture.{message_line, refused_line};
+ghost use Rattle.bgp_text.specs.Capture.{faulty_text, IsMessageText, message_text, change_text};
+ghost use Rattle.bgp_text.specs.Capture.{IsRecordText, IsRecordLine, refused_line};
 
 use crate::lines::Lines;
-use crate::messages::{put_message, put_subcodes};
+use crate::messages::{put_message_text, put_subcodes};
 use bgp_prefix::{Seconds, Session};
 use bgp_wire::{HeaderFaults, HeaderVerdict, Limit, check_header, header_at};
 use mrt::{CaptureFault, Record, Sink};
 
-/// The line of a header with faults.
+/// The text of a header with faults.
 fn put_faulty<W: Sink>(lines: &mut Lines<'_, W>, faults: HeaderFaults)
-    ensures { Writes lines.old lines.new (faulty_line faults) }
+    ensures { Writes lines.old lines.new (faulty_text faults) }
 {
     lines.put(b"fault");
     put_subcodes(lines, faults);
 }
 
-/// The line of a message that a record holds, where it may be so long.
+/// The text of a message that a record holds, where it may be so long.
 fn put_octets<W: Sink>(lines: &mut Lines<'_, W>, limit: Limit, octets: &[u8])
     requires long { 19 ≤ length octets.now }
     requires whole { ¬ HasOtherLength limit octets.now }
@@ -34,7 +34,7 @@ fn put_octets<W: Sink>(lines: &mut Lines<'_, W>, limit: Limit, octets: &[u8])
         unreachable!();
     };
     match check_header(header, limit) {
-        HeaderVerdict::Whole(_, kind) => put_message(lines, kind, octets),
+        HeaderVerdict::Whole(_, kind) => put_message_text(lines, kind, octets),
         HeaderVerdict::Faulty(faults) => put_faulty(lines, faults),
     }
 }
@@ -50,7 +50,7 @@ fn put_message_of<W: Sink>(
     requires long { 19 ≤ length octets.now }
     requires whole { ¬ HasOtherLength (limit_with session.now.extended) octets.now }
     ensures { (text : List ℕ) × IsMessageText (limit_with session.now.extended) octets.now text
-        × Writes lines.old lines.new (message_line second went.now text) }
+        × Writes lines.old lines.new (message_text second went.now text) }
 {
     lines.put(b"@");
     lines.put_decimal(second);
@@ -58,9 +58,9 @@ fn put_message_of<W: Sink>(
     put_octets(lines, Limit::with_extended(session.extended), octets);
 }
 
-/// The line of a change of state.
+/// The text of a change of state.
 fn put_change<W: Sink>(lines: &mut Lines<'_, W>, second: Seconds, old: u16, new: u16)
-    ensures { Writes lines.old lines.new (change_line second old new) }
+    ensures { Writes lines.old lines.new (change_text second old new) }
 {
     lines.put(b"@");
     lines.put_decimal(second);
@@ -68,14 +68,14 @@ fn put_change<W: Sink>(lines: &mut Lines<'_, W>, second: Seconds, old: u16, new:
     lines.put_decimal(old);
     lines.put(b" ");
     lines.put_decimal(new);
-    lines.put(b"\n");
 }
 
-/// The line of a record that a capture of the session may have.
-pub fn put_record<W: Sink>(lines: &mut Lines<'_, W>, session: &Session, shown: &Record<'_>)
+/// The line of a record that a capture of the session may have, without its end, so that more may
+/// be put after it.
+pub fn put_record_text<W: Sink>(lines: &mut Lines<'_, W>, session: &Session, shown: &Record<'_>)
     requires { (last : Option ℕ) × IsAllowed session.now last (shown_of shown.now) }
-    ensures { (line : List ℕ) × IsRecordLine session.now (shown_of shown.now) line
-        × Writes lines.old lines.new line }
+    ensures { (text : List ℕ) × IsRecordText session.now (shown_of shown.now) text
+        × Writes lines.old lines.new text }
 {
     match shown {
         Record::In(second, octets) => {
@@ -84,6 +84,16 @@ pub fn put_record<W: Sink>(lines: &mut Lines<'_, W>, session: &Session, shown: &
         Record::Out(second, octets) => put_message_of(lines, session, *second, " sent ", octets),
         Record::Change(second, old, new) => put_change(lines, *second, *old, *new),
     }
+}
+
+/// The line of a record that a capture of the session may have.
+pub fn put_record<W: Sink>(lines: &mut Lines<'_, W>, session: &Session, shown: &Record<'_>)
+    requires { (last : Option ℕ) × IsAllowed session.now last (shown_of shown.now) }
+    ensures { (line : List ℕ) × IsRecordLine session.now (shown_of shown.now) line
+        × Writes lines.old lines.new line }
+{
+    put_record_text(lines, session, shown);
+    lines.put(b"\n");
 }
 
 /// The line of a capture that is refused.

@@ -1,9 +1,9 @@
-//! The line of an UPDATE (RFC 4271, 4.3), written while its fields are gone through.
+//! The text of an UPDATE (RFC 4271, 4.3), written while its fields are gone through.
 
 ghost use Rattle.bgp_attr.specs.Field.{attribute_of};
 ghost use Rattle.bgp_update.specs.Parts.{parts_of};
 ghost use Rattle.bgp_text.specs.Lines.{Writes};
-ghost use Rattle.bgp_text.specs.Text.{attribute_text, attributes_text, prefixes_text, update_line};
+ghost use Rattle.bgp_text.specs.Text.{attribute_text, attributes_text, prefixes_text, update_text};
 
 use crate::addresses::put_prefix;
 use crate::lines::Lines;
@@ -50,9 +50,9 @@ fn put_attributes<W: Sink>(lines: &mut Lines<'_, W>, mut attributes: Attrs<'_>)
     }
 }
 
-/// The line of an UPDATE that has these parts.
+/// The text of an UPDATE that has these parts.
 pub fn put_update<W: Sink>(lines: &mut Lines<'_, W>, parts: Parts<'_>)
-    ensures { Writes lines.old lines.new (update_line (parts_of parts.entry)) }
+    ensures { Writes lines.old lines.new (update_text (parts_of parts.entry)) }
 {
     lines.put(b"update ");
     put_prefixes(lines, parts.withdrawn);
@@ -60,5 +60,4 @@ pub fn put_update<W: Sink>(lines: &mut Lines<'_, W>, parts: Parts<'_>)
     put_attributes(lines, parts.attributes);
     lines.put(b" | ");
     put_prefixes(lines, parts.nlri);
-    lines.put(b"\n");
 }

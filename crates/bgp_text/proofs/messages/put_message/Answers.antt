@@ -1,16 +1,7 @@
-use Rattle.std.proofs.Common.{◌≡◌, sym}
-use Rattle.bgp_wire.specs.Header.{header_of, type_of}
-use Rattle.bgp_update.specs.Parts.{parts_of}
-use Rattle.bgp_text.specs.Message.{update_message, malformed_update_message}
-use Rattle.bgp_text.proofs.OneMessage.{one_message}
+use Rattle.bgp_text.proofs.Pieces.{Joins, and_then}
 use Rattle.bgp_text.proofs.messages.put_message.Goals as goal
 
-pub returns-in-Some : goal.returns-in-Some
-returns-in-Some g c message says =
-    let two : type_of (header_of c.args.frame.now) ≡ 2 = sym (rw c.in-Update.is at c.requires.kind) in
-    rw (one_message c.args.frame.now message (update_message (parts_of c.in-Some.parts)) says (two, c.in-Some.ensures.some)) c.put_update.ensures
-
-pub returns-in-None : goal.returns-in-None
-returns-in-None g c message says =
-    let two : type_of (header_of c.args.frame.now) ≡ 2 = sym (rw c.in-Update.is at c.requires.kind) in
-    rw (one_message c.args.frame.now message malformed_update_message says (two, c.in-None.ensures.none)) c.put.ensures
+pub returns : goal.returns
+returns g c = λ message says.
+    let law : Joins g.W.Sink = record { joined = g.met.W.Sink.joined } in
+    and_then law (c.put_message_text.ensures message says) c.put.ensures

@@ -1,10 +1,10 @@
-use Rattle.bgp_text.specs.Text.{open_line}
+use Rattle.bgp_text.specs.Text.{open_text}
 use Rattle.bgp_text.proofs.Pieces.{Joins, and_then}
 use Rattle.bgp_text.proofs.messages.put_open.Goals as goal
 
 pub returns : goal.returns
-unfolding open_line
+unfolding open_text
 returns g c =
     let law : Joins g.W.Sink = record { joined = g.met.W.Sink.joined } in
-    let text = and_then law c.put.ensures (and_then law c.put_decimal.ensures (and_then law c.put-2.ensures (and_then law c.put_decimal-2.ensures (and_then law c.put-3.ensures (and_then law c.put_ipv4.ensures (and_then law c.put-4.ensures (and_then law c.put_capabilities.ensures c.put-5.ensures))))))) in
+    let text = and_then law c.put.ensures (and_then law c.put_decimal.ensures (and_then law c.put-2.ensures (and_then law c.put_decimal-2.ensures (and_then law c.put-3.ensures (and_then law c.put_ipv4.ensures (and_then law c.put-4.ensures c.put_capabilities.ensures)))))) in
     rw (c.my_as.ensures, c.hold.ensures, c.id.ensures, c.caps.ensures) at text

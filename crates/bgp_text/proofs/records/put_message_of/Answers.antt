@@ -1,7 +1,7 @@
 use Rattle.std.proofs.Common.{subst, sym}
 use Rattle.bgp_wire.specs.declared.header.Limit.{Limit}
 use Rattle.mrt.specs.Rules.{HasOtherLength}
-use Rattle.bgp_text.specs.Capture.{IsMessageText, message_line}
+use Rattle.bgp_text.specs.Capture.{IsMessageText, message_text}
 use Rattle.bgp_text.proofs.Pieces.{Joins, and_then}
 use Rattle.bgp_text.proofs.records.put_message_of.Goals as goal
 
@@ -10,7 +10,7 @@ put_octets-requires-clause-whole g c =
     subst (λ (limit : Limit). ¬ HasOtherLength limit c.args.octets.now) (sym c.with_extended.ensures) c.requires.whole
 
 pub returns : goal.returns
-unfolding message_line
+unfolding message_text
 returns g c =
     let law : Joins g.W.Sink = record { joined = g.met.W.Sink.joined } in
     let (said, is, wrote) = c.put_octets.ensures in

@@ -1,14 +1,14 @@
 use Rattle.std.proofs.Common.{List, ℕ, sym, subst, refl, inl, inr}
 use Rattle.bgp_wire.specs.Header.{IsSound}
 use Rattle.bgp_wire.specs.Verdict.{AreFaults}
-use Rattle.bgp_text.specs.Capture.{faulty_line}
-use Rattle.bgp_text.specs.Text.{line_of}
+use Rattle.bgp_text.specs.Capture.{faulty_text}
+use Rattle.bgp_text.specs.Text.{text_of}
 use Rattle.bgp_text.proofs.EachMessage.{each_message}
 use Rattle.bgp_text.proofs.CaptureMessages.{is_frame}
 use Rattle.bgp_text.proofs.records.put_octets.Goals as goal
 
-pub put_message-requires-clause-says : goal.put_message-requires-clause-says
-put_message-requires-clause-says g c =
+pub put_message_text-requires-clause-says : goal.put_message_text-requires-clause-says
+put_message_text-requires-clause-says g c =
     let sound = subst (λ (o : List ℕ). IsSound c.args.limit o) c.in-Some.ensures.some c.in-Whole.ensures.verdict.0 in
     each_message c.args.limit c.args.octets.now (is_frame c.args.limit c.args.octets.now c.requires.long c.requires.whole sound)
 
@@ -17,12 +17,12 @@ returns-in-Whole g c =
     let sound = subst (λ (o : List ℕ). IsSound c.args.limit o) c.in-Some.ensures.some c.in-Whole.ensures.verdict.0 in
     let frame = is_frame c.args.limit c.args.octets.now c.requires.long c.requires.whole sound in
     let says = each_message c.args.limit c.args.octets.now frame in
-    (line_of says.0, inl (frame, (says.0, says.1, refl)), c.put_message.ensures says.0 says.1)
+    (text_of says.0, inl (frame, (says.0, says.1, refl)), c.put_message_text.ensures says.0 says.1)
 
 pub returns-in-Faulty : goal.returns-in-Faulty
 returns-in-Faulty g c =
     let faults = subst (λ (o : List ℕ). AreFaults c.args.limit o c.in-Faulty.faults) c.in-Some.ensures.some c.in-Faulty.ensures.verdict.1 in (
-      faulty_line c.in-Faulty.faults,
+      faulty_text c.in-Faulty.faults,
       inr (
         (c.requires.long, λ sound. c.in-Faulty.ensures.verdict.0 (subst (λ (o : List ℕ). IsSound c.args.limit o) (sym c.in-Some.ensures.some) sound)),
         (c.in-Faulty.faults, faults, refl),

@@ -1,21 +1,9 @@
-use Rattle.std.proofs.Common.{refl, codes}
-use Rattle.bgp_text.specs.Capture.{message_line}
+use Rattle.std.proofs.Common.{◌++◌, refl, codes}
+use Rattle.bgp_text.proofs.Pieces.{Joins, and_then}
 use Rattle.bgp_text.proofs.records.put_record.Goals as goal
 
-pub put_message_of-requires-clause-whole : goal.put_message_of-requires-clause-whole
-put_message_of-requires-clause-whole g c =
-    let allowed = rw c.in-In.is at c.requires in allowed.1.0.2
-
-pub put_message_of-requires-in-Out-clause-whole : goal.put_message_of-requires-in-Out-clause-whole
-put_message_of-requires-in-Out-clause-whole g c =
-    let allowed = rw c.in-Out.is at c.requires in allowed.1.0.2
-
-pub returns-in-In : goal.returns-in-In
-returns-in-In g c =
-    let (text, is, wrote) = c.put_message_of.ensures in
-    (message_line c.in-In.second (codes " received ") text, rw c.in-In.is (text, is, refl), wrote)
-
-pub returns-in-Out : goal.returns-in-Out
-returns-in-Out g c =
-    let (text, is, wrote) = c.put_message_of-in-Out.ensures in
-    (message_line c.in-Out.second (codes " sent ") text, rw c.in-Out.is (text, is, refl), wrote)
+pub returns : goal.returns
+returns g c =
+    let law : Joins g.W.Sink = record { joined = g.met.W.Sink.joined } in
+    let (text, is, wrote) = c.put_record_text.ensures in
+    (text ++ codes "\n", (text, is, refl), and_then law wrote c.put.ensures)

@@ -1,9 +1,9 @@
-use Rattle.bgp_text.specs.Text.{update_line}
+use Rattle.bgp_text.specs.Text.{update_text}
 use Rattle.bgp_text.proofs.Pieces.{Joins, and_then}
 use Rattle.bgp_text.proofs.updates.put_update.Goals as goal
 
 pub returns : goal.returns
-unfolding update_line
+unfolding update_text
 returns g c =
     let law : Joins g.W.Sink = record { joined = g.met.W.Sink.joined } in
-    and_then law c.put.ensures (and_then law c.put_prefixes.ensures (and_then law c.put-2.ensures (and_then law c.put_attributes.ensures (and_then law c.put-3.ensures (and_then law c.put_prefixes-2.ensures c.put-4.ensures)))))
+    and_then law c.put.ensures (and_then law c.put_prefixes.ensures (and_then law c.put-2.ensures (and_then law c.put_attributes.ensures (and_then law c.put-3.ensures c.put_prefixes-2.ensures))))

@@ -1,26 +1,40 @@
-use Rattle.std.proofs.Common.{rules, refl, subst, [], ◌∷◌, ◌++◌}
+use Rattle.std.proofs.Common.{rules, IsTrue, refl, subst, [], ◌∷◌, ◌++◌}
 use Rattle.mrt.specs.Reader.{shown_of}
 use Rattle.bgp_open.specs.declared.config.Config.{Config}
 use Rattle.bgp_machine.specs.Listed.{changes_of}
 use Rattle.bgp_compact.specs.Memory.{TakesMemory}
-use Rattle.bgp_compact.specs.Steps.{AreMade}
+use Rattle.bgp_compact.specs.Steps.{AreMade, table_behind}
 use Rattle.bgp_compact.proofs.Behind.{alive_so, take_makes, take_stands}
 use Rattle.bgp_compact.proofs.Refusals.{base_takes, changes_take, on_err}
 use Rattle.bgp_compact.proofs.compact.CompactTrackerTracker.take.Goals as goal
 
+pub returns-then-not-is_alive-clause-alive : goal.returns-then-not-is_alive-clause-alive
+returns-then-not-is_alive-clause-alive g c = λ config records stands.
+    let table = table_behind c.in_ok-left.left.words.shown (changes_of c.in_ok-left.left.changes) c.args.self.now.table in
+    let so = alive_so config (records ++ shown_of c.args.shown.now ∷ []) c.in_ok-left.left.words table c.is_alive.result
+    (take_stands c.each_owed_want_can_be_met.ensures.met c.args.self.now.config config records (shown_of c.args.shown.now) c.args.self.now.words c.in_ok-left.left.words
+    (changes_of c.in_ok-left.left.changes) c.args.self.now.table table stands.0 stands.1 c.in_ok-left.ensures.image refl)
+    c.is_alive.ensures.yes c.is_alive.ensures.no in (
+      λ t. absurd cc,
+      λ begins.
+          let t : IsTrue c.is_alive.result = so.1 begins in
+          let no = c.if-not-is_alive.true in absurd cc,
+    )
+
 pub returns-clause-alive : goal.returns-clause-alive
 returns-clause-alive g c = λ config records stands.
-    alive_so config (records ++ shown_of c.args.shown.now ∷ []) c.in_ok-left.left.words c.follow.new.table c.is_alive.result
+    let so = alive_so config (records ++ shown_of c.args.shown.now ∷ []) c.in_ok-left.left.words c.follow.new.table c.is_alive.result
     (take_stands c.each_owed_want_can_be_met.ensures.met c.args.self.now.config config records (shown_of c.args.shown.now) c.args.self.now.words c.in_ok-left.left.words
     (changes_of c.in_ok-left.left.changes) c.args.self.now.table c.follow.new.table stands.0 stands.1 c.in_ok-left.ensures.image c.in_ok-follow.ensures.ok)
-    c.is_alive.ensures.yes c.is_alive.ensures.no
+    c.is_alive.ensures.yes c.is_alive.ensures.no in
+    (λ t. so.0 c.if-not-is_alive.false, λ begins. refl)
 
 pub returns-clause-next : goal.returns-clause-next
 returns-clause-next g c = λ config records stands alive. (
   stands.0,
   take_makes c.each_owed_want_can_be_met.ensures.met c.args.self.now.config config records (shown_of c.args.shown.now) c.args.self.now.words c.in_ok-left.left.words
       c.in_ok-left.left.changes c.args.self.now.table c.follow.new.table stands.0 stands.1 c.in_ok-left.ensures.image c.in_ok-follow.ensures.ok
-      c.in_ok-left.ensures.shown (search rules) c.in_ok-left.ensures.made (c.is_alive.ensures.yes alive),
+      c.in_ok-left.ensures.shown (search rules) c.in_ok-left.ensures.made (c.is_alive.ensures.yes c.if-not-is_alive.false),
 )
 
 pub returns-in_err-left-clause-memory : goal.returns-in_err-left-clause-memory
