@@ -14,13 +14,13 @@ unfolding body_limit
 same_limit session = refl
 
 -- each rule says the same of it, but for that one
-abbrev IsSame : Type 0 → Type 0 → Type 0
+abbrev pub IsSame : Type 0 → Type 0 → Type 0
 IsSame X Y = (X → Y) × (Y → X)
 
 same : {X : Type 0} → IsSame X X
 same = (λ x. x, λ x. x)
 
-each_rule : (session : Session) (last : Option ℕ) (place : Place) (rule : Rule)
+pub each_rule : (session : Session) (last : Option ℕ) (place : Place) (rule : Rule)
     → IsSame (Holds session last place rule) (Holds (calm session) last place rule) ⊎ (rule ≡ Refresh)
 each_rule session last place Nothing = inl same
 each_rule session last place CutHeader = inl same
@@ -44,7 +44,7 @@ each_rule session last place Back = inl same
 each_rule session last place Allowed = inl same
 
 -- it never holds without
-never : (session : Session) (last : Option ℕ) (place : Place) → ¬ Holds (calm session) last place Refresh
+pub never : (session : Session) (last : Option ℕ) (place : Place) → ¬ Holds (calm session) last place Refresh
 never session last place holds = let no = holds.2 in cc
 
 says_same : (session : Session) (last : Option ℕ) (place : Place) (some : List Rule) (judgement : Judgement)

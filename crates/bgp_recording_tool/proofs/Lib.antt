@@ -1,4 +1,5 @@
 mod Calm
+mod FirstRefresh
 mod Judgings
 mod Numbers
 mod Outcomes
@@ -6,6 +7,7 @@ mod Puttings
 mod SomeRemarks
 mod Statuses
 mod Texts
+mod ToldAlike
 mod YesShown
 mod EntryLines
 mod JudgedEntries

@@ -6,7 +6,7 @@ use Rattle.bgp_prefix.specs.declared.session.Session.{Session}
 use Rattle.bgp_wire.specs.Header.{limit_with}
 use Rattle.streams.specs.declared.connection.Connection.{Connection}
 use Rattle.mrt.specs.Capture.{Spells}
-use Rattle.mrt.specs.CaptureLaws.{OneSpelling}
+use Rattle.mrt.specs.CaptureLaws.{OneSpelling, OneFault, NeverBoth}
 use Rattle.mrt.specs.Reader.{shown_of}
 use Rattle.mrt.specs.Written.{capture_octets}
 use Rattle.bgp_machine.specs.Lists.{Has, Each}
@@ -23,9 +23,10 @@ use Rattle.bgp_import.specs.Once.{RecordingsAreMadeOnce}
 use Rattle.bgp_import.specs.declared.importing.Import.{Import}
 use Rattle.bgp_import.specs.declared.note.Notes.{Notes}
 use Rattle.bgp_import.specs.declared.selection.Selection.{Selection}
-use Rattle.bgp_recording_tool.specs.Headline.{Agrees, EachEndIsShown, ImportAndJudgeAgree}
+use Rattle.bgp_recording_tool.specs.Headline.{Agrees, IsFirstRefresh, EachEndIsShown, ImportAndJudgeAgree}
 use Rattle.bgp_recording_tool.specs.Options.{calm}
 use Rattle.bgp_recording_tool.proofs.Calm.{spells_same, written_same}
+use Rattle.bgp_recording_tool.proofs.FirstRefresh.{first_refused, alone}
 
 -- what each element has one that is there has
 of_each : {X : Type 0} (P : X → Type 0) (xs : List X) (x : X) → Each P xs → Has (λ y. y ≡ x) xs → P x
@@ -79,16 +80,23 @@ module _ (read : MadeRecordsAreRead) (spelling : OneSpelling) (verdicts : HasOne
   shows : (records : List ShownRecord) → Spells session octets records → records_of entries ≡ records
   shows records spells = spelling (calm session) octets (records_of entries) records read_back (spells_same session octets records spells)
 
-agree_one : MadeRecordsAreRead → OneSpelling → HasOneVerdict → (config : Config) (wanted : Import) (connection : Connection) (entries : List Entry) (notes : Notes) (octets : List ℕ)
+agree_one : MadeRecordsAreRead → OneSpelling → OneFault → NeverBoth → HasOneVerdict → (config : Config) (wanted : Import) (connection : Connection) (entries : List Entry) (notes : Notes) (octets : List ℕ)
     → CanBeNamed config.parts.session → calm wanted.selection.session ≡ calm config.parts.session → IsMadeOf wanted connection entries notes
     → IsCapture wanted.selection.session entries octets → Agrees config entries octets
-agree_one read spelling verdicts config wanted connection entries notes octets can same made capture = record {
+agree_one read spelling fault never verdicts config wanted connection entries notes octets can same made capture = record {
   reads = reads read spelling verdicts config wanted connection entries notes octets can same made capture;
   shows = shows read spelling verdicts config wanted connection entries notes octets can same made capture;
   one = λ records verdict judged spells is also.
       verdicts config records verdict judged is
       (subst (λ (rs : List ShownRecord). HasVerdict config rs judged)
       (shows read spelling verdicts config wanted connection entries notes octets can same made capture records spells) also);
+  refused = λ may front first.
+      first_refused config.parts.session octets (records_of entries) front
+      (read_back read spelling verdicts config wanted connection entries notes octets can same made capture) may first;
+  alone = λ front kind offset at.
+      alone fault never config.parts.session octets (records_of entries) front kind offset
+      (read_back read spelling verdicts config wanted connection entries notes octets can same made capture)
+      (reads read spelling verdicts config wanted connection entries notes octets can same made capture) at;
 }
 
 -- ---- whatever is judged
@@ -103,15 +111,18 @@ agrees_as config entries judged octets same agrees = record {
   shows = λ records spells. sym same ∙ agrees.shows records spells;
   one = λ records verdict judged' spells is also.
       agrees.one records verdict judged' spells is (subst (λ (rs : List ShownRecord). HasVerdict config rs judged') (sym same) also);
+  refused = λ may front first. agrees.refused may front (subst (λ (rs : List ShownRecord). IsFirstRefresh rs front) (sym same) first);
+  alone = λ front kind offset at.
+      let was = agrees.alone front kind offset at in (was.0, was.1, subst (λ (rs : List ShownRecord). IsFirstRefresh rs front) same was.2);
 }
 
-pub agree : MadeRecordsAreRead → OneSpelling → HasOneVerdict → RecordingsAreMadeOnce → ImportAndJudgeAgree
-agree read spelling verdicts once config imports judges number packets entries judged notes told octets can session mean made capture also =
+pub agree : MadeRecordsAreRead → OneSpelling → OneFault → NeverBoth → HasOneVerdict → RecordingsAreMadeOnce → ImportAndJudgeAgree
+agree read spelling fault never verdicts once config imports judges number packets entries judged notes told octets can session mean made capture also =
     let calm_same : calm imports.selection.session ≡ calm config.parts.session = ap (λ (s : Selection). s.session) mean.selection ∙ ap calm session in
     let same = once imports judges number packets entries judged notes told mean made also in
     let records : records_of entries ≡ records_of judged = records_by entries ∙ ap (λ (ns : List Numbered). map (λ (n : Numbered). n.shown) ns) same.0 ∙ sym (records_by judged) in (
       same.1,
       records,
       agrees_as config entries judged octets records
-          (agree_one read spelling verdicts config imports made.connection entries notes octets can calm_same made.made capture),
+          (agree_one read spelling fault never verdicts config imports made.connection entries notes octets can calm_same made.made capture),
     )

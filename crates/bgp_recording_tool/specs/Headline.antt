@@ -1,11 +1,16 @@
 -- The laws on what a yes is worth that is answered of a recording, and that what is imported of it
 -- is judged the same.
-use Rattle.std.specs.Prelude.{◌≡◌, ℕ, List, Option, IsTrue}
+use Rattle.std.specs.Prelude.{◌≡◌, ◌⊎◌, ◌++◌, ℕ, List, ◌∷◌, Option, IsTrue, length, reverse}
 use Rattle.std.specs.List.{AllByRecursion}
 use Rattle.bgp_prefix.specs.Shown.{ShownRecord}
 use Rattle.bgp_wire.specs.Header.{limit_with}
 use Rattle.streams.specs.declared.connection.Connection.{Connection}
-use Rattle.mrt.specs.Capture.{Spells}
+use Rattle.streams.specs.Choice.{IsAnswered}
+use Rattle.streams.specs.Connections.{numbered}
+use Rattle.streams.specs.Passed.{Segment}
+use Rattle.mrt.specs.Capture.{Spells, IsFirstFault}
+use Rattle.mrt.specs.declared.fault.FaultKind.{FaultKind}
+use Rattle.mrt.specs.declared.fault.FaultKind.TheVariants as kinds
 use Rattle.packets.specs.Packet.{Recorded}
 use Rattle.bgp_open.specs.declared.config.Config.{Config}
 use Rattle.bgp_machine.specs.Lists.{Has}
@@ -19,7 +24,12 @@ use Rattle.bgp_import.specs.Captures.{IsCapture}
 use Rattle.bgp_import.specs.Importing.{IsMadeOf}
 use Rattle.bgp_import.specs.Once.{IsMadeOfPackets, MeanTheSame}
 use Rattle.bgp_import.specs.declared.importing.Import.{Import}
+use Rattle.bgp_import.specs.Refusals.{refusal_number}
+use Rattle.bgp_import.specs.Selecting.{AreTaken}
 use Rattle.bgp_import.specs.declared.note.Notes.{Notes}
+use Rattle.bgp_recording_tool.specs.Connections.{IsTold}
+use Rattle.bgp_recording_tool.specs.Told.{Told, Judged, Refused}
+use Rattle.bgp_recording_tool.specs.declared.remark.Remark.{Remark}
 
 -- Some run of the session machine ends so and shows just the records of these entries, and they
 -- tell the connection: its messages, in an order that is allowed within the patience, and the
@@ -41,8 +51,17 @@ EachEndIsShown =
     → ListsEnds config (records_of entries) ends → Has (λ x. x ≡ e) ends
     → IsShownWithin config wanted connection entries notes e
 
+-- The first ROUTE-REFRESH of some records stands after these.
+pub record IsFirstRefresh (records front : List ShownRecord) : Type 0 where
+  pub refresh : ShownRecord
+  pub later : List ShownRecord
+  pub whole : records ≡ front ++ (refresh ∷ later)
+  pub none_before : AllByRecursion IsNoRefresh front
+  pub is_one : ¬ IsNoRefresh refresh
+
 -- The octets read as just the records of these entries, unless one of them is a ROUTE-REFRESH and
 -- the session may have one; and any verdict on what they read as is the one on these records.
+-- Where there is one, a reader refuses them at the first of them, and for nothing else.
 pub record Agrees (config : Config) (entries : List Entry) (octets : List ℕ) : Type 0 where
   pub reads :
       (IsTrue config.parts.session.refresh → AllByRecursion IsNoRefresh (records_of entries))
@@ -52,6 +71,13 @@ pub record Agrees (config : Config) (entries : List Entry) (octets : List ℕ) :
   pub one : (records : List ShownRecord) (verdict judged : VerdictValue)
       → Spells config.parts.session octets records → HasVerdict config records verdict
       → HasVerdict config (records_of entries) judged → verdict ≡ judged
+  pub refused : IsTrue config.parts.session.refresh → (front : List ShownRecord)
+      → IsFirstRefresh (records_of entries) front
+      → (offset : ℕ) × IsFirstFault config.parts.session octets front kinds.RouteRefresh offset
+  pub alone : (front : List ShownRecord) (kind : FaultKind) (offset : ℕ)
+      → IsFirstFault config.parts.session octets front kind offset
+      → (kind ≡ kinds.RouteRefresh) × IsTrue config.parts.session.refresh
+      × IsFirstRefresh (records_of entries) front
 
 -- Whatever is imported of packets and whatever is judged of them, of the same session, number and
 -- patience, are one list of records, of which the same is told, and the capture of the former is
@@ -68,3 +94,33 @@ ImportAndJudgeAgree =
     → IsCapture imports.selection.session entries octets
     → IsMadeOfPackets judges number packets judged told
     → (notes ≡ told) × (records_of entries ≡ records_of judged) × Agrees config judged octets
+
+-- What is told of a connection is what these octets read as: a verdict, where they spell records
+-- that have it; 18 RouteRefresh, where a reader refuses them by 7 RouteRefresh; or memory was
+-- refused.
+abbrev pub TellsAs : Config → List ℕ → Told → Type 0
+TellsAs config octets (Judged verdict) =
+    (records : List ShownRecord) × Spells config.parts.session octets records
+    × HasVerdict config records verdict
+TellsAs config octets (Refused refusal) =
+    ((refusal_number refusal ≡ 18) × (front : List ShownRecord) × (offset : ℕ)
+    × IsFirstFault config.parts.session octets front kinds.RouteRefresh offset)
+    ⊎ (refusal_number refusal ≡ 17)
+
+-- Where a capture can be imported of packets, whatever is told of the connection that is judged is
+-- what the capture reads as.
+abbrev pub JudgeTellsTheCapture : Type 0
+JudgeTellsTheCapture =
+    (config : Config) (imports judges : Import) (number : Option ℕ) (packets : List Recorded)
+    (segments : List Segment) (connection : Connection) (entries : List Entry) (notes : Notes)
+    (octets : List ℕ) (told : Told) (remarks : List Remark)
+    → CanBeNamed config.parts.session
+    → judges.selection.session ≡ config.parts.session
+    → MeanTheSame imports judges
+    → AreTaken imports.selection 0 packets segments
+    → AreTaken judges.selection 0 packets segments
+    → IsAnswered number (length packets) (numbered (reverse segments)) connection
+    → IsMadeOf imports connection entries notes
+    → IsCapture imports.selection.session entries octets
+    → IsTold config judges packets segments number told remarks
+    → TellsAs config octets told

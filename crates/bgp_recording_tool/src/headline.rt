@@ -3,6 +3,7 @@
 ghost use Rattle.std.specs.Prelude.{◌<◌, ◌^◌};
 ghost use Rattle.bgp_recording_tool.specs.Told.{NoIsTold};
 ghost use Rattle.bgp_recording_tool.specs.Headline.{EachEndIsShown, ImportAndJudgeAgree};
+ghost use Rattle.bgp_recording_tool.specs.Headline.{JudgeTellsTheCapture};
 ghost use Rattle.bgp_recording_tool.specs.Judging.{JudgesRecording};
 
 use crate::judging::{Judged, judge_source, misfit};
@@ -100,10 +101,12 @@ pub fn each_end_is_shown()
 /// Whatever is imported of a recording and whatever is judged of it, each by its own contract, are
 /// one list of records ([`recordings_are_made_once`]). The capture that
 /// [`import_recording`](bgp_import::import_recording) writes reads as just these, and whatever
-/// verdict holds of what it reads as is the one that is answered of the recording. A reader refuses such a capture for a ROUTE-REFRESH alone, of a
-/// session that may have one, and there the recording is refused, too (18 RouteRefresh).
+/// verdict holds of what it reads as is the one that is answered of the recording. A reader refuses
+/// such a capture at its first ROUTE-REFRESH, where the session may have one, and for nothing else
+/// (7 RouteRefresh); and exactly there is the recording refused for that (18 RouteRefresh).
 pub fn import_and_judge_agree()
-    ensures { ImportAndJudgeAgree }
+    ensures agree { ImportAndJudgeAgree }
+    ensures told { JudgeTellsTheCapture }
 {
     each_capture_has_one_reading();
     made_records_are_read();

@@ -1,0 +1,117 @@
+-- What is told of a connection is what the capture reads as that is imported of it.
+use Rattle.std.proofs.Common.{◌≡◌, ◌∙◌, ℕ, Bool, true, false, List, [], ◌∷◌, Option, None, Some, Result, Ok, Err, IsTrue, length, reverse, nat_lt, if◌then◌else◌, refl, sym, ap, subst, inl, inr}
+use Rattle.std.specs.List.{AllByRecursion}
+use Rattle.bgp_prefix.specs.Shown.{ShownRecord, Received, Sent, Changed}
+use Rattle.bgp_prefix.specs.declared.session.Session.{Session}
+use Rattle.streams.specs.Choice.{IsAnswered, IsRefused, refusal_of, numbered_one}
+use Rattle.streams.specs.Connections.{numbered}
+use Rattle.streams.specs.Passed.{Segment}
+use Rattle.streams.specs.declared.connection.Connection.{Connection}
+use Rattle.streams.specs.declared.fault.Fault.{Fault}
+use Rattle.streams.specs.declared.passed.Side.{Side}
+use Rattle.streams.specs.declared.passed.Side.TheVariants.{Local, Peer}
+use Rattle.mrt.specs.Reader.{shown_of}
+use Rattle.bgp_recording.specs.Captured.{IsNoRefresh, records_of}
+use Rattle.bgp_recording.specs.declared.entry.Entry.{Entry}
+use Rattle.bgp_recording.specs.declared.framing.Rest.{Rest}
+use Rattle.bgp_import.specs.Captures.{shown_message}
+use Rattle.bgp_import.specs.Gathers.{IsNotChosen}
+use Rattle.bgp_import.specs.Once.{IsMadeOfPackets}
+use Rattle.bgp_import.specs.Refreshes.{IsOne, IsRefreshPacket, IsRefreshIn, refresh_at, earlier}
+use Rattle.bgp_import.specs.Refusals.{refusal_number, refusal_packet}
+use Rattle.bgp_import.specs.declared.refusal.Refusal.{Refusal}
+use Rattle.bgp_recording_tool.specs.Headline.{IsFirstRefresh, ImportAndJudgeAgree, JudgeTellsTheCapture}
+use Rattle.bgp_recording_tool.specs.Told.{Judged, Refused}
+use Rattle.bgp_recording_tool.proofs.FirstRefresh.{first_or_none}
+
+-- ---- a ROUTE-REFRESH
+
+abbrev IsEighteen : Option Refusal → Type 0
+IsEighteen None = Unit {0}
+IsEighteen (Some refusal) = refusal_number refusal ≡ 18
+
+at_eighteen : (from : Side) (rest : Rest) (packet : Option ℕ) → IsEighteen (refresh_at from rest packet)
+at_eighteen from rest None = tt
+at_eighteen from rest (Some packet) = refl
+
+earlier_eighteen : (received sent : Option Refusal) → IsEighteen received → IsEighteen sent → IsEighteen (earlier received sent)
+earlier_eighteen None sent theirs ours = ours
+earlier_eighteen (Some received) None theirs ours = theirs
+earlier_eighteen (Some received) (Some sent) theirs ours =
+    elim (nat_lt (refusal_packet sent) (refusal_packet received)) as (λ (b : Bool). IsEighteen (if b then Some sent else Some received)) [ true ↦ ours | false ↦ theirs ]
+
+eighteen : (entries : List Entry) (received_rest sent_rest : Rest) (refusal : Refusal) → IsRefreshIn entries received_rest sent_rest (Some refusal) → refusal_number refusal ≡ 18
+eighteen entries received_rest sent_rest refusal (received, sent, theirs, ours, is) =
+    subst IsEighteen (sym is)
+    (earlier_eighteen received sent (subst IsEighteen (sym theirs.2) (at_eighteen Peer received_rest theirs.0)) (subst IsEighteen (sym ours.2) (at_eighteen Local sent_rest ours.0)))
+
+not_from : (from : Side) (shown : ShownRecord) → IsNoRefresh shown → ¬ IsOne (shown_message from shown)
+not_from Peer (Received second octets) denied is = denied is
+not_from Peer (Sent second octets) denied is = is
+not_from Peer (Changed second old new) denied is = is
+not_from Local (Received second octets) denied is = is
+not_from Local (Sent second octets) denied is = denied is
+not_from Local (Changed second old new) denied is = is
+
+no_packet : (from : Side) (entries : List Entry) (packet : Option ℕ) → AllByRecursion IsNoRefresh (records_of entries) → IsRefreshPacket from entries packet → packet ≡ None
+no_packet from [] packet none is = is
+no_packet from (entry ∷ later) packet none (inl one) = absurd (not_from from (shown_of entry.record) none.0 one.0)
+no_packet from (entry ∷ later) packet none (inr (not, is)) = no_packet from later packet none.1 is
+
+-- it is told of none
+none_there : (entries : List Entry) (received_rest sent_rest : Rest) (refusal : Refusal) → IsRefreshIn entries received_rest sent_rest (Some refusal)
+    → AllByRecursion IsNoRefresh (records_of entries) → ⊥
+none_there entries received_rest sent_rest refusal (received, sent, theirs, ours, is) none =
+    let peer : received ≡ None = theirs.2 ∙ ap (λ (p : Option ℕ). refresh_at Peer received_rest p) (no_packet Peer entries theirs.0 none theirs.1) in
+    let local : sent ≡ None = ours.2 ∙ ap (λ (p : Option ℕ). refresh_at Local sent_rest p) (no_packet Local entries ours.0 none ours.1) in
+    let denied : Some refusal ≡ None = is ∙ ap (λ (r : Option Refusal). earlier r sent) peer ∙ ap (λ (r : Option Refusal). earlier None r) local in cc
+
+some_first : (records : List ShownRecord) → (AllByRecursion IsNoRefresh records → ⊥) → (front : List ShownRecord) × IsFirstRefresh records front
+some_first records not = elim (first_or_none records) [ inl none ↦ absurd (not none) | inr first ↦ first ]
+
+-- ---- a connection that is answered isn't refused
+
+abbrev chosen_one : ℕ → Result ℕ Fault
+chosen_one number = Ok number
+
+one_number : (a b : ℕ) → chosen_one a ≡ chosen_one b → a ≡ b
+one_number a b e = cc
+
+no_error : (number : ℕ) (fault : Fault) → Err fault ≡ chosen_one number → ⊥
+no_error number fault e = absurd (cc)
+
+no_fault : (fault : Fault) → Some fault ≡ None → ⊥
+no_fault fault e = absurd (cc)
+
+not_both : (number : Option ℕ) (count : ℕ) (connections : List (List Segment)) (connection : Connection) (fault : Fault) → IsAnswered number count connections connection
+    → IsRefused number count connections fault → ⊥
+not_both number count connections connection fault answered (inl err) = no_error connection.number fault (sym err ∙ answered.chosen)
+not_both number count connections connection fault answered (inr (n, ok, some)) =
+    let same : connection.number ≡ n = one_number connection.number n (sym answered.chosen ∙ ok) in
+    no_fault fault (sym some ∙ ap (λ (m : ℕ). refusal_of (numbered_one connections m)) (sym same) ∙ answered.fine)
+
+not_unchosen : (number : Option ℕ) (count : ℕ) (segments : List Segment) (connection : Connection) (refusal : Refusal) → IsAnswered number count (numbered segments) connection
+    → IsNotChosen number count segments refusal → ⊥
+not_unchosen number count segments connection refusal answered not = not_both number count (numbered segments) connection not.fault answered not.refused
+
+-- ---- what is told
+
+pub tells_as : ImportAndJudgeAgree → JudgeTellsTheCapture
+tells_as agree config imports judges number packets segments connection entries notes octets (Judged verdict) remarks can session mean taken also answered made capture told =
+    let theirs : IsMadeOfPackets imports number packets entries notes = record { segments = segments; connection = connection; taken = taken; answered = answered; made = made } in
+    let own : IsMadeOfPackets judges number packets told.entries told.notes =
+    record { segments = segments; connection = told.connection; taken = also; answered = told.chosen; made = told.made } in
+    let agrees = (agree config imports judges number packets entries told.entries notes told.notes octets can session mean theirs capture own).2 in
+    (records_of told.entries, agrees.reads (λ may. told.without (subst (λ (s : Session). IsTrue s.refresh) (sym session) may)), told.is)
+tells_as agree config imports judges number packets segments connection entries notes octets (Refused refusal) remarks can session mean taken also answered made capture told =
+    elim told.why [
+      | inl (inl not) ↦ absurd (not_unchosen number (length packets) (reverse segments) connection refusal answered not)
+      | inl (inr memory) ↦ inr (ap refusal_number memory)
+      | inr refresh ↦ let theirs : IsMadeOfPackets imports number packets entries notes = record { segments = segments; connection = connection; taken = taken; answered = answered; made = made } in
+          let own : IsMadeOfPackets judges number packets refresh.entries refresh.notes =
+          record { segments = segments; connection = refresh.connection; taken = also; answered = refresh.chosen; made = refresh.made } in
+          let agrees = (agree config imports judges number packets entries refresh.entries notes refresh.notes octets can session mean theirs capture own).2 in
+          let first = some_first (records_of refresh.entries) (none_there refresh.entries refresh.notes.received refresh.notes.sent refusal refresh.is) in
+          let at = agrees.refused (subst (λ (s : Session). IsTrue s.refresh) session refresh.may) first.0 first.1 in
+          inl (eighteen refresh.entries refresh.notes.received refresh.notes.sent refusal refresh.is, first.0, at.0, at.1)
+    ]
