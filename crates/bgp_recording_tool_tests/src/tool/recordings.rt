@@ -5,6 +5,7 @@ use bgp_recording_tool::{Remark, decode_recording};
 use linked_list_allocator::LocalHeap;
 use mrt::SourceUpset;
 use std::num::NonZeroUsize;
+use std::test::Fail;
 
 /// Whether the recording is judged so with these options.
 fn is_judged(alloc: Global, options: &RecordingOptions, text: &str, status: u8) -> bool {
@@ -141,4 +142,52 @@ fn no_recording_is_read_of_one_address_or_two_families(rt: HostRuntime) {
         ..SESSION
     };
     assert!(rt; misfit(rt.alloc(), two) == Some(Remark::TwoFamilies));
+}
+
+/// What there is to tell besides notes, with its sentence.
+static REMARKS: [(Remark, &str); 4] = [
+    (
+        Remark::No {
+            connection: 1,
+            before: 10,
+            packet: 10,
+        },
+        "no at record 11 of connection 1: packet 10 shows it, and it is about one order of the \
+         messages that these packets allow",
+    ),
+    (
+        Remark::No {
+            connection: 2,
+            before: u64::MAX,
+            packet: u64::MAX,
+        },
+        "no at record 18446744073709551616 of connection 2: packet 18446744073709551615 shows it, \
+         and it is about one order of the messages that these packets allow",
+    ),
+    (
+        Remark::TwoFamilies,
+        "--local and --peer are addresses of two families, and a recording has no session between \
+         them",
+    ),
+    (
+        Remark::OneAddress,
+        "where --local and --peer are one address, a recording wants --local-port",
+    ),
+];
+
+/// Whether each remark has its words.
+fn have_words(alloc: Global) -> Result<bool, Fail> {
+    for (remark, words) in &REMARKS {
+        let told = format!(in alloc; "{remark}")?;
+        if told.as_str() != *words {
+            return Ok(false);
+        }
+    }
+    Ok(true)
+}
+
+#[test]
+fn each_remark_has_its_words(rt: HostRuntime) -> Result<(), Fail> {
+    assert!(rt; have_words(rt.alloc())?);
+    Ok(())
 }
