@@ -58,11 +58,11 @@ nothing_sent octets owed left core = (refl, refl)
 
 -- some more octets were taken
 pub sent_more : (account : List Telling) (octets rest front behind : List ℕ) → SentSoFar account octets rest → rest ≡ front ++ behind → 0 < length front
-    → SentSoFar (account ++ Wrote front ∷ []) octets behind
+    → SentSoFar (account ++ Wrote (length rest) front ∷ []) octets behind
 sent_more account octets rest [] behind sent is some = absurd (omega (arith, some))
 sent_more account octets rest (x ∷ xs) behind sent is some = λ owed left core.
-    talks_joined _ _ _ account (Wrote (x ∷ xs) ∷ []) [] [] (sent owed left core)
-    (one_telling (in_hand owed rest Stands left core) (in_hand owed behind Stands left core) (Wrote (x ∷ xs)) [] (record { stands = refl; unsent = is; goes = refl }, refl))
+    talks_joined _ _ _ account (Wrote (length rest) (x ∷ xs) ∷ []) [] [] (sent owed left core)
+    (one_telling (in_hand owed rest Stands left core) (in_hand owed behind Stands left core) (Wrote (length rest) (x ∷ xs)) [] (record { stands = refl; whole = refl; unsent = is; goes = refl }, refl))
 
 -- all were
 pub sent_whole : (account : List Telling) (octets rest : List ℕ) → SentSoFar account octets rest → rest ≡ [] → Sends account octets true
@@ -70,10 +70,10 @@ sent_whole account octets rest sent none owed left core =
     subst (λ (o : List ℕ). Talks (in_hand owed octets Stands left core) account [] (in_hand owed o Stands left core)) none (sent owed left core)
 
 -- and then a write took none
-pub sent_part : (account : List Telling) (octets rest : List ℕ) → SentSoFar account octets rest → 0 < length rest → Sends (account ++ Wrote [] ∷ []) octets false
+pub sent_part : (account : List Telling) (octets rest : List ℕ) → SentSoFar account octets rest → 0 < length rest → Sends (account ++ Wrote (length rest) [] ∷ []) octets false
 sent_part account octets rest sent some owed left core =
-    talks_joined _ _ _ account (Wrote [] ∷ []) [] [] (sent owed left core)
-    (one_telling (in_hand owed rest Stands left core) (in_hand (Failed ∷ owed) [] Stands left core) (Wrote []) [] (record { stands = refl; some = some; goes = refl }, refl))
+    talks_joined _ _ _ account (Wrote (length rest) [] ∷ []) [] [] (sent owed left core)
+    (one_telling (in_hand owed rest Stands left core) (in_hand (Failed ∷ owed) [] Stands left core) (Wrote (length rest) []) [] (record { stands = refl; whole = refl; some = some; goes = refl }, refl))
 
 -- `connect` is asked
 pub asked_talks : (answer : Bool) (left : ℕ) (core : CoreState)

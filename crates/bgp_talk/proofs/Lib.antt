@@ -6,3 +6,4 @@ mod Joining
 mod Entering
 mod TalkLaws
 mod Taken
+mod NextCalls

@@ -16,14 +16,14 @@ connect_failures n (Err f) true is = absurd (cc)
 connect_failures n (Err f) false is = refl
 
 pub wrote_ok : (s next : WireState) (octets : List ℕ) (r : Result ℕ Failed) → IsWriteAnswer (next_write_upset s) s.most octets r
-    → next ≡ after_write s octets r → IfOk r (λ count. Tells s (Wrote (take count octets) ∷ []) next)
-wrote_ok s next octets (Ok count) answer is = (after_write s octets (Ok count), (octets, Ok count, answer, refl, refl), is)
+    → next ≡ after_write s octets r → IfOk r (λ count. Tells s (Wrote (length octets) (take count octets) ∷ []) next)
+wrote_ok s next octets (Ok count) answer is = (after_write s octets (Ok count), (octets, Ok count, refl, answer, refl, refl), is)
 wrote_ok s next octets (Err f) answer is = tt
 
 pub wrote_err : (s next : WireState) (octets : List ℕ) (r : Result ℕ Failed) → IsWriteAnswer (next_write_upset s) s.most octets r
-    → next ≡ after_write s octets r → OnErr r (Tells s (Wrote [] ∷ []) next)
+    → next ≡ after_write s octets r → OnErr r (Tells s (Wrote (length octets) [] ∷ []) next)
 wrote_err s next octets (Ok count) answer is = tt
-wrote_err s next octets (Err f) answer is = (after_write s octets (Err f), (octets, Err f, answer, refl, refl), is)
+wrote_err s next octets (Err f) answer is = (after_write s octets (Err f), (octets, Err f, refl, answer, refl, refl), is)
 
 -- a read that is to fail
 pub read_broke : (s : WireState) (room : ℕ) (b : Bool) → b ≡ next_read_fails s → IsTrue b → Broke ≡ read_tells s room
@@ -65,5 +65,5 @@ took_what_is_told a b (told ∷ account) tells =
     one_took a next (Asked answer) calls = ap (λ (v : WireState). v.taken) calls.1 ∙ sym (append-nil a.taken)
     one_took a next (Read room told) calls = ap (λ (v : WireState). v.taken) calls.1 ∙ sym (append-nil a.taken)
     one_took a next (Clock second) calls = ap (λ (v : WireState). v.taken) calls.1 ∙ sym (append-nil a.taken)
-    one_took a next (Wrote octets) calls =
-        ap (λ (v : WireState). v.taken) calls.4 ∙ ap (λ (o : List ℕ). a.taken ++ o) (sym calls.3)
+    one_took a next (Wrote given octets) calls =
+        ap (λ (v : WireState). v.taken) calls.5 ∙ ap (λ (o : List ℕ). a.taken ++ o) (sym calls.4)

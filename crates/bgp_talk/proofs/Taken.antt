@@ -75,8 +75,8 @@ sound_goes s e (Clock second) records sound goes calm = (
     either : AllQuiet s.owed ⊎ ((s.unsent ≡ []) × RestQuiet s.owed) → AllQuiet goes.rest
     either (inl all) = quiet_after s.owed goes.owed all
     either (inr rest) = rest_of s.owed goes.owed rest.1
-sound_goes s e (Wrote []) records sound goes calm = absurd calm
-sound_goes s e (Wrote (octet ∷ octets)) records sound goes calm = (
+sound_goes s e (Wrote given []) records sound goes calm = absurd calm
+sound_goes s e (Wrote given (octet ∷ octets)) records sound goes calm = (
   λ stands. inl (subst AllQuiet (sym (ap (λ (v : Standing). v.owed) goes.0.goes)) (either (sound goes.0.stands))),
   ap (λ (r : List ShownRecord). s.unsent ++ sent_in r) goes.1 ∙ append-nil s.unsent ∙ goes.0.unsent,
 )
@@ -85,8 +85,8 @@ sound_goes s e (Wrote (octet ∷ octets)) records sound goes calm = (
     either (inl all) = all
     either (inr rest) = no_octets_here octet (octets ++ e.unsent) s.unsent rest.0 goes.0.unsent
 
-breaks : (s e : Standing) (records : List ShownRecord) → IsSound s → Goes s (Wrote []) records e → IsLost e × (sent_in records ≡ [])
-breaks s e records sound goes = (
+breaks : (s e : Standing) (given : ℕ) (records : List ShownRecord) → IsSound s → Goes s (Wrote given []) records e → IsLost e × (sent_in records ≡ [])
+breaks s e given records sound goes = (
   record {
     unsent = ap (λ (v : Standing). v.unsent) goes.0.goes;
     stands = ap (λ (v : Standing). v.connection) goes.0.goes ∙ goes.0.stands;
@@ -141,8 +141,8 @@ lost_goes s e (Clock second) records lost goes =
         let all = subst AllQuiet goes.owed rests.1 in
         let rested = rest_goes_on s.core e.core goes.input second records all.0 rests.0 goes.chosen in
         (rested.0, rested.1, all.1)
-lost_goes s e (Wrote []) records lost goes = none_short s.unsent lost.unsent goes.0.some
-lost_goes s e (Wrote (octet ∷ octets)) records lost goes = no_octets_here octet (octets ++ e.unsent) s.unsent lost.unsent goes.0.unsent
+lost_goes s e (Wrote given []) records lost goes = none_short s.unsent lost.unsent goes.0.some
+lost_goes s e (Wrote given (octet ∷ octets)) records lost goes = no_octets_here octet (octets ++ e.unsent) s.unsent lost.unsent goes.0.unsent
 
 both_none : (xs ys : List ℕ) → xs ≡ [] → ys ≡ [] → xs ++ ys ≡ []
 both_none xs ys first second = ap (λ (o : List ℕ). o ++ ys) first ∙ second
@@ -167,12 +167,12 @@ record TookSo (s : Standing) (account : List Telling) (records : List ShownRecor
   whole : s.unsent ++ sent_in records ≡ taken_of account ++ rest
   how : (IsSound e × (rest ≡ e.unsent)) ⊎ (IsLost e × (IsCalm account → ⊥))
 
-took_or_none : (told : Telling) → TookIfWrote told ⊎ (told ≡ Wrote [])
+took_or_none : (told : Telling) → TookIfWrote told ⊎ ((given : ℕ) × (told ≡ Wrote given []))
 took_or_none (Asked answer) = inl tt
 took_or_none (Read room told) = inl tt
 took_or_none (Clock second) = inl tt
-took_or_none (Wrote []) = inr refl
-took_or_none (Wrote (octet ∷ octets)) = inl tt
+took_or_none (Wrote given []) = inr (given, refl)
+took_or_none (Wrote given (octet ∷ octets)) = inl tt
 
 -- one telling that took what it could, and then more
 took_more : (s m e : Standing) (told : Telling) (account : List Telling) (first others : List ShownRecord)
@@ -195,10 +195,10 @@ took_more s m e told account first others calm now more = record {
     join (inr lost) = inr (lost.0, λ all. lost.1 all.1)
 
 -- a write that took none, and then more
-took_no_more : (s m e : Standing) (account : List Telling) (first others : List ShownRecord)
+took_no_more : (s m e : Standing) (given : ℕ) (account : List Telling) (first others : List ShownRecord)
     → sent_in first ≡ [] → IsLost e × (sent_in others ≡ []) × (taken_of account ≡ [])
-    → TookSo s (Wrote [] ∷ account) (first ++ others) e
-took_no_more s m e account first others silent more = record {
+    → TookSo s (Wrote given [] ∷ account) (first ++ others) e
+took_no_more s m e given account first others silent more = record {
   rest = s.unsent;
   whole = ap (λ (o : List ℕ). s.unsent ++ o) (sent_joined first others ∙ both_none (sent_in first) (sent_in others) silent more.1)
       ∙ append-nil s.unsent ∙ ap (λ (o : List ℕ). o ++ s.unsent) (sym more.2);
@@ -215,14 +215,14 @@ took_so s e (told ∷ account) records sound talks =
     subst (λ (r : List ShownRecord). TookSo s (told ∷ account) r e) (sym talks.5)
     (either (λ more. took_so talks.1 e account talks.2 more talks.4) (took_or_none told))
   where
-    either : (IsSound talks.1 → TookSo talks.1 account talks.2 e) → TookIfWrote told ⊎ (told ≡ Wrote []) → TookSo s (told ∷ account) (talks.0 ++ talks.2) e
+    either : (IsSound talks.1 → TookSo talks.1 account talks.2 e) → TookIfWrote told ⊎ ((given : ℕ) × (told ≡ Wrote given [])) → TookSo s (told ∷ account) (talks.0 ++ talks.2) e
     either others (inl calm) =
         let now = sound_goes s talks.1 told talks.0 sound talks.3 calm in
         took_more s talks.1 e told account talks.0 talks.2 calm now.1 (others now.0)
     either others (inr none) =
-        let lost = breaks s talks.1 talks.0 sound (subst (λ (t : Telling). Goes s t talks.0 talks.1) none talks.3) in
-        subst (λ (t : Telling). TookSo s (t ∷ account) (talks.0 ++ talks.2) e) (sym none)
-        (took_no_more s talks.1 e account talks.0 talks.2 lost.1 (lost_talks talks.1 e account talks.2 lost.0 talks.4))
+        let lost = breaks s talks.1 none.0 talks.0 sound (subst (λ (t : Telling). Goes s t talks.0 talks.1) none.1 talks.3) in
+        subst (λ (t : Telling). TookSo s (t ∷ account) (talks.0 ++ talks.2) e) (sym none.1)
+        (took_no_more s talks.1 e none.0 account talks.0 talks.2 lost.1 (lost_talks talks.1 e account talks.2 lost.0 talks.4))
 
 closing_quiet : (b : Bool) → AllQuiet (if b then [] else Stop ∷ [])
 closing_quiet true = tt

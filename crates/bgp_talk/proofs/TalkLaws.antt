@@ -31,11 +31,11 @@ goes_by s e (Clock second) records goes = (
       (one_step s.core e.core goes.input second records goes.chosen),
   ap (λ (o : List InputValue). owed_by o (Clock second)) goes.owed ∙ sym (ap (λ (v : Standing). v.owed) goes.goes),
 )
-goes_by s e (Wrote []) records goes = (
+goes_by s e (Wrote given []) records goes = (
   (goes.1, ap (λ (v : Standing). v.core) goes.0.goes),
   sym (ap (λ (v : Standing). v.owed) goes.0.goes),
 )
-goes_by s e (Wrote (octet ∷ octets)) records goes = (
+goes_by s e (Wrote given (octet ∷ octets)) records goes = (
   (goes.1, ap (λ (v : Standing). v.core) goes.0.goes),
   sym (ap (λ (v : Standing). v.owed) goes.0.goes),
 )
@@ -65,8 +65,8 @@ no_stop_handed owed (Asked false ∷ account) none = no_stop_handed (Failed ∷ 
 no_stop_handed owed (Read room told ∷ account) none = no_stop_handed (turn_inputs told ++ owed) account (no_stop_in_turn told owed none)
 no_stop_handed [] (Clock second ∷ account) none = no_stop_handed [] account tt
 no_stop_handed (input ∷ owed) (Clock second ∷ account) none = (none.0, no_stop_handed owed account none.1)
-no_stop_handed owed (Wrote [] ∷ account) none = no_stop_handed (Failed ∷ owed) account (λ is. absurd (cc), none)
-no_stop_handed owed (Wrote (octet ∷ octets) ∷ account) none = no_stop_handed owed account none
+no_stop_handed owed (Wrote given [] ∷ account) none = no_stop_handed (Failed ∷ owed) account (λ is. absurd (cc), none)
+no_stop_handed owed (Wrote given (octet ∷ octets) ∷ account) none = no_stop_handed owed account none
 
 no_stop_at_first : (own : List PrefixBits) (passive : Bool) → NoStop (first_owed own passive)
 no_stop_at_first [] true = (λ is. absurd (cc), tt)
@@ -93,11 +93,11 @@ closing_goes s e (Clock second) records closing goes = record {
   left = ap (λ (v : Standing). v.left) goes.goes ∙ closing.left;
   asked = (closing.asked.0, ap (λ (v : Standing). v.connection) goes.goes ∙ closing.asked.1);
 }
-closing_goes s e (Wrote []) records closing goes = record {
+closing_goes s e (Wrote given []) records closing goes = record {
   left = ap (λ (v : Standing). v.left) goes.0.goes ∙ closing.left;
   asked = (closing.asked.0, ap (λ (v : Standing). v.connection) goes.0.goes ∙ closing.asked.1);
 }
-closing_goes s e (Wrote (octet ∷ octets)) records closing goes = record {
+closing_goes s e (Wrote given (octet ∷ octets)) records closing goes = record {
   left = ap (λ (v : Standing). v.left) goes.0.goes ∙ closing.left;
   asked = (closing.asked.0, ap (λ (v : Standing). v.connection) goes.0.goes ∙ closing.asked.1);
 }
@@ -114,8 +114,8 @@ fails_handed owed (Read room told) all s e records closing goes =
     let takes = goes.0.takes in let none = closing.left in absurd (omega (arith, takes, none))
 fails_handed [] (Clock second) all s e records closing goes = (tt, tt)
 fails_handed (input ∷ owed) (Clock second) all s e records closing goes = ((all.0, tt), all.1)
-fails_handed owed (Wrote []) all s e records closing goes = (tt, (refl, all))
-fails_handed owed (Wrote (octet ∷ octets)) all s e records closing goes = (tt, all)
+fails_handed owed (Wrote given []) all s e records closing goes = (tt, (refl, all))
+fails_handed owed (Wrote given (octet ∷ octets)) all s e records closing goes = (tt, all)
 
 both_fail : (xs ys : List (ℕ × InputValue)) → AllByRecursion IsFailure xs → AllByRecursion IsFailure ys → AllByRecursion IsFailure (xs ++ ys)
 both_fail [] ys first second = second
@@ -155,26 +155,26 @@ stop_is_last s e (Clock second ∷ account) records over awake talks free = (
   others_fail [] account tt talks.1 e talks.2
       (closing_goes (closing_of s) talks.1 (Clock second) talks.0 (record { left = refl; asked = over.asked }) talks.3) talks.4,
 )
-stop_is_last s e (Wrote [] ∷ account) records over awake talks free = absurd (nothing_less 0 s.unsent over.free.1 talks.3.0.some)
-stop_is_last s e (Wrote (octet ∷ octets) ∷ account) records over awake talks free =
+stop_is_last s e (Wrote given [] ∷ account) records over awake talks free = absurd (nothing_less 0 s.unsent over.free.1 talks.3.0.some)
+stop_is_last s e (Wrote given (octet ∷ octets) ∷ account) records over awake talks free =
     absurd (some_of _ (sym talks.3.0.unsent ∙ over.free.1))
   where
     some_of : (more : List ℕ) → octet ∷ more ≡ [] → ⊥
     some_of more is = absurd (cc)
 
 pub failure_stands_next : FailureStandsNext
-failure_stands_next s e (Asked answer) account records talks = absurd (some_of (sym (ap (λ (v : Standing). v.owed) talks.3.0.goes) ∙ talks.4.3.0.free.0))
+failure_stands_next s e given (Asked answer) account records talks = absurd (some_of (sym (ap (λ (v : Standing). v.owed) talks.3.0.goes) ∙ talks.4.3.0.free.0))
   where
     some_of : {owed : List InputValue} → Failed ∷ owed ≡ [] → ⊥
     some_of is = absurd (cc)
-failure_stands_next s e (Read room told) account records talks = absurd (some_of (sym (ap (λ (v : Standing). v.owed) talks.3.0.goes) ∙ talks.4.3.0.free.0))
+failure_stands_next s e given (Read room told) account records talks = absurd (some_of (sym (ap (λ (v : Standing). v.owed) talks.3.0.goes) ∙ talks.4.3.0.free.0))
   where
     some_of : {owed : List InputValue} → Failed ∷ owed ≡ [] → ⊥
     some_of is = absurd (cc)
-failure_stands_next s e (Clock second) account records talks = (second, inputs_of s.owed account, refl, refl)
-failure_stands_next s e (Wrote []) account records talks =
+failure_stands_next s e given (Clock second) account records talks = (second, inputs_of s.owed account, refl, refl)
+failure_stands_next s e given (Wrote more []) account records talks =
     absurd (nothing_less 0 talks.1.unsent (ap (λ (v : Standing). v.unsent) talks.3.0.goes) talks.4.3.0.some)
-failure_stands_next s e (Wrote (octet ∷ octets)) account records talks =
+failure_stands_next s e given (Wrote more (octet ∷ octets)) account records talks =
     absurd (some_of _ (sym talks.4.3.0.unsent ∙ ap (λ (v : Standing). v.unsent) talks.3.0.goes))
   where
     some_of : (more : List ℕ) → octet ∷ more ≡ [] → ⊥
@@ -186,7 +186,9 @@ pub octets_go_first : OctetsGoFirst
 octets_go_first s e (Asked answer) account records some talks = absurd (nothing_less 0 s.unsent talks.3.0.free.1 some)
 octets_go_first s e (Read room told) account records some talks = absurd (nothing_less 0 s.unsent talks.3.0.free.1 some)
 octets_go_first s e (Clock second) account records some talks = absurd (nothing_less 0 s.unsent talks.3.sent some)
-octets_go_first s e (Wrote octets) account records some talks = (octets, refl)
+octets_go_first s e (Wrote given []) account records some talks = ([], ap (λ (n : ℕ). Wrote n []) talks.3.0.whole)
+octets_go_first s e (Wrote given (octet ∷ octets)) account records some talks =
+    (octet ∷ octets, ap (λ (n : ℕ). Wrote n (octet ∷ octets)) talks.3.0.whole)
 
 -- ---- what is read
 
@@ -194,8 +196,8 @@ reads_goes : (s e : Standing) (told : Telling) (records : List ShownRecord) → 
 reads_goes s e (Asked answer) records goes = let same = ap (λ (v : Standing). v.left) goes.0.goes in omega (arith, same)
 reads_goes s e (Read room told) records goes = let takes = goes.0.takes in omega (arith, takes)
 reads_goes s e (Clock second) records goes = let same = ap (λ (v : Standing). v.left) goes.goes in omega (arith, same)
-reads_goes s e (Wrote []) records goes = let same = ap (λ (v : Standing). v.left) goes.0.goes in omega (arith, same)
-reads_goes s e (Wrote (octet ∷ octets)) records goes = let same = ap (λ (v : Standing). v.left) goes.0.goes in omega (arith, same)
+reads_goes s e (Wrote given []) records goes = let same = ap (λ (v : Standing). v.left) goes.0.goes in omega (arith, same)
+reads_goes s e (Wrote given (octet ∷ octets)) records goes = let same = ap (λ (v : Standing). v.left) goes.0.goes in omega (arith, same)
 
 pub turns_are_reads : TurnsAreReads
 turns_are_reads s e [] records talks = let same = ap (λ (v : Standing). v.left) talks.1 in omega (arith, same)
@@ -208,7 +210,7 @@ room_goes : (s e : Standing) (told : Telling) (records : List ShownRecord) → G
 room_goes s e (Asked answer) records goes = tt
 room_goes s e (Read room told) records goes = goes.0.wide
 room_goes s e (Clock second) records goes = tt
-room_goes s e (Wrote octets) records goes = tt
+room_goes s e (Wrote given octets) records goes = tt
 
 pub reads_have_room : ReadsHaveRoom
 reads_have_room s e [] records talks = tt
@@ -228,8 +230,8 @@ none_goes : (s e : Standing) (told : Telling) (records : List ShownRecord) → I
 none_goes s e (Asked answer) records over goes = asked_before over.asked.0 s.connection over.asked.1 goes.0.once
 none_goes s e (Read room told) records over goes = awake_or (is_resting s.core) s.left e.left over.ends goes.0.awake goes.0.takes
 none_goes s e (Clock second) records over goes = none_owed s.owed over.free.0 goes.owed
-none_goes s e (Wrote []) records over goes = nothing_less 0 s.unsent over.free.1 goes.0.some
-none_goes s e (Wrote (octet ∷ octets)) records over goes = some_of _ (sym goes.0.unsent ∙ over.free.1)
+none_goes s e (Wrote given []) records over goes = nothing_less 0 s.unsent over.free.1 goes.0.some
+none_goes s e (Wrote given (octet ∷ octets)) records over goes = some_of _ (sym goes.0.unsent ∙ over.free.1)
   where
     some_of : (more : List ℕ) → octet ∷ more ≡ [] → ⊥
     some_of more is = absurd (cc)

@@ -16,13 +16,13 @@ pub data ReadTold : Type 0 where
   Broke : ReadTold
 
 -- What a wire tells, one call after another: of `connect` whether there is a connection; of `read`
--- how much room there was, and its answer with the octets; of `now` the second; of `write` the
--- octets that were taken, none where it failed.
+-- how much room there was, and its answer with the octets; of `now` the second; of `write` how many
+-- octets it was given, and those that it took, none where it failed.
 pub data Telling : Type 0 where
   Asked : Bool → Telling
   Read : ℕ → ReadTold → Telling
   Clock : ℕ → Telling
-  Wrote : List ℕ → Telling
+  Wrote : ℕ → List ℕ → Telling
 
 -- whether there is a connection, by the answer of `connect`
 abbrev pub connection_after : Bool → Connection
@@ -76,8 +76,8 @@ owed_by owed (Asked answer) = connect_input answer ∷ owed
 owed_by owed (Read room told) = turn_inputs told ++ owed
 owed_by [] (Clock second) = []
 owed_by (input ∷ owed) (Clock second) = owed
-owed_by owed (Wrote []) = Failed ∷ owed
-owed_by owed (Wrote (octet ∷ octets)) = owed
+owed_by owed (Wrote given []) = Failed ∷ owed
+owed_by owed (Wrote given (octet ∷ octets)) = owed
 
 -- those that a telling hands in, each with its second: at a `now` the first that is owed
 abbrev pub handed_by : List InputValue → Telling → List (ℕ × InputValue)
@@ -85,7 +85,7 @@ handed_by owed (Asked answer) = []
 handed_by owed (Read room told) = []
 handed_by [] (Clock second) = []
 handed_by (input ∷ owed) (Clock second) = (second, input) ∷ []
-handed_by owed (Wrote octets) = []
+handed_by owed (Wrote given octets) = []
 
 -- the inputs that an account makes, in order, each with its second
 abbrev pub inputs_of : List InputValue → List Telling → List (ℕ × InputValue)
@@ -98,7 +98,7 @@ abbrev pub taken_by : Telling → List ℕ
 taken_by (Asked answer) = []
 taken_by (Read room told) = []
 taken_by (Clock second) = []
-taken_by (Wrote octets) = octets
+taken_by (Wrote given octets) = octets
 
 -- those that were taken, in order
 abbrev pub taken_of : List Telling → List ℕ
@@ -110,8 +110,8 @@ abbrev pub TookIfWrote : Telling → Type 0
 TookIfWrote (Asked answer) = Unit {0}
 TookIfWrote (Read room told) = Unit {0}
 TookIfWrote (Clock second) = Unit {0}
-TookIfWrote (Wrote []) = ⊥
-TookIfWrote (Wrote (octet ∷ octets)) = Unit {0}
+TookIfWrote (Wrote given []) = ⊥
+TookIfWrote (Wrote given (octet ∷ octets)) = Unit {0}
 
 -- no write failed or took nothing
 abbrev pub IsCalm : List Telling → Type 0
@@ -124,7 +124,7 @@ abbrev pub reads_by : Telling → ℕ
 reads_by (Asked answer) = 0
 reads_by (Read room told) = 1
 reads_by (Clock second) = 0
-reads_by (Wrote octets) = 0
+reads_by (Wrote given octets) = 0
 
 -- how many reads are told
 abbrev pub reads_of : List Telling → ℕ

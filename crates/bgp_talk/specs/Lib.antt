@@ -3,4 +3,5 @@ pub mod Account
 pub mod MemWire
 pub mod CoreFacts
 pub mod Talk
+pub mod NextCall
 pub mod TalkLaws

@@ -193,8 +193,8 @@ abbrev pub Calls : WireState → Telling → WireState → Type 0
 Calls a (Asked answer) b = (answer ≡ connects a) × (b ≡ after_connect a)
 Calls a (Read room told) b = (told ≡ read_tells a room) × (b ≡ after_read a room)
 Calls a (Clock second) b = (second ≡ second_now a) × (b ≡ after_now a)
-Calls a (Wrote octets) b =
-    (offered : List ℕ) × (answer : Result ℕ Failed)
+Calls a (Wrote given octets) b =
+    (offered : List ℕ) × (answer : Result ℕ Failed) × (given ≡ length offered)
     × IsWriteAnswer (next_write_upset a) a.most offered answer
     × (octets ≡ taken_by answer offered) × (b ≡ after_write a offered answer)
 

@@ -81,15 +81,17 @@ pub record Enters (s : Standing) (second : ℕ) (shown : List ShownRecord) (e : 
   pub chosen : Chooses s.core input second shown e.core
   pub goes : e ≡ record s { owed = rest; unsent = sent_in shown; core = e.core }
 
--- the wire takes some of the octets that are to be written, the first ones
-pub record Writes (s : Standing) (octets : List ℕ) (e : Standing) : Type 0 where
+-- the wire is given all octets that are to be written, and takes some of them, the first ones
+pub record Writes (s : Standing) (given : ℕ) (octets : List ℕ) (e : Standing) : Type 0 where
   pub stands : s.connection ≡ Stands
+  pub whole : given ≡ length s.unsent
   pub unsent : s.unsent ≡ octets ++ e.unsent
   pub goes : e ≡ record s { unsent = e.unsent }
 
 -- It takes none, though there are some: they are given up, and a failure is owed before all else.
-pub record Breaks (s : Standing) (e : Standing) : Type 0 where
+pub record Breaks (s : Standing) (given : ℕ) (e : Standing) : Type 0 where
   pub stands : s.connection ≡ Stands
+  pub whole : given ≡ length s.unsent
   pub some : 0 < length s.unsent
   pub goes : e ≡ record s { owed = Failed ∷ s.owed; unsent = [] }
 
@@ -98,8 +100,9 @@ abbrev pub Goes : Standing → Telling → List ShownRecord → Standing → Typ
 Goes s (Asked answer) shown e = Connects s answer e × (shown ≡ [])
 Goes s (Read room told) shown e = Reads s room told e × (shown ≡ [])
 Goes s (Clock second) shown e = Enters s second shown e
-Goes s (Wrote []) shown e = Breaks s e × (shown ≡ [])
-Goes s (Wrote (octet ∷ octets)) shown e = Writes s (octet ∷ octets) e × (shown ≡ [])
+Goes s (Wrote given []) shown e = Breaks s given e × (shown ≡ [])
+Goes s (Wrote given (octet ∷ octets)) shown e =
+    Writes s given (octet ∷ octets) e × (shown ≡ [])
 
 -- and an account of tellings, one after another
 abbrev pub Talks : Standing → List Telling → List ShownRecord → Standing → Type 0

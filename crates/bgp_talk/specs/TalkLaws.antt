@@ -1,5 +1,6 @@
 -- What is so of each talk over a wire.
 use Rattle.std.specs.Prelude.{◌≡◌, ◌≢◌, ◌+◌, ◌<◌, ℕ, length, List, [], ◌∷◌, ◌++◌, IsFalse, Bool}
+use Rattle.std.specs.Prelude.{Some}
 use Rattle.std.specs.List.{AllByRecursion}
 use Rattle.bgp_prefix.specs.Prefix.{PrefixBits}
 use Rattle.bgp_prefix.specs.Shown.{ShownRecord}
@@ -8,6 +9,7 @@ use Rattle.bgp_speaker.specs.Core.{CoreState, InputValue, Failed, Stop}
 use Rattle.bgp_talk.specs.Account.{Telling, Asked, Read, Clock, Wrote, first_owed, inputs_of}
 use Rattle.bgp_talk.specs.Account.{IsCalm, taken_of, reads_of}
 use Rattle.bgp_talk.specs.CoreFacts.{is_idle}
+use Rattle.bgp_talk.specs.NextCall.{call_of, next_call}
 use Rattle.bgp_talk.specs.Talk.{Standing, IsFree, IsOver, Talks, closing_of, in_hand, read_room}
 use Rattle.bgp_talk.specs.declared.wire.Connection.TheVariants.{NotAsked}
 
@@ -45,19 +47,19 @@ StopIsLast =
 -- right after a write that took nothing a failure is handed in
 abbrev pub FailureStandsNext : Type 0
 FailureStandsNext =
-    (s e : Standing) (told : Telling) (account : List Telling) (records : List ShownRecord)
-    → Talks s (Wrote [] ∷ told ∷ account) records e
+    (s e : Standing) (given : ℕ) (told : Telling) (account : List Telling)
+    (records : List ShownRecord) → Talks s (Wrote given [] ∷ told ∷ account) records e
     → (second : ℕ) × (others : List (ℕ × InputValue)) × (told ≡ Clock second)
-    × (inputs_of s.owed (Wrote [] ∷ told ∷ account) ≡ (second, Failed) ∷ others)
+    × (inputs_of s.owed (Wrote given [] ∷ told ∷ account) ≡ (second, Failed) ∷ others)
 
 -- ---- what is written
 
--- where octets are to be sent, nothing is told before they are but of writes
+-- where octets are to be sent, nothing is told before they are but of writes, each given them all
 abbrev pub OctetsGoFirst : Type 0
 OctetsGoFirst =
     (s e : Standing) (told : Telling) (account : List Telling) (records : List ShownRecord)
     → 0 < length s.unsent → Talks s (told ∷ account) records e
-    → (octets : List ℕ) × (told ≡ Wrote octets)
+    → (octets : List ℕ) × (told ≡ Wrote (length s.unsent) octets)
 
 -- Of the octets that the core sent until the talk was over, and in the closing, the wire took a
 -- beginning; and all, where no write failed or took nothing.
@@ -84,7 +86,7 @@ abbrev pub HasRoom : Telling → Type 0
 HasRoom (Asked answer) = Unit {0}
 HasRoom (Read room told) = room ≡ read_room
 HasRoom (Clock second) = Unit {0}
-HasRoom (Wrote octets) = Unit {0}
+HasRoom (Wrote given octets) = Unit {0}
 
 abbrev pub ReadsHaveRoom : Type 0
 ReadsHaveRoom =
@@ -96,3 +98,11 @@ abbrev pub NothingFollowsTheEnd : Type 0
 NothingFollowsTheEnd =
     (s e : Standing) (account : List Telling) (records : List ShownRecord)
     → IsOver s → Talks s account records e → account ≡ []
+
+-- ---- what is asked
+
+-- each telling answers the one call that what is in hand asks for
+abbrev pub OneCallIsNext : Type 0
+OneCallIsNext =
+    (s e : Standing) (told : Telling) (account : List Telling) (records : List ShownRecord)
+    → Talks s (told ∷ account) records e → next_call s ≡ Some (call_of told)

@@ -5,7 +5,7 @@ ghost use Rattle.bgp_talk.specs.CoreFacts.{IdleKeepsPrefix, StartIsSilent};
 ghost use Rattle.bgp_talk.specs.MemWire.{TookWhatIsTold};
 ghost use Rattle.bgp_talk.specs.TalkLaws.{FailureStandsNext, InputsAreHandedIn, NoStopBeforeTheEnd};
 ghost use Rattle.bgp_talk.specs.TalkLaws.{NothingFollowsTheEnd, OctetsAreTaken, OctetsGoFirst};
-ghost use Rattle.bgp_talk.specs.TalkLaws.{ReadsHaveRoom, StopIsLast, TurnsAreReads};
+ghost use Rattle.bgp_talk.specs.TalkLaws.{OneCallIsNext, ReadsHaveRoom, StopIsLast, TurnsAreReads};
 
 /// Whatever a core shows on an input fits the records of a capture: a message that it received or
 /// sent has at most 4096 octets (RFC 4271, 4.1), or 65535 where it offers extended messages
@@ -34,8 +34,9 @@ pub fn a_talk_hands_in_what_is_told()
     ensures failure { FailureStandsNext }
 {}
 
-/// What a core that talks sends is written before the wire is asked for anything else. The wire
-/// took a beginning of it, and all where no write failed or took nothing.
+/// What a core that talks sends is written before the wire is asked for anything else, each write
+/// being given all that is left of it. The wire took a beginning of it, and all where no write
+/// failed or took nothing.
 pub fn a_talk_writes_what_is_sent()
     ensures first { OctetsGoFirst }
     ensures taken { OctetsAreTaken }
@@ -47,6 +48,13 @@ pub fn a_talk_reads_in_its_turns()
     ensures turns { TurnsAreReads }
     ensures room { ReadsHaveRoom }
     ensures rest { NothingFollowsTheEnd }
+{}
+
+/// At each moment of a talk there is one thing that it may ask its wire, by what it has in hand: to
+/// write all octets that are left, then for the second of the first input that is owed, then to
+/// connect, then to read with room for 4096 octets, while the core doesn't rest and a turn is left.
+pub fn a_talk_asks_one_thing()
+    ensures { OneCallIsNext }
 {}
 
 /// The octets that a wire in memory took are those that it tells of its writes, in order.

@@ -17,8 +17,9 @@ mod wire;
 
 pub use fault::SpeakFault;
 pub use laws::{
-    a_core_at_rest_is_quiet, a_talk_hands_in_what_is_told, a_talk_reads_in_its_turns,
-    a_talk_writes_what_is_sent, a_wire_in_memory_took_what_it_tells, each_record_is_short,
+    a_core_at_rest_is_quiet, a_talk_asks_one_thing, a_talk_hands_in_what_is_told,
+    a_talk_reads_in_its_turns, a_talk_writes_what_is_sent, a_wire_in_memory_took_what_it_tells,
+    each_record_is_short,
 };
 pub use mem_wire::{MemRead, MemWire, WireUpset};
 pub use socket::SocketWire;

@@ -76,9 +76,10 @@ pub trait Wire {
         requires stands { connection self.old ≡ Stands }
         requires failures { failures self.old < u64.MAX }
         ensures bound { IfOk result (λ count. count ≤ length octets.now) }
-        ensures ok { IfOk result (λ count.
-            tells self.old self.new (Wrote (take count octets.now) ∷ [])) }
-        ensures err { OnErr result (tells self.old self.new (Wrote [] ∷ [])) }
+        ensures ok { IfOk result (λ count. tells self.old self.new
+            (Wrote (length octets.now) (take count octets.now) ∷ [])) }
+        ensures err { OnErr result
+            (tells self.old self.new (Wrote (length octets.now) [] ∷ [])) }
         ensures connection { connection self.new ≡ connection self.old }
         ensures failures { failures self.new ≡ failures_after (failures self.old) result };
 

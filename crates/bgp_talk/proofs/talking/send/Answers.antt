@@ -22,7 +22,7 @@ loop-rest-preserved g c =
     let some : 0 < length front = omega (arith, long) in
     record {
       told = (
-        so_far.0 ++ Wrote front ∷ [],
+        so_far.0 ++ Wrote (length c.loop-rest.rest.now) front ∷ [],
         g.met.W.Wire.joined _ _ _ _ _ so_far.1 c.in-Ok.ensures.ok,
         sent_more _ _ _ _ _ so_far.2 is some,
       );
@@ -33,15 +33,15 @@ loop-rest-preserved g c =
 pub returns-in-Ok-eq0-clause-told : goal.returns-in-Ok-eq0-clause-told
 returns-in-Ok-eq0-clause-told g c =
     let so_far = c.loop-rest.invariant.told in (
-      so_far.0 ++ Wrote [] ∷ [],
-      g.met.W.Wire.joined _ _ _ _ _ so_far.1 (let zero : c.in-Ok-eq0.field-0 ≡ 0 = search rules in subst (λ (n : ℕ). g.W.Wire.tells c.loop-rest.wire c.write.new.self (Wrote (take n c.loop-rest.rest.now) ∷ [])) zero c.in-Ok-eq0.ensures.ok),
+      so_far.0 ++ Wrote (length c.loop-rest.rest.now) [] ∷ [],
+      g.met.W.Wire.joined _ _ _ _ _ so_far.1 (let zero : c.in-Ok-eq0.field-0 ≡ 0 = search rules in subst (λ (n : ℕ). g.W.Wire.tells c.loop-rest.wire c.write.new.self (Wrote (length c.loop-rest.rest.now) (take n c.loop-rest.rest.now) ∷ [])) zero c.in-Ok-eq0.ensures.ok),
       (let some : 0 < length c.loop-rest.rest.now = search rules in sent_part so_far.0 c.args.octets.now c.loop-rest.rest.now so_far.2 some),
     )
 
 pub returns-in-Err-clause-told : goal.returns-in-Err-clause-told
 returns-in-Err-clause-told g c =
     let so_far = c.loop-rest.invariant.told in (
-      so_far.0 ++ Wrote [] ∷ [],
+      so_far.0 ++ Wrote (length c.loop-rest.rest.now) [] ∷ [],
       g.met.W.Wire.joined _ _ _ _ _ so_far.1 c.in-Err.ensures.err,
       (let some : 0 < length c.loop-rest.rest.now = search rules in sent_part so_far.0 c.args.octets.now c.loop-rest.rest.now so_far.2 some),
     )
