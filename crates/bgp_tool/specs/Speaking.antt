@@ -1,16 +1,41 @@
 -- What is printed of what a speaker did over a wire, and its exit status.
-use Rattle.std.specs.Prelude.{◌≡◌, ◌+◌, ◌++◌, ◌⊎◌, ℕ, List, codes}
+use Rattle.std.specs.Prelude.{◌≡◌, ◌+◌, ◌++◌, ◌⊎◌, ℕ, List, codes, Bool, true, false, Option}
+use Rattle.std.specs.Prelude.{Some, None, if◌then◌else◌, option_and_then}
 use Rattle.std.specs.Fmt.{decimal}
 use Rattle.std.specs.List.{flat_map}
+use Rattle.bgp_prefix.specs.Prefix.{PrefixBits}
 use Rattle.bgp_prefix.specs.Shown.{ShownRecord}
+use Rattle.bgp_open.specs.Families.{contains}
+use Rattle.bgp_open.specs.declared.families.Families.{Families}
 use Rattle.bgp_rib.specs.Routes.{Routes}
 use Rattle.bgp_speaker.specs.Core.{CoreState, InputValue}
 use Rattle.bgp_talk.specs.Account.{Telling}
 use Rattle.bgp_talk.specs.Talk.{GaveUp, Spoken}
 use Rattle.bgp_talk.specs.declared.fault.SpeakFault.{SpeakFault}
 use Rattle.bgp_talk.specs.declared.fault.SpeakFault.TheVariants.{Capture, Memory}
+use Rattle.bgp_words.specs.declared.speak.Speaking.{Speaking}
+use Rattle.bgp_words.specs.declared.speak.Start.{Start}
+use Rattle.bgp_words.specs.declared.speak.Start.TheVariants.{Connect, Listen}
 use Rattle.bgp_tool.specs.Answer.{IsWritten}
+use Rattle.bgp_tool.specs.declared.announcing.AnnounceNote.{AnnounceNote}
+use Rattle.bgp_tool.specs.declared.announcing.AnnounceNote.TheVariants.{Cleared, NotConfigured}
 use Rattle.bgp_tool.specs.VerdictText.{route_line}
+
+-- whether a connection is listened for, and not tried
+abbrev pub listens : Start → Bool
+listens (Connect port) = false
+listens (Listen port) = true
+
+-- What there is to say of the prefix that words name, before anything is spoken: that it isn't
+-- announced, since its family isn't configured; or that bits after its length were cleared.
+abbrev pub note_of_prefix : Families → Bool → PrefixBits → Option AnnounceNote
+note_of_prefix families cleared prefix =
+    if contains families prefix.family then (if cleared then Some (Cleared prefix) else None)
+    else Some (NotConfigured prefix)
+
+abbrev pub announce_note : Families → Speaking → Option AnnounceNote
+announce_note families speaking =
+    option_and_then (note_of_prefix families speaking.cleared) speaking.announce
 
 -- how often the wire was read, and the routes that the peer had announced, in the order of their
 -- prefixes

@@ -8,6 +8,7 @@
 //! ```
 #![tactic(auto)]
 
+mod announcing;
 mod captures;
 mod decoding;
 mod error_words;
@@ -31,6 +32,7 @@ mod status;
 mod verdicts;
 mod words;
 
+pub use announcing::{AnnounceNote, announce_note};
 pub use bgp_words::{Command, Speaking, Start, command_line};
 pub use captures::{decode_capture, hand_over};
 pub use decoding::decode_raw;
@@ -49,7 +51,7 @@ pub use pair_end::{PairEnd, PairFault};
 pub use pair_judging::judge_pair;
 pub use pairing::pair_session;
 pub use seen::Seen;
-pub use speaking::speak_session;
+pub use speaking::{speak_as, speak_session};
 pub use status::Status;
 pub use verdicts::{put_end, put_verdict};
 pub use words::words_status;

@@ -1,6 +1,6 @@
 //! A speaker over a wire, with what is printed of it.
 
-ghost use Rattle.std.specs.Prelude.{◌≡◌, ◌<◌, ◌≤◌, ◌^◌};
+ghost use Rattle.std.specs.Prelude.{◌≡◌, ◌<◌, ◌≤◌, ◌^◌, option_to_list};
 ghost use Rattle.bgp_prefix.specs.Address.{family_of};
 ghost use Rattle.bgp_speaker.specs.Core.{fresh_core};
 ghost use Rattle.bgp_talk.specs.Account.{first_owed};
@@ -8,7 +8,7 @@ ghost use Rattle.bgp_talk.specs.Talk.{capture_of};
 ghost use Rattle.bgp_talk.specs.declared.wire.Connection.TheVariants.{NotAsked};
 ghost use Rattle.bgp_text.specs.Lines.{Writes};
 ghost use Rattle.bgp_tool.specs.Answer.{IsWritten};
-ghost use Rattle.bgp_tool.specs.Speaking.{Speaks, fault_status, report_text};
+ghost use Rattle.bgp_tool.specs.Speaking.{Speaks, fault_status, listens, report_text};
 
 use crate::captures::hand_over;
 use crate::status::Status;
@@ -17,6 +17,7 @@ use bgp_open::Config;
 use bgp_prefix::Prefix;
 use bgp_talk::{Report, SpeakFault, Wire, speak};
 use bgp_text::Lines;
+use bgp_words::{Speaking, Start};
 use mrt::Sink;
 use std::alloc::Allocator;
 
@@ -98,4 +99,54 @@ pub fn speak_session<A: Allocator + Copy, W: Wire, C: Sink, O: Sink>(
         Ok(report) => write_report(output, &report),
         Err(fault) => status_of(fault),
     }
+}
+
+/// Whether a connection is listened for, and not tried.
+fn listens(start: Start) -> bool
+    ensures { result ≡ listens start }
+{
+    match start {
+        Start::Connect(_) => false,
+        Start::Listen(_) => true,
+    }
+}
+
+/// Speaks as the words of `bgp speak` say, by [`speak_session`]: with their next hops, passive
+/// where a connection is to be listened for, with the prefix that they name, if any, and at most as
+/// many turns as they say.
+pub fn speak_as<A: Allocator + Copy, W: Wire, C: Sink, O: Sink>(
+    alloc: A,
+    config: &Config,
+    speaking: &Speaking,
+    wire: &mut W,
+    capture: &mut C,
+    output: &mut O,
+) -> u8
+    requires families { family_of config.now.parts.session.peer
+        ≡ family_of config.now.parts.session.local }
+    requires fresh { W.connection wire.old ≡ NotAsked }
+    requires wire { W.failures wire.old < 2 ^ 63 }
+    requires capture { C.failures capture.old < 2 ^ 63 }
+    requires output { O.failures output.old < 2 ^ 63 }
+    ensures speaks { Speaks W.tells C.takes O.takes C.failures O.failures (capture_of config.now)
+        (first_owed (option_to_list speaking.now.announce) (listens speaking.now.start))
+        speaking.now.turns (fresh_core (record {
+          config = config.now;
+          next_hop4 = speaking.now.next_hop4;
+          next_hop6 = speaking.now.next_hop6;
+        })) wire.old wire.new capture.old capture.new output.old output.new result }
+    ensures statuses { result ≤ 5 }
+{
+    speak_session(
+        alloc,
+        config,
+        speaking.next_hop4,
+        speaking.next_hop6,
+        listens(speaking.start),
+        speaking.announce.as_slice(),
+        wire,
+        capture,
+        output,
+        speaking.turns,
+    )
 }

@@ -1,5 +1,6 @@
 //! Streams whose lines were worked out by hand, devices that fail in mid-stream, refused memory.
 
+mod announcing;
 mod captures;
 mod commands;
 mod devices;

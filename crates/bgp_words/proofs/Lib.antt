@@ -9,3 +9,4 @@ pub mod ValueRows
 pub mod PlainWords
 pub mod SpelledJudge
 pub mod JudgeLine
+pub mod AfterLength

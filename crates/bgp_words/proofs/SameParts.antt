@@ -1,7 +1,8 @@
 -- Configurations' parts are the same where each field is; so is what `speak` is told, and what is
 -- told of a recording.
-use Rattle.std.proofs.Common.{rules, ◌≡◌, ◌∙◌, Bool, List, Option, Some, None, Result, Ok, Err, sym, subst}
-use Rattle.std.specs.Prelude.{◌↔◌, IfNone, IfSome, IsOkAnd}
+use Rattle.std.proofs.Common.{rules, ◌≡◌, ◌∙◌, Bool, true, false, List, Option, Some, None, Result, Ok, Err, refl, sym, subst}
+use Rattle.std.proofs.lemmas.Bool.{false≢true}
+use Rattle.std.specs.Prelude.{◌↔◌, IfNone, IfSome, IsOkAnd, IsTrue}
 use Rattle.std.specs.Option.{ok_or}
 use Rattle.clap.specs.Words.{Row}
 use Rattle.bgp_open.specs.Config.{IsConfig}
@@ -17,8 +18,15 @@ pub same_parts : (p q : ConfigParts) → p.local_as ≡ q.local_as → p.peer_as
 same_parts p q local_as peer_as local_id hold families as4 delay_open large_hold session = search rules
 
 pub same_speaking : (p q : Speaking) → p.start ≡ q.start → p.next_hop4 ≡ q.next_hop4 → p.next_hop6 ≡ q.next_hop6
-    → p.announce ≡ q.announce → p.turns ≡ q.turns → p.quiet ≡ q.quiet → p ≡ q
-same_speaking p q start next_hop4 next_hop6 announce turns quiet = search rules
+    → p.announce ≡ q.announce → p.cleared ≡ q.cleared → p.turns ≡ q.turns → p.quiet ≡ q.quiet → p ≡ q
+same_speaking p q start next_hop4 next_hop6 announce cleared turns quiet = search rules
+
+-- two truths of one sentence
+pub same_truth : {P : Type 0} (a b : Bool) → (IsTrue a ↔ P) → (IsTrue b ↔ P) → a ≡ b
+same_truth true true one other = refl
+same_truth false false one other = refl
+same_truth true false one other = absurd (false≢true (other.1 (one.0 refl)))
+same_truth false true one other = absurd (false≢true (one.1 (other.0 refl)))
 
 pub same_recording : (p q : RecordingOptions) → p.port ≡ q.port → p.local_port ≡ q.local_port → p.connection ≡ q.connection
     → p.within ≡ q.within → p ≡ q

@@ -1,11 +1,11 @@
 -- The values of `speak`: what `judge` is told too, how the connection comes to be, what is
 -- announced, how long it lasts, and a file.
-use Rattle.std.specs.Prelude.{◌≡◌, ◌<◌, ◌^◌, false, List, Some, None, codes}
+use Rattle.std.specs.Prelude.{◌≡◌, ◌<◌, ◌^◌, ◌↔◌, false, List, Some, None, codes, IsTrue, IsSomeAnd}
 use Rattle.clap.specs.Words.{Row, Text, first_of}
 use Rattle.bgp_prefix.specs.Notation.{IsPrefixText}
 use Rattle.bgp_open.specs.declared.config.Config.{Config}
 use Rattle.bgp_words.specs.Values.{IsNextHop4Text, IsNextHop6Text, IsOptional, IsPortText}
-use Rattle.bgp_words.specs.Values.{IsTurnsText, IsValue, is_given}
+use Rattle.bgp_words.specs.Values.{IsTurnsText, IsValue, is_given, HasBitsAfter}
 use Rattle.bgp_words.specs.Settings.{AreParts, IsOfOneFamily}
 use Rattle.bgp_words.specs.declared.speak.Speaking.{Speaking}
 use Rattle.bgp_words.specs.declared.speak.Start.{Start}
@@ -28,6 +28,7 @@ pub record AreOptions (speaking : Speaking) (rows : List Row) : Type 0 where
   pub next_hop4 : IsValue IsNextHop4Text (codes "next-hop") rows speaking.next_hop4
   pub next_hop6 : IsValue IsNextHop6Text (codes "next-hop6") rows speaking.next_hop6
   pub announce : IsOptional IsPrefixText (codes "announce") rows speaking.announce
+  pub cleared : IsTrue speaking.cleared ↔ IsSomeAnd (first_of (codes "announce") rows) HasBitsAfter
   pub turns : IsValue IsTurnsText (codes "turns") rows speaking.turns
   pub quiet : speaking.quiet ≡ is_given (codes "quiet") rows
 

@@ -6,7 +6,10 @@ use Rattle.std.specs.Option.{option_map_or}
 use Rattle.std.specs.Str.{bytes_eq}
 use Rattle.std.specs.Str.Parse.{IsNumeral, digits_value}
 use Rattle.clap.specs.Words.{Row, Text, first_of}
-use Rattle.bgp_prefix.specs.Notation.{IsAddressText}
+use Rattle.bgp_prefix.specs.Notation.{IsAddressText, IsPrefixText}
+use Rattle.bgp_prefix.specs.Prefix.{PrefixBits, address_of}
+use Rattle.bgp_prefix.specs.Slash.{IsAroundSlash}
+use Rattle.bgp_prefix.specs.declared.address.Address.{Address}
 use Rattle.bgp_prefix.specs.declared.address.Address.TheVariants.{V4, V6}
 use Rattle.bgp_open.specs.Config.{IsBadHold}
 use Rattle.bgp_open.specs.declared.families.Families.{Families}
@@ -52,6 +55,18 @@ IsFamiliesText text families =
     ((text ≡ codes "v4") × (families ≡ record { v4 = true; v6 = false }))
     ⊎ ((text ≡ codes "v6") × (families ≡ record { v4 = false; v6 = true }))
     ⊎ ((text ≡ codes "both") × (families ≡ record { v4 = true; v6 = true }))
+
+-- A prefix with bits after its length, as 10.0.0.1/8: what stands before the slash is another
+-- address than the lowest of the prefix.
+pub record HasBitsAfter (text : Text) : Type 0 where
+  pub prefix : PrefixBits
+  pub before : Text
+  pub after : Text
+  pub address : Address
+  pub is_prefix : IsPrefixText text prefix
+  pub around : IsAroundSlash text before after
+  pub is_address : IsAddressText before address
+  pub another : address ≢ address_of prefix
 
 -- an option's word is there and spells the value
 abbrev pub IsValue : {T : Type 0} → (Text → T → Type 0) → Text → List Row → T → Type 0

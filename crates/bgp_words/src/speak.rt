@@ -14,7 +14,8 @@ use crate::misfit::Misfit;
 use crate::options::{Word, with_word, with_words};
 use crate::settings::{config_of, is_of_one_family, with_settings};
 use crate::values::{
-    has_flag, has_value, next_hop4_of, next_hop6_of, port_of, prefix_of, turns_of, value_of,
+    has_flag, has_value, is_cleared, next_hop4_of, next_hop6_of, port_of, prefix_of, turns_of,
+    value_of,
 };
 use crate::words::Command;
 use bgp_prefix::Prefix;
@@ -41,6 +42,8 @@ pub struct Speaking {
     pub next_hop6: u128,
     /// The prefix that is announced, if any.
     pub announce: Option<Prefix>,
+    /// Whether it was given with bits after its length, as 10.0.0.1/8: they are cleared.
+    pub cleared: bool,
     /// How many turns are taken at most: fewer than 2 to the 63rd.
     pub turns: u64,
     /// Whether nothing is said on standard error while it speaks.
@@ -164,6 +167,7 @@ fn speaking_of<'a>(speak: &ArgMatches<'a>) -> Result<Speaking, Misfit<'a>>
         next_hop4: next_hop4_of(speak, "next-hop")?,
         next_hop6: next_hop6_of(speak, "next-hop6")?,
         announce: prefix_of(speak, "announce")?,
+        cleared: is_cleared(speak, "announce"),
         turns: turns_of(speak, "turns")?,
         quiet: has_flag(speak, "quiet"),
     })

@@ -6,10 +6,10 @@ ghost use Rattle.bgp_open.specs.declared.families.Families.{Families as FamilySe
 ghost use Rattle.bgp_words.specs.Values.{IsNumberText, IsPositiveText, IsHoldText};
 ghost use Rattle.bgp_words.specs.Values.{IsPortText, IsSecondsText, IsTurnsText};
 ghost use Rattle.bgp_words.specs.Values.{IsIdentifierText, IsFamiliesText};
-ghost use Rattle.bgp_words.specs.Values.{IsNextHop4Text, IsNextHop6Text};
+ghost use Rattle.bgp_words.specs.Values.{IsNextHop4Text, IsNextHop6Text, HasBitsAfter};
 
 use bgp_open::Families;
-use bgp_prefix::{Address, read_address};
+use bgp_prefix::{Address, read_address, read_prefix};
 
 /// Reads a number of 64 bits: decimal digits, with leading zeros or without, and no sign.
 fn read_number(text: &str) -> Option<u64>
@@ -165,5 +165,21 @@ pub(crate) fn read_families(text: &str) -> Option<Families>
         Some(Families { v4: true, v6: true })
     } else {
         None
+    }
+}
+
+/// Whether the text is a prefix with bits after its length, as 10.0.0.1/8.
+pub(crate) fn has_bits_after(text: &str) -> bool
+    ensures { IsTrue result ↔ HasBitsAfter text.now }
+{
+    let Some(prefix) = read_prefix(text) else {
+        return false;
+    };
+    let Some((address, _)) = text.split_once('/') else {
+        return false;
+    };
+    match read_address(address) {
+        Some(address) => address != prefix.address(),
+        None => false,
     }
 }

@@ -1,7 +1,7 @@
 //! The values of options, read from the words that clap found.
 
 ghost use Rattle.std.specs.Prelude.{◌≡◌, ◌↔◌, ℕ, IfOk, IsErr, IsOkAnd, Some, None};
-ghost use Rattle.std.specs.Prelude.{Option as Maybe, IsNone, is_some};
+ghost use Rattle.std.specs.Prelude.{Option as Maybe, IsNone, IsSomeAnd, IsTrue, is_some};
 ghost use Rattle.clap.specs.Words.{found_of, rows_of, first_of};
 ghost use Rattle.bgp_prefix.specs.Notation.{IsAddressText, IsPrefixText};
 ghost use Rattle.bgp_prefix.specs.Prefix.{PrefixBits};
@@ -10,12 +10,12 @@ ghost use Rattle.bgp_open.specs.declared.families.Families.{Families as FamilySe
 ghost use Rattle.bgp_words.specs.Values.{IsValue, is_given, IsPositiveText, IsHoldText};
 ghost use Rattle.bgp_words.specs.Values.{IsIdentifierText, IsFamiliesText, IsOptional};
 ghost use Rattle.bgp_words.specs.Values.{IsNextHop4Text, IsNextHop6Text, IsPortText, IsTurnsText};
-ghost use Rattle.bgp_words.specs.Values.{IsSecondsText};
+ghost use Rattle.bgp_words.specs.Values.{IsSecondsText, HasBitsAfter};
 
 use crate::misfit::{Misfit, Wanted};
 use crate::texts::{
-    read_families, read_hold, read_identifier, read_next_hop4, read_next_hop6, read_port,
-    read_positive, read_seconds, read_turns,
+    has_bits_after, read_families, read_hold, read_identifier, read_next_hop4, read_next_hop6,
+    read_port, read_positive, read_seconds, read_turns,
 };
 use bgp_open::Families;
 use bgp_prefix::{Address, Prefix, read_address, read_prefix};
@@ -168,6 +168,17 @@ pub(crate) fn prefix_of<'a>(
     match read_prefix(word) {
         Some(prefix) => Ok(Some(prefix)),
         None => Err(Misfit::Value { name, word, wanted }),
+    }
+}
+
+/// Whether the prefix that an option names is given with bits after its length.
+pub(crate) fn is_cleared(matches: &ArgMatches<'_>, name: &str) -> bool
+    ensures { IsTrue result
+        ↔ IsSomeAnd (first_of name.now (rows_of (found_of matches.now))) HasBitsAfter }
+{
+    match matches.get_str(name) {
+        Some(word) => has_bits_after(word),
+        None => false,
     }
 }
 

@@ -113,7 +113,7 @@ pub enum Command<'a> {
 const STATUSES: &str = "\
 Exit status:
   0   all octets were whole messages, or the capture or the recording was read to its end, or the
-      verdict is yes, or the session was spoken; or help or the version was asked for
+      verdict is yes, or speak went to its end; or help or the version was asked for
   1   the verdict is no, or the two of a pair don't come to a session
   2   the stream ends inside a message, or the verdict is unfinished
   3   the stream stops being BGP, or the capture or the recording is refused

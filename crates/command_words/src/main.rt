@@ -217,6 +217,7 @@ fn speaking_text(alloc: Global, speaking: &Speaking) -> Result<String, AllocErro
         next_hop4,
         next_hop6,
         announce,
+        cleared,
         turns,
         quiet,
     } = *speaking;
@@ -228,9 +229,10 @@ fn speaking_text(alloc: Global, speaking: &Speaking) -> Result<String, AllocErro
         Some(prefix) => format!(in alloc; "{prefix}")?,
         None => format!(in alloc; "-")?,
     };
+    let cleared = if cleared { " cleared" } else { "" };
     let (hop4, hop6) = (Address::V4(next_hop4), Address::V6(next_hop6));
     let own = format!(in alloc; "{start} next-hop {hop4} next-hop6 {hop6} announce {announce}")?;
-    format!(in alloc; "{own} turns {turns} quiet {quiet}")
+    format!(in alloc; "{own}{cleared} turns {turns} quiet {quiet}")
 }
 
 /// Whether a row's further lines are so: one says what the words are, and each after `>` a part of

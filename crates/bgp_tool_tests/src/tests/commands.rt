@@ -19,9 +19,9 @@ static NOTES: [(Note<'static>, &str); 14] = [
                 sent: false,
             },
         },
-        "a.mrt: no message that was sent is in the capture: neither yes nor no says anything of the \
-         router then, since that takes what it sent, what it received and its changes of state, \
-         from Idle on",
+        "a.mrt: no message that was sent is in the capture: neither yes nor no says anything of \
+         the router then, since that takes what it sent, what it received and its changes of \
+         state, from Idle on",
     ),
     (
         Note::NothingDone {
@@ -43,9 +43,9 @@ static NOTES: [(Note<'static>, &str); 14] = [
                 sent: false,
             },
         },
-        "a.mrt: no change of state that leaves Idle and no message that was sent is in the capture: \
-         neither yes nor no says anything of the router then, since that takes what it sent, what \
-         it received and its changes of state, from Idle on",
+        "a.mrt: no change of state that leaves Idle and no message that was sent is in the \
+         capture: neither yes nor no says anything of the router then, since that takes what it \
+         sent, what it received and its changes of state, from Idle on",
     ),
     (
         Note::Unopened {
