@@ -8,7 +8,7 @@ use crate::devices::tell;
 use bgp_compact::CompactTracker;
 use bgp_open::Config;
 use bgp_talk::SocketWire;
-use bgp_tool::{ErrorWords, Note, Speaking, Start, Status, pair_session, speak_session};
+use bgp_tool::{ErrorWords, Note, Speaking, Start, Status, announce_note, pair_session, speak_as};
 use bgp_watch::Watched;
 use mrt::FromWrite;
 use std::alloc::Global;
@@ -41,6 +41,7 @@ pub fn speak<R: Files + Net + Clock + Print + Eprint + AllocGlobal, E: Print>(
     };
     match fs::create(rt, file) {
         Ok(opened) => {
+            tell_prefix(rt, config, speaking);
             tell_waiting(rt, speaking);
             speak_over(rt, errors, config, speaking, file, opened, wire)
         }
@@ -68,17 +69,13 @@ fn speak_over<R: Net + Clock + Print + Eprint + AllocGlobal, E: Print, F: Write 
     let written = FromWrite::new(opened);
     let mut capture = Watched::new(rt.alloc(), written, session, errors, speaking.quiet);
     let mut output = FromWrite::new(io::writer(rt));
-    let status = speak_session(
+    let status = speak_as(
         rt.alloc(),
         config,
-        speaking.next_hop4,
-        speaking.next_hop6,
-        is_passive(speaking.start),
-        speaking.announce.as_slice(),
+        speaking,
         &mut wire,
         &mut capture,
         &mut output,
-        speaking.turns,
     );
     tell_refusal(rt, &wire);
     tell_end(rt, status, file, &capture.into_inner(), &output);
@@ -128,6 +125,13 @@ fn is_passive(start: Start) -> bool {
 fn port_of(start: Start) -> u16 {
     match start {
         Start::Connect(port) | Start::Listen(port) => port,
+    }
+}
+
+/// Tells that the prefix isn't announced, or not as it was given, if that is so.
+fn tell_prefix<R: Eprint>(rt: &R, config: &Config, speaking: &Speaking) {
+    if let Some(note) = announce_note(config.parts.families, speaking) {
+        let _ = eprintln!(rt; "bgp: {note}");
     }
 }
 
