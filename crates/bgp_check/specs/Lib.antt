@@ -7,6 +7,7 @@ pub mod Configurations
 pub mod Settings
 pub mod WidestOf
 pub mod NotJudged
+pub mod Unjudged
 pub mod Widest
 pub mod Without
 pub mod WidestMade

@@ -11,12 +11,11 @@
 ghost use Rattle.std.specs.Prelude.{◌≡◌, slice_index};
 ghost use Rattle.bgp_open.specs.Offer.{afi_of};
 ghost use Rattle.bgp_open.specs.Capability.{capability_of};
-ghost use Rattle.bgp_check.specs.NotJudged.{exchange_paths, has_direction, mode_of};
-ghost use Rattle.bgp_check.specs.NotJudged.{names_direction, offers_direction, offers_paths};
-ghost use Rattle.bgp_check.specs.NotJudged.{paths_exchanged};
+ghost use Rattle.bgp_check.specs.NotJudged.{has_direction, mode_of, names_direction};
+ghost use Rattle.bgp_check.specs.NotJudged.{offers_direction, offers_paths};
 
 use crate::fields::Fields;
-use bgp_open::{Capability, Families};
+use bgp_open::Capability;
 use bgp_prefix::Family;
 use byteorder::{BigEndian, ByteOrder};
 
@@ -88,28 +87,8 @@ fn offers_direction(capability: Capability<'_>, family: Family, direction: Direc
 }
 
 /// Whether an OPEN offers the direction for the family.
-fn offers_paths(message: &Fields<'_>, family: Family, direction: Direction) -> bool
+pub(crate) fn offers_paths(message: &Fields<'_>, family: Family, direction: Direction) -> bool
     ensures { result ≡ offers_paths family direction message.now }
 {
     message.capabilities().any(|capability| offers_direction(capability, family, direction))
-}
-
-/// Whether one of both sends several paths, which the other can receive.
-fn exchange_paths(own: &Fields<'_>, peers: &Fields<'_>, family: Family) -> bool
-    ensures { result ≡ exchange_paths own.now peers.now family }
-{
-    (offers_paths(own, family, Direction::Sends)
-        && offers_paths(peers, family, Direction::Receives))
-        || (offers_paths(own, family, Direction::Receives)
-            && offers_paths(peers, family, Direction::Sends))
-}
-
-/// The families of which UPDATEs have path identifiers, in one direction at least.
-pub(crate) fn paths_exchanged(own: &Fields<'_>, peers: &Fields<'_>) -> Families
-    ensures { result ≡ paths_exchanged own.now peers.now }
-{
-    Families {
-        v4: exchange_paths(own, peers, Family::V4),
-        v6: exchange_paths(own, peers, Family::V6),
-    }
 }

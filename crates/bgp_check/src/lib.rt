@@ -19,6 +19,7 @@ mod opens;
 mod own_fault;
 mod peer_as;
 mod settings;
+mod unjudged;
 mod widest;
 
 pub use answering::{Answer, Judged, check_end};
@@ -37,4 +38,5 @@ pub use opens::{own_open, peers_open};
 pub use own_fault::OwnFault;
 pub use peer_as::PeerAs;
 pub use settings::has_own_fault;
+pub use unjudged::{Unjudged, UnjudgedOffer};
 pub use widest::{Widest, widest_of};

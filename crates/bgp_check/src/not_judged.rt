@@ -10,11 +10,10 @@ ghost use Rattle.bgp_check.specs.NotJudged.{why_by_opens, why_not, why_with};
 ghost use Rattle.bgp_check.specs.Opens.{HasOwnOpen, HasPeersOpen};
 ghost use Rattle.bgp_check.specs.WidestOf.{AreTold, OffersNone};
 
-use crate::add_path::paths_exchanged;
 use crate::fields::{Fields, read_fields};
-use crate::next_hops::offers_next_hops;
 use crate::offer::offer_of;
 use crate::opens::{own_open, peers_open, whole_open};
+use crate::unjudged::UnjudgedOffer;
 use bgp_open::{Families, read_open};
 use mrt::Record;
 
@@ -69,10 +68,10 @@ fn have_extended_length(one: Option<&[u8]>, other: Option<&[u8]>) -> bool
 fn why_by_both(own: &Fields<'_>, peers: &Fields<'_>) -> Option<NotJudged>
     ensures { result ≡ why_by_both own.now peers.now }
 {
-    let exchanged = paths_exchanged(own, peers);
-    if exchanged.v4 || exchanged.v6 {
-        Some(NotJudged::AddPath(exchanged))
-    } else if offers_next_hops(own) && offers_next_hops(peers) {
+    let both = UnjudgedOffer::in_fields(own).with_peers(UnjudgedOffer::in_fields(peers));
+    if both.add_path.v4 || both.add_path.v6 {
+        Some(NotJudged::AddPath(both.add_path))
+    } else if both.ipv6_next_hops {
         Some(NotJudged::Ipv6NextHops)
     } else {
         None

@@ -12,7 +12,9 @@ use Rattle.bgp_reason.specs.Possible.{ArePossible}
 use Rattle.bgp_reason.specs.Told.{ToldOneMore, last_from, last_message, told, told_with}
 use Rattle.bgp_explain.specs.declared.so_far.Stop.{Stop}
 use Rattle.bgp_explain.specs.declared.so_far.Progress.{Progress}
+use Rattle.bgp_check.specs.declared.unjudged.Unjudged.{Unjudged}
 use Rattle.bgp_explain.specs.Kept.{shown_by}
+use Rattle.bgp_explain.specs.Offers.{AreUnjudged}
 use Rattle.bgp_explain.specs.Progress.{IsAtBy, IsToldOf, StopsAt}
 use Rattle.bgp_explain.specs.Reason.{HasReason, IsImpossible}
 use Rattle.bgp_explain.specs.Sending.{IsSendingAt}
@@ -116,12 +118,13 @@ module _ {X : Type 0} (config : Config) (records : List ShownRecord) (p : Progre
     λ more. at.impossible.stops (subst (λ (v : List ShownRecord). Begins config v) with_it more),
   )
 
-  pub no_for : (Y : Type 0) → HasReason {X = Y} config records (verdicts.No p.count)
-      (Some (record { told = p.told; link = p.sending.link; last_message = p.last_message; impossible = Some i.impossible; possible = i.possible }))
-  no_for Y = (
+  pub no_for : (Y : Type 0) (unjudged : Unjudged) → AreUnjudged at.before unjudged → HasReason {X = Y} config records (verdicts.No p.count)
+      (Some (record { told = p.told; link = p.sending.link; unjudged = unjudged; last_message = p.last_message; impossible = Some i.impossible; possible = i.possible }))
+  no_for Y unjudged are = (
     record {
       told = at.tells.told ∙ ap told (sym before_it);
       link = at.tells.sending.link ∙ ap (sending_link config) (sym before_it);
+      unjudged = subst (λ (v : List ShownRecord). AreUnjudged v unjudged) (sym before_it) are;
       last_message = at.tells.last_message ∙ ap last_message (sym before_it);
       possible = subst (λ (v : List ShownRecord). ArePossible config v i.possible) (sym before_it) at.possible;
     },

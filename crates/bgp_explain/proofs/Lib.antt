@@ -1,5 +1,6 @@
 pub mod OpenedBy
 pub mod LinkKept
+pub mod OffersKept
 pub mod Keeping
 pub mod Reading
 pub mod Standing

@@ -45,24 +45,26 @@ use Rattle.bgp_tool.specs.declared.seen.Seen.{Seen}
 
 module _ {X : Type 0} (config : Config) where
   same_why : (records : List ShownRecord) (reason : Reason X) (next : Option (ℕ × ShownRecord)) (text : List ℕ) → IsReasonAt config records reason
-      → IsWhy config reason.told reason.link reason.last_message.items reason.possible next text
-      → IsWhy config (told records) (sending_link config records) (last_message records) reason.possible next text
+      → IsWhy config reason.told reason.link reason.unjudged reason.last_message.items reason.possible next text
+      → IsWhy config (told records) (sending_link config records) reason.unjudged (last_message records) reason.possible next text
   same_why records reason next text at why =
-      subst (λ (t : Told). IsWhy config t (sending_link config records) (last_message records) reason.possible next text) at.told
-      (subst (λ (l : Option Link). IsWhy config reason.told l (last_message records) reason.possible next text) at.link
-      (subst (λ (o : List ℕ). IsWhy config reason.told reason.link o reason.possible next text) at.last_message why))
+      subst (λ (t : Told). IsWhy config t (sending_link config records) reason.unjudged (last_message records) reason.possible next text) at.told
+      (subst (λ (l : Option Link). IsWhy config reason.told l reason.unjudged (last_message records) reason.possible next text) at.link
+      (subst (λ (o : List ℕ). IsWhy config reason.told reason.link reason.unjudged o reason.possible next text) at.last_message why))
 
   tells_why : (records : List ShownRecord) (reason : Reason X) (next : Option (ℕ × ShownRecord)) (text : List ℕ) → IsReasonAt config records reason
-      → IsWhy config reason.told reason.link reason.last_message.items reason.possible next text → TellsWhy config records next text
+      → IsWhy config reason.told reason.link reason.unjudged reason.last_message.items reason.possible next text → TellsWhy config records next text
   tells_why records reason next text at why = record {
     possible = reason.possible;
     are = at.possible;
+    unjudged = reason.unjudged;
+    are_unjudged = at.unjudged;
     why = same_why records reason next text at why;
   }
 
   tells_not : (before records : List ShownRecord) (reason : Reason X) (o : Option (Impossible X)) (first rest : List ℕ)
       → IsNext config before o records → IsImpossibleLine config.parts.session o first → IsReasonAt config before reason
-      → IsWhy config reason.told reason.link reason.last_message.items reason.possible (next_in o) rest
+      → IsWhy config reason.told reason.link reason.unjudged reason.last_message.items reason.possible (next_in o) rest
       → TellsWhyNot config before records (first ++ rest)
   tells_not before records reason None first rest next line at why = absurd next
   tells_not before records reason (Some i) first rest next line at why = record {
@@ -72,7 +74,7 @@ module _ {X : Type 0} (config : Config) where
     is_line = line.1;
     rest = rest;
     why = tells_why before reason (Some (length before + 1, shown_by i.«record»)) rest at
-        (subst (λ (n : ℕ). IsWhy config reason.told reason.link reason.last_message.items reason.possible (Some (n, shown_by i.«record»)) rest) next.0.number why);
+        (subst (λ (n : ℕ). IsWhy config reason.told reason.link reason.unjudged reason.last_message.items reason.possible (Some (n, shown_by i.«record»)) rest) next.0.number why);
     whole = ap (λ (f : List ℕ). f ++ rest) (line.2 ∙ ap (λ (n : ℕ). record_line n line.0) next.0.number);
   }
 
@@ -90,7 +92,7 @@ module _ {X : Type 0} (config : Config) where
   more_of_unfinished Y records None more has is = absurd has
   more_of_unfinished Y records (Some reason) more has is =
       let none : is.first ≡ [] = subst (λ (o : Option (Impossible X)). IsImpossibleLine config.parts.session o is.first) has.1 is.impossible in
-      let why = subst (λ (o : Option (Impossible X)). IsWhy config reason.told reason.link reason.last_message.items reason.possible (next_in o) is.rest) has.1 is.why in
+      let why = subst (λ (o : Option (Impossible X)). IsWhy config reason.told reason.link reason.unjudged reason.last_message.items reason.possible (next_in o) is.rest) has.1 is.why in
       let whole = is.whole ∙ ap (λ (f : List ℕ). f ++ is.rest) none in
       subst (λ (t : List ℕ). TellsWhy config records None t) (sym whole) (tells_why records reason None is.rest has.0 why)
 

@@ -15,6 +15,8 @@ use Rattle.bgp_text.specs.Capture.{IsRecordLine, refused_line}
 use Rattle.bgp_tool.specs.Answer.{IsWritten}
 use Rattle.bgp_tool.specs.Judging.{SaysVerdict, TellsFault}
 use Rattle.bgp_tool.specs.Seen.{seen_in}
+use Rattle.bgp_check.specs.declared.unjudged.Unjudged.{Unjudged}
+use Rattle.bgp_explain.specs.Offers.{AreUnjudged}
 use Rattle.bgp_explain.specs.Tally.{tally_of, yes_lines}
 use Rattle.bgp_explain.specs.Text.{IsWhy}
 
@@ -24,8 +26,10 @@ pub record TellsWhy (config : Config) (records : List ShownRecord)
     (next : Option (ℕ × ShownRecord)) (text : List ℕ) : Type 0 where
   pub possible : Possible
   pub are : ArePossible config records possible
-  pub why : IsWhy config (told records) (sending_link config records) (last_message records)
-      possible next text
+  pub unjudged : Unjudged
+  pub are_unjudged : AreUnjudged records unjudged
+  pub why : IsWhy config (told records) (sending_link config records) unjudged
+      (last_message records) possible next text
 
 -- the line of the record after these, and then the lines on those before it
 pub record TellsWhyNot (config : Config) (before records : List ShownRecord) (text : List ℕ)

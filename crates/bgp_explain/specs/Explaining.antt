@@ -1,5 +1,5 @@
--- What explaining a capture reads and answers: the verdict on the session's records with its reason,
--- or why there is none.
+-- What explaining a capture reads and answers: the verdict on the session's records with its
+-- reason, or why there is none.
 use Rattle.std.specs.Prelude.{◌≡◌, ◌⊎◌, ◌++◌, ℕ, Bool, List, [], ◌∷◌, length, IsTrue, Option, None}
 use Rattle.std.specs.Prelude.{Result, Ok, Err}
 use Rattle.bgp_prefix.specs.Shown.{ShownRecord, Received}

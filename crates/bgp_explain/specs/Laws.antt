@@ -1,5 +1,5 @@
--- What is told of a no: which records could have stood in the place of the first impossible one, and
--- what this lacks of them.
+-- What is told of a no: which records could have stood in the place of the first impossible one,
+-- and what this lacks of them.
 use Rattle.std.specs.Prelude.{◌≡◌, ◌↔◌, ◌+◌, ◌++◌, ℕ, List, [], ◌∷◌, None, IsTrue, take}
 use Rattle.bgp_prefix.specs.Shown.{ShownRecord}
 use Rattle.bgp_open.specs.declared.config.Config.{Config}

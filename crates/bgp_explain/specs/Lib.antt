@@ -1,4 +1,5 @@
 pub mod Settled
+pub mod Offers
 pub mod Sending
 pub mod Kept
 pub mod Tally

@@ -35,8 +35,8 @@ pub record StopsAt {X : Type 0} (config : Config) (records : List ShownRecord)
   pub tells : IsToldOf config before progress
   pub possible : ArePossible config before stop.possible
 
--- How far the judging has come with these records, whose tracker stands for records by `stands`: for
--- all of them, and they begin a run; or it stopped at the first impossible one.
+-- How far the judging has come with these records, whose tracker stands for records by `stands`:
+-- for all of them, and they begin a run; or it stopped at the first impossible one.
 abbrev pub IsAtBy : {X : Type 0} → (Config → List ShownRecord → Type 0) → Config
     → List ShownRecord → Progress X → Option (Stop X) → Type 0
 IsAtBy stands config records progress None =

@@ -1,4 +1,5 @@
--- The link on which the local system sends, by what is kept record by record.
+-- The link on which the local system sends, and what both OPENs offer that isn't judged, by what is
+-- kept record by record.
 use Rattle.std.specs.Prelude.{◌≡◌, ℕ, List, [], Option, None, Some}
 use Rattle.bgp_prefix.specs.Shown.{ShownRecord}
 use Rattle.bgp_open.specs.declared.config.Config.{Config}
@@ -10,11 +11,12 @@ use Rattle.bgp_machine.specs.declared.fsm.Fsm.TheVariants as fsms
 use Rattle.bgp_judge.specs.Told.{told}
 use Rattle.bgp_reason.specs.Sending.{sending_link}
 use Rattle.bgp_explain.specs.declared.sending.Sending.{Sending}
+use Rattle.bgp_explain.specs.Offers.{AreOffersAt, no_offers}
 use Rattle.bgp_explain.specs.Settled.{IsGoodOpen}
 
 -- before the first record
 abbrev pub nothing_sending : Sending
-nothing_sending = record { offered = None; link = None }
+nothing_sending = record { offered = None; link = None; offers = no_offers }
 
 -- what a message settles, where it is an OPEN that need not be refused
 abbrev pub IsOffered : Config → List ℕ → Option Link → Type 0
@@ -36,3 +38,4 @@ pub record IsSendingAt (config : Config) (records : List ShownRecord) (sending :
     : Type 0 where
   pub offered : IsOffered config (told records).peer_open sending.offered
   pub link : sending.link ≡ sending_link config records
+  pub offers : AreOffersAt records sending.offers

@@ -16,8 +16,9 @@ use Rattle.bgp_reason_text.specs.declared.notes.Notes.{Notes}
 use Rattle.bgp_reason_text.specs.Asked.{Asks, last_received_line}
 use Rattle.bgp_reason_text.specs.declared.whole.NotWhole.{NotWhole}
 use Rattle.bgp_reason_text.specs.NotWhole.{IsWhyNotSent, not_whole_line}
-use Rattle.bgp_reason_text.specs.Notes.{AreEndNotes, AreNotes, notes_text}
+use Rattle.bgp_reason_text.specs.Notes.{AreEndNotes, AreNotes, notes_text, with_offers}
 use Rattle.bgp_reason_text.specs.Record.{record_line, state_line}
+use Rattle.bgp_check.specs.declared.unjudged.Unjudged.{Unjudged}
 use Rattle.bgp_text.specs.Capture.{IsRecordLine, refused_line}
 use Rattle.bgp_tool.specs.Answer.{answer_status, answer_text}
 use Rattle.bgp_explain.specs.declared.explained.Explained.{Explained}
@@ -58,11 +59,19 @@ abbrev pub IsUnwholeOf : Option Link → Option (ℕ × ShownRecord) → Option 
 IsUnwholeOf link None unwhole = unwhole ≡ None
 IsUnwholeOf link (Some next) unwhole = IsWhyNotSent link next.1 unwhole
 
-abbrev pub AreNotesOf : Config → Told → Option Link → List ℕ → Possible
+-- the notes by what the records tell, and by the next one, which is impossible, if there is one
+abbrev pub AreNotesOn : Config → Told → Option Link → List ℕ → Possible
     → Option (ℕ × ShownRecord) → Notes → Type 0
-AreNotesOf config told link octets possible None notes = AreEndNotes config told octets notes
-AreNotesOf config told link octets possible (Some next) notes =
+AreNotesOn config told link octets possible None notes = AreEndNotes config told octets notes
+AreNotesOn config told link octets possible (Some next) notes =
     AreNotes config told link octets possible next.0 next.1 notes
+
+-- these, with those on what both OPENs offer
+abbrev pub AreNotesOf : Config → Told → Option Link → Unjudged → List ℕ → Possible
+    → Option (ℕ × ShownRecord) → Notes → Type 0
+AreNotesOf config told link unjudged octets possible next notes =
+    (others : Notes) × AreNotesOn config told link octets possible next others
+    × (notes ≡ with_offers unjudged.add_path unjudged.ipv6_next_hops others)
 
 -- what the records tell; the message received last; whether the next record is whole; what may
 -- follow, and what the next record lacks of it; and the notes
@@ -72,8 +81,9 @@ why_text told received asking unwhole possible lacked notes =
     state_line told ++ (received_text received asking ++ (not_whole_line unwhole
     ++ (following_lines possible lacked ++ notes_text notes)))
 
-pub record IsWhy (config : Config) (told : Told) (link : Option Link) (octets : List ℕ)
-    (possible : Possible) (next : Option (ℕ × ShownRecord)) (text : List ℕ) : Type 0 where
+pub record IsWhy (config : Config) (told : Told) (link : Option Link) (unjudged : Unjudged)
+    (octets : List ℕ) (possible : Possible) (next : Option (ℕ × ShownRecord)) (text : List ℕ)
+    : Type 0 where
   pub received : Option Received
   pub asking : Option Asking
   pub unwhole : Option NotWhole
@@ -83,7 +93,7 @@ pub record IsWhy (config : Config) (told : Told) (link : Option Link) (octets : 
   pub is_asked : IsAskedBy config told link octets asking
   pub is_unwhole : IsUnwholeOf link next unwhole
   pub are_lacks : AreLacksOf config link possible next lacked
-  pub are_notes : AreNotesOf config told link octets possible next notes
+  pub are_notes : AreNotesOf config told link unjudged octets possible next notes
   pub whole : text ≡ why_text told received asking unwhole possible lacked notes
 
 -- ---- of a reason
@@ -100,8 +110,8 @@ pub record IsReasonText {X : Type 0} (config : Config) (reason : Reason X) (text
   pub first : List ℕ
   pub rest : List ℕ
   pub impossible : IsImpossibleLine config.parts.session reason.impossible first
-  pub why : IsWhy config reason.told reason.link reason.last_message.items reason.possible
-      (next_in reason.impossible) rest
+  pub why : IsWhy config reason.told reason.link reason.unjudged reason.last_message.items
+      reason.possible (next_in reason.impossible) rest
   pub whole : text ≡ first ++ rest
 
 -- ---- of what is explained

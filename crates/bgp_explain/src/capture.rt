@@ -60,7 +60,8 @@ fn follow<A: Allocator + Copy, T: Tracker<A>, S: Source>(
     ensures follows { ReadsWith S.gives config.now.parts.session source.old source.new reader.new
         (fault_in result)
         (λ gives. Follows gives S.has_ended config.now source.old source.new
-        (MayLack T.may_lack) (λ records. IsAt (T.stands_for tracker.new) config.now records progress.new)
+        (MayLack T.may_lack)
+        (λ records. IsAt (T.stands_for tracker.new) config.now records progress.new)
         reader.new.place result) }
     ensures failures { S.failures source.new ≡ S.failures source.old + failures_of result }
 {
@@ -81,10 +82,10 @@ fn follow<A: Allocator + Copy, T: Tracker<A>, S: Source>(
 /// verdict is a no or unfinished, by a reader that has read nothing. It tells afterwards whether it
 /// found a record of the session, and the addresses of the first record of another one.
 ///
-/// It reads in one pass, and holds one record at a time, and beside it the message that was received
-/// last and the first impossible record. Memory may be refused for these and for what could have
-/// stood in the place of that record, too: then the fault is at that record, or at one that holds a
-/// received message; of records that are unfinished it is at the capture's length.
+/// It reads in one pass, and holds one record at a time, and beside it the message that was
+/// received last and the first impossible record. Memory may be refused for these and for what
+/// could have stood in the place of that record, too: then the fault is at that record, or at one
+/// that holds a received message; of records that are unfinished it is at the capture's length.
 pub fn explain_with<A: Allocator + Copy, T: Tracker<A>, S: Source>(
     reader: &mut Reader<A>,
     alloc: A,

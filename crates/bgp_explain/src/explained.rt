@@ -2,6 +2,7 @@
 
 use crate::kept::KeptRecord;
 use crate::tally::Tally;
+use bgp_check::Unjudged;
 use bgp_judge::Verdict;
 use bgp_open::Link;
 use bgp_reason::{Possible, Told};
@@ -18,14 +19,17 @@ pub struct Impossible<A: Allocator = Global> {
     pub record: KeptRecord<A>,
 }
 
-/// Why a verdict is a no or unfinished: what the records tell, and all that may follow them. Of a no
-/// it is those before the first impossible record.
+/// Why a verdict is a no or unfinished: what the records tell, and all that may follow them. Of a
+/// no it is those before the first impossible record.
 #[derive(Drop)]
 pub struct Reason<A: Allocator = Global> {
     /// What the records tell.
     pub told: Told,
     /// The link on which a message is sent that follows them.
     pub link: Option<Link>,
+    /// What both OPENs offer that isn't judged: the first one that was sent, and the one that
+    /// settles the link.
+    pub unjudged: Unjudged,
     /// The message that was received last; empty where none was.
     pub last_message: Vec<u8, A>,
     /// The first impossible record, where the verdict is a no.

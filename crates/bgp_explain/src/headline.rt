@@ -74,11 +74,15 @@ pub(crate) fn write_explained<W: Sink, A: Allocator + Copy>(
 ///
 /// * after a no the line of the first impossible record; the state that the records before it
 ///   tell; the message received last, and what it asks for; each kind of record that could have
-///   stood in its place, and no other, with what the record lacks of it; and notes.
+///   stood in its place, and no other, with what the record lacks of it; and each note whose
+///   condition holds. That both OPENs offer ADD-PATH for a family, or IPv6 next hops of IPv4
+///   routes, is noted of the first OPEN that was sent and of the one that settles the link; the
+///   other conditions stand in `specs/Notes` of bgp_reason_text.
 /// * after an unfinished the same, of what may follow all records.
+/// * after a yes how many records there are, and of which kinds.
 ///
-/// After a yes and a refusal it writes nothing more. Where the sink failed, a beginning of that
-/// text is written, and the status is 5. Where memory was refused for what an UPDATE lacks or asks
+/// After a refusal it writes nothing more. Where the sink failed, a beginning of that text is
+/// written, and the status is 5. Where memory was refused for what an UPDATE lacks or asks
 /// for, it is that of `capture refused: 10 Memory at OFFSET`, the capture's length.
 ///
 /// It rests on the contract of [`Tracker`] alone, and so holds with every tracker.

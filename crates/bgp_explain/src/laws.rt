@@ -13,8 +13,8 @@ pub fn what_could_have_stood_is_told()
     each_no_has_a_reason();
 }
 
-/// Where a no tells an item that the impossible record resembles, it names a part at least that this
-/// lacks of it, if it is a whole message.
+/// Where a no tells an item that the impossible record resembles, it names a part at least that
+/// this lacks of it, if it is a whole message.
 pub fn a_no_names_what_lacks()
     ensures { NamesWhatLacks }
 {

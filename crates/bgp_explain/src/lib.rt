@@ -2,7 +2,8 @@
 //! records before tell, and all that could have stood in the place of the first impossible one.
 //!
 //! ```text
-//! let explained = explain_with::<A, CompactTracker<A>, _>(&mut reader, alloc, &config, &mut source);
+//! let explained =
+//!     explain_with::<A, CompactTracker<A>, _>(&mut reader, alloc, &config, &mut source);
 //! if let Some(reason) = &explained.reason {
 //!     print(reason.told.state, reason.possible);
 //! }
@@ -15,6 +16,7 @@ mod explained;
 mod headline;
 mod kept;
 mod laws;
+mod offers;
 mod opened;
 mod progress;
 mod sending;

@@ -154,6 +154,7 @@ impl<A: Allocator + Copy> Progress<A> {
             ..
         } = self;
         let link = sending.link;
+        let unjudged = sending.offers.of_both();
         if let Some(
             Stop {
                 impossible,
@@ -164,6 +165,7 @@ impl<A: Allocator + Copy> Progress<A> {
             let reason = Reason {
                 told,
                 link,
+                unjudged,
                 last_message,
                 impossible: Some(impossible),
                 possible,
@@ -179,6 +181,7 @@ impl<A: Allocator + Copy> Progress<A> {
         let reason = Reason {
             told,
             link,
+            unjudged,
             last_message,
             impossible: None,
             possible,

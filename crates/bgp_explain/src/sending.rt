@@ -7,6 +7,7 @@ ghost use Rattle.mrt.specs.Reader.{shown_of};
 ghost use Rattle.bgp_judge.specs.Told as judged;
 ghost use Rattle.bgp_explain.specs.Sending.{IsOffered, IsSendingAt, link_by, nothing_sending};
 
+use crate::offers::Offers;
 use bgp_machine::{Fsm, Heard, hear};
 use bgp_open::{Config, Link};
 use mrt::Record;
@@ -14,14 +15,16 @@ use mrt::Record;
 /// Idle's number in a record (RFC 6396, 4.4.1).
 const IDLE: u16 = 1;
 
-/// What the OPENs of a session settle, as far as its records tell it.
-#[derive(Clone, Copy, Debug, PartialEq, Eq)]
+/// What the OPENs of a session settle and offer, as far as its records tell it.
+#[derive(Clone, Copy)]
 pub(crate) struct Sending {
     /// What the message settles that was received last before OpenConfirm, where it is an OPEN that
     /// need not be refused.
     pub(crate) offered: Option<Link>,
     /// The link on which a message is sent that follows the records.
     pub(crate) link: Option<Link>,
+    /// What the OPENs offer that isn't judged.
+    pub(crate) offers: Offers,
 }
 
 /// What a message settles, where it is an OPEN that need not be refused.
@@ -73,6 +76,7 @@ impl Sending {
         Sending {
             offered: None,
             link: None,
+            offers: Offers::nothing(),
         }
     }
 
@@ -88,6 +92,7 @@ impl Sending {
         Sending {
             offered,
             link: link_in(after, self.link, offered),
+            offers: self.offers.with(state, after, shown),
         }
     }
 }

@@ -6,14 +6,15 @@ ghost use Rattle.bgp_tool.specs.Answer.{answer_status};
 ghost use Rattle.bgp_tool.specs.Status.{code_of};
 ghost use Rattle.bgp_explain.specs.Details.{AreDetails, AreDetailsOf, asking_in, next_in};
 ghost use Rattle.bgp_explain.specs.Lacked.{following_lines, lacked_of};
-ghost use Rattle.bgp_explain.specs.Text.{AreNotesOf, CanBePut, CanBePutOf, IsExplainedText};
-ghost use Rattle.bgp_explain.specs.Text.{IsMoreBy, IsMoreOf, IsReasonText, IsReceived};
-ghost use Rattle.bgp_explain.specs.Text.{IsUnwholeOf, received_text, why_text};
+ghost use Rattle.bgp_explain.specs.Text.{AreNotesOf, AreNotesOn, CanBePut, CanBePutOf};
+ghost use Rattle.bgp_explain.specs.Text.{IsExplainedText, IsMoreBy, IsMoreOf, IsReasonText};
+ghost use Rattle.bgp_explain.specs.Text.{IsReceived, IsUnwholeOf, received_text, why_text};
 ghost use Rattle.bgp_explain.specs.Updates.{asking_of, update_line};
 
 use crate::details::Details;
 use crate::explained::{Explained, Impossible, Reason, Totals};
 use crate::tally::put_yes_lines;
+use bgp_check::Unjudged;
 use bgp_judge::Verdict;
 use bgp_open::Config;
 use bgp_reason::{Possible, Told};
@@ -60,9 +61,9 @@ fn unwhole_of<A: Allocator + Copy>(reason: &Reason<A>) -> Option<NotWhole>
     }
 }
 
-/// The notes on a reason.
-fn notes_of<A: Allocator + Copy>(config: &Config, reason: &Reason<A>) -> Notes
-    ensures { AreNotesOf config.now reason.now.told reason.now.link reason.now.last_message.items
+/// The notes on a reason, without those on what both OPENs offer.
+fn notes_on<A: Allocator + Copy>(config: &Config, reason: &Reason<A>) -> Notes
+    ensures { AreNotesOn config.now reason.now.told reason.now.link reason.now.last_message.items
         reason.now.possible (next_in reason.now.impossible) result }
 {
     let last = reason.last_message.as_slice();
@@ -74,6 +75,18 @@ fn notes_of<A: Allocator + Copy>(config: &Config, reason: &Reason<A>) -> Notes
             Notes::on(config, told, link, last, possible, *number, &shown)
         }
     }
+}
+
+/// The notes on a reason.
+fn notes_of<A: Allocator + Copy>(config: &Config, reason: &Reason<A>) -> Notes
+    ensures { AreNotesOf config.now reason.now.told reason.now.link reason.now.unjudged
+        reason.now.last_message.items reason.now.possible (next_in reason.now.impossible) result }
+{
+    let Unjudged {
+        add_path,
+        ipv6_next_hops,
+    } = reason.unjudged;
+    notes_on(config, reason).with_offers(add_path, ipv6_next_hops)
 }
 
 /// The line of an UPDATE that was received last, with all that may become of it.

@@ -214,6 +214,99 @@ const ANNOUNCED: [Record<'static>; 9] = [
 /// A message comes in Idle.
 const IN_IDLE: [Record<'static>; 1] = [In(100, &KEEPALIVE)];
 
+/// [`OPEN_A`] with ADD-PATH (RFC 7911), and with IPv6 next hops of IPv4 routes (RFC 8950).
+const OPEN_A_OF_PATHS: [u8; 63] = [
+    255, 255, 255, 255, 255, 255, 255, 255, 255, 255, 255, 255, 255, 255, 255, 255, // marker
+    0x00, 0x3f, // Length: 63
+    0x01, // Type: OPEN
+    0x04, // version 4
+    0xfd, 0xe9, // My Autonomous System: 65001
+    0x00, 0x5a, // Hold Time: 90
+    0xc0, 0x00, 0x02, 0x01, // BGP Identifier: 192.0.2.1
+    0x22, // Optional Parameters Length: 34
+    0x02, 0x20, // Capabilities, 32 octets
+    0x01, 0x04, 0x00, 0x01, 0x00, 0x01, // multiprotocol: IPv4 unicast
+    0x01, 0x04, 0x00, 0x02, 0x00, 0x01, // multiprotocol: IPv6 unicast
+    0x41, 0x04, 0x00, 0x00, 0xfd, 0xe9, // four-octet AS number: 65001
+    0x45, 0x04, 0x00, 0x01, 0x01, 0x03, // ADD-PATH for IPv4 unicast: receives and sends
+    0x05, 0x06, 0x00, 0x01, 0x00, 0x01, 0x00, 0x02, // next hops of IPv4 unicast: IPv6
+];
+
+/// [`OPEN_B`] with both, which only receives several paths.
+const OPEN_B_OF_PATHS: [u8; 63] = [
+    255, 255, 255, 255, 255, 255, 255, 255, 255, 255, 255, 255, 255, 255, 255, 255, // marker
+    0x00, 0x3f, // Length: 63
+    0x01, // Type: OPEN
+    0x04, // version 4
+    0xfd, 0xea, // My Autonomous System: 65002
+    0x00, 0x5a, // Hold Time: 90
+    0xc0, 0x00, 0x02, 0x02, // BGP Identifier: 192.0.2.2
+    0x22, // Optional Parameters Length: 34
+    0x02, 0x20, // Capabilities, 32 octets
+    0x01, 0x04, 0x00, 0x01, 0x00, 0x01, // multiprotocol: IPv4 unicast
+    0x01, 0x04, 0x00, 0x02, 0x00, 0x01, // multiprotocol: IPv6 unicast
+    0x41, 0x04, 0x00, 0x00, 0xfd, 0xea, // four-octet AS number: 65002
+    0x45, 0x04, 0x00, 0x01, 0x01, 0x01, // ADD-PATH for IPv4 unicast: receives
+    0x05, 0x06, 0x00, 0x01, 0x00, 0x01, 0x00, 0x02, // next hops of IPv4 unicast: IPv6
+];
+
+/// [`OPEN_A`] with both, which only receives several paths.
+const OPEN_A_THAT_RECEIVES: [u8; 63] = [
+    255, 255, 255, 255, 255, 255, 255, 255, 255, 255, 255, 255, 255, 255, 255, 255, // marker
+    0x00, 0x3f, // Length: 63
+    0x01, // Type: OPEN
+    0x04, // version 4
+    0xfd, 0xe9, // My Autonomous System: 65001
+    0x00, 0x5a, // Hold Time: 90
+    0xc0, 0x00, 0x02, 0x01, // BGP Identifier: 192.0.2.1
+    0x22, // Optional Parameters Length: 34
+    0x02, 0x20, // Capabilities, 32 octets
+    0x01, 0x04, 0x00, 0x01, 0x00, 0x01, // multiprotocol: IPv4 unicast
+    0x01, 0x04, 0x00, 0x02, 0x00, 0x01, // multiprotocol: IPv6 unicast
+    0x41, 0x04, 0x00, 0x00, 0xfd, 0xe9, // four-octet AS number: 65001
+    0x45, 0x04, 0x00, 0x01, 0x01, 0x01, // ADD-PATH for IPv4 unicast: receives
+    0x05, 0x06, 0x00, 0x01, 0x00, 0x01, 0x00, 0x02, // next hops of IPv4 unicast: IPv6
+];
+
+/// [`OPEN_B`] with ADD-PATH alone, which only receives several paths.
+const OPEN_B_THAT_RECEIVES: [u8; 55] = [
+    255, 255, 255, 255, 255, 255, 255, 255, 255, 255, 255, 255, 255, 255, 255, 255, // marker
+    0x00, 0x37, // Length: 55
+    0x01, // Type: OPEN
+    0x04, // version 4
+    0xfd, 0xea, // My Autonomous System: 65002
+    0x00, 0x5a, // Hold Time: 90
+    0xc0, 0x00, 0x02, 0x02, // BGP Identifier: 192.0.2.2
+    0x1a, // Optional Parameters Length: 26
+    0x02, 0x18, // Capabilities, 24 octets
+    0x01, 0x04, 0x00, 0x01, 0x00, 0x01, // multiprotocol: IPv4 unicast
+    0x01, 0x04, 0x00, 0x02, 0x00, 0x01, // multiprotocol: IPv6 unicast
+    0x41, 0x04, 0x00, 0x00, 0xfd, 0xea, // four-octet AS number: 65002
+    0x45, 0x04, 0x00, 0x01, 0x01, 0x01, // ADD-PATH for IPv4 unicast: receives
+];
+
+/// The KEEPALIVE isn't sent, and both OPENs offer what isn't judged.
+const PATHS_OFFERED: [Record<'static>; 7] = [
+    Change(100, 1, 2),
+    Out(100, &OPEN_A_OF_PATHS),
+    Change(100, 2, 4),
+    In(101, &OPEN_B_OF_PATHS),
+    Change(101, 4, 5),
+    In(101, &KEEPALIVE),
+    Change(101, 5, 6),
+];
+
+/// Neither sends several paths, and one offers IPv6 next hops alone.
+const NOTHING_SHARED: [Record<'static>; 7] = [
+    Change(100, 1, 2),
+    Out(100, &OPEN_A_THAT_RECEIVES),
+    Change(100, 2, 4),
+    In(101, &OPEN_B_THAT_RECEIVES),
+    Change(101, 4, 5),
+    In(101, &KEEPALIVE),
+    Change(101, 5, 6),
+];
+
 /// A verdict that needs no reason.
 pub(super) const YES: Row = Row {
     peer_as: 65002,
@@ -228,7 +321,7 @@ ignored in Idle 0
     status: 0,
 };
 
-pub(super) static ROWS: [Row; 17] = [
+pub(super) static ROWS: [Row; 19] = [
     Row {
         peer_as: 65002,
         hold: 90,
@@ -498,5 +591,35 @@ records 8: 2 received, 2 sent, 4 changes
 ignored in Idle 0
 ",
         status: 0,
+    },
+    Row {
+        peer_as: 65002,
+        hold: 90,
+        records: &PATHS_OFFERED,
+        text: "\
+no at record 6
+record 6 @101 received keepalive
+state OpenConfirm by record 5
+last received record 4 open: valid, settles hold 90 width 4 families v4,v6
+owed sent keepalive (RFC 4271 4.4)
+note both OPENs offer ADD-PATH for v4, which is not judged
+note both OPENs offer IPv6 next hops for v4, which is not judged
+note a message that was sent may be missing here, or stand later in the capture
+",
+        status: 1,
+    },
+    Row {
+        peer_as: 65002,
+        hold: 90,
+        records: &NOTHING_SHARED,
+        text: "\
+no at record 6
+record 6 @101 received keepalive
+state OpenConfirm by record 5
+last received record 4 open: valid, settles hold 90 width 4 families v4,v6
+owed sent keepalive (RFC 4271 4.4)
+note a message that was sent may be missing here, or stand later in the capture
+",
+        status: 1,
     },
 ];

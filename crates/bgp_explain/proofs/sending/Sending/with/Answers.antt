@@ -10,5 +10,6 @@ returns c records state after begins at =
     let shown = shown_of c.args.shown.now in
     let offered = offered_then config records shown c.offered_after-offered.result (c.offered_after-offered.ensures (judged.told records) state at.offered) in record {
       offered = offered;
+      offers = c.with.ensures records state after at.offers;
       link = c.link_in.ensures ∙ link_kept config records shown c.args.after c.args.self.link c.offered_after-offered.result after begins at.link offered;
     }

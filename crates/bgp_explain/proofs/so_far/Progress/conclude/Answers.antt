@@ -7,7 +7,7 @@ use Rattle.bgp_explain.proofs.so_far.Progress.conclude.Goals as goal
 pub returns-in-Some-clause-is : goal.returns-in-Some-clause-is
 returns-in-Some-clause-is g c = λ records at.
     let stop = some_stop (g.T.Tracker.stands_for c.args.tracker.now) c.args.config.now records c.args.self c.args.self.stop c.in-Some.field-0 c.in-Some.is at in
-    (no_is c.args.config.now records c.args.self c.in-Some.field-0 stop, no_for c.args.config.now records c.args.self c.in-Some.field-0 stop g.row.A.Denot, tt)
+    (no_is c.args.config.now records c.args.self c.in-Some.field-0 stop, no_for c.args.config.now records c.args.self c.in-Some.field-0 stop g.row.A.Denot c.of_both-unjudged.result (c.of_both-unjudged.ensures stop.before stop.tells.sending.offers), tt)
 
 pub returns-then-is_some-clause-is : goal.returns-then-is_some-clause-is
 returns-then-is_some-clause-is g c = λ records at.
@@ -31,6 +31,7 @@ returns-clause-is g c = λ records at.
         record {
           told = so.2.told;
           link = so.2.sending.link;
+          unjudged = c.of_both-unjudged.ensures records so.2.sending.offers;
           last_message = so.2.last_message;
           possible = c.in_ok-possible.ensures.exact records so.0 (ap (λ t. t.state) so.2.told ∙ c.records_tell_one_by_one.ensures.state records)
               (c.as_slice-2.ensures.value ∙ so.2.last_message);
