@@ -96,6 +96,9 @@ fn check_from<R: Print + Eprint + AllocGlobal, F: Read + Drop>(
             );
         }
     }
+    if let Some(nothing) = checked.nothing {
+        let _ = eprintln!(rt; "bgp: {nothing}");
+    }
     checked.status
 }
 

@@ -12,7 +12,8 @@ use Rattle.streams.specs.Clock.{AreInOrder}
 use Rattle.streams.specs.Passed.{Segment}
 use Rattle.streams.specs.declared.connection.Opening.{Opening}
 use Rattle.bgp_import.specs.declared.refusal.Refusal.{Refusal}
-use Rattle.bgp_check_tool.specs.declared.connection.BothTold.{BothTold}
+use Rattle.bgp_check_tool.specs.declared.connection.EndsTold.{EndsTold}
+use Rattle.bgp_check_tool.specs.declared.connection.EndsTold.TheVariants.{Both, One}
 use Rattle.bgp_check_tool.specs.Blocks.{Block, IsBlock, block_of, block_text}
 use Rattle.bgp_check_tool.specs.Checking.{IsTold, PutsBlock, PutsBlocks, tally_from}
 use Rattle.bgp_check_tool.specs.Tally.{with_block}
@@ -40,8 +41,9 @@ one_more law options last_packet lines middle lines' tally between tally' so_far
 }
 
 -- what is told of a connection
-pub is_told : {X : Type 0} (within last_packet : ℕ) (segments : List Segment) (session : Session) (opening : Opening) (answer : Result (BothTold X) Refusal)
+pub is_told : {X : Type 0} (within last_packet : ℕ) (segments : List Segment) (session : Session) (opening : Opening) (answer : Result (EndsTold X) Refusal)
     → AreInOrder segments → IsBlock within last_packet segments session opening (block_of session opening answer)
     → IsTold within last_packet (block_of session opening answer)
-is_told within last_packet segments session opening (Ok both) order is = record { segments = segments; order = order; is_block = is }
+is_told within last_packet segments session opening (Ok (Both both)) order is = record { segments = segments; order = order; is_block = is }
+is_told within last_packet segments session opening (Ok (One first second)) order is = record { segments = segments; order = order; is_block = is }
 is_told within last_packet segments session opening (Err refusal) order is = record { segments = segments; order = order; is_block = is }

@@ -1,7 +1,19 @@
 -- The status of a text that was handed over.
-use Rattle.std.proofs.Common.{◌≡◌, ◌∙◌, ◌⊎◌, ℕ, Bool, IsFalse, IsTrue, inl, inr}
+use Rattle.std.proofs.Common.{◌≡◌, ◌∙◌, ◌⊎◌, ◌++◌, ℕ, Bool, IsFalse, IsTrue, codes, inl, inr, refl}
+use Rattle.bgp_prefix.specs.declared.session.Session.{Session}
+use Rattle.streams.specs.declared.connection.Opening.{Opening}
+use Rattle.bgp_import.specs.ListText.{opening_text}
+use Rattle.bgp_check_tool.specs.Blocks.{block_text, ends_block, ends_text}
+use Rattle.bgp_check_tool.specs.declared.connection.EndsTold.{EndsTold}
+use Rattle.bgp_check_tool.specs.declared.connection.EndsTold.TheVariants.{Both, One}
 
 pub told_as : (failed : Bool) (status one wanted : ℕ) → (IsFalse failed × (status ≡ one)) ⊎ (IsTrue failed × (status ≡ 5)) → one ≡ wanted
     → (IsFalse failed × (status ≡ wanted)) ⊎ (IsTrue failed × (status ≡ 5))
 told_as failed status one wanted (inl calm) is = inl (calm.0, calm.1 ∙ is)
 told_as failed status one wanted (inr broken) is = inr broken
+
+-- the text of a connection that isn't refused
+pub text_of_ends : {X : Type 0} (routes : Bool) (session : Session) (opening : Opening) (told : EndsTold X)
+    → opening_text session opening ++ (codes " " ++ ends_text routes session opening told) ≡ block_text routes (ends_block session opening told)
+text_of_ends routes session opening (Both both) = refl
+text_of_ends routes session opening (One first second) = refl

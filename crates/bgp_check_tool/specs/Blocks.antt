@@ -15,22 +15,25 @@ use Rattle.streams.specs.declared.passed.Side.{Side}
 use Rattle.streams.specs.declared.passed.Side.TheVariants.{Local, Peer}
 use Rattle.bgp_recording.specs.declared.entry.Entry.{Entry}
 use Rattle.bgp_recording.specs.declared.framing.Rest.{Rest}
-use Rattle.bgp_import.specs.ListText.{octets_text, opening_text, other_side, refused_text}
+use Rattle.bgp_import.specs.ListText.{end_of, octets_text, opening_text, other_side, refused_text}
 use Rattle.bgp_import.specs.Refreshes.{IsRefreshIn}
 use Rattle.bgp_import.specs.declared.refusal.Refusal.{Refusal}
 use Rattle.bgp_import.specs.declared.refusal.Refusal.TheVariants as refusals
-use Rattle.bgp_check_tool.specs.declared.connection.BothTold.{BothTold}
+use Rattle.bgp_check_tool.specs.declared.connection.EndsTold.{EndsTold}
+use Rattle.bgp_check_tool.specs.declared.connection.EndsTold.TheVariants as ends
 use Rattle.bgp_check_tool.specs.declared.connection.Untold.{Untold as UntoldEnd}
 use Rattle.bgp_check_tool.specs.declared.connection.Untold.TheVariants as untold
 use Rattle.bgp_check_tool.specs.Made.{IsMade}
 use Rattle.bgp_check_tool.specs.Seen.{seen_from}
-use Rattle.bgp_check_tool.specs.Text.{told_lines}
+use Rattle.bgp_check_tool.specs.Text.{one_end_line, told_lines}
 use Rattle.bgp_check_tool.specs.Told.{EndTold, IsEndTold, told_value}
 
 pub data Block : Type 0 where
   -- of a connection: how many octets whoever opened it sent, and how many the other; and what is
   -- told of both ends, in that order
   Checked : Session → Opening → ℕ → ℕ → EndTold → EndTold → Block
+  -- of one whose two ends are one: how many octets either sent
+  OneEnd : Session → Opening → ℕ → ℕ → Block
   -- a connection that is refused
   Refused : Session → Opening → Refusal → Block
   -- two addresses of whose connections none can be told
@@ -51,9 +54,17 @@ both_text routes first second opener other =
     octets_text first second ++ (codes "\n"
     ++ (told_lines routes opener ++ told_lines routes other))
 
+unfoldable pub neither_text : Session → Opening → ℕ → ℕ → List ℕ
+neither_text session opening first second =
+    octets_text first second ++ (codes "\n"
+    ++ (one_end_line (end_of opening.opened_by session opening)
+    ++ one_end_line (end_of (other_side opening.opened_by) session opening)))
+
 abbrev pub block_text : Bool → Block → List ℕ
 block_text routes (Checked session opening first second opener other) =
     opening_text session opening ++ (codes " " ++ both_text routes first second opener other)
+block_text routes (OneEnd session opening first second) =
+    opening_text session opening ++ (codes " " ++ neither_text session opening first second)
 block_text routes (Refused session opening refusal) =
     opening_text session opening ++ (codes " " ++ turned_down_text refusal)
 block_text routes (Untold addresses refusal) = session_text addresses refusal
@@ -64,6 +75,10 @@ block_text routes (Untold addresses refusal) = session_text addresses refusal
 abbrev pub octets_from : Side → Connection → ℕ
 octets_from Local connection = length connection.sent.octets.now
 octets_from Peer connection = length connection.received.octets.now
+
+-- its two ends are one address and one port, so that its packets don't say who sent what
+abbrev pub AreOne : Session → Opening → Type 0
+AreOne session opening = end_of Local session opening ≡ end_of Peer session opening
 
 -- a ROUTE-REFRESH is among the messages of one of its ends
 pub record HasRefresh (within : ℕ) (connection : Connection) (refusal : Refusal) : Type 0 where
@@ -82,10 +97,19 @@ module _ (within last_packet : ℕ) (segments : List Segment) (session : Session
   pub record TellsBoth (first second : ℕ) (opener other : EndTold) : Type 0 where
     pub connection : Connection
     pub chosen : IsAnswered (Some opening.number) last_packet (numbered segments) connection
+    pub are_two : ¬ AreOne session opening
     pub is_first : first ≡ octets_from opening.opened_by connection
     pub is_second : second ≡ octets_from (other_side opening.opened_by) connection
     pub is_opener : IsEndTold within session opening connection opening.opened_by opener
     pub is_other : IsEndTold within session opening connection (other_side opening.opened_by) other
+
+  -- or its ends are one
+  pub record TellsNeither (first second : ℕ) : Type 0 where
+    pub connection : Connection
+    pub chosen : IsAnswered (Some opening.number) last_packet (numbered segments) connection
+    pub are_one : AreOne session opening
+    pub is_first : first ≡ octets_from opening.opened_by connection
+    pub is_second : second ≡ octets_from (other_side opening.opened_by) connection
 
   -- or its segments spell no two streams; or there is a ROUTE-REFRESH, or memory was refused
   pub record IsSpoilt (refusal : Refusal) : Type 0 where
@@ -96,13 +120,18 @@ module _ (within last_packet : ℕ) (segments : List Segment) (session : Session
   pub record IsUncheckable (refusal : Refusal) : Type 0 where
     pub connection : Connection
     pub chosen : IsAnswered (Some opening.number) last_packet (numbered segments) connection
+    pub are_two : ¬ AreOne session opening
     pub why : HasRefresh within connection refusal ⊎ (refusal ≡ refusals.Memory last_packet)
 
 -- this block is told of it
 abbrev pub IsBlock : ℕ → ℕ → List Segment → Session → Opening → Block → Type 0
-IsBlock within last_packet segments session opening (Checked its its_opening first second opener other) =
+IsBlock within last_packet segments session opening
+    (Checked its its_opening first second opener other) =
     (its ≡ session) × (its_opening ≡ opening)
     × TellsBoth within last_packet segments session opening first second opener other
+IsBlock within last_packet segments session opening (OneEnd its its_opening first second) =
+    (its ≡ session) × (its_opening ≡ opening)
+    × TellsNeither within last_packet segments session opening first second
 IsBlock within last_packet segments session opening (Refused its its_opening refusal) =
     (its ≡ session) × (its_opening ≡ opening)
     × (IsSpoilt within last_packet segments session opening refusal
@@ -116,7 +145,19 @@ abbrev pub IsUntold : ℕ → Connection → UntoldEnd → Type 0
 IsUntold within connection untold.NoMemory = Unit {0}
 IsUntold within connection (untold.Refresh refusal) = HasRefresh within connection refusal
 
-abbrev pub block_of : {X : Type 0} → Session → Opening → Result (BothTold X) Refusal → Block
-block_of session opening (Ok both) = Checked session opening both.opener_octets both.other_octets
+abbrev pub ends_block : {X : Type 0} → Session → Opening → EndsTold X → Block
+ends_block session opening (ends.Both both) =
+    Checked session opening both.opener_octets both.other_octets
     (told_value both.opener) (told_value both.other)
+ends_block session opening (ends.One first second) = OneEnd session opening first second
+
+abbrev pub ends_text : {X : Type 0} → Bool → Session → Opening → EndsTold X → List ℕ
+ends_text routes session opening (ends.Both both) =
+    both_text routes both.opener_octets both.other_octets
+    (told_value both.opener) (told_value both.other)
+ends_text routes session opening (ends.One first second) =
+    neither_text session opening first second
+
+abbrev pub block_of : {X : Type 0} → Session → Opening → Result (EndsTold X) Refusal → Block
+block_of session opening (Ok told) = ends_block session opening told
 block_of session opening (Err refusal) = Refused session opening refusal

@@ -9,7 +9,7 @@ use Rattle.bgp_import.specs.declared.refusal.Cause.TheVariants as causes
 use Rattle.bgp_import.specs.declared.refusal.Refusal.{Refusal}
 use Rattle.bgp_check.specs.Answered.{AnswerValue, JudgedAs, Unjudged}
 use Rattle.bgp_check_tool.specs.declared.tally.Tally.{Tally}
-use Rattle.bgp_check_tool.specs.Blocks.{Block, Checked, Refused, Untold}
+use Rattle.bgp_check_tool.specs.Blocks.{Block, Checked, OneEnd, Refused, Untold}
 
 -- one more, up to the greatest number that is told
 abbrev pub one_more : ℕ → ℕ
@@ -20,8 +20,12 @@ with_verdict tally (Yes ends) = record tally { yes = one_more tally.yes }
 with_verdict tally (No count) = record tally { no = one_more tally.no }
 with_verdict tally Unfinished = record tally { unfinished = one_more tally.unfinished }
 
+-- with an end more that isn't judged
+abbrev pub with_unjudged : Tally → Tally
+with_unjudged tally = record tally { not_judged = one_more tally.not_judged }
+
 abbrev pub with_end : Tally → AnswerValue → Tally
-with_end tally (Unjudged why) = record tally { not_judged = one_more tally.not_judged }
+with_end tally (Unjudged why) = with_unjudged tally
 with_end tally (JudgedAs number peer verdict) = with_verdict tally verdict
 
 abbrev pub is_memory : Cause → Bool
@@ -44,6 +48,7 @@ with_refusal tally refusal = record tally {
 abbrev pub with_block : Tally → Block → Tally
 with_block tally (Checked session opening first second opener other) =
     with_end (with_end tally opener.answer) other.answer
+with_block tally (OneEnd session opening first second) = with_unjudged (with_unjudged tally)
 with_block tally (Refused session opening refusal) = with_refusal tally refusal
 with_block tally (Untold addresses refusal) = with_refusal tally refusal
 
@@ -70,6 +75,11 @@ status_of tally =
     else if nat_lt 0 tally.unfinished then 2
     else if nat_lt 0 tally.yes then 0
     else 3
+
+-- an end is judged
+abbrev pub has_verdict : Tally → Bool
+has_verdict tally =
+    nat_lt 0 tally.yes || (nat_lt 0 tally.no || nat_lt 0 tally.unfinished)
 
 -- nothing was told of any connection, nor of the file
 abbrev pub is_empty : Tally → Bool

@@ -53,6 +53,10 @@ unfoldable pub not_judged_line : Endpoint → NotJudged → List ℕ
 not_judged_line end why =
     codes "not judged: " ++ (end_text end ++ (codes ", " ++ (reason_text why ++ codes "\n")))
 
+-- an end of a connection whose two ends are one
+unfoldable pub one_end_line : Endpoint → List ℕ
+one_end_line end = codes "not judged: " ++ (end_text end ++ codes ", both ends are one\n")
+
 -- ---- whose verdict it is, and for which peer
 
 abbrev pub as_text : Option ℕ → List ℕ

@@ -3,14 +3,15 @@
 ghost use Rattle.std.specs.Prelude.{◌≡◌};
 ghost use Rattle.bgp_text.specs.Lines.{Writes};
 ghost use Rattle.bgp_check_tool.specs.Blocks.{Untold, block_of, block_text, both_text};
-ghost use Rattle.bgp_check_tool.specs.Blocks.{session_text, turned_down_text};
+ghost use Rattle.bgp_check_tool.specs.Blocks.{ends_text, neither_text, session_text};
+ghost use Rattle.bgp_check_tool.specs.Blocks.{turned_down_text};
 ghost use Rattle.bgp_check_tool.specs.Tally.{with_block};
 ghost use Rattle.bgp_check_tool.specs.Told.{told_value};
 
-use crate::connection::BothTold;
-use crate::lines::put_told;
+use crate::connection::{BothTold, EndsTold};
+use crate::lines::{put_one_end, put_told};
 use crate::tally::Tally;
-use bgp_import::{Refusal, put_counts, put_opening, put_refused};
+use bgp_import::{Refusal, end_of, other_side, put_counts, put_opening, put_refused};
 use bgp_prefix::Session;
 use bgp_text::{Lines, put_address};
 use mrt::Sink;
@@ -27,6 +28,39 @@ fn put_both<W: Sink, A: Allocator>(lines: &mut Lines<'_, W>, both: &BothTold<A>,
     lines.put(b"\n");
     put_told(lines, &both.opener, routes);
     put_told(lines, &both.other, routes);
+}
+
+/// What stands there of a connection whose two ends are one.
+fn put_neither<W: Sink>(
+    lines: &mut Lines<'_, W>,
+    session: &Session,
+    opening: Opening,
+    first: usize,
+    second: usize,
+)
+    ensures { Writes lines.old lines.new (neither_text session.now opening first second) }
+{
+    let from = opening.opened_by;
+    put_counts(lines, first, second);
+    lines.put(b"\n");
+    put_one_end(lines, end_of(from, session, opening));
+    put_one_end(lines, end_of(other_side(from), session, opening));
+}
+
+/// What stands there of a connection that isn't refused.
+fn put_ends<W: Sink, A: Allocator>(
+    lines: &mut Lines<'_, W>,
+    session: &Session,
+    opening: Opening,
+    told: &EndsTold<A>,
+    routes: bool,
+)
+    ensures { Writes lines.old lines.new (ends_text routes session.now opening told.now) }
+{
+    match told {
+        EndsTold::Both(both) => put_both(lines, both, routes),
+        EndsTold::One(first, second) => put_neither(lines, session, opening, *first, *second),
+    }
 }
 
 /// What stands where a connection is refused.
@@ -54,7 +88,7 @@ pub(crate) fn put_connection<W: Sink, A: Allocator>(
     lines: &mut Lines<'_, W>,
     session: &Session,
     opening: Opening,
-    told: &Result<BothTold<A>, Refusal>,
+    told: &Result<EndsTold<A>, Refusal>,
     routes: bool,
 )
     ensures { Writes lines.old lines.new
@@ -63,7 +97,7 @@ pub(crate) fn put_connection<W: Sink, A: Allocator>(
     put_opening(lines, session, opening);
     lines.put(b" ");
     match told {
-        Ok(both) => put_both(lines, both, routes),
+        Ok(ends) => put_ends(lines, session, opening, ends, routes),
         Err(refusal) => put_turned_down(lines, *refusal),
     }
 }
@@ -73,14 +107,15 @@ pub(crate) fn with_connection<A: Allocator>(
     tally: Tally,
     session: &Session,
     opening: Opening,
-    told: &Result<BothTold<A>, Refusal>,
+    told: &Result<EndsTold<A>, Refusal>,
 ) -> Tally
     ensures { result ≡ with_block tally (block_of session.now opening told.now) }
 {
     match told {
-        Ok(both) => tally
+        Ok(EndsTold::Both(both)) => tally
             .with_end(&both.opener.answer)
             .with_end(&both.other.answer),
+        Ok(EndsTold::One(..)) => tally.with_unjudged().with_unjudged(),
         Err(refusal) => tally.with_refusal(*refusal),
     }
 }

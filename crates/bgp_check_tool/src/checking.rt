@@ -3,12 +3,13 @@
 ghost use Rattle.std.specs.Prelude.{◌≡◌, ◌<◌, ◌^◌};
 ghost use Rattle.bgp_text.specs.Lines.{Writes};
 ghost use Rattle.bgp_check_tool.specs.Checking.{ChecksRecording, PutsBlock, PutsBlocks};
-ghost use Rattle.bgp_check_tool.specs.Checking.{file_text, with_file};
+ghost use Rattle.bgp_check_tool.specs.Checking.{file_text, nothing_by, with_file};
 ghost use Rattle.bgp_check_tool.specs.Tally.{no_tally};
 
 use crate::blocks::{put_connection, put_session, with_connection};
 use crate::connection::{Between, check_connection};
 use crate::listed::{Listed, listed_in};
+use crate::nothing::NothingJudged;
 use crate::options::CheckOptions;
 use crate::talks::{Talks, selection_of, take_all};
 use crate::tally::Tally;
@@ -27,6 +28,8 @@ pub struct CheckedRecording {
     pub status: u8,
     /// Why the file wasn't read to its end, if it wasn't.
     pub refusal: Option<Refusal>,
+    /// That no end is judged, of a file that was read to its end.
+    pub nothing: Option<NothingJudged>,
 }
 
 /// Checks what is listed at this packet, puts what is told of it, and answers the tally with it.
@@ -102,6 +105,16 @@ fn put_file<W: Sink>(lines: &mut Lines<'_, W>, refusal: Option<Refusal>)
     }
 }
 
+/// That no end is judged, where the file was read to its end.
+fn nothing_by(port: u16, judged: bool, refusal: Option<Refusal>) -> Option<NothingJudged>
+    ensures { result ≡ nothing_by port judged refusal }
+{
+    match (judged, refusal) {
+        (true, _) | (false, Some(_)) => None,
+        (false, None) => Some(NothingJudged { port }),
+    }
+}
+
 /// The tally with that.
 fn with_file(tally: Tally, refusal: Option<Refusal>) -> Tally
     ensures { result ≡ with_file tally refusal }
@@ -141,7 +154,7 @@ pub fn check_recording<A: Allocator + Copy, T: Tracker<A>, R: Source, W: Sink>(
     requires source { R.failures source.old < 2 ^ 63 }
     requires sink { W.failures sink.old < 2 ^ 63 }
     ensures { ChecksRecording W.takes W.failures options.now sink.old sink.new result.status
-        result.refusal }
+        result.refusal result.nothing }
 {
     let mut reader = Reader::new(alloc);
     let mut talks = Talks::new(alloc, options.port);
@@ -159,5 +172,6 @@ pub fn check_recording<A: Allocator + Copy, T: Tracker<A>, R: Source, W: Sink>(
     CheckedRecording {
         status: status.code(),
         refusal,
+        nothing: nothing_by(options.port, tally.has_verdict(), refusal),
     }
 }

@@ -1,6 +1,6 @@
 //! What is told of one connection: its two ends, or why it is refused.
 
-ghost use Rattle.std.specs.Prelude.{◌≡◌, ◌⊎◌, IfErr, IfOk, List, Some, MatchResult};
+ghost use Rattle.std.specs.Prelude.{◌≡◌, ◌⊎◌, ◌↔◌, IfErr, IfOk, IsTrue, List, Some, MatchResult};
 ghost use Rattle.streams.specs.Choice.{IsAnswered};
 ghost use Rattle.streams.specs.Clock.{AreInOrder};
 ghost use Rattle.streams.specs.Connections.{numbered};
@@ -9,8 +9,8 @@ ghost use Rattle.streams.specs.Passed.{Segment};
 ghost use Rattle.bgp_recording.specs.Gathered.{IsClocked, IsCovered};
 ghost use Rattle.bgp_import.specs.ListText.{other_side};
 ghost use Rattle.bgp_import.specs.declared.refusal.Refusal.TheVariants.{Memory as OfMemory};
-ghost use Rattle.bgp_check_tool.specs.Blocks.{HasRefresh, IsBlock, block_of, octets_from};
-ghost use Rattle.bgp_check_tool.specs.Blocks.{IsUntold};
+ghost use Rattle.bgp_check_tool.specs.Blocks.{AreOne, HasRefresh, IsBlock, IsUntold, block_of};
+ghost use Rattle.bgp_check_tool.specs.Blocks.{octets_from};
 ghost use Rattle.bgp_check_tool.specs.Talks.{AreHeld};
 ghost use Rattle.bgp_check_tool.specs.Told.{IsEndTold, told_value};
 
@@ -38,6 +38,15 @@ pub(crate) struct BothTold<A: Allocator> {
     pub(crate) other: Told<A>,
     pub(crate) opener_octets: usize,
     pub(crate) other_octets: usize,
+}
+
+/// What is told of a connection that isn't refused.
+#[derive(Drop)]
+pub(crate) enum EndsTold<A: Allocator> {
+    /// How many octets either end sent, whoever opened it first, where both ends are one.
+    One(usize, usize),
+    /// Both ends.
+    Both(BothTold<A>),
 }
 
 /// Between which addresses a connection goes, and how it is checked.
@@ -122,13 +131,20 @@ fn check_both<A: Allocator + Copy, T: Tracker<A>>(
     })
 }
 
+/// Whether both ends of a connection are one, so that its packets don't say who sent what.
+fn are_one(session: &Session, opening: Opening) -> bool
+    ensures { IsTrue result ↔ AreOne session.now opening }
+{
+    end_of(Side::Local, session, opening) == end_of(Side::Peer, session, opening)
+}
+
 /// What is told of the connection of these that was opened so, or why it is refused.
 pub(crate) fn check_connection<A: Allocator + Copy, T: Tracker<A>>(
     alloc: A,
     between: &Between,
     connections: &Connections<A>,
     opening: Opening,
-) -> Result<BothTold<A>, Refusal>
+) -> Result<EndsTold<A>, Refusal>
     requires { ∥ AreHeld connections.now ∥₁ }
     ensures { (segments : List Segment) → HoldsConnections segments connections.now
         → AreInOrder segments
@@ -139,8 +155,15 @@ pub(crate) fn check_connection<A: Allocator + Copy, T: Tracker<A>>(
         Ok(connection) => connection,
         Err(fault) => return Err(Refusal::Connection(fault)),
     };
+    if are_one(&between.session, opening) {
+        let from = opening.opened_by;
+        return Ok(EndsTold::One(
+            octets_from(from, &connection),
+            octets_from(other_side(from), &connection),
+        ));
+    }
     match check_both::<A, T>(alloc, between, opening, &connection) {
-        Ok(both) => Ok(both),
+        Ok(both) => Ok(EndsTold::Both(both)),
         Err(Untold::Refresh(refusal)) => Err(refusal),
         Err(Untold::NoMemory) => Err(Refusal::Memory {
             packet: between.last_packet,

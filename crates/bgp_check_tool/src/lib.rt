@@ -16,6 +16,7 @@ mod laws;
 mod lines;
 mod listed;
 mod making;
+mod nothing;
 mod options;
 mod seen;
 mod talks;
@@ -25,5 +26,6 @@ pub use checking::{CheckedRecording, check_recording};
 pub use laws::{
     a_verdict_is_over_all_configurations, no_configuration_has_a_run, no_verdict_is_vacuous,
 };
+pub use nothing::NothingJudged;
 pub use options::CheckOptions;
 pub use seen::seen_from;

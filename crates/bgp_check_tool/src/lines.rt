@@ -6,9 +6,9 @@ ghost use Rattle.bgp_judge.specs.Ends.{end_value};
 ghost use Rattle.bgp_judge.specs.Verdict.{verdict_value};
 ghost use Rattle.bgp_text.specs.Lines.{Writes};
 ghost use Rattle.bgp_check_tool.specs.Text.{as_text, ending_line, ending_text, families_name};
-ghost use Rattle.bgp_check_tool.specs.Text.{no_text, not_judged_line, note_line, peer_text};
-ghost use Rattle.bgp_check_tool.specs.Text.{reached_text, reason_text, route_line, state_name};
-ghost use Rattle.bgp_check_tool.specs.Text.{told_lines, verdict_text, whose_text};
+ghost use Rattle.bgp_check_tool.specs.Text.{no_text, not_judged_line, note_line, one_end_line};
+ghost use Rattle.bgp_check_tool.specs.Text.{peer_text, reached_text, reason_text, route_line};
+ghost use Rattle.bgp_check_tool.specs.Text.{state_name, told_lines, verdict_text, whose_text};
 ghost use Rattle.bgp_check_tool.specs.Told.{told_value};
 
 use crate::ending::Told;
@@ -75,6 +75,15 @@ fn put_not_judged<W: Sink>(lines: &mut Lines<'_, W>, end: Endpoint, why: NotJudg
     lines.put(b", ");
     put_reason(lines, why);
     lines.put(b"\n");
+}
+
+/// The line of an end of a connection whose two ends are one.
+pub(crate) fn put_one_end<W: Sink>(lines: &mut Lines<'_, W>, end: Endpoint)
+    ensures { Writes lines.old lines.new (one_end_line end) }
+{
+    lines.put(b"not judged: ");
+    put_end(lines, end);
+    lines.put(b", both ends are one\n");
 }
 
 /// The AS number that the end's OPEN tells.

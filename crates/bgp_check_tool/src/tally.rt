@@ -5,9 +5,9 @@ ghost use Rattle.bgp_judge.specs.Verdict.{verdict_value};
 ghost use Rattle.bgp_text.specs.Lines.{Writes};
 ghost use Rattle.bgp_tool.specs.Status.{code_of};
 ghost use Rattle.bgp_check.specs.Answered.{answer_value};
-ghost use Rattle.bgp_check_tool.specs.Tally.{is_empty, no_tally, nothing_line, nothing_text};
-ghost use Rattle.bgp_check_tool.specs.Tally.{one_more, status_of, tally_line};
-ghost use Rattle.bgp_check_tool.specs.Tally.{with_end, with_refusal, with_verdict};
+ghost use Rattle.bgp_check_tool.specs.Tally.{has_verdict, is_empty, no_tally, nothing_line};
+ghost use Rattle.bgp_check_tool.specs.Tally.{nothing_text, one_more, status_of, tally_line};
+ghost use Rattle.bgp_check_tool.specs.Tally.{with_end, with_refusal, with_unjudged, with_verdict};
 
 use bgp_check::Answer;
 use bgp_import::{Cause, Refusal};
@@ -64,15 +64,22 @@ impl Tally {
         }
     }
 
+    /// With an end more that isn't judged.
+    pub(crate) fn with_unjudged(self) -> Tally
+        ensures { result ≡ with_unjudged self }
+    {
+        Tally {
+            not_judged: one_more(self.not_judged),
+            ..self
+        }
+    }
+
     /// With an end more, of which this is answered.
     pub(crate) fn with_end<A: Allocator>(self, answer: &Answer<A>) -> Tally
         ensures { result ≡ with_end self (answer_value answer.now) }
     {
         match answer {
-            Answer::NotJudged(_) => Tally {
-                not_judged: one_more(self.not_judged),
-                ..self
-            },
+            Answer::NotJudged(_) => self.with_unjudged(),
             Answer::Judged(judged) => self.with_verdict(&judged.verdict),
         }
     }
@@ -122,6 +129,13 @@ impl Tally {
             + u128::from(self.no)
             + u128::from(self.unfinished)
             + u128::from(self.not_judged)
+    }
+
+    /// Whether an end is judged.
+    pub(crate) fn has_verdict(&self) -> bool
+        ensures { result ≡ has_verdict self.now }
+    {
+        0 < self.yes || 0 < self.no || 0 < self.unfinished
     }
 
     /// Whether nothing was told of any connection, nor of the file.

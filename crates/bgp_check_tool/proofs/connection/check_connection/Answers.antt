@@ -1,8 +1,13 @@
-use Rattle.std.proofs.Common.{Some, inl, inr, refl}
+use Rattle.std.proofs.Common.{◌≡◌, ◌∙◌, true, false, Some, ap, inl, inr, refl, sym}
+use Rattle.streams.specs.declared.passed.Side.{Side}
+use Rattle.bgp_check_tool.specs.Blocks.{octets_from}
 use Rattle.streams.specs.Connections.{numbered}
 use Rattle.bgp_import.proofs.Telling.{are_covered, is_clocked}
 use Rattle.bgp_check_tool.proofs.OtherEnd.{covered_by}
 use Rattle.bgp_check_tool.proofs.connection.check_connection.Goals as goal
+
+false_true : false ≡ true → ⊥
+false_true e = cc
 
 pub check_both-requires-clause-received : goal.check_both-requires-clause-received
 check_both-requires-clause-received g c = covered_by c.in-Ok.connection.received c.requires
@@ -22,6 +27,7 @@ returns-in-Ok-check_both g c = λ segments holds order.
       record {
         connection = c.in-Ok.connection;
         chosen = chosen;
+        are_two = λ one. false_true (sym c.if-are_one.false ∙ c.are_one.ensures.1 one);
         is_first = is.opener_octets;
         is_second = is.other_octets;
         is_opener = is.opener clock;
@@ -35,9 +41,22 @@ returns-in-Err-Refresh g c = λ segments holds order.
     let clock = is_clocked segments (Some c.args.opening.number) c.args.between.now.last_packet c.in-Ok.connection order chosen in (
       refl,
       refl,
-      inr (record { connection = c.in-Ok.connection; chosen = chosen; why = inl (rw c.in-Err-Refresh.field-0-is at (c.in-Err-Refresh.ensures.err clock)) }),
+      inr (record { connection = c.in-Ok.connection; chosen = chosen; are_two = λ one. false_true (sym c.if-are_one.false ∙ c.are_one.ensures.1 one); why = inl (rw c.in-Err-Refresh.field-0-is at (c.in-Err-Refresh.ensures.err clock)) }),
     )
 
 pub returns-in-Err-NoMemory : goal.returns-in-Err-NoMemory
 returns-in-Err-NoMemory g c = λ segments holds order.
-    (refl, refl, inr (record { connection = c.in-Ok.connection; chosen = c.in-Ok.ensures segments holds; why = inr refl }))
+    (refl, refl, inr (record { connection = c.in-Ok.connection; chosen = c.in-Ok.ensures segments holds; are_two = λ one. false_true (sym c.if-are_one.false ∙ c.are_one.ensures.1 one); why = inr refl }))
+
+pub returns-then-are_one : goal.returns-then-are_one
+returns-then-are_one g c = λ segments holds order. (
+  refl,
+  refl,
+  record {
+    connection = c.in-Ok.connection;
+    chosen = c.in-Ok.ensures segments holds;
+    are_one = c.are_one.ensures.0 c.if-are_one.true;
+    is_first = c.octets_from.ensures;
+    is_second = c.octets_from-then-are_one.ensures ∙ ap (λ (s : Side). octets_from s c.in-Ok.connection) c.other_side.ensures;
+  },
+)

@@ -1,0 +1,9 @@
+use Rattle.bgp_check_tool.specs.Text.{one_end_line}
+use Rattle.bgp_text.proofs.Pieces.{Joins, and_then}
+use Rattle.bgp_check_tool.proofs.lines.put_one_end.Goals as goal
+
+pub returns : goal.returns
+unfolding one_end_line
+returns g c =
+    let law : Joins g.W.Sink = record { joined = g.met.W.Sink.joined } in
+    and_then law c.put.ensures (and_then law c.put_end.ensures c.put-2.ensures)
