@@ -2,7 +2,8 @@
 # How fast `bgp list` reads a recording, beside `md5sum` over the same octets: one of packets between
 # other hosts, and one of a session's UPDATEs. What `bgp judge` of a recording with 100,000 UPDATEs
 # costs, beside `bgp judge` of the capture that `bgp import` makes of it, and that import; and the
-# memory of the three. And how much memory judging needs behind 10 MB and behind 200 MB of packets
+# memory of the three. What `bgp check` of it costs, which judges both ends, beside `bgp judge` of
+# either. And how much memory judging needs behind 10 MB and behind 200 MB of packets
 # between other hosts.
 # bench/recordings.py makes the recordings.
 # Wants bash, coreutils, python3 and the program that `rt run` built in crates/bgp/out/bgp. Prints
@@ -22,6 +23,9 @@ trap 'rm -rf "$work"' EXIT
 
 ends=(--local 192.0.2.1 --peer 192.0.2.2)
 judge=(judge --local-as 65001 --peer-as 65002 --local-id 192.0.2.1 --families both "${ends[@]}")
+
+peers=(judge --local-as 65002 --peer-as 65001 --local-id 192.0.2.2 --families both
+    --local 192.0.2.2 --peer 192.0.2.1)
 
 # Makes a recording: its name, its kind and how much of it.
 recording() {
@@ -87,6 +91,13 @@ read -r verdict < <("$bgp" "${judge[@]}" "$work/updates" 2> "$work/notes")
 echo "100,000 UPDATEs, judge of the recording: $of_recording ms, of the capture made of it:" \
     "$of_capture ms, recording to capture: $((of_recording * 100 / of_capture))/100," \
     "import: $importing ms"
+checking=$(least "$bgp" check "$work/updates")
+read -r _ tally < <("$bgp" check "$work/updates" 2> "$work/notes" | tail -n 1)
+[[ $tally == "2: 2 yes, "* ]] || { echo "it is checked: $tally" >&2; exit 1; }
+of_peer=$(least "$bgp" "${peers[@]}" "$work/updates")
+echo "check of it, both ends: $checking ms, judge of the end that receives them: $of_recording ms," \
+    "of the one that sends them: $of_peer ms, check to judge:" \
+    "$((checking * 100 / of_recording))/100"
 in_recording=$(whole "$bgp" "${judge[@]}" "$work/updates")
 in_capture=$(whole "$bgp" "${judge[@]}" "$work/made")
 in_import=$(whole "$bgp" import "${ends[@]}" "$work/updates" "$work/again")

@@ -1,6 +1,11 @@
 -- Blocks are put one after another.
-use Rattle.std.proofs.Common.{◌≡◌, ◌∙◌, ◌++◌, ℕ, List, [], ◌∷◌, Result, Ok, Err, refl, sym, ap, subst, append-nil, append_assoc}
+use Rattle.std.proofs.Common.{◌≡◌, ◌∙◌, ◌++◌, ℕ, List, [], ◌∷◌, Option, None, Some, Result, Ok, Err, refl, sym, ap, subst, inl, inr, append-nil, append_assoc}
+use Rattle.std.specs.BTreeMap.{BTreeMap, IsOrdered}
 use Rattle.std.specs.List.{AllByRecursion, flat_map}
+use Rattle.std.specs.List.Sorted.{IsStrictlySortedBy}
+use Rattle.std.specs.Map.{keys_of}
+use Rattle.std.specs.Ordering.{nat_cmp}
+use Rattle.packets.specs.Packet.{Recorded}
 use Rattle.mrt.specs.declared.sink.Sink as sinks
 use Rattle.bgp_text.specs.Lines.{Writes}
 use Rattle.bgp_text.specs.declared.lines.Lines.{Lines}
@@ -8,42 +13,162 @@ use Rattle.bgp_text.proofs.Pieces.{Joins, and_then}
 use Rattle.bgp_check_tool.specs.declared.options.CheckOptions.{CheckOptions}
 use Rattle.bgp_check_tool.specs.declared.tally.Tally.{Tally}
 use Rattle.bgp_prefix.specs.declared.session.Session.{Session}
+use Rattle.segments.specs.declared.found.Addresses.{Addresses}
 use Rattle.streams.specs.Clock.{AreInOrder}
+use Rattle.streams.specs.Held.{HoldsConnections}
 use Rattle.streams.specs.Passed.{Segment}
 use Rattle.streams.specs.declared.connection.Opening.{Opening}
 use Rattle.bgp_import.specs.declared.refusal.Refusal.{Refusal}
+use Rattle.bgp_import.specs.declared.refusal.Refusal.TheVariants as refusals
+use Rattle.bgp_import.proofs.InOrder.{in_order}
 use Rattle.bgp_check_tool.specs.declared.connection.EndsTold.{EndsTold}
 use Rattle.bgp_check_tool.specs.declared.connection.EndsTold.TheVariants.{Both, One}
+use Rattle.bgp_check_tool.specs.declared.listed.Listed.{Listed}
+use Rattle.bgp_check_tool.specs.declared.listed.Listed.TheVariants as listed
+use Rattle.bgp_check_tool.specs.declared.talk.Talk.{Talk}
 use Rattle.bgp_check_tool.specs.Blocks.{Block, IsBlock, block_of, block_text}
-use Rattle.bgp_check_tool.specs.Checking.{IsTold, PutsBlock, PutsBlocks, tally_from}
-use Rattle.bgp_check_tool.specs.Tally.{with_block}
+use Rattle.bgp_check_tool.specs.declared.talks.Talks.{Talks}
+use Rattle.bgp_check_tool.specs.Checking.{PutsAll, PutsBlock, blocks_text, tally_from}
+use Rattle.bgp_check_tool.specs.Listed.{AreListed, CanBeTold, IsListed, IsPlaceOf, ListsOne}
+use Rattle.bgp_check_tool.specs.Pairs.{selection_of}
+use Rattle.bgp_check_tool.specs.Places.{HasAll, IsTold}
+use Rattle.bgp_check_tool.specs.Talks.{HoldsEach}
+use Rattle.bgp_check_tool.specs.Tally.{no_tally, with_block}
+use Rattle.bgp_check_tool.proofs.ListedSoFar.{among_keys}
 
-text_of : (f : Block → List ℕ) (blocks : List Block) (one : Block) → flat_map f blocks ++ f one ≡ flat_map f (blocks ++ one ∷ [])
+text_of : (f : ℕ × Block → List ℕ) (blocks : List (ℕ × Block)) (one : ℕ × Block) → flat_map f blocks ++ f one ≡ flat_map f (blocks ++ one ∷ [])
 text_of f [] one = sym (append-nil (f one))
 text_of f (b ∷ blocks) one = append_assoc (f b) (flat_map f blocks) (f one) ∙ ap (λ (rest : List ℕ). f b ++ rest) (text_of f blocks one)
 
-tally_of : (tally : Tally) (blocks : List Block) (one : Block) → with_block (tally_from tally blocks) one ≡ tally_from tally (blocks ++ one ∷ [])
+tally_of : (tally : Tally) (blocks : List (ℕ × Block)) (one : ℕ × Block) → with_block (tally_from tally blocks) one.1 ≡ tally_from tally (blocks ++ one ∷ [])
 tally_of tally [] one = refl
-tally_of tally (b ∷ blocks) one = tally_of (with_block tally b) blocks one
+tally_of tally (b ∷ blocks) one = tally_of (with_block tally b.1) blocks one
 
-all_of : (P : Block → Type 0) (blocks : List Block) (one : Block) → AllByRecursion P blocks → P one → AllByRecursion P (blocks ++ one ∷ [])
+all_of : {X : Type 0} (P : X → Type 0) (xs : List X) (one : X) → AllByRecursion P xs → P one → AllByRecursion P (xs ++ one ∷ [])
 all_of P [] one all p = (p, tt)
-all_of P (b ∷ blocks) one all p = (all.0, all_of P blocks one all.1 p)
+all_of P (b ∷ xs) one all p = (all.0, all_of P xs one all.1 p)
 
-pub one_more : {T : Type 0} {sink : sinks.Ghosts T} → Joins sink → (options : CheckOptions) (last_packet : ℕ) (lines middle lines' : Lines T sink)
-    (tally between tally' : Tally) → PutsBlocks options last_packet lines middle tally between → PutsBlock options last_packet middle lines' between tally'
-    → PutsBlocks options last_packet lines lines' tally tally'
-one_more law options last_packet lines middle lines' tally between tally' so_far one = record {
-  blocks = so_far.blocks ++ one.block ∷ [];
-  told = all_of (λ (block : Block). ∥ IsTold options.within last_packet block ∥₁) so_far.blocks one.block so_far.told one.told;
-  wrote = subst (λ (text : List ℕ). Writes lines lines' text) (text_of (block_text options.routes) so_far.blocks one.block) (and_then law so_far.wrote one.wrote);
-  tallied = one.tallied ∙ ap (λ (t : Tally). with_block t one.block) so_far.tallied ∙ tally_of tally so_far.blocks one.block;
+keys_with : {X : Type 0} (xs : List (ℕ × X)) (one : ℕ × X) (rest : List ℕ) → keys_of (xs ++ one ∷ []) ++ rest ≡ keys_of xs ++ one.0 ∷ rest
+keys_with [] one rest = refl
+keys_with (x ∷ xs) one rest = ap (λ (ks : List ℕ). x.0 ∷ ks) (keys_with xs one rest)
+
+-- the blocks of the first entries are put, and these are left
+pub record PutsFront {T Z : Type 0} {sink : sinks.Ghosts T} (options : CheckOptions) (packets : List Recorded) (last_packet : ℕ) (entries rest : List (ℕ × Listed Z))
+    (lines lines' : Lines T sink) (tally : Tally) : Type 0 where
+  pub blocks : List (ℕ × Block)
+  pub told : AllByRecursion (λ (b : ℕ × Block). IsTold options.port packets options.within last_packet b.0 b.1) blocks
+  pub places : keys_of blocks ++ keys_of rest ≡ keys_of entries
+  pub left : AreListed options.port packets rest
+  pub wrote : Writes lines lines' (blocks_text options.routes blocks)
+  pub tallied : tally ≡ tally_from no_tally blocks
+
+pub one_more : {T Z : Type 0} {sink : sinks.Ghosts T} → Joins sink → (options : CheckOptions) (packets : List Recorded) (last_packet place : ℕ) (one : Listed Z)
+    (entries before rest : List (ℕ × Listed Z)) (lines middle lines' : Lines T sink) (between tally : Tally) → before ≡ (place, one) ∷ rest
+    → PutsFront options packets last_packet entries before lines middle between
+    → (IsListed options.port packets place one → PutsBlock options packets last_packet place middle lines' between tally)
+    → PutsFront options packets last_packet entries rest lines lines' tally
+one_more {T} {Z} law options packets last_packet place one entries before rest lines middle lines' between tally is so_far puts =
+    let left : AreListed options.port packets ((place, one) ∷ rest) = subst (λ (es : List (ℕ × Listed Z)). AreListed options.port packets es) is so_far.left in
+    let put = puts left.0 in
+    let places : keys_of so_far.blocks ++ place ∷ keys_of rest ≡ keys_of entries =
+    subst (λ (es : List (ℕ × Listed Z)). keys_of so_far.blocks ++ keys_of es ≡ keys_of entries) is so_far.places in
+    record {
+      blocks = so_far.blocks ++ (place, put.block) ∷ [];
+      told = all_of (λ (b : ℕ × Block). IsTold options.port packets options.within last_packet b.0 b.1) so_far.blocks (place, put.block) so_far.told put.told;
+      places = keys_with so_far.blocks (place, put.block) (keys_of rest) ∙ places;
+      left = left.1;
+      wrote = subst (λ (text : List ℕ). Writes lines lines' text) (text_of (λ (b : ℕ × Block). block_text options.routes b.1) so_far.blocks (place, put.block)) (and_then law so_far.wrote put.wrote);
+      tallied = put.tallied ∙ ap (λ (t : Tally). with_block t put.block) so_far.tallied ∙ tally_of no_tally so_far.blocks (place, put.block);
+    }
+
+pub one_listed : {Z : Type 0} (port : ℕ) (packets : List Recorded) (place : ℕ) (one : Listed Z) (before rest : List (ℕ × Listed Z)) → before ≡ (place, one) ∷ rest
+    → AreListed port packets before → IsListed port packets place one
+one_listed {Z} port packets place one before rest is all = (subst (λ (es : List (ℕ × Listed Z)). AreListed port packets es) is all).0
+
+-- what is listed can be told
+pub can_be_told : {Z : Type 0} (port : ℕ) (packets : List Recorded) (place : ℕ) (one : Listed Z) → IsListed port packets place one → CanBeTold one
+can_be_told port packets place (listed.Connection addresses talk opening) is = record {
+  segments = _;
+  holds = is.holds;
+  order = in_order (selection_of addresses port) packets is.segments is.has.taken;
 }
+can_be_told port packets place (listed.Refused addresses fault) is = tt
 
 -- what is told of a connection
-pub is_told : {X : Type 0} (within last_packet : ℕ) (segments : List Segment) (session : Session) (opening : Opening) (answer : Result (EndsTold X) Refusal)
-    → AreInOrder segments → IsBlock within last_packet segments session opening (block_of session opening answer)
-    → IsTold within last_packet (block_of session opening answer)
-is_told within last_packet segments session opening (Ok (Both both)) order is = record { segments = segments; order = order; is_block = is }
-is_told within last_packet segments session opening (Ok (One first second)) order is = record { segments = segments; order = order; is_block = is }
-is_told within last_packet segments session opening (Err refusal) order is = record { segments = segments; order = order; is_block = is }
+pub is_told : {X Z : Type 0} (port : ℕ) (packets : List Recorded) (within last_packet place : ℕ) (addresses : Addresses) (talk : Talk Z) (opening : Opening)
+    (session : Session) (answer : Result (EndsTold X) Refusal) → session ≡ (selection_of addresses port).session
+    → (is : ListsOne port packets place addresses talk opening)
+    → ((segments : List Segment) → HoldsConnections segments talk.connections → AreInOrder segments → IsBlock within last_packet segments session opening (block_of session opening answer))
+    → IsTold port packets within last_packet place (block_of session opening answer)
+is_told port packets within last_packet place addresses talk opening session (Ok (Both both)) its is told = record {
+  addresses = addresses;
+  segments = is.segments;
+  has = is.has;
+  is_session = its;
+  is_place = is.is_place;
+  is_block = told _ is.holds (in_order (selection_of addresses port) packets is.segments is.has.taken);
+}
+is_told port packets within last_packet place addresses talk opening session (Ok (One first second)) its is told = record {
+  addresses = addresses;
+  segments = is.segments;
+  has = is.has;
+  is_session = its;
+  is_place = is.is_place;
+  is_block = told _ is.holds (in_order (selection_of addresses port) packets is.segments is.has.taken);
+}
+is_told port packets within last_packet place addresses talk opening session (Err refusal) its is told = record {
+  addresses = addresses;
+  segments = is.segments;
+  has = is.has;
+  is_session = its;
+  is_place = is.is_place;
+  is_block = told _ is.holds (in_order (selection_of addresses port) packets is.segments is.has.taken);
+}
+
+some_none : (r : Refusal) → Some r ≡ None → ⊥
+some_none r e = cc
+
+no_keys : IsStrictlySortedBy nat_cmp []
+unfolding IsStrictlySortedBy
+no_keys = tt
+
+-- none is put yet
+pub start_put : {T Z : Type 0} {sink : sinks.Ghosts T} (options : CheckOptions) (packets : List Recorded) (last_packet : ℕ) (entries first : List (ℕ × Listed Z)) (lines : Lines T sink) (tally : Tally)
+    → first ≡ entries → AreListed options.port packets entries → Writes lines lines [] → tally ≡ no_tally
+    → PutsFront options packets last_packet first first lines lines tally
+start_put {T} {Z} options packets last_packet entries first lines tally is listed wrote none = record {
+  blocks = [];
+  told = tt;
+  places = refl;
+  left = subst (λ (es : List (ℕ × Listed Z)). AreListed options.port packets es) (sym is) listed;
+  wrote = wrote;
+  tallied = none;
+}
+
+-- all are
+pub all_put : {T Z : Type 0} {sink : sinks.Ghosts T} (options : CheckOptions) (packets : List Recorded) (talks : Talks Z) (last_packet : ℕ) (listed : BTreeMap ℕ (Listed Z))
+    (first rest : List (ℕ × Listed Z)) (lines lines' : Lines T sink) (tally : Tally) (lacking : Option Refusal) → first ≡ listed.entries → rest ≡ [] → IsOrdered nat_cmp listed
+    → (HoldsEach options.port packets talks → HasAll options.port packets (IsPlaceOf listed)) → lacking ≡ None
+    → PutsFront options packets last_packet first rest lines lines' tally → PutsAll options packets talks last_packet lines lines' tally lacking
+all_put {T} {Z} options packets talks last_packet listed first rest lines lines' tally lacking is done rises all calm front =
+    let whole : keys_of front.blocks ≡ keys_of listed.entries =
+    sym (append-nil (keys_of front.blocks)) ∙ subst (λ (es : List (ℕ × Listed Z)). keys_of front.blocks ++ keys_of es ≡ keys_of first) done front.places
+    ∙ ap (λ (es : List (ℕ × Listed Z)). keys_of es) is in
+    record {
+      places = keys_of listed.entries;
+      rise = rises;
+      puts = record { blocks = front.blocks; told = front.told; are_places = whole; wrote = front.wrote; tallied = front.tallied };
+      lacks = inl calm;
+      all = λ ample each. among_keys options.port packets listed (all each);
+    }
+
+pub none_put : {T Z : Type 0} {sink : sinks.Ghosts T} (options : CheckOptions) (packets : List Recorded) (talks : Talks Z) (last_packet : ℕ) (lines : Lines T sink) (tally : Tally)
+    (lacking : Option Refusal) → Writes lines lines [] → tally ≡ no_tally → lacking ≡ Some (refusals.Memory last_packet)
+    → PutsAll options packets talks last_packet lines lines tally lacking
+none_put options packets talks last_packet lines tally lacking wrote none lacks = record {
+  places = [];
+  rise = no_keys;
+  puts = record { blocks = []; told = tt; are_places = refl; wrote = wrote; tallied = none };
+  lacks = inr lacks;
+  all = λ ample each. absurd (some_none (refusals.Memory last_packet) (sym lacks ∙ ample));
+}

@@ -1,17 +1,10 @@
 -- A connection as its other end has it goes by the same clock.
-use Rattle.std.proofs.Common.{◌≡◌, ℕ, Option, None, Some, IfSome, option_map}
-use Rattle.std.proofs.Math.Logic.{∥∥₁_elim}
-use Rattle.std.proofs.Math.Nat.{ℕ_set}
-use Rattle.std.specs.Coded.{le_prop}
-use Rattle.std.specs.List.{AllByRecursion-prop}
+use Rattle.std.proofs.Common.{ℕ, Option, None, Some, IfSome, option_map}
 use Rattle.streams.specs.declared.connection.Connection.{Connection}
 use Rattle.streams.specs.declared.connection.End.{End}
-use Rattle.streams.specs.declared.connection.Run.{Run}
-use Rattle.streams.specs.declared.connection.Stream.{Stream}
 use Rattle.streams.specs.declared.passed.Side.{Side}
 use Rattle.streams.specs.declared.passed.Side.TheVariants.{Local, Peer}
 use Rattle.bgp_recording.specs.Gathered.{GoesFrom, IsClocked, IsCovered}
-use Rattle.bgp_recording.specs.Givers.{IsNotEmpty}
 use Rattle.bgp_check_tool.specs.Seen.{other_end, seen_from}
 
 pub covered : (side : Side) (connection : Connection) → IsCovered connection.received → IsCovered connection.sent
@@ -33,15 +26,4 @@ clocked Peer connection clock = record {
   received = clock.sent;
   sent = clock.received;
   ends = ended clock.clock connection.packet connection.end clock.ends;
-}
-
--- ---- what holds of whatever was taken
-
-same_number : (a b : ℕ) → IsProp (a ≡ b)
-same_number a b = ℕ_set a b
-
-pub covered_by : {X : Type 0} (stream : Stream) → ∥ X ∥₁ → (X → IsCovered stream) → IsCovered stream
-covered_by stream held f = record {
-  covered = ∥∥₁_elim held (same_number _ _) (λ x. (f x).covered);
-  positive = ∥∥₁_elim held (AllByRecursion-prop IsNotEmpty (λ (run : Run). le_prop) stream.runs.now) (λ x. (f x).positive);
 }

@@ -9,7 +9,7 @@ use Rattle.bgp_open.specs.Open.{open_of}
 use Rattle.bgp_open.specs.OpenFault.{IsWellFormed}
 use Rattle.streams.specs.declared.connection.Connection.{Connection}
 use Rattle.bgp_recording.specs.Captured.{records_of}
-use Rattle.bgp_recording.specs.Recorded.{IsRecorded}
+use Rattle.bgp_recording.specs.Recorded.{IsRecordedInOrder}
 use Rattle.bgp_recording.specs.declared.entry.Entry.{Entry}
 use Rattle.bgp_recording.specs.declared.framing.Rest.{Rest}
 use Rattle.bgp_check.specs.Opens.{HasOwnOpen, HasPeersOpen}
@@ -33,14 +33,14 @@ pub record HasLimit (records : List ShownRecord) (limit : Limit) : Type 0 where
   pub is_its : IsExtended peers its
   pub is : limit ≡ limit_with (mine || its)
 
--- These entries tell the connection, its messages as long as both OPENs allow: these are the ones
--- in the records that are made at the plain limit.
+-- These entries tell the connection in the made order, its messages as long as both OPENs allow:
+-- these are the ones in the records that are made at the plain limit.
 pub record IsMade (within : ℕ) (connection : Connection) (entries : List Entry)
     (received_rest sent_rest : Rest) : Type 0 where
   pub plain : List Entry
   pub plain_received : Rest
   pub plain_sent : Rest
-  pub is_plain : IsRecorded Plain within connection plain plain_received plain_sent
+  pub is_plain : IsRecordedInOrder Plain within connection plain plain_received plain_sent
   pub limit : Limit
   pub is_limit : HasLimit (records_of plain) limit
-  pub recorded : IsRecorded limit within connection entries received_rest sent_rest
+  pub recorded : IsRecordedInOrder limit within connection entries received_rest sent_rest

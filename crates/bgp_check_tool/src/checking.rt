@@ -1,17 +1,21 @@
 //! `bgp check` of a recording.
 
-ghost use Rattle.std.specs.Prelude.{◌≡◌, ◌<◌, ◌^◌};
+ghost use Rattle.std.specs.Prelude.{◌≡◌, ◌<◌, ◌^◌, List};
+ghost use Rattle.packets.specs.Packet.{Recorded};
 ghost use Rattle.bgp_text.specs.Lines.{Writes};
-ghost use Rattle.bgp_check_tool.specs.Checking.{ChecksRecording, PutsBlock, PutsBlocks};
-ghost use Rattle.bgp_check_tool.specs.Checking.{file_text, nothing_by, with_file};
-ghost use Rattle.bgp_check_tool.specs.Tally.{no_tally};
+ghost use Rattle.bgp_check_tool.specs.Checking.{ChecksRecording, PutsAll, PutsBlock, file_text};
+ghost use Rattle.bgp_check_tool.specs.Checking.{first_refusal, nothing_by, with_file};
+ghost use Rattle.bgp_check_tool.specs.Listed.{CanBeTold, IsListed};
+ghost use Rattle.bgp_check_tool.specs.Reading.{stopped_by};
+ghost use Rattle.bgp_check_tool.specs.Talks.{HoldsSome};
 
 use crate::blocks::{put_connection, put_session, with_connection};
 use crate::connection::{Between, check_connection};
 use crate::listed::{Listed, listed_in};
 use crate::nothing::NothingJudged;
 use crate::options::CheckOptions;
-use crate::talks::{Talks, selection_of, take_all};
+use crate::pairs::selection_of;
+use crate::talks::{Talks, take_all};
 use crate::tally::Tally;
 use bgp_import::{Refusal, put_refusal, refused};
 use bgp_judge::Tracker;
@@ -42,7 +46,9 @@ fn put_listed<A: Allocator + Copy, T: Tracker<A>, W: Sink>(
     lines: &mut Lines<'_, W>,
     tally: Tally,
 ) -> Tally
-    ensures { PutsBlock options.now last_packet lines.old lines.new tally result }
+    requires { CanBeTold listed.now }
+    ensures { (packets : List Recorded) → IsListed options.now.port packets packet listed.now
+        → PutsBlock options.now packets last_packet packet lines.old lines.new tally result }
 {
     match *listed {
         Listed::Connection(addresses, talk, opening) => {
@@ -72,7 +78,9 @@ fn put_all<A: Allocator + Copy, T: Tracker<A>, W: Sink>(
     last_packet: u64,
     lines: &mut Lines<'_, W>,
 ) -> (Tally, Option<Refusal>)
-    ensures { PutsBlocks options.now last_packet lines.old lines.new no_tally result.0 }
+    requires { (packets : List Recorded) × HoldsSome options.now.port packets talks.now }
+    ensures { (packets : List Recorded) → HoldsSome options.now.port packets talks.now
+        → PutsAll options.now packets talks.now last_packet lines.old lines.new result.0 result.1 }
 {
     let mut tally = Tally::new();
     let Ok(listed) = listed_in(alloc, talks) else {
@@ -88,7 +96,9 @@ fn put_all<A: Allocator + Copy, T: Tracker<A>, W: Sink>(
 }
 
 /// The first refusal, if there is one.
-fn first_refusal(lacking: Option<Refusal>, taken: Result<(), Refusal>) -> Option<Refusal> {
+fn first_refusal(lacking: Option<Refusal>, taken: Result<(), Refusal>) -> Option<Refusal>
+    ensures { result ≡ first_refusal lacking (stopped_by taken) }
+{
     match (lacking, taken) {
         (Some(refusal), _) | (None, Err(refusal)) => Some(refusal),
         (None, Ok(())) => None,
@@ -153,8 +163,8 @@ pub fn check_recording<A: Allocator + Copy, T: Tracker<A>, R: Source, W: Sink>(
 ) -> CheckedRecording
     requires source { R.failures source.old < 2 ^ 63 }
     requires sink { W.failures sink.old < 2 ^ 63 }
-    ensures { ChecksRecording W.takes W.failures options.now sink.old sink.new result.status
-        result.refusal result.nothing }
+    ensures { ChecksRecording R.gives R.has_ended W.takes W.failures options.now source.old
+        source.new sink.old sink.new result.status result.refusal result.nothing }
 {
     let mut reader = Reader::new(alloc);
     let mut talks = Talks::new(alloc, options.port);

@@ -145,7 +145,7 @@ pub(crate) fn check_connection<A: Allocator + Copy, T: Tracker<A>>(
     connections: &Connections<A>,
     opening: Opening,
 ) -> Result<EndsTold<A>, Refusal>
-    requires { ∥ AreHeld connections.now ∥₁ }
+    requires { AreHeld connections.now }
     ensures { (segments : List Segment) → HoldsConnections segments connections.now
         → AreInOrder segments
         → IsBlock between.now.within between.now.last_packet segments between.now.session opening

@@ -18,7 +18,9 @@ mod listed;
 mod making;
 mod nothing;
 mod options;
+mod pairs;
 mod seen;
+mod talk;
 mod talks;
 mod tally;
 

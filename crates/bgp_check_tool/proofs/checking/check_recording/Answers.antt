@@ -1,22 +1,49 @@
-use Rattle.std.proofs.Common.{◌∙◌, Bool, ap, rules}
+use Rattle.std.proofs.Common.{◌≡◌, ◌∙◌, ◌⊎◌, ℕ, Bool, List, [], None, Some, ap, subst, sym, rules}
+use Rattle.std.specs.List.Sorted.{IsStrictlySortedBy}
+use Rattle.std.specs.Map.{keys_of}
+use Rattle.std.specs.Ordering.{nat_cmp}
 use Rattle.bgp_tool.proofs.CaptureJudged.{is_written}
 use Rattle.bgp_text.proofs.Fresh.{IsFresh}
 use Rattle.bgp_text.proofs.Pieces.{Joins, and_nothing, and_then}
 use Rattle.bgp_check_tool.specs.declared.tally.Tally.{Tally}
 use Rattle.bgp_check_tool.specs.Checking.{nothing_by, with_file}
+use Rattle.bgp_check_tool.specs.Reading.{TakesAll, stopped_by}
+use Rattle.bgp_check_tool.specs.Talks.{HoldsEach, HoldsSome}
+use Rattle.bgp_import.specs.declared.refusal.Refusal.TheVariants as refusals
 use Rattle.bgp_check_tool.proofs.Texts.{told_as}
+use Rattle.bgp_check_tool.proofs.AllTold.{as_many, nothing_lacks}
 use Rattle.bgp_check_tool.proofs.checking.check_recording.Goals as goal
+
+pub take_all-taken-requires-clause-empty : goal.take_all-taken-requires-clause-empty
+take_all-taken-requires-clause-empty g c = subst (λ (p : ℕ). HoldsEach p [] c.new-talks.result) (sym c.new-talks.ensures.right.is_port) c.new-talks.ensures
+
+pub put_all-lacking-requires : goal.put_all-lacking-requires
+put_all-lacking-requires g c =
+    let taken = c.take_all-taken.ensures in
+    (taken.packets, subst (λ (p : ℕ). HoldsSome p taken.packets c.take_all-taken.new.talks) c.new-talks.ensures.right.is_port taken.some)
 
 pub returns : goal.returns
 returns g c =
     let law : Joins g.W.Sink = record { joined = g.met.W.Sink.joined } in
     let fresh : IsFresh c.new-lines.result = record { empty = c.new-lines.ensures.empty; calm = c.new-lines.ensures.fresh } in
-    let puts = c.put_all-lacking.ensures in
+    let taken = subst (λ (p : ℕ). TakesAll g.R.Source.gives g.R.Source.has_ended p c.args.source.now c.take_all-taken.new.source c.take_all-taken.new.talks c.take_all-taken.new.reader.number c.take_all-taken.result)
+    c.new-talks.ensures.right.is_port c.take_all-taken.ensures in
+    let all = c.put_all-lacking.ensures taken.packets taken.some in
+    let puts = all.puts in
     let wrote = and_nothing law (and_then law puts.wrote (and_then law c.put_file.ensures (and_then law c.put_nothing.ensures c.put.ensures))) c.hand_over-status.ensures.writes in
+    let last = c.number.ensures ∙ taken.many in
     record {
+      packets = taken.packets;
+      stopped = stopped_by c.take_all-taken.result;
+      read = taken.read;
+      lacking = c.put_all-lacking.result.1;
+      lacks = subst (λ (n : ℕ). (c.put_all-lacking.result.1 ≡ None) ⊎ (c.put_all-lacking.result.1 ≡ Some (refusals.Memory n))) last all.lacks;
+      is_refusal = c.first_refusal-refusal.ensures;
       blocks = puts.blocks;
-      last_packet = c.number.result;
-      told = puts.told;
+      told = as_many c.args.options.now.port c.args.options.now.within _ _ taken.packets puts.blocks last puts.told;
+      rise = subst (λ (ks : List ℕ). IsStrictlySortedBy nat_cmp ks) (sym puts.are_places) all.rise;
+      all = nothing_lacks c.args.options.now.port taken.packets all.places (keys_of puts.blocks) _ c.put_all-lacking.result.1 (stopped_by c.take_all-taken.result) _ _ (sym puts.are_places) all.lacks
+          c.first_refusal-refusal.ensures taken.all all.all;
       tally = c.with_file-tally.result;
       counts = c.with_file-tally.ensures ∙ ap (λ (t : Tally). with_file t c.first_refusal-refusal.result) puts.tallied;
       is_nothing = c.nothing_by.ensures ∙ ap (λ (b : Bool). nothing_by c.args.options.now.port b c.first_refusal-refusal.result) c.has_verdict.ensures;

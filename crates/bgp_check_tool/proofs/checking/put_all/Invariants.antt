@@ -1,7 +1,10 @@
-use Rattle.bgp_check_tool.specs.Checking.{PutsBlocks}
-use Rattle.bgp_check_tool.specs.Tally.{no_tally}
+use Rattle.std.proofs.Common.{List}
+use Rattle.packets.specs.Packet.{Recorded}
+use Rattle.bgp_check_tool.specs.Talks.{HoldsSome}
+use Rattle.bgp_check_tool.proofs.OneMore.{PutsFront}
 use Rattle.bgp_check_tool.proofs.checking.put_all.Given as goal
 
 -- the blocks so far are put
 abbrev pub invariant-loop-packet : goal.invariant-loop-packet
-invariant-loop-packet g l = PutsBlocks l.options l.last_packet l.fn.lines l.lines no_tally l.tally
+invariant-loop-packet g l = (packets : List Recorded) → HoldsSome l.options.port packets l.talks
+    → PutsFront l.options packets l.last_packet l.initial.packet-iterator l.packet-iterator l.fn.lines l.lines l.tally

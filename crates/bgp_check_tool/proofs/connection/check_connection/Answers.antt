@@ -3,19 +3,18 @@ use Rattle.streams.specs.declared.passed.Side.{Side}
 use Rattle.bgp_check_tool.specs.Blocks.{octets_from}
 use Rattle.streams.specs.Connections.{numbered}
 use Rattle.bgp_import.proofs.Telling.{are_covered, is_clocked}
-use Rattle.bgp_check_tool.proofs.OtherEnd.{covered_by}
 use Rattle.bgp_check_tool.proofs.connection.check_connection.Goals as goal
 
 false_true : false ≡ true → ⊥
 false_true e = cc
 
 pub check_both-requires-clause-received : goal.check_both-requires-clause-received
-check_both-requires-clause-received g c = covered_by c.in-Ok.connection.received c.requires
-    (λ h. (are_covered (Some c.args.opening.number) c.args.between.now.last_packet (numbered h.segments) c.in-Ok.connection (c.in-Ok.ensures h.segments h.holds)).0)
+check_both-requires-clause-received g c = let h = c.requires in
+    (are_covered (Some c.args.opening.number) c.args.between.now.last_packet (numbered h.segments) c.in-Ok.connection (c.in-Ok.ensures h.segments h.holds)).0
 
 pub check_both-requires-clause-sent : goal.check_both-requires-clause-sent
-check_both-requires-clause-sent g c = covered_by c.in-Ok.connection.sent c.requires
-    (λ h. (are_covered (Some c.args.opening.number) c.args.between.now.last_packet (numbered h.segments) c.in-Ok.connection (c.in-Ok.ensures h.segments h.holds)).1)
+check_both-requires-clause-sent g c = let h = c.requires in
+    (are_covered (Some c.args.opening.number) c.args.between.now.last_packet (numbered h.segments) c.in-Ok.connection (c.in-Ok.ensures h.segments h.holds)).1
 
 pub returns-in-Ok-check_both : goal.returns-in-Ok-check_both
 returns-in-Ok-check_both g c = λ segments holds order.

@@ -16,8 +16,8 @@ returns g c =
       plain = plain.entries.items;
       plain_received = plain.received_rest;
       plain_sent = plain.sent_rest;
-      is_plain = (c.in_ok-plain.ensures.told clock).told;
+      is_plain = c.in_ok-plain.ensures.told clock;
       limit = Extended;
       is_limit = subst (λ (records : List ShownRecord). HasLimit records Extended) same c.in-Extended.ensures;
-      recorded = (told clock).told;
+      recorded = told clock;
     }) c.make_records-in-Extended.ensures.told

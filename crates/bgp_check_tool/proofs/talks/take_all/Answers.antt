@@ -1,25 +1,63 @@
-use Rattle.std.proofs.Common.{refl, arith}
-use Rattle.bgp_import.proofs.Goes.{fresh_goes, goes_on}
+use Rattle.std.proofs.Common.{refl, ap, arith}
+use Rattle.packets.specs.Reader.{ReaderState}
 use Rattle.bgp_import.proofs.SoFar.{less_left}
+use Rattle.bgp_check_tool.proofs.ReadSoFar.{all_taken, answer_of, file_refused, nothing_read, number_is, packet_refused, taken_on}
 use Rattle.bgp_check_tool.proofs.talks.take_all.Goals as goal
 
 pub loop-packet-init : goal.loop-packet-init
 loop-packet-init g c =
-    let goes = fresh_goes c.args.reader.now c.requires.fresh in record { fault = goes.0; going = goes.1; one_source = omega (arith, goes.2); calm = refl }
+    let number = ap (λ (s : ReaderState). s.number) c.requires.fresh in record {
+      so_far = nothing_read g.R.Source.gives g.R.Source.has_ended g.met.R.Source.joined c.args.talks.now.port c.args.source.now c.args.reader.now c.args.talks.now c.requires.fresh
+          c.requires.empty (g.met.R.Source.nothing c.args.source.now);
+      one_source = omega (arith, number);
+      calm = refl;
+    }
+
+pub returns-in-Ok-None : goal.returns-in-Ok-None
+returns-in-Ok-None g c =
+    let so = c.loop-packet.invariant.so_far in
+    let answer = answer_of g.R.Source.gives g.R.Source.has_ended g.met.R.Source.joined c.args.talks.now.port c.args.source.now c.loop-packet.source c.next_packet.new.source c.loop-packet.reader
+    c.next_packet.follows.lender-at-none c.loop-packet.talks c.next_packet.result so c.next_packet.follows.holds-at-none.0 in
+    let is = rw (c.in-Ok-None.is, c.in-Ok-None.field-0-is) at answer in
+    all_taken g.R.Source.gives g.R.Source.has_ended g.met.R.Source.joined c.args.talks.now.port c.args.source.now _ _ _ _ c.loop-packet.talks so is
+
+pub returns-in-Err : goal.returns-in-Err
+returns-in-Err g c =
+    let so = c.loop-packet.invariant.so_far in
+    let answer = answer_of g.R.Source.gives g.R.Source.has_ended g.met.R.Source.joined c.args.talks.now.port c.args.source.now c.loop-packet.source c.next_packet.new.source c.loop-packet.reader
+    c.next_packet.follows.lender-at-none c.loop-packet.talks c.next_packet.result so c.next_packet.follows.holds-at-none.0 in
+    let is = rw (c.in-Err.is) at answer in
+    file_refused g.R.Source.gives g.R.Source.has_ended g.met.R.Source.joined c.args.talks.now.port c.args.source.now _ _ _ _ c.loop-packet.talks c.in-Err.fault so is
+
+pub returns-in-Err-taken : goal.returns-in-Err-taken
+returns-in-Err-taken g c =
+    let so = c.loop-packet.invariant.so_far in
+    let answer = answer_of g.R.Source.gives g.R.Source.has_ended g.met.R.Source.joined c.args.talks.now.port c.args.source.now c.loop-packet.source c.next_packet.new.source c.loop-packet.reader
+    c.next_packet.follows.lender-at-none c.loop-packet.talks c.next_packet.result so c.next_packet.follows.holds-at-none.0 in
+    let is = rw (c.in-Ok-Some.is, c.in-Ok-Some.field-0-is) at answer in
+    let number = number_is g.R.Source.gives g.R.Source.has_ended g.met.R.Source.joined c.args.talks.now.port c.args.source.now _ _ _ _ c.loop-packet.talks c.in-Ok-Some.packet so is in
+    packet_refused g.R.Source.gives g.R.Source.has_ended g.met.R.Source.joined c.args.talks.now.port c.args.source.now _ _ _ _ c.loop-packet.talks _ c.in-Ok-Some.packet c.in-Err-taken.refusal so is
+    (c.in-Err-taken.ensures c.args.talks.now.port so.packets number so.held)
 
 pub loop-packet-smaller : goal.loop-packet-smaller
 loop-packet-smaller g c =
-    let next = rw (c.in-Ok-Some.is, c.in-Ok-Some.field-0-is) at c.next_packet.follows.holds-at-none.0 in
-    let goes = goes_on g.R.Source.gives g.R.Source.has_ended _ _ _ _ _ c.loop-packet.invariant.fault c.loop-packet.invariant.going next in
-    less_left _ _ _ goes.2 c.next_packet.follows.holds-at-none.1 (g.met.R.Source.below c.next_packet.new.source)
+    let so = c.loop-packet.invariant.so_far in
+    let answer = answer_of g.R.Source.gives g.R.Source.has_ended g.met.R.Source.joined c.args.talks.now.port c.args.source.now c.loop-packet.source c.next_packet.new.source c.loop-packet.reader
+    c.next_packet.follows.lender-at-none c.loop-packet.talks c.next_packet.result so c.next_packet.follows.holds-at-none.0 in
+    let is = rw (c.in-Ok-Some.is, c.in-Ok-Some.field-0-is) at answer in
+    less_left _ _ _ (ap (λ (s : ReaderState). s.number) is.0.stands) c.next_packet.follows.holds-at-none.1 (g.met.R.Source.below c.next_packet.new.source)
 
 pub loop-packet-preserved : goal.loop-packet-preserved
 loop-packet-preserved g c =
-    let next = rw (c.in-Ok-Some.is, c.in-Ok-Some.field-0-is) at c.next_packet.follows.holds-at-none.0 in
-    let goes = goes_on g.R.Source.gives g.R.Source.has_ended _ _ _ _ _ c.loop-packet.invariant.fault c.loop-packet.invariant.going next in
-    let failures = rw (c.in-Ok-Some.is) at c.next_packet.ensures.failures in record {
-      fault = goes.0;
-      going = goes.1;
+    let so = c.loop-packet.invariant.so_far in
+    let answer = answer_of g.R.Source.gives g.R.Source.has_ended g.met.R.Source.joined c.args.talks.now.port c.args.source.now c.loop-packet.source c.next_packet.new.source c.loop-packet.reader
+    c.next_packet.follows.lender-at-none c.loop-packet.talks c.next_packet.result so c.next_packet.follows.holds-at-none.0 in
+    let is = rw (c.in-Ok-Some.is, c.in-Ok-Some.field-0-is) at answer in
+    let failures = rw (c.in-Ok-Some.is) at c.next_packet.ensures.failures in
+    let number = number_is g.R.Source.gives g.R.Source.has_ended g.met.R.Source.joined c.args.talks.now.port c.args.source.now _ _ _ _ c.loop-packet.talks c.in-Ok-Some.packet so is in
+    record {
+      so_far = taken_on g.R.Source.gives g.R.Source.has_ended g.met.R.Source.joined c.args.talks.now.port c.args.source.now _ _ _ _ c.loop-packet.talks _ c.in-Ok-Some.packet so is
+          (c.in-Ok.ensures c.args.talks.now.port so.packets number so.held);
       one_source = c.next_packet.follows.holds-at-none.1;
       calm = omega (arith, failures, c.loop-packet.invariant.calm);
     }

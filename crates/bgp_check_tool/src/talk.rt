@@ -1,0 +1,54 @@
+//! The connections between two addresses.
+
+ghost use Rattle.streams.specs.Held.{AllSound};
+
+use segments::PacketFault;
+use std::alloc::{AllocError, Allocator};
+use streams::{Connections, Passed};
+
+/// The connections between two addresses.
+#[derive(Drop)]
+pub(crate) struct Talk<A: Allocator> {
+    pub(crate) connections: Connections<A>,
+    /// Why none of them can be told, and at which packet.
+    pub(crate) refusal: Option<(PacketFault, u64)>,
+    ghost sound: { AllSound connections },
+}
+
+impl<A: Allocator + Copy> Talk<A> {
+    ghost use Rattle.std.specs.Prelude.{OnOk};
+    ghost use Rattle.streams.specs.Passed.{segment_of};
+    ghost use Rattle.bgp_check_tool.specs.Talks.{IsFresh, IsRefusedBy, TakesSegment};
+
+    /// None yet.
+    pub(crate) fn new(alloc: A) -> Talk<A>
+        ensures { IsFresh result }
+    {
+        Talk {
+            connections: Connections::new(alloc),
+            refusal: None,
+        }
+    }
+
+    /// Takes a segment. Refused for memory, none are held.
+    pub(crate) fn take(&mut self, alloc: A, passed: &Passed<'_>) -> Result<(), AllocError>
+        ensures { OnOk result (TakesSegment (segment_of passed.now) self.old self.new) }
+    {
+        match self.connections.take(passed) {
+            Ok(()) => Ok(()),
+            Err(AllocError) => {
+                self.connections = Connections::new(alloc);
+                Err(AllocError)
+            }
+        }
+    }
+
+    /// Refuses all connections, at this packet if not at one before it.
+    pub(crate) fn refuse(&mut self, fault: PacketFault, packet: u64)
+        ensures { IsRefusedBy fault packet self.old self.new }
+    {
+        if self.refusal.is_none() {
+            self.refusal = Some((fault, packet));
+        }
+    }
+}
