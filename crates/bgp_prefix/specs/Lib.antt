@@ -10,3 +10,4 @@ pub mod PrefixFields
 pub mod PrefixLaws
 pub mod Slash
 pub mod Shown
+pub mod RouteRefresh

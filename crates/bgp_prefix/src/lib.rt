@@ -23,5 +23,5 @@ pub use laws::{
     written_octets_spell_the_prefix,
 };
 pub use prefix::{Prefix, PrefixFault};
-pub use session::{Seconds, Session};
+pub use session::{RouteRefresh, Seconds, Session};
 pub use text::{read_address, read_prefix};

@@ -5,6 +5,7 @@ use Rattle.std.proofs.lemmas.Bool.{false≢true}
 use Rattle.std.specs.Prelude.{◌↔◌, IfNone, IfSome, IsOkAnd, IsTrue}
 use Rattle.std.specs.Option.{ok_or}
 use Rattle.clap.specs.Words.{Row}
+use Rattle.bgp_prefix.specs.declared.session.RouteRefresh.{RouteRefresh}
 use Rattle.bgp_open.specs.Config.{IsConfig}
 use Rattle.bgp_open.specs.declared.config.Config.{Config}
 use Rattle.bgp_open.specs.declared.config.ConfigParts.{ConfigParts}
@@ -33,7 +34,7 @@ pub same_recording : (p q : RecordingOptions) → p.port ≡ q.port → p.local_
 same_recording p q port local_port connection within = search rules
 
 -- the configuration of parts that were read
-pub config_read : {E : Type 0} (rows : List Row) (refresh : Bool) (parts : ConfigParts)
+pub config_read : {E : Type 0} (rows : List Row) (refresh : RouteRefresh) (parts : ConfigParts)
     → ((p : ConfigParts) → (parts ≡ p) ↔ AreParts p refresh rows)
     → (o : Option Config) → IfSome o (λ config. config.parts ≡ parts) → IfNone o (¬ IsConfig parts)
     → (e : E) (r : Result Config E) → r ≡ ok_or o e

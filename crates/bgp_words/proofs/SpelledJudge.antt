@@ -8,6 +8,8 @@ use Rattle.clap.specs.Walk.{Held, Step, Walk, after_step, finished, idle, nothin
 use Rattle.clap.specs.Simple.{Shape, built, names_of, new_shape}
 use Rattle.clap.proofs.OnLiterals.{clap_on_literals}
 use Rattle.bgp_prefix.specs.Notation.{IsAddressText}
+use Rattle.bgp_prefix.specs.RouteRefresh.{refresh_with}
+use Rattle.bgp_prefix.specs.declared.session.RouteRefresh.TheVariants as refreshes
 use Rattle.bgp_open.specs.declared.config.ConfigParts.{ConfigParts}
 use Rattle.bgp_words.specs.Words.{program_words}
 use Rattle.bgp_words.specs.Values.{IsFamiliesText, IsHoldText, IsIdentifierText, IsPortText, IsPositiveText, IsSecondsText, is_given}
@@ -19,7 +21,7 @@ use Rattle.bgp_words.proofs.PlainWords.{IsPlainWord, Passes, met_plain, none_wro
 
 -- the parts of a configuration, as `judge` is told of them
 abbrev pub AreJudged : ConfigParts → List Row → Type 0
-AreJudged parts rows = AreParts parts (not (is_given (codes "no-refresh") rows)) rows
+AreJudged parts rows = AreParts parts (refresh_with (not (is_given (codes "no-refresh") rows))) rows
 
 -- what `judge` reads, once the program is built
 abbrev judge_shape : Shape
@@ -154,7 +156,7 @@ module _ (name local_as peer_as local_id local peer file : Text) (local_as_plain
 
   pub parts_found : (parts : ConfigParts) → IsPositiveText local_as parts.local_as → IsPositiveText peer_as parts.peer_as
       → IsIdentifierText local_id parts.local_id → IsAddressText local parts.session.local → IsAddressText peer parts.session.peer
-      → parts.session.refresh ≡ true → parts.session.extended ≡ false → IsHoldText (codes "90") parts.hold → IsPositiveText (codes "240") parts.large_hold
+      → parts.session.refresh ≡ refreshes.Refused → parts.session.extended ≡ false → IsHoldText (codes "90") parts.hold → IsPositiveText (codes "240") parts.large_hold
       → IsFamiliesText (codes "v4") parts.families → parts.as4 ≡ true → parts.delay_open ≡ false → AreJudged parts found_rows
   unfolding clap_on_literals
   parts_found parts own other id here there refresh extended hold large families as4 delay = record {
@@ -171,7 +173,7 @@ module _ (name local_as peer_as local_id local peer file : Text) (local_as_plain
 
   pub parts_told : (parts : ConfigParts) → AreJudged parts found_rows → IsPositiveText local_as parts.local_as × IsPositiveText peer_as parts.peer_as
       × IsIdentifierText local_id parts.local_id × IsAddressText local parts.session.local × IsAddressText peer parts.session.peer
-      × (parts.session.refresh ≡ true) × (parts.session.extended ≡ false) × IsHoldText (codes "90") parts.hold × IsPositiveText (codes "240") parts.large_hold
+      × (parts.session.refresh ≡ refreshes.Refused) × (parts.session.extended ≡ false) × IsHoldText (codes "90") parts.hold × IsPositiveText (codes "240") parts.large_hold
       × IsFamiliesText (codes "v4") parts.families × (parts.as4 ≡ true) × (parts.delay_open ≡ false)
   unfolding clap_on_literals
   parts_told parts are = (

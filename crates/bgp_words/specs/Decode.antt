@@ -4,6 +4,7 @@ use Rattle.std.specs.Prelude.{codes}
 use Rattle.clap.specs.Words.{Row, Text, first_of}
 use Rattle.bgp_prefix.specs.Notation.{IsAddressText}
 use Rattle.bgp_prefix.specs.declared.session.Session.{Session}
+use Rattle.bgp_prefix.specs.declared.session.RouteRefresh.TheVariants as refreshes
 use Rattle.bgp_words.specs.Values.{IsNoFlag, IsValue, is_given}
 use Rattle.bgp_words.specs.Recording.{AreRecordingOptions}
 use Rattle.bgp_words.specs.declared.recording.RecordingOptions.{RecordingOptions}
@@ -26,7 +27,8 @@ abbrev pub IsCapture : Session → RecordingOptions → Text → List Row → Ty
 IsCapture session recording file rows =
     (first_of (codes "FILE") rows ≡ Some file) × (is_given (codes "mrt") rows ≡ true)
     × IsValue IsAddressText (codes "peer") rows session.peer
-    × IsValue IsAddressText (codes "local") rows session.local × (session.refresh ≡ false)
+    × IsValue IsAddressText (codes "local") rows session.local
+    × (session.refresh ≡ refreshes.NotOffered)
     × (session.extended ≡ is_given (codes "extended") rows)
     × AreRecordingOptions recording rows
 

@@ -4,6 +4,7 @@ use Rattle.std.specs.Prelude.{◌≡◌, ◌≢◌, ◌⊎◌, ℕ, Bool, true, 
 use Rattle.std.specs.Prelude.{is_some, codes}
 use Rattle.clap.specs.Words.{Row, Text, first_of}
 use Rattle.bgp_prefix.specs.declared.session.Session.{Session}
+use Rattle.bgp_prefix.specs.declared.session.RouteRefresh.TheVariants as refreshes
 use Rattle.bgp_words.specs.Values.{IsPortText, IsSecondsText, IsValue, is_given}
 use Rattle.bgp_words.specs.Settings.{IsOfOneFamily, IsSession}
 use Rattle.bgp_words.specs.Recording.{AreRecordingOptions}
@@ -21,7 +22,7 @@ AreApart session local_port = (session.peer ≢ session.local) ⊎ (is_some loca
 -- The values of `import`. A TCP connection is of one family; the session has no route refresh.
 abbrev pub IsImport : Session → RecordingOptions → Text → Text → List Row → Type 0
 IsImport session recording file out rows =
-    IsSession session false rows × IsOfOneFamily session × AreRecordingOptions recording rows
+    IsSession session refreshes.NotOffered rows × IsOfOneFamily session × AreRecordingOptions recording rows
     × AreApart session recording.local_port
     × (first_of (codes "FILE") rows ≡ Some file) × (first_of (codes "OUT") rows ≡ Some out)
 

@@ -3,6 +3,8 @@
 use Rattle.std.specs.Prelude.{◌≡◌, Bool, true, false, not, List, [], ◌∷◌, Some, codes}
 use Rattle.clap.specs.Words.{Row, Text, first_of}
 use Rattle.bgp_prefix.specs.Notation.{IsAddressText}
+use Rattle.bgp_prefix.specs.RouteRefresh.{refresh_with}
+use Rattle.bgp_prefix.specs.declared.session.RouteRefresh.TheVariants as refreshes
 use Rattle.bgp_open.specs.declared.config.Config.{Config}
 use Rattle.bgp_open.specs.declared.config.ConfigParts.{ConfigParts}
 use Rattle.bgp_words.specs.Values.{IsPositiveText, IsIdentifierText, IsNoFlag, is_given}
@@ -18,7 +20,7 @@ use Rattle.bgp_words.specs.declared.words.Command.TheVariants.{Speak, Pair}
 -- route refresh; `--explain`: the reason is wanted
 abbrev pub IsJudge : Config → RecordingOptions → Bool → Text → List Row → Type 0
 IsJudge config recording explain file rows =
-    AreParts config.parts (not (is_given (codes "no-refresh") rows)) rows
+    AreParts config.parts (refresh_with (not (is_given (codes "no-refresh") rows))) rows
     × AreRecordingOptions recording rows × (explain ≡ is_given (codes "explain") rows)
     × (first_of (codes "FILE") rows ≡ Some file)
 
@@ -39,7 +41,7 @@ pub record IsJudgeLine (words : List Text) (parts : ConfigParts) (file : Text) :
   pub as_numbers : IsPositiveText local_as parts.local_as × IsPositiveText peer_as parts.peer_as
   pub identifier : IsIdentifierText local_id parts.local_id
   pub ends : IsAddressText local parts.session.local × IsAddressText peer parts.session.peer
-  pub refresh : parts.session.refresh ≡ true
+  pub refresh : parts.session.refresh ≡ refreshes.Refused
   pub extended : parts.session.extended ≡ false
   pub holds : (parts.hold ≡ 90) × (parts.large_hold ≡ 240)
   pub families : parts.families ≡ record { v4 = true; v6 = false }

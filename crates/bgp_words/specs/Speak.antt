@@ -3,6 +3,7 @@
 use Rattle.std.specs.Prelude.{◌≡◌, ◌<◌, ◌^◌, ◌↔◌, false, List, Some, None, codes, IsTrue, IsSomeAnd}
 use Rattle.clap.specs.Words.{Row, Text, first_of}
 use Rattle.bgp_prefix.specs.Notation.{IsPrefixText}
+use Rattle.bgp_prefix.specs.declared.session.RouteRefresh.TheVariants as refreshes
 use Rattle.bgp_open.specs.declared.config.Config.{Config}
 use Rattle.bgp_words.specs.Values.{IsNextHop4Text, IsNextHop6Text, IsOptional, IsPortText}
 use Rattle.bgp_words.specs.Values.{IsTurnsText, IsValue, is_given, HasBitsAfter}
@@ -36,7 +37,7 @@ pub record AreOptions (speaking : Speaking) (rows : List Row) : Type 0 where
 -- options, and a file. Route refresh is never offered: `--no-refresh` changes nothing.
 abbrev pub IsSpeak : Config → Speaking → Text → List Row → Type 0
 IsSpeak config speaking file rows =
-    AreParts config.parts false rows × IsOfOneFamily config.parts.session
+    AreParts config.parts refreshes.NotOffered rows × IsOfOneFamily config.parts.session
     × AreOptions speaking rows × (first_of (codes "FILE") rows ≡ Some file)
 
 -- a command to speak can be done: both addresses are of one family, and turns can be counted

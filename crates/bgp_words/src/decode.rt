@@ -13,7 +13,7 @@ use crate::options::{READ, Word, with_words};
 use crate::recording::{recording_of, with_recording};
 use crate::values::{address_of, has_flag, has_value, value_of};
 use crate::words::Command;
-use bgp_prefix::Session;
+use bgp_prefix::{RouteRefresh, Session};
 use clap::ArgMatches;
 use std::alloc::{AllocError, Global};
 
@@ -107,7 +107,7 @@ pub(crate) fn decode_of<'a>(decode: &ArgMatches<'a>) -> Result<Command<'a>, Misf
         let session = Session {
             peer,
             local,
-            refresh: false,
+            refresh: RouteRefresh::NotOffered,
             extended,
         };
         let recording = recording_of(decode)?;

@@ -15,6 +15,7 @@ use crate::recording::{recording_of, with_recording};
 use crate::settings::{config_of, with_settings};
 use crate::values::{has_flag, value_of};
 use crate::words::Command;
+use bgp_prefix::RouteRefresh;
 use clap::ArgMatches;
 use std::alloc::{AllocError, Global};
 
@@ -105,7 +106,10 @@ pub(crate) fn judge_of<'a>(judge: &ArgMatches<'a>) -> Result<Command<'a>, Misfit
         (config : Configured) (recording : Told) (explain : Bool) (file : List ℕ) →
         IsJudge config recording explain file (rows_of (found_of judge.now)) → ⊥ }
 {
-    let config = config_of(judge, !has_flag(judge, "no-refresh"))?;
+    let config = config_of(
+        judge,
+        RouteRefresh::with_offer(!has_flag(judge, "no-refresh")),
+    )?;
     let recording = recording_of(judge)?;
     let explain = has_flag(judge, "explain");
     let file = value_of(judge, "FILE")?;

@@ -13,7 +13,7 @@ use crate::misfit::Misfit;
 use crate::options::{Word, with_words};
 use crate::values::{address_of, families_of, has_flag, hold_of, identifier_of, positive_of};
 use bgp_open::{Config, ConfigParts};
-use bgp_prefix::Session;
+use bgp_prefix::{RouteRefresh, Session};
 use clap::ArgMatches;
 use std::alloc::{AllocError, Global};
 
@@ -84,8 +84,11 @@ fn with_needs<'a>(
 }
 
 /// The configuration that the values of a command are, where the local system offers route refresh
-/// or not.
-pub(crate) fn config_of<'a>(matches: &ArgMatches<'a>, refresh: bool) -> Result<Config, Misfit<'a>>
+/// so or not.
+pub(crate) fn config_of<'a>(
+    matches: &ArgMatches<'a>,
+    refresh: RouteRefresh,
+) -> Result<Config, Misfit<'a>>
     ensures { (config : Configured) → IsOkAnd result (λ it. it.parts ≡ config.parts)
         ↔ AreParts config.parts refresh (rows_of (found_of matches.now)) }
 {
@@ -95,7 +98,7 @@ pub(crate) fn config_of<'a>(matches: &ArgMatches<'a>, refresh: bool) -> Result<C
 }
 
 /// The parts of a configuration that the values of a command are.
-fn parts_of<'a>(matches: &ArgMatches<'a>, refresh: bool) -> Result<ConfigParts, Misfit<'a>>
+fn parts_of<'a>(matches: &ArgMatches<'a>, refresh: RouteRefresh) -> Result<ConfigParts, Misfit<'a>>
     ensures { (parts : Parts) → IsOkAnd result (λ it. it ≡ parts)
         ↔ AreParts parts refresh (rows_of (found_of matches.now)) }
 {
@@ -112,9 +115,12 @@ fn parts_of<'a>(matches: &ArgMatches<'a>, refresh: bool) -> Result<ConfigParts, 
     })
 }
 
-/// The session that the values of a command name, where the local system offers route refresh or
+/// The session that the values of a command name, where the local system offers route refresh so or
 /// not.
-pub(crate) fn session_of<'a>(matches: &ArgMatches<'a>, refresh: bool) -> Result<Session, Misfit<'a>>
+pub(crate) fn session_of<'a>(
+    matches: &ArgMatches<'a>,
+    refresh: RouteRefresh,
+) -> Result<Session, Misfit<'a>>
     ensures { (session : Ends) → IsOkAnd result (λ it. it ≡ session)
         ↔ IsSession session refresh (rows_of (found_of matches.now)) }
 {

@@ -18,7 +18,7 @@ use crate::values::{
     value_of,
 };
 use crate::words::Command;
-use bgp_prefix::Prefix;
+use bgp_prefix::{Prefix, RouteRefresh};
 use clap::ArgMatches;
 use std::alloc::{AllocError, Global};
 
@@ -144,7 +144,7 @@ pub(crate) fn speak_of<'a>(speak: &ArgMatches<'a>) -> Result<Command<'a>, Misfit
     ensures err { IsErr result → (config : Configured) (speaking : Spoken) (file : List ℕ) →
         IsSpeak config speaking file (rows_of (found_of speak.now)) → ⊥ }
 {
-    let config = config_of(speak, false)?;
+    let config = config_of(speak, RouteRefresh::NotOffered)?;
     if !is_of_one_family(&config.parts.session) {
         return Err(Misfit::TwoFamilies);
     }

@@ -1,5 +1,5 @@
 -- How far a reader is behind some pieces, and behind one more.
-use Rattle.std.proofs.Common.{◌≡◌, ◌∙◌, ℕ, Bool, ◌+◌, List, [], ◌∷◌, ◌++◌, length, drop, refl, sym, ap, subst, arith, inl, inr, append-nil, length-append, Option, None, Some, IsTrue, ◌⊎◌}
+use Rattle.std.proofs.Common.{◌≡◌, ◌∙◌, ℕ, Bool, ◌+◌, ◌≤◌, List, [], ◌∷◌, ◌++◌, length, drop, refl, sym, ap, subst, arith, inl, inr, append-nil, length-append, Option, None, Some, IsTrue, ◌⊎◌}
 use Rattle.std.proofs.lemmas.Grind.{flat_map-append}
 use Rattle.bgp_prefix.specs.Shown.{ShownRecord, second_of}
 use Rattle.bgp_prefix.specs.declared.session.Session.{Session}
@@ -12,11 +12,15 @@ use Rattle.mrt.specs.declared.judging.Shows.TheVariants as shows
 use Rattle.mrt.specs.Layout.{content_in, header_of, body_of}
 use Rattle.mrt.specs.Rules.{Rule, FirstSays, Judgement, judgement_of, Refused}
 use Rattle.mrt.specs.Rules as r
-use Rattle.mrt.specs.Capture.{Piece, Other, OtherEnds, Shown, octets_of, IsPiece, ArePieces, IsBegun, last_after, last_of, joined, shown_by, records_of, first_other, ends_of, shown_of}
+use Rattle.mrt.specs.Capture.{Piece, Other, OtherEnds, PassedOver, Shown, octets_of, IsPiece, ArePieces, IsBegun, last_after, last_of, joined, shown_by, records_of, first_other, ends_of, shown_of}
+use Rattle.mrt.specs.Skipped.{IsSkipOf, piece_for, skipped_in, both_skipped}
 use Rattle.mrt.specs.Found.{shown_as}
 use Rattle.mrt.specs.Reading.{IsFoundIn, IsRefused}
 use Rattle.mrt.specs.Reader.{ReaderState, fresh_reader, after_pieces, at_end, at_fault, at_record, device_count, Ends, Fails}
-use Rattle.mrt.specs.Progress.{after_skipped, after_other, after_record, first_seen, fault_at, shown_from, Finds}
+use Rattle.mrt.specs.Progress.{after_skipped, after_record, first_after, first_seen, fault_at, shown_from, Finds}
+use Rattle.mrt.specs.declared.skipped.Skip.{Skip}
+use Rattle.mrt.specs.declared.skipped.Skip.TheVariants as whys
+use Rattle.mrt.proofs.Counts.{counts_chain, counts_one, counts_shown}
 
 -- ---- one piece more
 
@@ -42,6 +46,10 @@ first_other_of : (ends : Option Endpoints) (octets : List ℕ) → first_other e
 first_other_of None octets = refl
 first_other_of (Some e) octets = refl
 
+first_other_passed : (ends : Option Endpoints) (octets : List ℕ) → first_other ends (PassedOver octets ∷ []) ≡ ends
+first_other_passed None octets = refl
+first_other_passed (Some e) octets = refl
+
 first_other_shown : (ends : Option Endpoints) (octets : List ℕ) → first_other ends (Shown octets ∷ []) ≡ ends
 first_other_shown None octets = refl
 first_other_shown (Some e) octets = refl
@@ -50,13 +58,42 @@ first_other_seen : (ends : Option Endpoints) (octets : List ℕ) → first_other
 first_other_seen None octets = refl
 first_other_seen (Some e) octets = refl
 
+first_other_skipped : (ends : Option Endpoints) (skip : Skip) (octets : List ℕ) → IsSkipOf skip (header_of octets) (body_of octets)
+    → first_other ends (piece_for skip octets ∷ []) ≡ first_after ends skip
+first_other_skipped ends whys.OtherKind octets is = first_other_of ends octets
+first_other_skipped ends (whys.OtherSession e) octets is =
+    let same : ends_of octets ≡ e = sym (λ i. record { peer = is.0 i; local = is.1 i }) in
+    first_other_seen ends octets ∙ ap (λ (x : Endpoints). first_seen ends x) same
+first_other_skipped ends whys.RefreshReceived octets is = first_other_passed ends octets
+first_other_skipped ends whys.RefreshSent octets is = first_other_passed ends octets
+
 pub other_more : (ends : Option Endpoints) (pieces : List Piece) (piece : Piece)
     → first_other ends (pieces ++ piece ∷ []) ≡ first_other (first_other ends pieces) (piece ∷ [])
 other_more (Some e) pieces piece = refl
 other_more None [] piece = refl
 other_more None (Other o ∷ pieces) piece = other_more None pieces piece
 other_more None (OtherEnds o ∷ pieces) piece = refl
+other_more None (PassedOver o ∷ pieces) piece = other_more None pieces piece
 other_more None (Shown o ∷ pieces) piece = other_more None pieces piece
+
+-- the octets of a skipped record, the second after it, and what it shows
+octets_skipped : (skip : Skip) (octets : List ℕ) → octets_of (piece_for skip octets) ≡ octets
+octets_skipped whys.OtherKind octets = refl
+octets_skipped (whys.OtherSession e) octets = refl
+octets_skipped whys.RefreshReceived octets = refl
+octets_skipped whys.RefreshSent octets = refl
+
+last_skipped : (last : Option ℕ) (skip : Skip) (octets : List ℕ) → last_after last (piece_for skip octets) ≡ last
+last_skipped last whys.OtherKind octets = refl
+last_skipped last (whys.OtherSession e) octets = refl
+last_skipped last whys.RefreshReceived octets = refl
+last_skipped last whys.RefreshSent octets = refl
+
+nothing_shown : (skip : Skip) (octets : List ℕ) → shown_by (piece_for skip octets) ≡ []
+nothing_shown whys.OtherKind octets = refl
+nothing_shown (whys.OtherSession e) octets = refl
+nothing_shown whys.RefreshReceived octets = refl
+nothing_shown whys.RefreshSent octets = refl
 
 -- the state behind it
 count_more : (from : ReaderState) (pieces : List Piece) (piece : Piece) (count : ℕ) → length (octets_of piece) ≡ count
@@ -64,23 +101,16 @@ count_more : (from : ReaderState) (pieces : List Piece) (piece : Piece) (count :
 count_more from pieces piece count len =
     let many = ap length (joined_more pieces piece) ∙ length-append (joined pieces) (octets_of piece) in omega arith
 
-skipped_state : (from : ReaderState) (pieces : List Piece) (octets : List ℕ) (count : ℕ) → length octets ≡ count
-    → after_skipped (after_pieces from pieces) count ≡ after_pieces from (pieces ++ Other octets ∷ [])
-skipped_state from pieces octets count len =
-    let passed = count_more from pieces (Other octets) count len in
-    let last = sym (last_more from.last pieces (Other octets)) in
-    let other = sym (other_more from.other pieces (Other octets) ∙ first_other_of (first_other from.other pieces) octets) in
-    λ i. record { passed = passed i; last = last i; place = from.place; is_ended = from.is_ended; fault = from.fault; other = other i }
-
-other_state : (from : ReaderState) (pieces : List Piece) (octets : List ℕ) (ends : Endpoints) (count : ℕ) → length octets ≡ count → ends ≡ ends_of octets
-    → after_other (after_pieces from pieces) ends count ≡ after_pieces from (pieces ++ OtherEnds octets ∷ [])
-other_state from pieces octets ends count len same =
-    let passed = count_more from pieces (OtherEnds octets) count len in
-    let last = sym (last_more from.last pieces (OtherEnds octets)) in
-    let other =
-    ap (λ (e : Endpoints). first_seen (first_other from.other pieces) e) same
-    ∙ sym (other_more from.other pieces (OtherEnds octets) ∙ first_other_seen (first_other from.other pieces) octets) in
-    λ i. record { passed = passed i; last = last i; place = from.place; is_ended = from.is_ended; fault = from.fault; other = other i }
+skipped_state : (from : ReaderState) (pieces : List Piece) (skip : Skip) (octets : List ℕ) (count : ℕ) → length octets ≡ count
+    → IsSkipOf skip (header_of octets) (body_of octets)
+    → after_skipped (after_pieces from pieces) skip count ≡ after_pieces from (pieces ++ piece_for skip octets ∷ [])
+skipped_state from pieces skip octets count len is =
+    let piece = piece_for skip octets in
+    let passed = count_more from pieces piece count (ap length (octets_skipped skip octets) ∙ len) in
+    let last = sym (last_more from.last pieces piece ∙ last_skipped (last_of from.last pieces) skip octets) in
+    let other = sym (other_more from.other pieces piece ∙ first_other_skipped (first_other from.other pieces) skip octets is) in
+    let skipped = sym (counts_chain from.skipped pieces (piece ∷ []) ∙ counts_one (both_skipped from.skipped (skipped_in pieces)) skip octets is) in
+    λ i. record { passed = passed i; last = last i; place = from.place; is_ended = from.is_ended; fault = from.fault; other = other i; skipped = skipped i }
 
 record_state : (from : ReaderState) (pieces : List Piece) (octets : List ℕ) (second count : ℕ) → length octets ≡ count → second ≡ second_of (shown_of octets)
     → after_record (after_pieces from pieces) second count ≡ at_record (after_pieces from pieces) (after_pieces from (pieces ++ Shown octets ∷ []))
@@ -88,7 +118,8 @@ record_state from pieces octets second count len same =
     let passed = count_more from pieces (Shown octets) count len in
     let last = ap (λ (s : ℕ). let o : Option ℕ = Some s in o) same ∙ sym (last_more from.last pieces (Shown octets)) in
     let other = sym (other_more from.other pieces (Shown octets) ∙ first_other_shown (first_other from.other pieces) octets) in
-    λ i. record { passed = passed i; last = last i; place = (after_pieces from pieces).passed; is_ended = from.is_ended; fault = from.fault; other = other i }
+    let skipped = sym (counts_chain from.skipped pieces (Shown octets ∷ []) ∙ counts_shown (both_skipped from.skipped (skipped_in pieces)) octets) in
+    λ i. record { passed = passed i; last = last i; place = (after_pieces from pieces).passed; is_ended = from.is_ended; fault = from.fault; other = other i; skipped = skipped i }
 
 -- ---- what was found
 
@@ -106,6 +137,10 @@ found_shown octets buffer found is =
     sym is.shown
     ∙ ap (λ (n : ℕ). shown_as found.second found.shows (drop n (body_of octets))) (sym is.content_at)
     ∙ ap (λ (b : List ℕ). shown_as found.second found.shows (drop found.content_at b)) (sym is.body)
+
+-- a record that is skipped has octets
+pub skipped_some : (session : Session) (last : Option ℕ) (skip : Skip) (octets : List ℕ) → IsPiece session last (piece_for skip octets) → 12 ≤ length octets
+skipped_some session last skip octets is = subst (λ (o : List ℕ). 12 ≤ length o) (octets_skipped skip octets) is.whole.header
 
 -- ---- a device is no fault of the octets
 
@@ -129,6 +164,7 @@ no_device r.NoStates kind e = let k : kind ≡ kinds.Body = cc in rw k refl
 no_device r.BadStates kind e = let k : kind ≡ kinds.BadState = cc in rw k refl
 no_device r.CutMessage kind e = let k : kind ≡ kinds.NotAMessage = cc in rw k refl
 no_device r.Refresh kind e = let k : kind ≡ kinds.RouteRefresh = cc in rw k refl
+no_device r.WholeRefresh kind e = absurd (cc)
 no_device r.OtherLength kind e = let k : kind ≡ kinds.NotAMessage = cc in rw k refl
 no_device r.Back kind e = let k : kind ≡ kinds.TimeBack = cc in rw k refl
 no_device r.Allowed kind e = absurd (cc)
@@ -159,24 +195,18 @@ module _ {S : Type 0} (gives : S → S → List ℕ → Type 0) (has_ended : S �
   more_given now next pieces piece gave given =
       subst (λ (o : List ℕ). gives source next o) (sym (joined_more pieces piece)) (gives_joined source now next (joined pieces) (octets_of piece) gave given)
 
-  pub skips : (now next : S) (state after : ReaderState) (octets : List ℕ) (count : ℕ) → Passes now state → gives now next octets
-      → IsPiece session state.last (Other octets) → length octets ≡ count → after ≡ after_skipped state count → Passes next after
-  skips now next state after octets count so_far given piece len is = record {
-    skipped = so_far.skipped ++ Other octets ∷ [];
-    only = records_more so_far.skipped (Other octets) ∙ append-nil (records_of so_far.skipped) ∙ so_far.only;
-    pieces = pieces_more session from.last so_far.skipped (Other octets) so_far.pieces (subst (λ (l : Option ℕ). IsPiece session l (Other octets)) (last_is state so_far.skipped so_far.is) piece);
-    gave = more_given now next so_far.skipped (Other octets) so_far.gave given;
-    is = is ∙ ap (λ (s : ReaderState). after_skipped s count) so_far.is ∙ skipped_state from so_far.skipped octets count len;
-  }
-
-  pub skips_other : (now next : S) (state after : ReaderState) (octets : List ℕ) (ends : Endpoints) (count : ℕ) → Passes now state → gives now next octets
-      → IsPiece session state.last (OtherEnds octets) → ends ≡ ends_of octets → length octets ≡ count → after ≡ after_other state ends count → Passes next after
-  skips_other now next state after octets ends count so_far given piece same len is = record {
-    skipped = so_far.skipped ++ OtherEnds octets ∷ [];
-    only = records_more so_far.skipped (OtherEnds octets) ∙ append-nil (records_of so_far.skipped) ∙ so_far.only;
-    pieces = pieces_more session from.last so_far.skipped (OtherEnds octets) so_far.pieces (subst (λ (l : Option ℕ). IsPiece session l (OtherEnds octets)) (last_is state so_far.skipped so_far.is) piece);
-    gave = more_given now next so_far.skipped (OtherEnds octets) so_far.gave given;
-    is = is ∙ ap (λ (s : ReaderState). after_other s ends count) so_far.is ∙ other_state from so_far.skipped octets ends count len same;
+  pub skips : (now next : S) (state after : ReaderState) (octets : List ℕ) (skip : Skip) (count : ℕ) → Passes now state → gives now next octets
+      → IsPiece session state.last (piece_for skip octets) → IsSkipOf skip (header_of octets) (body_of octets) → length octets ≡ count
+      → after ≡ after_skipped state skip count → Passes next after
+  skips now next state after octets skip count so_far given piece told len is = record {
+    skipped = so_far.skipped ++ piece_for skip octets ∷ [];
+    only =
+        records_more so_far.skipped (piece_for skip octets) ∙ ap (λ (r : List ShownRecord). records_of so_far.skipped ++ r) (nothing_shown skip octets)
+        ∙ append-nil (records_of so_far.skipped) ∙ so_far.only;
+    pieces = pieces_more session from.last so_far.skipped (piece_for skip octets) so_far.pieces
+        (subst (λ (l : Option ℕ). IsPiece session l (piece_for skip octets)) (last_is state so_far.skipped so_far.is) piece);
+    gave = more_given now next so_far.skipped (piece_for skip octets) so_far.gave (subst (λ (o : List ℕ). gives now next o) (sym (octets_skipped skip octets)) given);
+    is = is ∙ ap (λ (s : ReaderState). after_skipped s skip count) so_far.is ∙ skipped_state from so_far.skipped skip octets count len told;
   }
 
   pub ends_there : (now next : S) (state after : ReaderState) (octets : List ℕ) → Passes now state → gives now next octets → octets ≡ []

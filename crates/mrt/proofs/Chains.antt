@@ -4,7 +4,7 @@ use Rattle.std.proofs.lemmas.Grind.{flat_map-append}
 use Rattle.bgp_prefix.specs.Shown.{ShownRecord}
 use Rattle.bgp_prefix.specs.declared.session.Session.{Session}
 use Rattle.mrt.specs.declared.record.Endpoints.{Endpoints}
-use Rattle.mrt.specs.Capture.{Piece, Other, OtherEnds, Shown, octets_of, ArePieces, last_after, last_of, first_other, joined, shown_by, records_of, shown_of}
+use Rattle.mrt.specs.Capture.{Piece, Other, OtherEnds, PassedOver, Shown, octets_of, ArePieces, last_after, last_of, first_other, joined, shown_by, records_of, shown_of}
 
 pub joined_chain : (first second : List Piece) → joined (first ++ second) ≡ joined first ++ joined second
 joined_chain first second = flat_map-append octets_of first second
@@ -21,6 +21,7 @@ other_chain (Some e) first second = refl
 other_chain None [] second = refl
 other_chain None (Other o ∷ first) second = other_chain None first second
 other_chain None (OtherEnds o ∷ first) second = refl
+other_chain None (PassedOver o ∷ first) second = other_chain None first second
 other_chain None (Shown o ∷ first) second = other_chain None first second
 
 pub pieces_chain : (session : Session) (last : Option ℕ) (first second : List Piece) → ArePieces session last first

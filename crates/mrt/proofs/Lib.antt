@@ -5,6 +5,7 @@ pub mod Taken
 pub mod Exits
 pub mod BodyLimit
 pub mod Places
+pub mod Counts
 pub mod Advancing
 pub mod Refusing
 pub mod OneReading
@@ -15,3 +16,6 @@ pub mod Parts
 pub mod AllowedRecord
 pub mod Chains
 pub mod WrittenCapture
+pub mod OtherRules
+pub mod TakenOut
+pub mod RefusedRefresh

@@ -5,7 +5,7 @@ use Rattle.std.proofs.lemmas.List.{take-append-le, drop-append-le}
 use Rattle.bgp_prefix.specs.declared.session.Session.{Session}
 use Rattle.mrt.specs.Layout.{Header, header_in, header_of, body_of, content_in, IsRecord}
 use Rattle.mrt.specs.Rules.{Rule, Judgement, End, Refused, Holds, FirstSays, rules, record_rules, place_of, IsJudged}
-use Rattle.mrt.specs.Capture.{Piece, Other, OtherEnds, Shown, octets_of, judgement_of_piece, IsPiece, ArePieces, last_after, last_of, joined, records_of, IsStop}
+use Rattle.mrt.specs.Capture.{Piece, Other, OtherEnds, PassedOver, Shown, octets_of, judgement_of_piece, IsPiece, ArePieces, last_after, last_of, joined, records_of, IsStop}
 use Rattle.mrt.specs.CaptureLaws.{OneText, OneSpelling, OneFault, NeverBoth}
 
 -- of the rules that hold one is the first
@@ -105,18 +105,26 @@ same_behind octets also more behind same whole =
 same_piece : (piece also : Piece) → judgement_of_piece piece ≡ judgement_of_piece also → octets_of piece ≡ octets_of also → piece ≡ also
 same_piece (Other o) (Other p) judged same = ap (λ (x : List ℕ). Other x) same
 same_piece (Other o) (OtherEnds p) judged same = absurd (cc)
+same_piece (Other o) (PassedOver p) judged same = absurd (cc)
 same_piece (Other o) (Shown p) judged same = absurd (cc)
 same_piece (OtherEnds o) (Other p) judged same = absurd (cc)
 same_piece (OtherEnds o) (OtherEnds p) judged same = ap (λ (x : List ℕ). OtherEnds x) same
+same_piece (OtherEnds o) (PassedOver p) judged same = absurd (cc)
 same_piece (OtherEnds o) (Shown p) judged same = absurd (cc)
+same_piece (PassedOver o) (Other p) judged same = absurd (cc)
+same_piece (PassedOver o) (OtherEnds p) judged same = absurd (cc)
+same_piece (PassedOver o) (PassedOver p) judged same = ap (λ (x : List ℕ). PassedOver x) same
+same_piece (PassedOver o) (Shown p) judged same = absurd (cc)
 same_piece (Shown o) (Other p) judged same = absurd (cc)
 same_piece (Shown o) (OtherEnds p) judged same = absurd (cc)
+same_piece (Shown o) (PassedOver p) judged same = absurd (cc)
 same_piece (Shown o) (Shown p) judged same = ap (λ (x : List ℕ). Shown x) same
 
 -- a piece stops nothing
 no_stop : (piece : Piece) (judgement : Judgement) → judgement ≡ judgement_of_piece piece → ¬ IsStop judgement
 no_stop (Other o) judgement is stops = subst IsStop is stops
 no_stop (OtherEnds o) judgement is stops = subst IsStop is stops
+no_stop (PassedOver o) judgement is stops = subst IsStop is stops
 no_stop (Shown o) judgement is stops = subst IsStop is stops
 
 -- ---- the whole text

@@ -9,6 +9,7 @@ use Rattle.mrt.specs.declared.fault.FaultKind.TheVariants as kinds
 use Rattle.mrt.specs.Capture.{first_other}
 use Rattle.mrt.specs.Reader.{ReaderState, HasRoom, fresh_reader, after_pieces, at_fault, Fails, IsAnswer, NextBy, IsNext}
 use Rattle.mrt.specs.Progress.{fault_at}
+use Rattle.mrt.proofs.Counts.{no_counts}
 
 pub no_others : (ends : Option Endpoints) → first_other ends [] ≡ ends
 no_others None = refl
@@ -18,7 +19,8 @@ pub no_pieces : (from : ReaderState) → after_pieces from [] ≡ from
 no_pieces from =
     let passed = add-zero from.passed in
     let other = no_others from.other in
-    λ i. record { passed = passed i; last = from.last; place = from.place; is_ended = from.is_ended; fault = from.fault; other = other i }
+    let skipped = no_counts from.skipped in
+    λ i. record { passed = passed i; last = from.last; place = from.place; is_ended = from.is_ended; fault = from.fault; other = other i; skipped = skipped i }
 
 -- one that lacks room, and has found no fault, has read nothing
 pub first_call : (len : ℕ) (state : ReaderState) → HasRoom len state → len < 65583 → state.fault ≡ None → state ≡ fresh_reader

@@ -4,9 +4,9 @@ use Rattle.std.proofs.lemmas.List.{take-append-le, length-take-le, take-append-d
 use Rattle.bgp_prefix.specs.Shown.{ShownRecord}
 use Rattle.bgp_prefix.specs.declared.session.Session.{Session}
 use Rattle.mrt.specs.Layout.{Header, header_in, header_of, IsRecord}
-use Rattle.mrt.specs.Rules.{Rule, Judgement, End, Skipped, SkippedSession, Refused, OfSession, judgement_of, Holds, FirstSays, place_of, IsCut, IsJudged}
+use Rattle.mrt.specs.Rules.{Rule, Judgement, End, Skipped, SkippedSession, SkippedRefresh, Refused, OfSession, judgement_of, Holds, FirstSays, place_of, IsCut, IsJudged}
 use Rattle.mrt.specs.Rules as r
-use Rattle.mrt.specs.Capture.{Piece, Other, OtherEnds, Shown, octets_of, judgement_of_piece, IsPiece, ArePieces, last_after, last_of, joined, records_of, IsStop}
+use Rattle.mrt.specs.Capture.{Piece, Other, OtherEnds, PassedOver, Shown, octets_of, judgement_of_piece, IsPiece, ArePieces, last_after, last_of, joined, records_of, IsStop}
 use Rattle.mrt.specs.Capture.{Spells, IsFirstFault}
 use Rattle.mrt.specs.declared.fault.FaultKind.{FaultKind}
 use Rattle.mrt.specs.CaptureLaws.{NeverNone}
@@ -23,7 +23,7 @@ no_first H (rule ∷ later) none last =
 abbrev front_rules : List Rule
 front_rules =
     r.Nothing ∷ r.CutHeader ∷ r.OtherTypeCut ∷ r.OtherType ∷ r.LongBody ∷ r.CutBody ∷ r.OtherSubtype ∷ r.NoFields ∷ r.OtherSession
-    ∷ r.WithAddPath ∷ r.NoStates ∷ r.BadStates ∷ r.CutMessage ∷ r.Refresh ∷ r.OtherLength ∷ r.Back ∷ []
+    ∷ r.WithAddPath ∷ r.NoStates ∷ r.BadStates ∷ r.CutMessage ∷ r.Refresh ∷ r.WholeRefresh ∷ r.OtherLength ∷ r.Back ∷ []
 
 some_judgement : (session : Session) (last : Option ℕ) (octets : List ℕ) → ((judgement : Judgement) → IsJudged session last octets judgement → ⊥) → ⊥
 some_judgement session last octets none = no_first (Holds session last (place_of octets)) front_rules none tt
@@ -121,6 +121,8 @@ module _ (session : Session) where
       some_piece fuel last octets (Other (take (12 + (header_of octets).count) octets)) next less none refl (λ e. e) says
   by_judgement fuel last octets SkippedSession next less none says =
       some_piece fuel last octets (OtherEnds (take (12 + (header_of octets).count) octets)) next less none refl (λ e. e) says
+  by_judgement fuel last octets SkippedRefresh next less none says =
+      some_piece fuel last octets (PassedOver (take (12 + (header_of octets).count) octets)) next less none refl (λ e. e) says
   by_judgement fuel last octets (Refused kind) next less none says = none [] octets (Refused kind) refl tt says tt
   by_judgement fuel last octets OfSession next less none says =
       some_piece fuel last octets (Shown (take (12 + (header_of octets).count) octets)) next less none refl (λ e. e) says
@@ -146,7 +148,7 @@ no_end H (rule ∷ later) none (inr there) = no_end H later none.1 there.1
 abbrev later_rules : List Rule
 later_rules =
     r.CutHeader ∷ r.OtherTypeCut ∷ r.OtherType ∷ r.LongBody ∷ r.CutBody ∷ r.OtherSubtype ∷ r.NoFields ∷ r.OtherSession
-    ∷ r.WithAddPath ∷ r.NoStates ∷ r.BadStates ∷ r.CutMessage ∷ r.Refresh ∷ r.OtherLength ∷ r.Back ∷ r.Allowed ∷ []
+    ∷ r.WithAddPath ∷ r.NoStates ∷ r.BadStates ∷ r.CutMessage ∷ r.Refresh ∷ r.WholeRefresh ∷ r.OtherLength ∷ r.Back ∷ r.Allowed ∷ []
 
 no_later_end : NoEnd later_rules
 no_later_end = (
@@ -173,7 +175,7 @@ no_later_end = (
                       λ e. absurd (cc e),
                       (
                         λ e. absurd (cc e),
-                        (λ e. absurd (cc e), (λ e. absurd (cc e), (λ e. absurd (cc e), (λ e. absurd (cc e), tt)))),
+                        (λ e. absurd (cc e), (λ e. absurd (cc e), (λ e. absurd (cc e), (λ e. absurd (cc e), (λ e. absurd (cc e), tt))))),
                       ),
                     ),
                   ),
@@ -217,6 +219,7 @@ module _ (session : Session) (octets : List ℕ) (no_spelling : (records : List 
       })
   by_stop pieces rest Skipped whole are judged stops = stops
   by_stop pieces rest SkippedSession whole are judged stops = stops
+  by_stop pieces rest SkippedRefresh whole are judged stops = stops
   by_stop pieces rest (Refused kind) whole are judged stops =
       no_fault (records_of pieces) kind (length (joined pieces)) (record {
         pieces = pieces;

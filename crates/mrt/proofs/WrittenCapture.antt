@@ -25,18 +25,18 @@ allowed_there session last (Changed second old new) there is = (is.0, is.1, ther
 allowed_there session last (Received second octets) there is = (is.0, there)
 allowed_there session last (Sent second octets) there is = (is.0, there)
 
-abbrev pieces_for : Session → ℕ → ℕ → List ShownRecord → List Piece
+abbrev pub pieces_for : Session → ℕ → ℕ → List ShownRecord → List Piece
 pieces_for session pa la records = map (λ shown. Shown (record_octets session pa la shown)) records
 
-octets_joined : (session : Session) (pa la : ℕ) (records : List ShownRecord) → capture_octets session pa la records ≡ joined (pieces_for session pa la records)
+pub octets_joined : (session : Session) (pa la : ℕ) (records : List ShownRecord) → capture_octets session pa la records ≡ joined (pieces_for session pa la records)
 octets_joined session pa la [] = refl
 octets_joined session pa la (shown ∷ later) = ap (λ (o : List ℕ). record_octets session pa la shown ++ o) (octets_joined session pa la later)
 
-record WrittenSoFar (session : Session) (pa la : ℕ) (last : Option ℕ) (records : List ShownRecord) : Type 0 where
-  pieces : ArePieces session last (pieces_for session pa la records)
-  shown : records ≡ records_of (pieces_for session pa la records)
+pub record WrittenSoFar (session : Session) (pa la : ℕ) (last : Option ℕ) (records : List ShownRecord) : Type 0 where
+  pub pieces : ArePieces session last (pieces_for session pa la records)
+  pub shown : records ≡ records_of (pieces_for session pa la records)
 
-are_read : (session : Session) (pa la : ℕ) (last : Option ℕ) (least : ℕ) (records : List ShownRecord) → NotBefore last least
+pub are_read : (session : Session) (pa la : ℕ) (last : Option ℕ) (least : ℕ) (records : List ShownRecord) → NotBefore last least
     → AllByRecursion (CanBeCaptured session) records → AreInOrder least records → WrittenSoFar session pa la last records
 are_read session pa la last least [] before can order = record { pieces = tt; shown = refl }
 are_read session pa la last least (shown ∷ later) before can order =

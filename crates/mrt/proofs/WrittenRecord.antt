@@ -8,16 +8,19 @@ use Rattle.bgp_prefix.specs.declared.family.Family.{Family}
 use Rattle.bgp_prefix.specs.declared.address.Address.{Address}
 use Rattle.bgp_prefix.specs.declared.address.Address.TheVariants.{V4, V6}
 use Rattle.bgp_prefix.specs.declared.session.Session.{Session}
+use Rattle.bgp_prefix.specs.declared.session.RouteRefresh.TheVariants as refreshes
+use Rattle.mrt.specs.declared.fault.FaultKind.TheVariants as kinds
 use Rattle.mrt.specs.declared.layout.Form.{Form}
 use Rattle.mrt.specs.declared.layout.Form.TheVariants as forms
-use Rattle.mrt.specs.Layout.{Header, header_in, body_of, address_len, second_in, kind_in, subtype_in, count_in, form_of, afi_at, afi_in, local_at, content_at, address_in, peer_in, local_in, content_in, LacksFields, old_state_in, new_state_in, shown_in, IsState}
-use Rattle.mrt.specs.Rules.{Holds, FirstSays, content_rules, OfSession, HasBadState, body_limit}
+use Rattle.mrt.specs.Layout.{Header, header_in, body_of, address_len, second_in, kind_in, subtype_in, count_in, form_of, afi_at, afi_in, local_at, content_at, address_in, peer_in, local_in, content_in, LacksFields, old_state_in, new_state_in, shown_in, IsState, IsBgp4mp}
+use Rattle.mrt.specs.Rules.{Judgement, Holds, FirstSays, IsJudged, content_rules, OfSession, Refused, HasBadState, body_limit}
 use Rattle.mrt.specs.Found.{place_with, IsJudgedBy}
-use Rattle.mrt.specs.Written.{subtype_for, afi_for, address_octets, content_for, header_octets, number_octets, body_octets, IsAllowed, AreStates}
+use Rattle.mrt.specs.Written.{subtype_for, afi_for, address_octets, content_for, header_octets, number_octets, body_octets, record_octets, IsAllowed, IsWritable, FitsFields, AreStates}
 use Rattle.mrt.specs.CaptureLaws.{ReadsBack}
+use Rattle.mrt.specs.RefreshLaws.{IsRefresh}
 use Rattle.mrt.proofs.WrittenBody.{length-body}
 use Rattle.mrt.proofs.BodyLimit.{is_bounded}
-use Rattle.mrt.proofs.Places.{header_front, body_front, whole_record, judged_piece}
+use Rattle.mrt.proofs.Places.{header_front, body_front, whole_record, judged_piece, judged_record}
 
 -- ---- the header
 
@@ -182,7 +185,7 @@ allowed session last (Changed second old new) body count fits ok =
         λ e. e.1 refl,
         inr (
           λ e. no_bad_state old new fits.0 fits.1 ok.0 ok.1 e.1,
-          inr (λ e. message e.0, inr (λ e. message e.0, inr (λ e. message e.0, inr (ok.2, inl (tt, refl))))),
+          inr (λ e. message e.0, inr (λ e. message e.0, inr (λ e. message e.0, inr (λ e. message e.0, inr (ok.2, inl (tt, refl)))))),
         ),
       ),
     )
@@ -194,7 +197,7 @@ allowed session last (Received second octets) body count fits ok =
         λ e. apart 2 (Some forms.Received) (Some forms.Change) refl (omega arith) e.0,
         inr (
           λ e. apart 2 (Some forms.Received) (Some forms.Change) refl (omega arith) e.0,
-          inr (λ e. absurd (omega (arith, e.1)), inr (λ e. ok.0.1 e.2 e.1, inr (λ e. ok.0.2 e.1, inr (ok.1, inl (tt, refl))))),
+          inr (λ e. absurd (omega (arith, e.1)), inr (λ e. ok.0.1 e.2 e.1, inr (λ e. ok.0.2 e.2 e.1, inr (λ e. ok.0.3 e.1, inr (ok.1, inl (tt, refl)))))),
         ),
       ),
     )
@@ -206,7 +209,7 @@ allowed session last (Sent second octets) body count fits ok =
         λ e. apart 3 (Some forms.Sent) (Some forms.Change) refl (omega arith) e.0,
         inr (
           λ e. apart 3 (Some forms.Sent) (Some forms.Change) refl (omega arith) e.0,
-          inr (λ e. absurd (omega (arith, e.1)), inr (λ e. ok.0.1 e.2 e.1, inr (λ e. ok.0.2 e.1, inr (ok.1, inl (tt, refl))))),
+          inr (λ e. absurd (omega (arith, e.1)), inr (λ e. ok.0.1 e.2 e.1, inr (λ e. ok.0.2 e.2 e.1, inr (λ e. ok.0.3 e.1, inr (ok.1, inl (tt, refl)))))),
         ),
       ),
     )
@@ -236,42 +239,112 @@ small (Sent second octets) = omega arith
 
 -- ---- the record
 
-judged_body : (session : Session) (last : Option ℕ) (shown : ShownRecord) (header : Header) (body : List ℕ) → Reads header body session.peer session.local (content_for shown)
+judged_body : (session : Session) (last : Option ℕ) (shown : ShownRecord) (judgement : Judgement) (header : Header) (body : List ℕ) → Reads header body session.peer session.local (content_for shown)
     → (form_of header.subtype ≡ None → ⊥)
-    → FirstSays (Holds session last (place_with header body (content_for shown))) content_rules OfSession → IsJudgedBy session last header body OfSession
-judged_body session last shown header body reads known says =
+    → FirstSays (Holds session last (place_with header body (content_for shown))) content_rules judgement → IsJudgedBy session last header body judgement
+judged_body session last shown judgement header body reads known says =
     inr (
       known,
       inr (
         reads.there,
         inr (
           λ other. elim other [ inl peer ↦ peer reads.peer_is | inr local ↦ local reads.local_is ],
-          subst (λ (o : List ℕ). FirstSays (Holds session last (place_with header body o)) content_rules OfSession) (sym reads.content_is) says,
+          subst (λ (o : List ℕ). FirstSays (Holds session last (place_with header body o)) content_rules judgement) (sym reads.content_is) says,
         ),
       ),
     )
 
-pub reads_back : ReadsBack
+-- the content of a record that is written is judged so
+abbrev pub SaysOfContent : Session → Option ℕ → ShownRecord → Judgement → Type 0
+SaysOfContent session last shown judgement =
+    (body : List ℕ) (count : ℕ) → FirstSays (Holds session last (place_with (header_for shown count) body (content_for shown))) content_rules judgement
+
+-- what a written record is: its header, its body and what is judged
+record IsWrittenAs (session : Session) (pa la : ℕ) (shown : ShownRecord) (front body : List ℕ) : Type 0 where
+  len : length front ≡ 12
+  header : header_in front ≡ header_for shown (length body)
+  count : length body ≡ (header_in front).count
+  kind : IsBgp4mp (header_in front).kind
+  short : (header_in front).count ≤ body_limit session
+  reads : Reads (header_for shown (length body)) body session.peer session.local (content_for shown)
+
+written_as : (session : Session) (pa la : ℕ) (shown : ShownRecord) → IsWritable session shown → FitsFields session shown
+    → let body = body_octets session pa la shown in
+    IsWrittenAs session pa la shown (header_octets (second_of shown) (subtype_for shown) (length body)) body
 unfolding body_octets
-reads_back session pa la shown last writable fits ok =
+written_as session pa la shown writable fits =
     let body = body_octets session pa la shown in
     let count = length body in
     let front = header_octets (second_of shown) (subtype_for shown) count in
     let short : count ≤ body_limit session = (let counted = length-body session pa la shown in omega (arith, writable.1)) in
-    let len = length-header (second_of shown) (subtype_for shown) count in
     let header : header_in front ≡ header_for shown count = header_written (second_of shown) (subtype_for shown) count fits.second (small shown) (let bounded = is_bounded session in omega arith) in
-    let reads = reads_addresses (header_for shown count) pa la session.peer session.local (content_for shown) (wide shown count) writable.0 fits.peer fits.local in
-    let judged = judged_body session last shown (header_for shown count) body reads (known_form shown) (allowed session last shown body count fits.states ok) in
-    let counted : length body ≡ (header_in front).count = ap (λ (h : Header). h.count) (sym header) in
-    let head = header_front front body len in
-    let rest = body_front front body len counted in (
+    record {
+      len = length-header (second_of shown) (subtype_for shown) count;
+      header = header;
+      count = ap (λ (h : Header). h.count) (sym header);
+      kind = inl (ap (λ (h : Header). h.kind) header);
+      short = subst (λ (h : Header). h.count ≤ body_limit session) (sym header) short;
+      reads = reads_addresses (header_for shown count) pa la session.peer session.local (content_for shown) (wide shown count) writable.0 fits.peer fits.local;
+    }
+
+written_body : (session : Session) (pa la : ℕ) (last : Option ℕ) (shown : ShownRecord) (judgement : Judgement) (front body : List ℕ) → IsWrittenAs session pa la shown front body
+    → SaysOfContent session last shown judgement → IsJudgedBy session last (header_in front) body judgement
+written_body session pa la last shown judgement front body is says =
+    subst (λ (h : Header). IsJudgedBy session last h body judgement) (sym is.header)
+    (judged_body session last shown judgement (header_for shown (length body)) body is.reads (known_form shown) (says body (length body)))
+
+-- a place where a record is written, whatever follows
+pub judged_written : (session : Session) (pa la : ℕ) (last : Option ℕ) (shown : ShownRecord) (judgement : Judgement) (more : List ℕ) → IsWritable session shown → FitsFields session shown
+    → SaysOfContent session last shown judgement → IsJudged session last (record_octets session pa la shown ++ more) judgement
+judged_written session pa la last shown judgement more writable fits says =
+    let body = body_octets session pa la shown in
+    let front = header_octets (second_of shown) (subtype_for shown) (length body) in
+    let is = written_as session pa la shown writable fits in
+    judged_record session last judgement front body more is.len is.kind is.short is.count (written_body session pa la last shown judgement front body is says)
+
+pub reads_back : ReadsBack
+reads_back session pa la shown last writable fits ok =
+    let body = body_octets session pa la shown in
+    let count = length body in
+    let front = header_octets (second_of shown) (subtype_for shown) count in
+    let is = written_as session pa la shown writable fits in
+    let head = header_front front body is.len in
+    let rest = body_front front body is.len is.count in (
       record {
-        whole = whole_record front body len counted;
-        judged = judged_piece session last OfSession front body len (inl (ap (λ (h : Header). h.kind) header)) (subst (λ (h : Header). h.count ≤ body_limit session) (sym header) short) counted
-            (subst (λ (h : Header). IsJudgedBy session last h body OfSession) (sym header) judged);
+        whole = whole_record front body is.len is.count;
+        judged = judged_piece session last OfSession front body is.len is.kind is.short is.count
+            (written_body session pa la last shown OfSession front body is (λ b n. allowed session last shown b n fits.states ok));
       },
-      ap (λ (h : Header). shown_in h (content_in h (body_of (front ++ body)))) (head ∙ header)
+      ap (λ (h : Header). shown_in h (content_in h (body_of (front ++ body)))) (head ∙ is.header)
           ∙ ap (λ (b : List ℕ). shown_in (header_for shown count) (content_in (header_for shown count) b)) rest
-          ∙ ap (λ (o : List ℕ). shown_in (header_for shown count) o) reads.content_is
+          ∙ ap (λ (o : List ℕ). shown_in (header_for shown count) o) is.reads.content_is
           ∙ shows shown count fits.states,
+    )
+
+-- ---- a ROUTE-REFRESH that is refused
+
+pub says_refused : (session : Session) (last : Option ℕ) (shown : ShownRecord) → session.refresh ≡ refreshes.Refused → IsRefresh shown
+    → SaysOfContent session last shown (Refused kinds.RouteRefresh)
+says_refused session last (Changed second old new) refused is body count = absurd is
+says_refused session last (Received second octets) refused is body count =
+    inr (
+      λ e. apart 2 (Some forms.Received) (Some forms.AddPath) refl (omega arith) e,
+      inr (
+        λ e. apart 2 (Some forms.Received) (Some forms.Change) refl (omega arith) e.0,
+        inr (
+          λ e. apart 2 (Some forms.Received) (Some forms.Change) refl (omega arith) e.0,
+          inr (λ e. absurd (omega (arith, e.1, is.0)), inl ((inl refl, is, refused), refl)),
+        ),
+      ),
+    )
+says_refused session last (Sent second octets) refused is body count =
+    inr (
+      λ e. apart 3 (Some forms.Sent) (Some forms.AddPath) refl (omega arith) e,
+      inr (
+        λ e. apart 3 (Some forms.Sent) (Some forms.Change) refl (omega arith) e.0,
+        inr (
+          λ e. apart 3 (Some forms.Sent) (Some forms.Change) refl (omega arith) e.0,
+          inr (λ e. absurd (omega (arith, e.1, is.0)), inl ((inr refl, is, refused), refl)),
+        ),
+      ),
     )

@@ -5,26 +5,29 @@ use Rattle.std.specs.List.{flat_map}
 use Rattle.bgp_prefix.specs.Shown.{ShownRecord, second_of}
 use Rattle.bgp_prefix.specs.declared.session.Session.{Session}
 use Rattle.mrt.specs.Layout.{IsRecord, header_of, body_of, content_in, peer_in, local_in, shown_in}
-use Rattle.mrt.specs.Rules.{Judgement, End, Skipped, SkippedSession, Refused, OfSession, IsJudged}
-use Rattle.mrt.specs.Rules.{IsCut, HasLongBody, place_of}
+use Rattle.mrt.specs.Rules.{Judgement, End, Skipped, SkippedSession, SkippedRefresh, Refused}
+use Rattle.mrt.specs.Rules.{OfSession, IsJudged, IsCut, HasLongBody, place_of}
 use Rattle.mrt.specs.declared.fault.FaultKind.{FaultKind}
 use Rattle.mrt.specs.declared.record.Endpoints.{Endpoints}
 
--- One record's octets: skipped for its type or subtype, skipped for its addresses, or the
--- session's.
+-- One record's octets: skipped for its type or subtype, skipped for its addresses, a ROUTE-REFRESH
+-- that is passed over, or the session's.
 pub data Piece : Type 0 where
   Other : List ℕ → Piece
   OtherEnds : List ℕ → Piece
+  PassedOver : List ℕ → Piece
   Shown : List ℕ → Piece
 
 abbrev pub octets_of : Piece → List ℕ
 octets_of (Other octets) = octets
 octets_of (OtherEnds octets) = octets
+octets_of (PassedOver octets) = octets
 octets_of (Shown octets) = octets
 
 abbrev pub judgement_of_piece : Piece → Judgement
 judgement_of_piece (Other octets) = Skipped
 judgement_of_piece (OtherEnds octets) = SkippedSession
+judgement_of_piece (PassedOver octets) = SkippedRefresh
 judgement_of_piece (Shown octets) = OfSession
 
 -- the addresses that a record names
@@ -47,6 +50,7 @@ pub record IsPiece (session : Session) (last : Option ℕ) (piece : Piece) : Typ
 abbrev pub last_after : Option ℕ → Piece → Option ℕ
 last_after last (Other octets) = last
 last_after last (OtherEnds octets) = last
+last_after last (PassedOver octets) = last
 last_after last (Shown octets) = Some (second_of (shown_of octets))
 
 abbrev pub last_of : Option ℕ → List Piece → Option ℕ
@@ -73,6 +77,7 @@ joined pieces = flat_map octets_of pieces
 abbrev pub shown_by : Piece → List ShownRecord
 shown_by (Other octets) = []
 shown_by (OtherEnds octets) = []
+shown_by (PassedOver octets) = []
 shown_by (Shown octets) = shown_of octets ∷ []
 
 abbrev pub records_of : List Piece → List ShownRecord
@@ -84,6 +89,7 @@ first_other (Some ends) pieces = Some ends
 first_other None [] = None
 first_other None (Other octets ∷ pieces) = first_other None pieces
 first_other None (OtherEnds octets ∷ pieces) = Some (ends_of octets)
+first_other None (PassedOver octets ∷ pieces) = first_other None pieces
 first_other None (Shown octets ∷ pieces) = first_other None pieces
 
 -- no piece stands where a place is judged so
@@ -91,6 +97,7 @@ abbrev pub IsStop : Judgement → Type 0
 IsStop End = Unit {0}
 IsStop Skipped = ⊥
 IsStop SkippedSession = ⊥
+IsStop SkippedRefresh = ⊥
 IsStop (Refused kind) = Unit {0}
 IsStop OfSession = ⊥
 

@@ -6,11 +6,16 @@ use Rattle.bgp_prefix.specs.declared.family.Family.TheVariants.{V4, V6}
 use Rattle.bgp_prefix.specs.declared.session.Session.{Session}
 use Rattle.mrt.specs.Layout.{Header, LacksFields, peer_in, local_in, content_at}
 use Rattle.mrt.specs.Layout.{content_in, shown_in}
+use Rattle.mrt.specs.Skipped.{judgement_for, IsSkipOf}
 use Rattle.mrt.specs.Rules as rules
-use Rattle.mrt.specs.Rules.{Place, Judgement, Holds, FirstSays, record_rules}
+use Rattle.mrt.specs.Rules.{Place, Judgement, Holds, FirstSays, content_rules, record_rules}
 use Rattle.mrt.specs.declared.layout.RecordHeader.{RecordHeader}
 use Rattle.mrt.specs.declared.layout.Fields.{Fields}
 use Rattle.mrt.specs.declared.fault.FaultKind.{FaultKind}
+use Rattle.mrt.specs.declared.judging.Content.{Content}
+use Rattle.mrt.specs.declared.judging.Content.TheVariants as contents
+use Rattle.mrt.specs.declared.judging.Message.{Message}
+use Rattle.mrt.specs.declared.judging.Message.TheVariants as messages
 use Rattle.mrt.specs.declared.judging.Shows.{Shows}
 use Rattle.mrt.specs.declared.judging.Shows.TheVariants as shows
 use Rattle.mrt.specs.declared.judging.Found.{Found}
@@ -49,11 +54,30 @@ abbrev pub judgement_by : {X : Type 0} → Result X FaultKind → Judgement
 judgement_by (Ok x) = rules.OfSession
 judgement_by (Err kind) = rules.Refused kind
 
+-- what follows from what a message is
+abbrev pub judgement_by_message : Message → Judgement
+judgement_by_message messages.Whole = rules.OfSession
+judgement_by_message messages.PassedOver = rules.SkippedRefresh
+judgement_by_message (messages.Refused kind) = rules.Refused kind
+
 -- what a record shows at this second, whose content this is
 abbrev pub shown_as : ℕ → Shows → List ℕ → ShownRecord
 shown_as second shows.Received content = Received second content
 shown_as second shows.Sent content = Sent second content
 shown_as second (shows.Changed old new) content = Changed second old new
+
+-- the content of a record of the session, with this header and body, was found to be this
+abbrev pub IsContentAs : Session → Option ℕ → Header → List ℕ → List ℕ → Content → Type 0
+IsContentAs session last header body content (contents.Shown shows) =
+    FirstSays (Holds session last (place_with header body content)) content_rules rules.OfSession
+    × (shown_as header.second shows content ≡ shown_in header content)
+IsContentAs session last header body content (contents.Skipped skip) =
+    FirstSays (Holds session last (place_with header body content)) content_rules
+    (judgement_for skip)
+    × IsSkipOf skip header body
+IsContentAs session last header body content (contents.Refused kind) =
+    FirstSays (Holds session last (place_with header body content)) content_rules
+    (rules.Refused kind)
 
 -- a found record of this header and body
 pub record IsFound (header : Header) (body : List ℕ) (found : Found) : Type 0 where
@@ -72,11 +96,8 @@ IsJudgedBy session last header body judgement =
 
 -- and so it was judged
 abbrev pub IsJudgedAs : Session → Option ℕ → Header → List ℕ → Judged → Type 0
-IsJudgedAs session last header body judged.Skipped =
-    IsJudgedBy session last header body rules.Skipped
-IsJudgedAs session last header body (judged.SkippedSession ends) =
-    IsJudgedBy session last header body rules.SkippedSession
-    × (ends.peer ≡ peer_in header body) × (ends.local ≡ local_in header body)
+IsJudgedAs session last header body (judged.Skipped skip) =
+    IsJudgedBy session last header body (judgement_for skip) × IsSkipOf skip header body
 IsJudgedAs session last header body (judged.Refused kind) =
     IsJudgedBy session last header body (rules.Refused kind)
 IsJudgedAs session last header body (judged.OfSession found) =

@@ -13,6 +13,7 @@ pub mod Layout
 pub mod Fault
 pub mod Rules
 pub mod Capture
+pub mod Skipped
 pub mod Found
 pub mod Passing
 pub mod Reading
@@ -21,3 +22,4 @@ pub mod Progress
 pub mod ReadBy
 pub mod Written
 pub mod CaptureLaws
+pub mod RefreshLaws

@@ -5,11 +5,14 @@ use Rattle.bgp_prefix.specs.Shown.{ShownRecord}
 use Rattle.bgp_prefix.specs.declared.session.Session.{Session}
 use Rattle.mrt.specs.Found.{shown_as}
 use Rattle.mrt.specs.Reader.{ReaderState, Answers, Ends, Fails, device_count}
+use Rattle.mrt.specs.Skipped.{one_more}
 use Rattle.mrt.specs.declared.record.Endpoints.{Endpoints}
 use Rattle.mrt.specs.declared.fault.CaptureFault.{CaptureFault}
 use Rattle.mrt.specs.declared.fault.FaultKind.{FaultKind}
 use Rattle.mrt.specs.declared.judging.Found.{Found}
 use Rattle.mrt.specs.declared.progress.Progress.{Progress}
+use Rattle.mrt.specs.declared.skipped.Skip.{Skip}
+use Rattle.mrt.specs.declared.skipped.Skip.TheVariants as skips
 
 -- how far it is
 abbrev pub state_of : Progress → ReaderState
@@ -20,6 +23,7 @@ state_of progress = record {
   is_ended = progress.is_ended;
   fault = progress.fault;
   other = progress.other;
+  skipped = progress.skipped;
 }
 
 -- the first of what was seen before and what is seen now
@@ -27,13 +31,19 @@ abbrev pub first_seen : Option Endpoints → Endpoints → Option Endpoints
 first_seen (Some first) ends = Some first
 first_seen None ends = Some ends
 
--- behind a record of so many octets that is skipped, for its addresses or otherwise
-abbrev pub after_skipped : ReaderState → ℕ → ReaderState
-after_skipped state count = record state { passed = state.passed + count }
+abbrev pub first_after : Option Endpoints → Skip → Option Endpoints
+first_after first skips.OtherKind = first
+first_after first (skips.OtherSession ends) = first_seen first ends
+first_after first skips.RefreshReceived = first
+first_after first skips.RefreshSent = first
 
-abbrev pub after_other : ReaderState → Endpoints → ℕ → ReaderState
-after_other state ends count =
-    record state { passed = state.passed + count; other = first_seen state.other ends }
+-- after a record of so many octets that is skipped
+abbrev pub after_skipped : ReaderState → Skip → ℕ → ReaderState
+after_skipped state skip count = record state {
+  passed = state.passed + count;
+  other = first_after state.other skip;
+  skipped = one_more state.skipped skip;
+}
 
 -- behind one of the session
 abbrev pub after_record : ReaderState → ℕ → ℕ → ReaderState

@@ -8,11 +8,13 @@ use Rattle.bgp_prefix.specs.declared.session.Session.{Session}
 use Rattle.mrt.specs.Capture.{Piece, Shown, ArePieces, IsBegun, last_of, joined, records_of}
 use Rattle.mrt.specs.Capture.{first_other}
 use Rattle.mrt.specs.Capture as capture
+use Rattle.mrt.specs.Skipped.{skipped_in, none_skipped, both_skipped}
 use Rattle.mrt.specs.Fault.{fault_number}
 use Rattle.mrt.specs.Reading.{IsRefused}
 use Rattle.mrt.specs.declared.record.Record.{Record}
 use Rattle.mrt.specs.declared.record.Record.TheVariants as records
 use Rattle.mrt.specs.declared.record.Endpoints.{Endpoints}
+use Rattle.mrt.specs.declared.skipped.SkippedRecords.{SkippedRecords}
 use Rattle.mrt.specs.declared.fault.CaptureFault.{CaptureFault}
 use Rattle.mrt.specs.declared.fault.FaultKind.{FaultKind}
 use Rattle.mrt.specs.declared.fault.FaultKind.TheVariants as kinds
@@ -25,7 +27,8 @@ shown_of (records.Change second old new) = Changed second old new
 
 -- How a reader stands: how many octets the records have that it answered or skipped; the second of
 -- the session's last record; where what it last answered begins; whether it told the end; the fault
--- that it found; the addresses of the first record that it skipped for its addresses.
+-- that it found; the addresses of the first record that it skipped for its addresses; how many it
+-- skipped.
 pub record ReaderState : Type 0 where
   pub passed : ℕ
   pub last : Option ℕ
@@ -33,11 +36,19 @@ pub record ReaderState : Type 0 where
   pub is_ended : Bool
   pub fault : Option CaptureFault
   pub other : Option Endpoints
+  pub skipped : SkippedRecords
 
 -- one that has read nothing
 abbrev pub fresh_reader : ReaderState
-fresh_reader =
-    record { passed = 0; last = None; place = 0; is_ended = false; fault = None; other = None }
+fresh_reader = record {
+  passed = 0;
+  last = None;
+  place = 0;
+  is_ended = false;
+  fault = None;
+  other = None;
+  skipped = none_skipped;
+}
 
 -- A reader's buffer, of this length, has room for each body that is read of any session, unless the
 -- reader has read nothing or found a fault.
@@ -50,6 +61,7 @@ after_pieces state pieces = record state {
   passed = state.passed + length (joined pieces);
   last = last_of state.last pieces;
   other = first_other state.other pieces;
+  skipped = both_skipped state.skipped (skipped_in pieces);
 }
 
 -- one that answers the end, a fault, or the record behind what it had passed

@@ -4,7 +4,8 @@ use Rattle.std.specs.Prelude.{Option}
 use Rattle.bgp_prefix.specs.declared.session.Session.{Session}
 use Rattle.mrt.specs.Layout.{header_of, body_of, content_in, content_at}
 use Rattle.mrt.specs.Rules.{Refused, IsJudged}
-use Rattle.mrt.specs.Capture.{Other, OtherEnds, Shown, IsPiece, ends_of, shown_of}
+use Rattle.mrt.specs.Capture.{Shown, IsPiece, shown_of}
+use Rattle.mrt.specs.Skipped.{piece_for, IsSkipOf}
 use Rattle.mrt.specs.Found.{shown_as}
 use Rattle.mrt.specs.declared.fault.FaultKind.{FaultKind}
 use Rattle.mrt.specs.declared.judging.Found.{Found}
@@ -32,10 +33,9 @@ pub record IsFoundIn (octets buffer : List ℕ) (found : Found) : Type 0 where
 -- these octets were read, and so many of a skipped record
 abbrev pub IsRead : Session → Option ℕ → List ℕ → Bool → List ℕ → Read → Type 0
 IsRead session last octets ended buffer reads.End = (octets ≡ []) × IsTrue ended
-IsRead session last octets ended buffer (reads.Skipped count) =
-    IsPiece session last (Other octets) × (length octets ≡ count)
-IsRead session last octets ended buffer (reads.SkippedSession ends count) =
-    IsPiece session last (OtherEnds octets) × (ends ≡ ends_of octets) × (length octets ≡ count)
+IsRead session last octets ended buffer (reads.Skipped skip count) =
+    IsPiece session last (piece_for skip octets)
+    × IsSkipOf skip (header_of octets) (body_of octets) × (length octets ≡ count)
 IsRead session last octets ended buffer (reads.Refused kind) =
     IsRefused session last octets ended kind
 IsRead session last octets ended buffer (reads.OfSession found) =

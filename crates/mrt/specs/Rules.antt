@@ -2,10 +2,11 @@
 -- the first that holds decides (RFC 6396, 2 and 4.4; the order and the limit are this project's
 -- profile).
 use Rattle.std.specs.Prelude.{◌≡◌, ◌≢◌, ◌<◌, ◌≤◌, ◌+◌, ◌⊎◌, ℕ, List, [], ◌∷◌, length}
-use Rattle.std.specs.Prelude.{Option, None, Some, IsTrue, if◌then◌else◌}
+use Rattle.std.specs.Prelude.{Option, None, Some, if◌then◌else◌}
 use Rattle.bgp_prefix.specs.declared.session.Session.{Session}
+use Rattle.bgp_prefix.specs.declared.session.RouteRefresh.TheVariants as refreshes
 use Rattle.bgp_wire.specs.declared.header.Limit.{Limit}
-use Rattle.bgp_wire.specs.Header.{IsSound, limit_with}
+use Rattle.bgp_wire.specs.Header.{IsSound, IsSynchronized, limit_with}
 use Rattle.bgp_wire.specs.Header as wire
 use Rattle.mrt.specs.Layout.{Header, header_of, body_of, IsBgp4mp, form_of, LacksFields}
 use Rattle.mrt.specs.Layout.{peer_in, local_in, content_in, old_state_in, new_state_in, IsState}
@@ -69,6 +70,16 @@ HasBadState content =
 abbrev pub IsRouteRefresh : List ℕ → Type 0
 IsRouteRefresh content = (19 ≤ length content) × (wire.type_of (wire.header_of content) ≡ 5)
 
+-- A message is a whole ROUTE-REFRESH: that its type is none of the four is the one fault of its
+-- header, as its marker is all 255 and its Length 19 to 4096, by either limit; and its Length is the
+-- count of the octets.
+pub record IsWholeRefresh (content : List ℕ) : Type 0 where
+  pub least : 19 ≤ length content
+  pub greatest : length content ≤ 4096
+  pub marker : IsSynchronized (wire.header_of content)
+  pub count : wire.length_of (wire.header_of content) ≡ length content
+  pub kind : wire.type_of (wire.header_of content) ≡ 5
+
 -- a message's header is sound by this limit, and its Length isn't the count of the octets
 abbrev pub HasOtherLength : Limit → List ℕ → Type 0
 HasOtherLength limit content =
@@ -97,6 +108,7 @@ pub data Rule : Type 0 where
   BadStates : Rule
   CutMessage : Rule
   Refresh : Rule
+  WholeRefresh : Rule
   OtherLength : Rule
   Back : Rule
   Allowed : Rule
@@ -117,19 +129,22 @@ Holds session last place NoStates = IsOfForm forms.Change place × (length place
 Holds session last place BadStates = IsOfForm forms.Change place × HasBadState place.content
 Holds session last place CutMessage = IsMessage place × (length place.content < 19)
 Holds session last place Refresh =
-    IsMessage place × IsRouteRefresh place.content × IsTrue session.refresh
+    IsMessage place × IsRouteRefresh place.content × (session.refresh ≡ refreshes.Refused)
+Holds session last place WholeRefresh =
+    IsMessage place × IsWholeRefresh place.content × (session.refresh ≡ refreshes.PassedOver)
 -- The limit is that of messages which the local system receives, also for those that it sends.
 Holds session last place OtherLength =
     IsMessage place × HasOtherLength (limit_with session.extended) place.content
 Holds session last place Back = IsBefore place.header.second last
 Holds session last place Allowed = Unit {0}
 
--- what a place is judged to be: the end; a record that is skipped, for its type or subtype or for
--- its addresses; a refusal of the capture; a record of the session
+-- what a place is judged to be: the end; a record that is skipped, for its type or subtype, for its
+-- addresses or as a ROUTE-REFRESH; a refusal of the capture; a record of the session
 pub data Judgement : Type 0 where
   End : Judgement
   Skipped : Judgement
   SkippedSession : Judgement
+  SkippedRefresh : Judgement
   Refused : FaultKind → Judgement
   OfSession : Judgement
 
@@ -149,6 +164,7 @@ judgement_of NoStates = Refused kinds.Body
 judgement_of BadStates = Refused kinds.BadState
 judgement_of CutMessage = Refused kinds.NotAMessage
 judgement_of Refresh = Refused kinds.RouteRefresh
+judgement_of WholeRefresh = SkippedRefresh
 judgement_of OtherLength = Refused kinds.NotAMessage
 judgement_of Back = Refused kinds.TimeBack
 judgement_of Allowed = OfSession
@@ -156,7 +172,8 @@ judgement_of Allowed = OfSession
 -- the rules on the contents of the session's records, in their order
 abbrev pub content_rules : List Rule
 content_rules =
-    WithAddPath ∷ NoStates ∷ BadStates ∷ CutMessage ∷ Refresh ∷ OtherLength ∷ Back ∷ Allowed ∷ []
+    WithAddPath ∷ NoStates ∷ BadStates ∷ CutMessage ∷ Refresh ∷ WholeRefresh ∷ OtherLength ∷ Back
+    ∷ Allowed ∷ []
 
 -- those on whole records
 abbrev pub record_rules : List Rule

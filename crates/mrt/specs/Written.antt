@@ -1,7 +1,7 @@
 -- The octets of a record as it is written (RFC 6396, 2 and 4.4): of type BGP4MP, of the subtypes
 -- STATE_CHANGE_AS4, MESSAGE_AS4 and MESSAGE_AS4_LOCAL, with interface index 0. And those of records
 -- one after another.
-use Rattle.std.specs.Prelude.{◌≡◌, ◌<◌, ◌≤◌, ◌^◌, ◌+◌, ◌++◌, ℕ, List, [], ◌∷◌, length, IsTrue}
+use Rattle.std.specs.Prelude.{◌≡◌, ◌<◌, ◌≤◌, ◌^◌, ◌+◌, ◌++◌, ℕ, List, [], ◌∷◌, length}
 use Rattle.std.specs.Prelude.{Option, None}
 use Rattle.std.specs.List.{flat_map}
 use Rattle.byteorder.specs.Endian.{big_bytes}
@@ -10,9 +10,10 @@ use Rattle.bgp_prefix.specs.Address.{family_of, IsAddress}
 use Rattle.bgp_prefix.specs.declared.address.Address.{Address}
 use Rattle.bgp_prefix.specs.declared.address.Address.TheVariants.{V4, V6}
 use Rattle.bgp_prefix.specs.declared.session.Session.{Session}
+use Rattle.bgp_prefix.specs.declared.session.RouteRefresh.TheVariants as refreshes
 use Rattle.mrt.specs.Layout.{IsState}
 use Rattle.bgp_wire.specs.Header.{limit_with}
-use Rattle.mrt.specs.Rules.{IsRouteRefresh, HasOtherLength, IsBefore, body_limit}
+use Rattle.mrt.specs.Rules.{IsRouteRefresh, IsWholeRefresh, HasOtherLength, IsBefore, body_limit}
 
 -- its subtype
 abbrev pub subtype_for : ShownRecord → ℕ
@@ -60,11 +61,12 @@ record_octets session peer_as local_as shown =
     header_octets (second_of shown) (subtype_for shown) (length body) ++ body
 
 -- A capture of the session may have the record behind one of the second `last`: its states are
--- known, or its message is whole where its header is sound, and no ROUTE-REFRESH where the session
--- may have one; and its time doesn't go back.
+-- known, or its message is whole where its header is sound, and no ROUTE-REFRESH that is refused or
+-- passed over; and its time doesn't go back.
 abbrev pub IsMessageAllowed : Session → List ℕ → Type 0
 IsMessageAllowed session octets =
-    (19 ≤ length octets) × (IsTrue session.refresh → ¬ IsRouteRefresh octets)
+    (19 ≤ length octets) × (session.refresh ≡ refreshes.Refused → ¬ IsRouteRefresh octets)
+    × (session.refresh ≡ refreshes.PassedOver → ¬ IsWholeRefresh octets)
     × (¬ HasOtherLength (limit_with session.extended) octets)
 
 abbrev pub IsAllowed : Session → Option ℕ → ShownRecord → Type 0

@@ -11,8 +11,9 @@ pub enum FaultKind {
     /// The capture ends inside a record.
     #[error("the capture ends inside a record")]
     Truncated = 1,
-    /// A record's Length is above 8192, or above 65583 where the session's messages may be extended
-    /// ones (RFC 8654).
+    /// A record's Length is above [`PLAIN_BODY`](crate::PLAIN_BODY), or above
+    /// [`LONGEST_BODY`](crate::LONGEST_BODY) where the session's messages may be extended ones
+    /// (RFC 8654).
     #[error("a record is longer than any that is read")]
     TooLong = 2,
     /// A record's fields run over its body, its addresses are of no known family, or a change of
@@ -29,7 +30,7 @@ pub enum FaultKind {
     /// A record's second is below that of the session's record before.
     #[error("the time of a record is before that of the record before")]
     TimeBack = 6,
-    /// A message is a ROUTE-REFRESH, and the session may have one.
+    /// A message is a ROUTE-REFRESH, and the session may have one and doesn't pass it over.
     #[error("a message is a ROUTE-REFRESH")]
     RouteRefresh = 7,
     /// The record's subtype is one of ADD-PATH.

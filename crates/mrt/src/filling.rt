@@ -9,7 +9,7 @@ use crate::source::Source;
 
 /// Fills the buffer from its front, unless the source ends or fails before. Answers how many octets
 /// it gave: fewer than there is room for only where it has ended. It asks for no more than that.
-pub(crate) fn fill<S: Source>(source: &mut S, buffer: &mut [u8]) -> Result<usize, Failed>
+pub fn fill<S: Source>(source: &mut S, buffer: &mut [u8]) -> Result<usize, Failed>
     requires { S.failures source.old < u64.MAX }
     ensures room { length buffer.new ≡ length buffer.old }
     ensures bound { IfOk result (λ count. count ≤ length buffer.new) }
@@ -32,15 +32,11 @@ pub(crate) fn fill<S: Source>(source: &mut S, buffer: &mut [u8]) -> Result<usize
 }
 
 /// The most octets that are passed over at once.
-pub(crate) const BLOCK: u32 = 4096;
+pub const BLOCK: u32 = 4096;
 
 /// Passes over so many octets, in pieces of at most [`BLOCK`], unless the source ends or fails
 /// before. Answers whether it passed over all.
-pub(crate) fn pass_over<S: Source>(
-    source: &mut S,
-    buffer: &mut [u8],
-    count: u32,
-) -> Result<bool, Failed>
+pub fn pass_over<S: Source>(source: &mut S, buffer: &mut [u8], count: u32) -> Result<bool, Failed>
     requires room { BLOCK ≤ length buffer.old }
     requires failures { S.failures source.old < u64.MAX }
     ensures room { length buffer.new ≡ length buffer.old }

@@ -4,47 +4,75 @@ ghost use Rattle.std.specs.Prelude.{◌≡◌, ◌≢◌, ◌↔◌, ◌⊎◌, 
 ghost use Rattle.std.specs.Prelude.{IfSome, IfNone, IfOk};
 ghost use Rattle.bgp_wire.specs.Header.{IsSound, length_of, limit_with};
 ghost use Rattle.mrt.specs.Layout.{IsState, form_of, shown_in};
-ghost use Rattle.mrt.specs.Rules.{HasBadState, IsRouteRefresh, HasOtherLength, IsBefore};
+ghost use Rattle.mrt.specs.Rules.{HasBadState, HasOtherLength, IsBefore};
 ghost use Rattle.mrt.specs.Rules.{Holds, FirstSays, content_rules};
-ghost use Rattle.mrt.specs.Found.{header_value, place_with, judgement_by, shown_as, IsJudgedAs};
+ghost use Rattle.mrt.specs.Found.{header_value, place_with, judgement_by, judgement_by_message};
+ghost use Rattle.mrt.specs.Found.{shown_as, IsContentAs, IsJudgedAs};
 ghost use Rattle.mrt.specs.declared.layout.Form.TheVariants.{Change, Received, Sent};
 
 use crate::fault::FaultKind;
 use crate::layout::{Form, RecordHeader, form_of, read_fields, read_new_state, read_old_state};
 use crate::record::Endpoints;
-use bgp_prefix::{Seconds, Session};
+use crate::refresh::{is_route_refresh, is_whole_refresh};
+use crate::skipped::Skip;
+use bgp_prefix::{RouteRefresh, Seconds, Session};
 use bgp_wire::{HEADER_LEN, HeaderVerdict, Limit, check_header, header_at};
 
 /// What a record of the session shows besides its second.
-#[derive(Clone, Copy)]
-pub(crate) enum Shows {
+#[derive(Clone, Copy, Debug)]
+pub enum Shows {
+    /// A message that the local system received.
     Received,
+    /// A message that it sent.
     Sent,
+    /// A change of its state: the old state and the new one.
     Changed(u16, u16),
 }
 
 /// A record of the session, whose body somebody holds.
-#[derive(Clone, Copy)]
-pub(crate) struct Found {
-    pub(crate) second: Seconds,
-    pub(crate) shows: Shows,
-    /// Where the content begins in the body.
-    pub(crate) content_at: usize,
+#[derive(Clone, Copy, Debug)]
+pub struct Found {
+    /// Its second.
+    pub second: Seconds,
+    /// What it shows.
+    pub shows: Shows,
+    /// Where the content begins in the body: the message, or the two states.
+    pub content_at: usize,
     /// How many octets the body has.
-    pub(crate) count: usize,
+    pub count: usize,
 }
 
 /// What a whole record is to the session.
-#[derive(Clone, Copy)]
-pub(crate) enum Judged {
-    /// Its subtype is unknown.
-    Skipped,
-    /// It is another session's.
-    SkippedSession(Endpoints),
+#[derive(Clone, Copy, Debug)]
+pub enum Judged {
+    /// It is skipped.
+    Skipped(Skip),
     /// The capture is refused for it.
     Refused(FaultKind),
     /// It is the session's.
     OfSession(Found),
+}
+
+/// What a message of the session is.
+#[derive(Clone, Copy)]
+enum Message {
+    /// A record of the session, whole where its header is sound.
+    Whole,
+    /// A ROUTE-REFRESH that is passed over.
+    PassedOver,
+    /// The capture is refused for it.
+    Refused(FaultKind),
+}
+
+/// What the content of a record with the session's addresses is.
+#[derive(Clone, Copy)]
+enum Content {
+    /// That of a record of the session.
+    Shown(Shows),
+    /// The record is skipped.
+    Skipped(Skip),
+    /// The capture is refused for it.
+    Refused(FaultKind),
 }
 
 fn is_state(state: u16) -> bool
@@ -61,17 +89,6 @@ fn has_bad_state(content: &[u8]) -> bool
         return false;
     }
     !is_state(read_old_state(content)) || !is_state(read_new_state(content))
-}
-
-/// Whether the message is a ROUTE-REFRESH.
-#[tactic(auto, unfolding(bgp_wire::specs::Header::type_of))]
-fn is_route_refresh(content: &[u8]) -> bool
-    ensures { IsTrue result ↔ IsRouteRefresh content.now }
-{
-    match header_at(content) {
-        Some(header) => header[18] == 5,
-        None => false,
-    }
 }
 
 /// The Length of a header, if the header is sound by the limit.
@@ -142,59 +159,64 @@ fn read_change(
     Ok(Shows::Changed(read_old_state(content), read_new_state(content)))
 }
 
-/// Refuses a message, unless the session may have it there.
-fn check_message(
+/// What a message of the session is, whose record before is of the second `last`.
+fn read_message(
     header: &RecordHeader,
     content: &[u8],
     session: &Session,
     last: Option<Seconds>,
-) -> Result<(), FaultKind>
+) -> Message
     requires { (form_of header.now.subtype ≡ Some Received)
         ⊎ (form_of header.now.subtype ≡ Some Sent) }
     ensures { (body : List ℕ) →
         FirstSays (Holds session.now last (place_with (header_value header.now) body content.now))
-        content_rules (judgement_by result) }
+        content_rules (judgement_by_message result) }
 {
     if content.len() < HEADER_LEN {
-        return Err(FaultKind::NotAMessage);
+        return Message::Refused(FaultKind::NotAMessage);
     }
-    if session.refresh && is_route_refresh(content) {
-        return Err(FaultKind::RouteRefresh);
+    if session.refresh == RouteRefresh::Refused && is_route_refresh(content) {
+        return Message::Refused(FaultKind::RouteRefresh);
+    }
+    if session.refresh == RouteRefresh::PassedOver && is_whole_refresh(content) {
+        return Message::PassedOver;
     }
     if is_no_whole_message(content, session) {
-        return Err(FaultKind::NotAMessage);
+        return Message::Refused(FaultKind::NotAMessage);
     }
     if is_before(header.second, last) {
-        return Err(FaultKind::TimeBack);
+        return Message::Refused(FaultKind::TimeBack);
     }
-    Ok(())
+    Message::Whole
 }
 
-/// What a record of the session shows, or why it is refused.
+/// What the content of a record is that has the session's addresses.
 fn read_content(
     form: Form,
     header: &RecordHeader,
     content: &[u8],
     session: &Session,
     last: Option<Seconds>,
-) -> Result<Shows, FaultKind>
+) -> Content
     requires { form_of header.now.subtype ≡ Some form }
-    ensures judged { (body : List ℕ) →
-        FirstSays (Holds session.now last (place_with (header_value header.now) body content.now))
-        content_rules (judgement_by result) }
-    ensures shown { IfOk result (λ shows. shown_as header.now.second shows content.now
-        ≡ shown_in (header_value header.now) content.now) }
+    ensures { (body : List ℕ) →
+        IsContentAs session.now last (header_value header.now) body content.now result }
 {
     match form {
-        Form::AddPath => Err(FaultKind::AddPath),
-        Form::Change => read_change(header, content, last),
-        Form::Received => match check_message(header, content, session, last) {
-            Ok(()) => Ok(Shows::Received),
-            Err(kind) => Err(kind),
+        Form::AddPath => Content::Refused(FaultKind::AddPath),
+        Form::Change => match read_change(header, content, last) {
+            Ok(shows) => Content::Shown(shows),
+            Err(kind) => Content::Refused(kind),
         },
-        Form::Sent => match check_message(header, content, session, last) {
-            Ok(()) => Ok(Shows::Sent),
-            Err(kind) => Err(kind),
+        Form::Received => match read_message(header, content, session, last) {
+            Message::Whole => Content::Shown(Shows::Received),
+            Message::PassedOver => Content::Skipped(Skip::RefreshReceived),
+            Message::Refused(kind) => Content::Refused(kind),
+        },
+        Form::Sent => match read_message(header, content, session, last) {
+            Message::Whole => Content::Shown(Shows::Sent),
+            Message::PassedOver => Content::Skipped(Skip::RefreshSent),
+            Message::Refused(kind) => Content::Refused(kind),
         },
     }
 }
@@ -209,31 +231,27 @@ fn is_of_other_session(ends: &Endpoints, session: &Session) -> bool
 
 /// What a whole record of type BGP4MP or BGP4MP_ET is to the session, whose record before is of the
 /// second `last`.
-pub(crate) fn judge(
-    header: &RecordHeader,
-    body: &[u8],
-    session: &Session,
-    last: Option<Seconds>,
-) -> Judged
+pub fn judge(header: &RecordHeader, body: &[u8], session: &Session, last: Option<Seconds>) -> Judged
     ensures { IsJudgedAs session.now last (header_value header.now) body.now result }
 {
     let Some(form) = form_of(header.subtype) else {
-        return Judged::Skipped;
+        return Judged::Skipped(Skip::OtherKind);
     };
     let Some(fields) = read_fields(header, body) else {
         return Judged::Refused(FaultKind::Body);
     };
     if is_of_other_session(&fields.ends, session) {
-        return Judged::SkippedSession(fields.ends);
+        return Judged::Skipped(Skip::OtherSession(fields.ends));
     }
     let content = body.split_at(fields.content_at).1;
     match read_content(form, header, content, session, last) {
-        Ok(shows) => Judged::OfSession(Found {
+        Content::Shown(shows) => Judged::OfSession(Found {
             second: header.second,
             shows,
             content_at: fields.content_at,
             count: body.len(),
         }),
-        Err(kind) => Judged::Refused(kind),
+        Content::Skipped(skip) => Judged::Skipped(skip),
+        Content::Refused(kind) => Judged::Refused(kind),
     }
 }

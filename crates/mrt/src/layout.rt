@@ -15,34 +15,44 @@ use bgp_prefix::{Address, Family, Seconds, Session};
 use byteorder::{BigEndian, ByteOrder};
 
 /// The octets of a record's header.
-pub(crate) const HEADER: usize = 12;
+pub const HEADER: usize = 12;
 
 /// The most octets of a body that is read, of any session: 48 before a message of 65535.
-pub(crate) const LONGEST_BODY: usize = 65583;
+pub const LONGEST_BODY: usize = 65583;
 
-/// The most octets of a body that is read of this session: more than 8192 only where its messages
-/// may be extended ones (RFC 8654).
+/// The most octets of a body that is read of a session whose messages have at most 4096.
+pub const PLAIN_BODY: usize = 8192;
+
+/// The most octets of a body that is read of this session: more than [`PLAIN_BODY`] only where its
+/// messages may be extended ones (RFC 8654).
 #[tactic(auto, unfolding(crate::specs::Rules::body_limit))]
-pub(crate) fn body_limit(session: &Session) -> usize
+pub fn body_limit(session: &Session) -> usize
     ensures limit { result ≡ body_limit session.now }
-    ensures least { 8192 ≤ result }
+    ensures least { PLAIN_BODY ≤ result }
     ensures most { result ≤ LONGEST_BODY }
 {
-    if session.extended { LONGEST_BODY } else { 8192 }
+    if session.extended {
+        LONGEST_BODY
+    } else {
+        PLAIN_BODY
+    }
 }
 
 /// The header of a record (RFC 6396, 2).
-#[derive(Clone, Copy)]
-pub(crate) struct RecordHeader {
-    pub(crate) second: Seconds,
-    pub(crate) kind: u16,
-    pub(crate) subtype: u16,
+#[derive(Clone, Copy, Debug)]
+pub struct RecordHeader {
+    /// The second at which the record was made.
+    pub second: Seconds,
+    /// Its type.
+    pub kind: u16,
+    /// Its subtype.
+    pub subtype: u16,
     /// How many octets its body has.
-    pub(crate) count: u32,
+    pub count: u32,
 }
 
 /// Reads a record's header.
-pub(crate) fn read_header(octets: &[u8; HEADER]) -> RecordHeader
+pub fn read_header(octets: &[u8; HEADER]) -> RecordHeader
     ensures { header_value result ≡ header_in octets.now }
 {
     RecordHeader {
@@ -82,15 +92,15 @@ fn read_count(octets: &[u8; HEADER]) -> u32
 }
 
 /// Whether the type is BGP4MP or BGP4MP_ET.
-pub(crate) fn is_bgp4mp(kind: u16) -> bool
+pub fn is_bgp4mp(kind: u16) -> bool
     ensures { IsTrue result ↔ IsBgp4mp kind }
 {
     kind == 16 || kind == 17
 }
 
 /// What a record is, by its subtype.
-#[derive(Clone, Copy)]
-pub(crate) enum Form {
+#[derive(Clone, Copy, Debug)]
+pub enum Form {
     /// A change of state.
     Change,
     /// A message that was received.
@@ -102,7 +112,7 @@ pub(crate) enum Form {
 }
 
 /// What a record of this subtype is, if it is one of the known ones.
-pub(crate) fn form_of(subtype: u16) -> Option<Form>
+pub fn form_of(subtype: u16) -> Option<Form>
     ensures { result ≡ form_of subtype }
 {
     match subtype {
@@ -176,15 +186,16 @@ fn read_address(family: Family, octets: &[u8]) -> Address
 }
 
 /// What stands in a body before its content.
-#[derive(Clone, Copy)]
-pub(crate) struct Fields {
-    pub(crate) ends: Endpoints,
+#[derive(Clone, Copy, Debug)]
+pub struct Fields {
+    /// The addresses.
+    pub ends: Endpoints,
     /// Where the content begins.
-    pub(crate) content_at: usize,
+    pub content_at: usize,
 }
 
 /// Reads the fields of a body, if it has them.
-pub(crate) fn read_fields(header: &RecordHeader, body: &[u8]) -> Option<Fields>
+pub fn read_fields(header: &RecordHeader, body: &[u8]) -> Option<Fields>
     ensures some { IfSome result (AreFields (header_value header.now) body.now) }
     ensures none { IfNone result (LacksFields (header_value header.now) body.now) }
 {

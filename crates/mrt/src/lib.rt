@@ -25,20 +25,31 @@ mod progress;
 mod reader;
 mod reading;
 mod record;
+mod refresh;
 mod sink;
+mod skipped;
 mod source;
 mod writer;
 
 pub use failure::Failed;
 pub use fault::{CaptureFault, FaultKind};
+pub use filling::{BLOCK, fill, pass_over};
+pub use judging::{Found, Judged, Shows, judge};
 pub use laws::{
-    each_capture_has_one_reading, each_record_is_allowed, written_captures_are_read,
-    written_records_are_read,
+    each_capture_has_one_reading, each_record_is_allowed, nothing_is_passed_over_unasked,
+    passed_over_records_are_taken_out, the_first_route_refresh_is_refused,
+    written_captures_are_read, written_records_are_read,
+};
+pub use layout::{
+    Fields, Form, HEADER, LONGEST_BODY, PLAIN_BODY, RecordHeader, body_limit, form_of, is_bgp4mp,
+    read_fields, read_header,
 };
 pub use mem_sink::{MemSink, SinkUpset};
 pub use mem_source::{MemSource, SourceUpset};
 pub use reader::Reader;
 pub use record::{Endpoints, Record};
+pub use refresh::{is_route_refresh, is_whole_refresh};
 pub use sink::{FromWrite, Sink, write_all};
+pub use skipped::{Skip, SkippedRecords};
 pub use source::{FromRead, Source};
 pub use writer::{WriteFault, is_writable, write_record};

@@ -1,11 +1,10 @@
 //! How far a reader of a capture is.
 
-ghost use Rattle.std.specs.Prelude.{◌≡◌, ◌<◌, ◌+◌, ◌^◌};
-ghost use Rattle.mrt.specs.Reader.{at_end, at_fault, fresh_reader};
-ghost use Rattle.mrt.specs.Progress.{state_of, after_skipped, after_other, after_record, fault_at};
+ghost use Rattle.std.specs.Prelude.{◌≡◌, ◌<◌, ◌≤◌, ◌+◌, ◌^◌};
 
 use crate::fault::{CaptureFault, FaultKind};
 use crate::record::Endpoints;
+use crate::skipped::{Skip, SkippedRecords};
 use bgp_prefix::Seconds;
 
 /// How far a reader is.
@@ -23,9 +22,18 @@ pub(crate) struct Progress {
     pub(crate) fault: Option<CaptureFault>,
     /// The addresses of the first record that it skipped for its addresses.
     pub(crate) other: Option<Endpoints>,
+    /// How many records it skipped.
+    pub(crate) skipped: SkippedRecords,
+
+    // Each has an octet at least.
+    ghost bounded: { skipped.other_kinds + skipped.other_sessions + skipped.received_refreshes
+        + skipped.sent_refreshes ≤ passed },
 }
 
 impl Progress {
+    ghost use Rattle.mrt.specs.Reader.{at_end, at_fault, fresh_reader};
+    ghost use Rattle.mrt.specs.Progress.{state_of, after_skipped, after_record, fault_at};
+
     pub(crate) fn new() -> Progress
         ensures { state_of result ≡ fresh_reader }
     {
@@ -36,24 +44,21 @@ impl Progress {
             is_ended: false,
             fault: None,
             other: None,
+            skipped: SkippedRecords::none(),
         }
     }
 
-    /// Passes a record of so many octets.
-    pub(crate) fn skip(&mut self, count: u64)
-        requires { self.old.passed + count < 2 ^ 64 }
-        ensures { state_of self.new ≡ after_skipped (state_of self.old) count }
+    /// Passes a record of so many octets that is skipped.
+    pub(crate) fn skip(&mut self, skip: Skip, count: u64)
+        requires some { 0 < count }
+        requires room { self.old.passed + count < 2 ^ 64 }
+        ensures { state_of self.new ≡ after_skipped (state_of self.old) skip count }
     {
         self.passed += count;
-    }
-
-    /// Passes a record of another session.
-    pub(crate) fn skip_session(&mut self, ends: Endpoints, count: u64)
-        requires { self.old.passed + count < 2 ^ 64 }
-        ensures { state_of self.new ≡ after_other (state_of self.old) ends count }
-    {
-        self.passed += count;
-        self.other = self.other.or(Some(ends));
+        self.skipped.count(skip);
+        if let Skip::OtherSession(ends) = skip {
+            self.other = self.other.or(Some(ends));
+        }
     }
 
     /// Passes a record of the session, to answer it.

@@ -13,6 +13,7 @@ use crate::layout::{HEADER, LONGEST_BODY};
 use crate::progress::Progress;
 use crate::reading::{Read, read_record};
 use crate::record::{Endpoints, Record};
+use crate::skipped::SkippedRecords;
 use crate::source::Source;
 use bgp_prefix::Session;
 use std::alloc::{AllocError, Allocator, Global};
@@ -40,8 +41,7 @@ fn advance<S: Source>(
                 progress.end();
                 return Ok(None);
             }
-            Ok(Read::Skipped(count)) => progress.skip(count),
-            Ok(Read::SkippedSession(ends, count)) => progress.skip_session(ends, count),
+            Ok(Read::Skipped(skip, count)) => progress.skip(skip, count),
             Ok(Read::Refused(kind)) => return Err(progress.refuse(kind)),
             Ok(Read::OfSession(found)) => {
                 progress.answer(found.second, (HEADER + found.count) as u64);
@@ -134,6 +134,13 @@ impl<A: Allocator + Copy> Reader<A> {
         ensures { result ≡ self.now.other }
     {
         self.progress.other
+    }
+
+    /// How many records were skipped, by why.
+    pub fn skipped(&self) -> SkippedRecords
+        ensures { result ≡ self.now.skipped }
+    {
+        self.progress.skipped
     }
 
     /// Whether a record of the session was answered.

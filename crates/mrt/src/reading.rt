@@ -14,19 +14,17 @@ use crate::fault::FaultKind;
 use crate::filling::{fill, pass_over};
 use crate::judging::{Found, Judged, judge};
 use crate::layout::{HEADER, LONGEST_BODY, RecordHeader, body_limit, is_bgp4mp, read_header};
-use crate::record::Endpoints;
+use crate::skipped::Skip;
 use crate::source::Source;
 use bgp_prefix::{Seconds, Session};
 
-/// What was read, and of a skipped record how many octets it has.
+/// What was read, and of a skipped record why it is and how many octets it has.
 #[derive(Clone, Copy)]
 pub(crate) enum Read {
     /// The source ended where a record could begin.
     End,
-    /// A record of another type or subtype.
-    Skipped(u64),
-    /// A record of another session.
-    SkippedSession(Endpoints, u64),
+    /// A record that is skipped.
+    Skipped(Skip, u64),
     /// The capture is refused.
     Refused(FaultKind),
     /// A record of the session.
@@ -59,7 +57,7 @@ fn skip_body<S: Source>(
     ensures failures { S.failures source.new ≡ failures_after (S.failures source.old) result }
 {
     if pass_over(source, buffer, header.count)? {
-        Ok(Read::Skipped(record_len(header)))
+        Ok(Read::Skipped(Skip::OtherKind, record_len(header)))
     } else {
         Ok(Read::Refused(FaultKind::Truncated))
     }
@@ -92,8 +90,7 @@ fn read_body<S: Source>(
         return Ok(Read::Refused(FaultKind::Truncated));
     }
     match judge(header, &buffer[..count], session, last) {
-        Judged::Skipped => Ok(Read::Skipped(record_len(header))),
-        Judged::SkippedSession(ends) => Ok(Read::SkippedSession(ends, record_len(header))),
+        Judged::Skipped(skip) => Ok(Read::Skipped(skip, record_len(header))),
         Judged::Refused(kind) => Ok(Read::Refused(kind)),
         Judged::OfSession(found) => Ok(Read::OfSession(found)),
     }

@@ -14,7 +14,7 @@ ghost use Rattle.mrt.specs.Written.{record_octets, IsWritable};
 ghost use Rattle.mrt.specs.Rules.{body_limit};
 
 use crate::failure::Failed;
-use crate::layout::body_limit;
+use crate::layout::{LONGEST_BODY, body_limit};
 use crate::record::Record;
 use crate::sink::{Sink, write_all};
 use bgp_prefix::{Address, Seconds, Session};
@@ -155,7 +155,7 @@ fn write_behind_numbers<W: Sink>(
 
 /// How many octets a body has, whose content has so many.
 fn count_of(session: &Session, content: usize) -> u32
-    requires { content ≤ 65583 }
+    requires { content ≤ LONGEST_BODY }
     ensures { result ≡ 12 + (length (address_octets session.now.peer)
         + (length (address_octets session.now.local) + content)) }
 {
@@ -186,7 +186,8 @@ fn write_parts<W: Sink>(
 }
 
 /// Whether a record can be written: both addresses are of one family, and the record's body has at
-/// most 8192 octets, or 65583 where the session's messages may be extended ones (RFC 8654).
+/// most [`PLAIN_BODY`](crate::PLAIN_BODY) octets, or [`LONGEST_BODY`] where the session's messages
+/// may be extended ones (RFC 8654).
 pub fn is_writable(session: &Session, shown: &Record<'_>) -> bool
     ensures { IsTrue result ↔ IsWritable session.now (shown_of shown.now) }
 {

@@ -2,6 +2,7 @@
 
 mod captures;
 mod extended;
+mod refreshes;
 mod written;
 
 use linked_list_allocator::LocalHeap;

@@ -2,14 +2,14 @@
 //! record shows, and each rule, is compared by the program `real_captures`.
 
 use super::*;
-use bgp_prefix::{Address, Session};
+use bgp_prefix::{Address, RouteRefresh, Session};
 use bgp_wire::vectors::KEEPALIVE;
 
 /// The session of 192.0.2.1 with 192.0.2.2, which may have route refresh.
 pub(crate) const SESSION: Session = Session {
     peer: Address::V4(0xc000_0202),
     local: Address::V4(0xc000_0201),
-    refresh: true,
+    refresh: RouteRefresh::Refused,
     extended: false,
 };
 
@@ -195,7 +195,7 @@ fn keeps_the_first_other(reader: &mut Reader, source: &mut MemSource) -> bool {
     let exchanged = Session {
         peer: SESSION.local,
         local: SESSION.peer,
-        refresh: false,
+        refresh: RouteRefresh::NotOffered,
         extended: false,
     };
     let ends = Endpoints {

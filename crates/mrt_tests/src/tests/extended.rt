@@ -20,7 +20,7 @@ const NUMBERS: [u8; 20] = [
 ];
 
 /// The first octets of a message of this Type and Length.
-fn message_front(length: u16, code: u8) -> [u8; 19] {
+pub(crate) fn message_front(length: u16, code: u8) -> [u8; 19] {
     let [high, low] = length.to_be_bytes();
     [
         255, 255, 255, 255, 255, 255, 255, 255, 255, 255, 255, 255, 255, 255, 255, 255, // marker
@@ -29,7 +29,7 @@ fn message_front(length: u16, code: u8) -> [u8; 19] {
 }
 
 /// A message with this front, of so many octets; the others are zeros.
-fn message(alloc: Global, front: &[u8], count: usize) -> Result<Vec<u8>, AllocError> {
+pub(crate) fn message(alloc: Global, front: &[u8], count: usize) -> Result<Vec<u8>, AllocError> {
     let mut octets = Vec::new(alloc);
     octets.extend_from_slice(front)?;
     octets.resize(count, 0)?;
@@ -38,7 +38,12 @@ fn message(alloc: Global, front: &[u8], count: usize) -> Result<Vec<u8>, AllocEr
 
 /// A record of second 101 and this subtype of BGP4MP, whose body is said to have so many octets and
 /// has [`NUMBERS`] and this message.
-fn record(alloc: Global, subtype: u8, count: u32, message: &[u8]) -> Result<Vec<u8>, AllocError> {
+pub(crate) fn record(
+    alloc: Global,
+    subtype: u8,
+    count: u32,
+    message: &[u8],
+) -> Result<Vec<u8>, AllocError> {
     let mut octets = Vec::new(alloc);
     octets.extend_from_slice(&[0x00, 0x00, 0x00, 0x65, 0x00, 0x10, 0x00, subtype])?;
     octets.extend_from_slice(&count.to_be_bytes())?;

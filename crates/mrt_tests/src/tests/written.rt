@@ -2,7 +2,7 @@
 
 use super::captures::{CHANGE, RECEIVED, SESSION};
 use super::*;
-use bgp_prefix::{Address, Session};
+use bgp_prefix::{Address, RouteRefresh, Session};
 use bgp_wire::vectors::KEEPALIVE;
 
 /// The first octets of a KEEPALIVE that is sent over IPv6 at second 7, up to its message.
@@ -21,7 +21,7 @@ const SENT: [u8; 56] = [
 pub(crate) const OVER_IPV6: Session = Session {
     peer: Address::V6(0x2001_0db8_0000_0000_0000_0000_0000_0002),
     local: Address::V6(0x2001_0db8_0000_0000_0000_0000_0000_0001),
-    refresh: false,
+    refresh: RouteRefresh::NotOffered,
     extended: false,
 };
 

@@ -4,11 +4,11 @@ use Rattle.bgp_text.proofs.records.put_record_text.Goals as goal
 
 pub put_message_of-requires-clause-whole : goal.put_message_of-requires-clause-whole
 put_message_of-requires-clause-whole g c =
-    let allowed = rw c.in-In.is at c.requires in allowed.1.0.2
+    let allowed = rw c.in-In.is at c.requires in allowed.1.0.3
 
 pub put_message_of-requires-in-Out-clause-whole : goal.put_message_of-requires-in-Out-clause-whole
 put_message_of-requires-in-Out-clause-whole g c =
-    let allowed = rw c.in-Out.is at c.requires in allowed.1.0.2
+    let allowed = rw c.in-Out.is at c.requires in allowed.1.0.3
 
 pub returns-in-In : goal.returns-in-In
 returns-in-In g c =

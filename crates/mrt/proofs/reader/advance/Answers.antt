@@ -2,7 +2,7 @@ use Rattle.std.proofs.Common.{◌+◌, ap, refl, arith, inl, inr}
 use Rattle.mrt.specs.Reader.{ReaderState, device_count}
 use Rattle.mrt.specs.declared.fault.CaptureFault.{CaptureFault}
 use Rattle.mrt.specs.declared.fault.FaultKind.TheVariants as kinds
-use Rattle.mrt.proofs.Advancing.{skips, skips_other, ends_there, finds_there, fails_there, refused_is_no_device}
+use Rattle.mrt.proofs.Advancing.{skips, ends_there, finds_there, fails_there, refused_is_no_device, skipped_some}
 use Rattle.mrt.proofs.reader.advance.Goals as goal
 
 pub returns-in-Ok-End-clause-next : goal.returns-in-Ok-End-clause-next
@@ -10,26 +10,15 @@ returns-in-Ok-End-clause-next g c =
     let (octets, given, is) = rw c.in-Ok-End.field-0-is at c.in-Ok-End.ensures.ok in
     ends_there _ _ g.met.S.Source.joined _ _ _ _ _ _ _ octets c.loop-progress.invariant.passes given is.0 is.1 c.end.ensures
 
-pub loop-progress-preserved-in-Ok-Skipped : goal.loop-progress-preserved-in-Ok-Skipped
-loop-progress-preserved-in-Ok-Skipped g c =
+pub loop-progress-preserved : goal.loop-progress-preserved
+loop-progress-preserved g c =
     let (octets, given, is) = rw c.in-Ok-Skipped.field-0-is at c.in-Ok-Skipped.ensures.ok in
     let counted = g.met.S.Source.counted _ _ octets given in
     let passed = ap (λ (s : ReaderState). s.passed) c.skip.ensures in record {
       room = cc;
-      passes = skips _ _ g.met.S.Source.joined _ _ _ _ _ _ _ octets c.in-Ok-Skipped.count c.loop-progress.invariant.passes given is.0 is.1 c.skip.ensures;
-      one_source = omega (arith, is.1);
-      calm = cc (c.in-Ok-Skipped.ensures.failures);
-    }
-
-pub loop-progress-preserved : goal.loop-progress-preserved
-loop-progress-preserved g c =
-    let (octets, given, is) = rw c.in-Ok-SkippedSession.field-0-is at c.in-Ok-SkippedSession.ensures.ok in
-    let counted = g.met.S.Source.counted _ _ octets given in
-    let passed = ap (λ (s : ReaderState). s.passed) c.skip_session.ensures in record {
-      room = cc;
-      passes = skips_other _ _ g.met.S.Source.joined _ _ _ _ _ _ _ octets c.in-Ok-SkippedSession.ends c.in-Ok-SkippedSession.count c.loop-progress.invariant.passes given is.0 is.1 is.2 c.skip_session.ensures;
+      passes = skips _ _ g.met.S.Source.joined _ _ _ _ _ _ _ octets c.in-Ok-Skipped.skip c.in-Ok-Skipped.count c.loop-progress.invariant.passes given is.0 is.1 is.2 c.skip.ensures;
       one_source = omega (arith, is.2);
-      calm = cc (c.in-Ok-SkippedSession.ensures.failures);
+      calm = cc (c.in-Ok-Skipped.ensures.failures);
     }
 
 pub returns-in-Ok-Refused-clause-next : goal.returns-in-Ok-Refused-clause-next
@@ -58,25 +47,19 @@ returns-in-Err-clause-next g c =
 
 pub loop-progress-smaller : goal.loop-progress-smaller
 loop-progress-smaller g c =
-    let (octets, given, is) = rw c.in-Ok-SkippedSession.field-0-is at c.in-Ok-SkippedSession.ensures.ok in
+    let (octets, given, is) = rw c.in-Ok-Skipped.field-0-is at c.in-Ok-Skipped.ensures.ok in
     let counted = g.met.S.Source.counted _ _ octets given in
+    let some = skipped_some _ _ c.in-Ok-Skipped.skip octets is.0 in
     let below = g.met.S.Source.below c.read_record.new.source in omega (arith, is.2)
 
-pub loop-progress-smaller-in-Ok-Skipped : goal.loop-progress-smaller-in-Ok-Skipped
-loop-progress-smaller-in-Ok-Skipped g c =
+pub skip-requires-clause-some : goal.skip-requires-clause-some
+skip-requires-clause-some g c =
     let (octets, given, is) = rw c.in-Ok-Skipped.field-0-is at c.in-Ok-Skipped.ensures.ok in
-    let counted = g.met.S.Source.counted _ _ octets given in
-    let below = g.met.S.Source.below c.read_record.new.source in omega (arith, is.1)
+    let some = skipped_some _ _ c.in-Ok-Skipped.skip octets is.0 in omega (arith, is.2)
 
-pub skip-requires : goal.skip-requires
-skip-requires g c =
+pub skip-requires-clause-room : goal.skip-requires-clause-room
+skip-requires-clause-room g c =
     let (octets, given, is) = rw c.in-Ok-Skipped.field-0-is at c.in-Ok-Skipped.ensures.ok in
-    let counted = g.met.S.Source.counted _ _ octets given in
-    let below = g.met.S.Source.below c.read_record.new.source in omega (arith, is.1)
-
-pub skip_session-requires : goal.skip_session-requires
-skip_session-requires g c =
-    let (octets, given, is) = rw c.in-Ok-SkippedSession.field-0-is at c.in-Ok-SkippedSession.ensures.ok in
     let counted = g.met.S.Source.counted _ _ octets given in
     let below = g.met.S.Source.below c.read_record.new.source in omega (arith, is.2)
 

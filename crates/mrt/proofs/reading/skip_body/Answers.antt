@@ -16,6 +16,7 @@ returns-then-branch-clause-ok g c =
               whole = whole_record front body header count;
               judged = other_type session last front body header (subst (λ (h : Header). ¬ IsBgp4mp h.kind) same c.requires.other) count;
             },
+            tt,
             omega (arith, c.record_len.ensures),
           ),
     )
