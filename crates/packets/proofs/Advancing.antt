@@ -1,5 +1,5 @@
 -- How far a reader is behind what it has passed over, and what it answers from there.
-use Rattle.std.proofs.Common.{◌≡◌, ◌∙◌, ◌≤◌, ◌+◌, ◌++◌, Bool, true, ℕ, zero, suc, List, [], ◌∷◌, length, refl, sym, ap, subst, append_assoc, append-nil, Some, IsTrue}
+use Rattle.std.proofs.Common.{◌≡◌, ◌∙◌, ◌≤◌, ◌+◌, ◌++◌, Bool, true, false, ℕ, zero, suc, List, [], ◌∷◌, length, refl, sym, ap, subst, append_assoc, append-nil, Some, IsTrue}
 use Rattle.std.proofs.Math.Seq.{drop-append_seam}
 use Rattle.packets.specs.declared.blocks.Interface.{Interface}
 use Rattle.packets.specs.declared.fault.FaultKind.{FaultKind}
@@ -12,7 +12,7 @@ use Rattle.packets.specs.Context.{Context}
 use Rattle.packets.specs.Fault.{device_count}
 use Rattle.packets.specs.Judgement.{Judgement, End, Refused, Passed, Told}
 use Rattle.packets.specs.Packet.{Recorded}
-use Rattle.packets.specs.Recording.{judgement_at, Whole, IsReadBy, IsReadIn, IsRead}
+use Rattle.packets.specs.Recording.{judgement_at, Whole, CutShort, IsReadBy, IsReadIn, IsRead, ending_at}
 use Rattle.packets.specs.Reading.{recorded_in, context_of, with_interface}
 use Rattle.packets.specs.Reader.{ReaderState, state_of, HasRead, IsRefused, fault_at, Ends, IsCause, Fails}
 use Rattle.packets.specs.Advance.{Finds}
@@ -49,6 +49,12 @@ read_ended : (context : Context) → judgement_at context [] ≡ End → IsRead 
 read_ended context is = (
   1,
   subst (λ (j : Judgement). IsReadBy (λ to rest these. IsReadIn zero to rest these Whole) context [] [] Whole j) (sym is) (refl, refl),
+)
+
+read_cut : (context : Context) (octets : List ℕ) (kind : FaultKind) → judgement_at context octets ≡ Refused kind → ending_at context kind ≡ CutShort → IsRead context octets [] CutShort
+read_cut context octets kind is cut = (
+  1,
+  subst (λ (j : Judgement). IsReadBy (λ to rest these. IsReadIn zero to rest these CutShort) context octets [] CutShort j) (sym is) (refl, sym cut),
 )
 
 -- a description of an interface, by how a file is read
@@ -113,17 +119,35 @@ module _ {S : Type 0} (gives : S → S → List ℕ → Type 0) (has_ended : S �
     is = ap (λ (s : ReaderState). let r : ReaderState = record s { context = context } in r) so_far.is;
   }
 
-  pub ends_there : (now next : S) (state : ReaderState) (octets : List ℕ) → Passes now state → gives now next octets → octets ≡ [] → IsTrue (has_ended next)
-      → judgement_at state.context [] ≡ End → Ends gives has_ended source next from (record state { is_ended = true })
-  ends_there now next state octets so_far given none ended judged = record {
-    octets = so_far.octets;
-    exactly = subst (λ (o : List ℕ). gives source next o) (ap (λ (o : List ℕ). so_far.octets ++ o) none ∙ append-nil so_far.octets)
-        (gives_joined source now next so_far.octets octets so_far.gave given);
-    passed = so_far.passed;
-    ended = ended;
-    whole = read_ended state.context judged;
-    stands = ap (λ (s : ReaderState). let r : ReaderState = record s { is_ended = true } in r) so_far.is;
-  }
+  pub ends_there : (now next : S) (state after : ReaderState) (octets : List ℕ) → Passes now state → gives now next octets → octets ≡ [] → IsTrue (has_ended next)
+      → judgement_at state.context [] ≡ End → after ≡ record state { is_ended = true; is_cut = false } → Ends gives has_ended source next from after
+  ends_there now next state after octets so_far given none ended judged stands =
+      let is : Ends gives has_ended source next from (record state { is_ended = true; is_cut = false }) = record {
+        octets = so_far.octets;
+        rest = octets;
+        exactly = gives_joined source now next so_far.octets octets so_far.gave given;
+        passed = so_far.passed;
+        ended = ended;
+        ending = subst (λ (o : List ℕ). IsRead state.context o [] Whole) (sym none) (read_ended state.context judged);
+        stands = ap (λ (s : ReaderState). let r : ReaderState = record s { is_ended = true; is_cut = false } in r) so_far.is;
+      } in
+      subst (λ (s : ReaderState). Ends gives has_ended source next from s) (sym stands) is
+
+  -- or it was cut short
+  pub cut_there : (now next : S) (state after : ReaderState) (octets : List ℕ) (kind : FaultKind) → Passes now state → gives now next octets → IsTrue (has_ended next)
+      → judgement_at state.context octets ≡ Refused kind → ending_at state.context kind ≡ CutShort → after ≡ record state { is_ended = true; is_cut = true }
+      → Ends gives has_ended source next from after
+  cut_there now next state after octets kind so_far given ended judged cut stands =
+      let is : Ends gives has_ended source next from (record state { is_ended = true; is_cut = true }) = record {
+        octets = so_far.octets;
+        rest = octets;
+        exactly = gives_joined source now next so_far.octets octets so_far.gave given;
+        passed = so_far.passed;
+        ended = ended;
+        ending = read_cut state.context octets kind judged cut;
+        stands = ap (λ (s : ReaderState). let r : ReaderState = record s { is_ended = true; is_cut = true } in r) so_far.is;
+      } in
+      subst (λ (s : ReaderState). Ends gives has_ended source next from s) (sym stands) is
 
   pub finds_there : (now next : S) (state : ReaderState) (octets buffer : List ℕ) (found : Found) → Passes now state → gives now next octets
       → ((more : List ℕ) → judgement_at state.context (octets ++ more) ≡ Told (length octets) (recorded_in found buffer)) → found.at + found.count ≤ length buffer

@@ -1,5 +1,5 @@
 -- What stands at a block, by its head and what is left behind that.
-use Rattle.std.proofs.Common.{◌≡◌, ◌≤◌, ◌<◌, ◌∙◌, ◌==◌, ◌+◌, ◌-◌, ◌%◌, ◌++◌, ◌||◌, not, Bool, true, false, ℕ, List, [], ◌∷◌, length, take, drop, refl, sym, ap, subst, arith, nat_lt, if◌then◌else◌, length-append, append_assoc, append-nil, lit≤, Option, None, Some, Ok, inl, inr}
+use Rattle.std.proofs.Common.{IsTrue, ◌≡◌, ◌≤◌, ◌<◌, ◌∙◌, ◌==◌, ◌+◌, ◌-◌, ◌%◌, ◌++◌, ◌||◌, not, Bool, true, false, ℕ, List, [], ◌∷◌, length, take, drop, refl, sym, ap, subst, arith, nat_lt, if◌then◌else◌, length-append, append_assoc, append-nil, lit≤, Option, None, Some, Ok, inl, inr}
 use Rattle.std.proofs.lemmas.Bool.{cond_both, cond-true, cond-false, lt-ltb, le-ltb, eq-eqb, ltb-false, eqb-true}
 use Rattle.std.proofs.lemmas.List.{drop-take, take-take}
 use Rattle.packets.specs.declared.order.Order.{Order}
@@ -116,6 +116,9 @@ least_is kind len good = by_test (len % 4 == 0) refl
 
 -- ---- what is left behind the head
 
+pub not_truncated : (ended : Bool) → kinds.Block ≡ kinds.Truncated → IsTrue ended
+not_truncated ended is = absurd (cc)
+
 pub refused_rest : (order : Order) (interfaces : List Interface) (kind : BlockKind) (len : ℕ) (head : List ℕ) (context : Context) (octets : List ℕ) (ended : Bool) (buffer : List ℕ)
     (fault : FaultKind) → IsPassedOver order head len octets ended (Some fault) → IsRestRead order interfaces kind len head context octets ended buffer (reads.Refused fault)
 refused_rest order interfaces kind len head context octets ended buffer fault over = (
@@ -132,7 +135,10 @@ refused_rest order interfaces kind len head context octets ended buffer fault ov
         ∙ other_end order interfaces kind len head octets other.2
         ∙ ap Refused (sym other.0)
   ],
-  tt,
+  λ truncated. elim over [
+    | inl cut ↦ cut.2
+    | inr other ↦ not_truncated ended (sym other.0 ∙ truncated)
+  ],
 )
   where
     other_end : (order : Order) (interfaces : List Interface) (kind : BlockKind) (len : ℕ) (head rest : List ℕ) → (end_len order head rest ≡ len → ⊥)
@@ -166,7 +172,7 @@ other_read order interfaces len head octets ended buffer over = (
 pub timeless_read : (order : Order) (interfaces : List Interface) (len : ℕ) (head octets : List ℕ) (ended : Bool) (buffer : List ℕ) → IsPassedOver order head len octets ended None
     → IsRestRead order interfaces blocks.Timeless len head (Blocks order interfaces) octets ended buffer (reads.Refused kinds.Block)
 timeless_read order interfaces len head octets ended buffer over =
-    (λ more told. whole_rest order interfaces blocks.Timeless len head octets more ended over, tt)
+    (λ more told. whole_rest order interfaces blocks.Timeless len head octets more ended over, not_truncated ended)
 
 pub interface_read : (order : Order) (interfaces : List Interface) (len : ℕ) (head octets : List ℕ) (ended : Bool) (buffer : List ℕ) (interface : Interface)
     → IsPassedOver order head len octets ended None → Some interface ≡ interface_in order head octets
@@ -186,7 +192,7 @@ no_interface_read order interfaces len head octets ended buffer over is = (
   λ more told.
       whole_rest order interfaces blocks.Interface len head octets more ended over
       ∙ ap (λ (i : Option Interface). described order interfaces len i) (sym is),
-  tt,
+  not_truncated ended,
 )
 
 -- a number of two octets at the front
@@ -214,7 +220,7 @@ version_read order interfaces len head context octets ended buffer over differs 
   λ more told.
       whole_rest order interfaces blocks.Section len head octets more ended over
       ∙ by_test (number_in order 2 octets == 1) refl,
-  tt,
+  λ truncated. absurd (cc),
 )
   where
     by_test : (b : Bool) → (number_in order 2 octets == 1) ≡ b → whole_block order interfaces blocks.Section len head octets ≡ Refused kinds.Format

@@ -3,7 +3,7 @@ use Rattle.std.proofs.Common.{◌≡◌, ◌<◌, ℕ, zero, suc, List, [], ◌�
 use Rattle.packets.specs.Context.{Context, Start, Packets, Blocks}
 use Rattle.packets.specs.Judgement.{Judgement, End, Refused, Passed, Told, IsLonger}
 use Rattle.packets.specs.Packet.{Recorded}
-use Rattle.packets.specs.Recording.{judgement_at, Ending, Whole, Fault, IsReadBy, IsReadIn}
+use Rattle.packets.specs.Recording.{judgement_at, Ending, Whole, ending_at, IsReadBy, IsReadIn}
 use Rattle.packets.specs.RecordingLaws.{SomeReading}
 use Rattle.packets.proofs.Longer.{longer}
 use Rattle.packets.proofs.StartPlaces.{judgement_holds}
@@ -39,7 +39,8 @@ by_judgement : (items : ℕ) (context : Context) (octets : List ℕ) (judgement 
 by_judgement items context octets End is some behind =
     ([], Whole, subst (λ (j : Judgement). IsReadBy (λ to rest these. IsReadIn items to rest these Whole) context octets [] Whole j) (sym is) (refl, refl))
 by_judgement items context octets (Refused kind) is some behind =
-    ([], Fault kind, subst (λ (j : Judgement). IsReadBy (λ to rest these. IsReadIn items to rest these (Fault kind)) context octets [] (Fault kind) j) (sym is) (refl, refl))
+    let ending = ending_at context kind in
+    ([], ending, subst (λ (j : Judgement). IsReadBy (λ to rest these. IsReadIn items to rest these ending) context octets [] ending j) (sym is) (refl, refl))
 by_judgement items context octets (Passed len after) is some behind =
     let (packets, ending, held) = behind after (drop len octets) (left_behind context octets len some (λ stops. subst Stops is stops)) in
     (packets, ending, subst (λ (j : Judgement). IsReadBy (λ to rest these. IsReadIn items to rest these ending) context octets packets ending j) (sym is) held)

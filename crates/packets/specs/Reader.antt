@@ -7,7 +7,7 @@ use Rattle.packets.specs.Context.{Context, Start}
 use Rattle.packets.specs.Fault.{device_count}
 use Rattle.packets.specs.Judgement.{Refused, Passed}
 use Rattle.packets.specs.Packet.{Recorded, recorded_of}
-use Rattle.packets.specs.Recording.{judgement_at, IsBegun, Ending, Whole, IsRead}
+use Rattle.packets.specs.Recording.{judgement_at, IsBegun, Ending, IsRead, Fault, end_by, ending_at}
 use Rattle.packets.specs.Reading.{context_of, with_interface}
 use Rattle.packets.specs.declared.blocks.Interface.{Interface}
 use Rattle.packets.specs.declared.progress.Progress.{Progress}
@@ -16,17 +16,19 @@ use Rattle.packets.specs.declared.fault.FaultKind.TheVariants as kinds
 use Rattle.packets.specs.declared.fault.FileFault.{FileFault}
 use Rattle.packets.specs.declared.packet.Packet.{Packet}
 
--- How a reader stands: how it reads on; how many packets it answered; whether it told the end; the
--- fault that it found.
+-- How a reader stands: how it reads on; how many packets it answered; whether it told the end, and
+-- whether the recording was cut short there; the fault that it found.
 pub record ReaderState : Type 0 where
   pub context : Context
   pub number : ℕ
   pub is_ended : Bool
+  pub is_cut : Bool
   pub fault : Option FileFault
 
 -- one that has read nothing
 abbrev pub fresh_reader : ReaderState
-fresh_reader = record { context = Start; number = 0; is_ended = false; fault = None }
+fresh_reader =
+    record { context = Start; number = 0; is_ended = false; is_cut = false; fault = None }
 
 -- how far a reader is, where these interfaces were described
 abbrev pub state_of : Progress → List Interface → ReaderState
@@ -34,6 +36,7 @@ state_of progress interfaces = record {
   context = context_of progress.format interfaces;
   number = progress.number;
   is_ended = progress.is_ended;
+  is_cut = progress.is_cut;
   fault = progress.fault;
 }
 
@@ -76,25 +79,28 @@ module _ {S : Type 0} (gives : S → S → List ℕ → Type 0) (has_ended : S �
     pub told : HasRead from.context octets (packet ∷ []) after.context
     pub stands : after ≡ record from { context = after.context; number = from.number + 1 }
 
-  -- They are what was passed over; the source has ended, and there the recording ends.
+  -- They are what was passed over, and a rest; the source has ended, and there the recording ends:
+  -- nothing is left, or the rest was cut short.
   pub record Ends (old new : S) (from after : ReaderState) : Type 0 where
     pub octets : List ℕ
-    pub exactly : gives old new octets
+    pub rest : List ℕ
+    pub exactly : gives old new (octets ++ rest)
     pub passed : HasRead from.context octets [] after.context
     pub ended : IsTrue (has_ended new)
-    pub whole : IsRead after.context [] [] Whole
-    pub stands : after ≡ record from { context = after.context; is_ended = true }
+    pub ending : IsRead after.context rest [] (end_by after.is_cut)
+    pub stands : after
+        ≡ record from { context = after.context; is_ended = true; is_cut = after.is_cut }
 
   -- there was no memory for the buffer, before anything was read, or for an interface
   abbrev pub LacksMemory : S → S → ReaderState → Context → List ℕ → Type 0
   LacksMemory old new from context rest =
       ((new ≡ old) × (from ≡ fresh_reader)) ⊎ Describes context rest
 
-  -- The place where the rest begins is refused; or a device failed, and the rest is an item that
-  -- has begun; or there was no memory.
+  -- The place where the rest begins is refused, and nothing was cut short there; or a device
+  -- failed, and the rest is an item that has begun; or there was no memory.
   abbrev pub IsCause : S → S → ReaderState → Context → List ℕ → FaultKind → Type 0
   IsCause old new from context rest kind =
-      IsRefused context rest (has_ended new) kind
+      (IsRefused context rest (has_ended new) kind × (ending_at context kind ≡ Fault kind))
       ⊎ ((kind ≡ kinds.Device) × IsBegun context rest)
       ⊎ ((kind ≡ kinds.Memory) × LacksMemory old new from context rest)
 

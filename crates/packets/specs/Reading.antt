@@ -65,10 +65,11 @@ IsReadAs judge context octets ended buffer read =
     (more : List ℕ) → (IsStop read → IsTrue ended → more ≡ [])
     → judge (octets ++ more) ≡ judgement_of (length octets) context buffer read
 
--- what isn't the end has octets, so many, and a found packet's are in the buffer
+-- What isn't the end has octets, so many, and a found packet's are in the buffer. The source has
+-- ended where what was read is truncated.
 abbrev pub IsInBuffer : ℕ → Bool → List ℕ → Read → Type 0
 IsInBuffer count ended buffer reads.End = (count ≡ 0) × IsTrue ended
-IsInBuffer count ended buffer (reads.Refused kind) = Unit {0}
+IsInBuffer count ended buffer (reads.Refused kind) = kind ≡ kinds.Truncated → IsTrue ended
 IsInBuffer count ended buffer (reads.Opened format) = 0 < count
 IsInBuffer count ended buffer (reads.Described interface) = 0 < count
 IsInBuffer count ended buffer reads.Skipped = 0 < count

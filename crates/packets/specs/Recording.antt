@@ -1,6 +1,7 @@
 -- A recording: what its octets are, from the first on, and what packets they tell.
-use Rattle.std.specs.Prelude.{◌≡◌, ◌==◌, ◌||◌, not, Bool, ℕ, zero, suc, List, [], ◌∷◌, ◌++◌}
-use Rattle.std.specs.Prelude.{length, take, drop, nat_lt, Option, None, Some, if◌then◌else◌}
+use Rattle.std.specs.Prelude.{◌≡◌, ◌==◌, ◌||◌, not, Bool, true, false, ℕ, zero, suc, List, []}
+use Rattle.std.specs.Prelude.{◌∷◌, ◌++◌, length, take, drop, nat_lt, Option, None, Some}
+use Rattle.std.specs.Prelude.{if◌then◌else◌}
 use Rattle.std.specs.List.{starts_with}
 use Rattle.packets.specs.declared.order.Order.{Order}
 use Rattle.packets.specs.declared.fault.FaultKind.{FaultKind}
@@ -49,10 +50,28 @@ IsBegun context octets =
 
 -- ---- the whole
 
--- how a recording ends: where it has been read to its end, or by a fault
+-- how a recording ends: where it has been read to its end; or within a packet or a block, of which
+-- it lacks some, since it was cut short; or by a fault
 pub data Ending : Type 0 where
   Whole : Ending
+  CutShort : Ending
   Fault : FaultKind → Ending
+
+-- The ending at a place that is refused. What is truncated there was cut short, but in a file's own
+-- header.
+abbrev pub cut_or : FaultKind → Ending
+cut_or kinds.Truncated = CutShort
+cut_or kinds.Format = Fault kinds.Format
+cut_or kinds.TooLong = Fault kinds.TooLong
+cut_or kinds.Block = Fault kinds.Block
+cut_or kinds.Time = Fault kinds.Time
+cut_or kinds.Device = Fault kinds.Device
+cut_or kinds.Memory = Fault kinds.Memory
+
+abbrev pub ending_at : Context → FaultKind → Ending
+ending_at Start kind = Fault kind
+ending_at (Packets order link_type) kind = cut_or kind
+ending_at (Blocks order interfaces) kind = cut_or kind
 
 -- What stands at a place that is judged so is these packets and then this ending, where `Behind`
 -- says which packets what is left after it is, by how that is read.
@@ -60,7 +79,7 @@ abbrev pub IsReadBy : (Context → List ℕ → List Recorded → Type 0) → Co
     → List Recorded → Ending → Judgement → Type 0
 IsReadBy Behind context octets packets ending End = (packets ≡ []) × (ending ≡ Whole)
 IsReadBy Behind context octets packets ending (Refused kind) =
-    (packets ≡ []) × (ending ≡ Fault kind)
+    (packets ≡ []) × (ending ≡ ending_at context kind)
 IsReadBy Behind context octets packets ending (Passed len after) =
     Behind after (drop len octets) packets
 IsReadBy Behind context octets packets ending (Told len packet) =
@@ -79,9 +98,13 @@ abbrev pub IsRead : Context → List ℕ → List Recorded → Ending → Type 0
 IsRead context octets packets ending =
     (items : ℕ) × IsReadIn items context octets packets ending
 
--- a file's octets are these packets, and then the end
-abbrev pub Spells : List ℕ → List Recorded → Type 0
-Spells octets packets = IsRead Start octets packets Whole
+-- a file's octets are these packets, and then the end; or what it has of one that was cut short
+abbrev pub end_by : Bool → Ending
+end_by false = Whole
+end_by true = CutShort
+
+abbrev pub Spells : List ℕ → List Recorded → Bool → Type 0
+Spells octets packets cut = IsRead Start octets packets (end_by cut)
 
 -- or they are refused for this fault, after these packets: the fault's number is one more than
 -- they are many

@@ -1,6 +1,8 @@
 //! How a reader goes on.
 
-ghost use Rattle.std.specs.Prelude.{◌≡◌, ◌+◌, ◌<◌, List, Some};
+ghost use Rattle.std.specs.Prelude.{◌≡◌, ◌+◌, ◌<◌, List, Some, cond, true};
+ghost use Rattle.packets.specs.Reading.{context_of};
+ghost use Rattle.packets.specs.Recording.{CutShort, Fault, ending_at};
 ghost use Rattle.packets.specs.Reader.{state_of, fresh_reader};
 ghost use Rattle.packets.specs.declared.blocks.Interface.{Interface};
 
@@ -26,6 +28,8 @@ pub(crate) struct Progress {
     pub(crate) number: u64,
     /// Whether it told the end.
     pub(crate) is_ended: bool,
+    /// Whether the recording was cut short there.
+    pub(crate) is_cut: bool,
     /// The fault that it found.
     pub(crate) fault: Option<FileFault>,
 }
@@ -38,8 +42,31 @@ impl Progress {
             format: Format::Unknown,
             number: 0,
             is_ended: false,
+            is_cut: false,
             fault: None,
         }
+    }
+
+    /// Whether a place that is refused so is the end of a recording that was cut short: the file's
+    /// header is there, and what was begun after it isn't whole.
+    pub(crate) fn is_cut_by(&self, kind: FaultKind) -> bool
+        ensures { (interfaces : List Interface) →
+            ending_at (context_of self.now.format interfaces) kind
+            ≡ cond result CutShort (Fault kind) }
+    {
+        match (self.format, kind) {
+            (Format::Unknown, _) => false,
+            (_, FaultKind::Truncated) => true,
+            _ => false,
+        }
+    }
+
+    /// Keeps that the recording ends here, whole or cut short.
+    pub(crate) fn end(&mut self, is_cut: bool)
+        ensures { self.new ≡ record self.old { is_ended = true; is_cut = is_cut } }
+    {
+        self.is_ended = true;
+        self.is_cut = is_cut;
     }
 
     /// Keeps a fault at the packet that would be next.

@@ -38,10 +38,16 @@ fn advance<S: Source, A: Allocator>(
     loop {
         match read_item(source, buffer, progress.format, interfaces) {
             Ok(Read::End) => {
-                progress.is_ended = true;
+                progress.end(false);
                 return Ok(None);
             }
-            Ok(Read::Refused(kind)) => return Err(progress.refuse(kind)),
+            Ok(Read::Refused(kind)) => {
+                if !progress.is_cut_by(kind) {
+                    return Err(progress.refuse(kind));
+                }
+                progress.end(true);
+                return Ok(None);
+            }
             Ok(Read::Opened(format)) => {
                 progress.format = format;
                 interfaces.clear();
@@ -132,12 +138,21 @@ impl<A: Allocator + Copy> Reader<A> {
         self.progress.number
     }
 
-    /// Reads on to the next packet, and answers it, or `None` where the recording ends. All calls
-    /// are lent one source.
+    /// Whether the recording that it has read was cut short: its end was told within a packet or a
+    /// block, the file's header aside.
+    pub fn is_cut_short(&self) -> bool
+        ensures { result ≡ self.now.is_cut }
+    {
+        self.progress.is_cut
+    }
+
+    /// Reads on to the next packet, and answers it, or `None` where the recording ends: also where
+    /// it was cut short, and what it has of a packet is none. All calls are lent one source.
     ///
     /// A fault names the packet that is read there, or that would be the next. Faults 1 to 5 are
-    /// what is wrong in the octets; 16, `Device`, is answered where the source failed in this call,
-    /// and 17, `Memory`, where there was no memory for the buffer or for an interface.
+    /// what is wrong in the octets; 2 of them, `Truncated`, is told of a file's own header alone.
+    /// 16, `Device`, is answered where the source failed in this call, and 17, `Memory`, where
+    /// there was no memory for the buffer or for an interface.
     pub fn next_packet<S: Source>(
         &mut self,
         source: &mut S,

@@ -1,7 +1,7 @@
 //! One item of a recording, read from a source: a header of the file, a packet or a block.
 
 ghost use Rattle.std.specs.Prelude.{◌≡◌, ◌<◌, ◌≤◌, ◌+◌, ◌++◌, ◌-◌, ℕ, List, IfOk, OnErr, IfSome};
-ghost use Rattle.std.specs.Prelude.{◌⊎◌, false, IfNone, IsTrue, length, take, drop};
+ghost use Rattle.std.specs.Prelude.{◌⊎◌, false, IfNone, IfErr, IsTrue, length, take, drop};
 ghost use Rattle.mrt.specs.Failures.{failures_after};
 ghost use Rattle.packets.specs.Context.{Context, Start, Packets, Blocks};
 ghost use Rattle.packets.specs.Pcap.{packet_at, pcap_start};
@@ -12,6 +12,7 @@ ghost use Rattle.packets.specs.Reading.{context_of, section_context, IsReadAs, I
 ghost use Rattle.packets.specs.Reading.{IsBegunAs, IsRestRead, told_as, IsPassedOver};
 ghost use Rattle.packets.specs.declared.blocks.BlockKind.TheVariants as blocks;
 ghost use Rattle.packets.specs.declared.blocks.Interface.{Interface};
+ghost use Rattle.packets.specs.declared.fault.FaultKind.TheVariants as kinds;
 
 use crate::blocks::{
     BlockKind, HEAD, Interface, MOST_ENHANCED, block_kind, block_len, block_order, end_len,
@@ -261,6 +262,7 @@ fn packet_in(
         ≡ enhanced_by interfaces.now (12 + length rest.now) (enhanced_in order head.now rest.now)
         rest.now }
     ensures within { IfOk result (λ found. found.at + found.count ≤ length rest.now) }
+    ensures whole { IfErr result (λ kind. kind ≡ kinds.Truncated → ⊥) }
 {
     let header = enhanced_in(order, head, rest);
     if header.kept > MOST_KEPT {

@@ -10,8 +10,16 @@ use packets::*;
 use std::alloc::{AllocError, Allocator, Global};
 use std::num::NonZeroUsize;
 
-/// A file in pieces, how many packets it tells, and the fault after them, if there is one.
-type Row = (&'static [&'static [u8]], u32, Option<FaultKind>);
+/// How a file ends.
+#[derive(Clone, Copy)]
+enum Ending {
+    Whole,
+    CutShort,
+    Fault(FaultKind),
+}
+
+/// A file in pieces, how many packets it tells, and what comes after them.
+type Row = (&'static [&'static [u8]], u32, Ending);
 
 /// The octets of each packet.
 const OCTETS: [u8; 3] = *b"abc";
@@ -50,13 +58,14 @@ fn is_next<A: Allocator + Copy>(
         && reader.next_packet(source) == *wanted
 }
 
-/// Whether so many packets are read, and then this, three times, with no more octets taken.
+/// Whether so many packets are read, and then this end, three times, with no more octets taken.
 fn are_next<A: Allocator + Copy>(
     reader: &mut Reader<A>,
     source: &mut MemSource,
     count: u32,
-    last: &Next<'_>,
+    ending: Ending,
 ) -> bool {
+    let last = &last_answer(count, ending);
     for number in 0..count {
         if !is_next(reader, source, &Ok(Some(packet(number + 1)))) {
             return false;
@@ -74,36 +83,35 @@ fn are_next<A: Allocator + Copy>(
             return false;
         }
     }
-    true
+    reader.is_cut_short() == matches!(ending, Ending::CutShort)
 }
 
 /// The end, or a fault after so many packets.
-fn ending(count: u32, fault: Option<FaultKind>) -> Next<'static> {
-    match fault {
-        Some(kind) => Err(FileFault {
+fn last_answer(count: u32, ending: Ending) -> Next<'static> {
+    match ending {
+        Ending::Fault(kind) => Err(FileFault {
             kind,
             packet: u64::from(count) + 1,
         }),
-        None => Ok(None),
+        Ending::Whole | Ending::CutShort => Ok(None),
     }
 }
 
 /// Whether a file is read so, in one piece and octet by octet.
-fn is_read(alloc: Global, (pieces, count, fault): &Row) -> bool {
+fn is_read(alloc: Global, (pieces, count, ending): &Row) -> bool {
     let (Ok(whole), Ok(again)) = (joined(alloc, pieces), joined(alloc, pieces)) else {
         return false;
     };
-    let last = ending(*count, *fault);
     are_next(
         &mut Reader::new(alloc),
         &mut MemSource::new(whole),
         *count,
-        &last,
+        *ending,
     ) && are_next(
         &mut Reader::new(alloc),
         &mut MemSource::new(again).in_pieces_of(NonZeroUsize::MIN),
         *count,
-        &last,
+        *ending,
     )
 }
 
@@ -115,21 +123,20 @@ fn fails_at(alloc: Global, pieces: &[&[u8]], call: u64, count: u32) -> bool {
     let mut source = MemSource::new(octets)
         .in_pieces_of(NonZeroUsize::MIN)
         .upset_at(call, SourceUpset::Fail);
-    let last = ending(count, Some(FaultKind::Device));
-    are_next(&mut Reader::new(alloc), &mut source, count, &last)
+    let ending = Ending::Fault(FaultKind::Device);
+    are_next(&mut Reader::new(alloc), &mut source, count, ending)
 }
 
 /// Whether a reader with so much memory answers this after so many packets.
-fn is_read_with(alloc: Global, size: usize, (pieces, count, fault): &Row) -> bool {
+fn is_read_with(alloc: Global, size: usize, (pieces, count, ending): &Row) -> bool {
     let (Ok(heap), Ok(octets)) = (LocalHeap::new(alloc, size), joined(alloc, pieces)) else {
         return false;
     };
-    let last = ending(*count, *fault);
     are_next(
         &mut Reader::new(&heap),
         &mut MemSource::new(octets),
         *count,
-        &last,
+        *ending,
     )
 }
 

@@ -2,6 +2,7 @@
 
 mod ipv6;
 mod layers;
+mod wrapping;
 
 use bgp_prefix::Address;
 use segments::*;
@@ -79,7 +80,7 @@ fn is_found_with(changes: &[Change], kept: usize, wanted: &Found<'_>) -> bool {
 #[test]
 fn each_fault_has_its_number_and_name(rt: HostRuntime) {
     static ROWS: [(PacketFault, u8, &str); 3] = [
-        (PacketFault::Link, 6, "Link"),
+        (PacketFault::Link(105), 6, "Link"),
         (PacketFault::Fragment, 7, "Fragment"),
         (PacketFault::Cut, 8, "Cut"),
     ];
@@ -311,5 +312,5 @@ fn answers(conversation: &Conversation, is_of: bool, is_between: bool) -> bool {
                 Ok(None)
             })
         && segment_between(Found::Nothing, conversation) == Ok(None)
-        && segment_between(Found::UnknownLink, conversation) == Err(PacketFault::Link)
+        && segment_between(Found::UnknownLink(105), conversation) == Err(PacketFault::Link(105))
 }

@@ -40,7 +40,7 @@ IsAnswerIf Holds wanted answer =
 -- another conversation between the same addresses, and are refused too.
 abbrev pub IsSelected : Conversation → Finding → Answer → Type 0
 IsSelected conversation Nothing answer = answer ≡ Ok None
-IsSelected conversation UnknownLink answer = answer ≡ Err faults.Link
+IsSelected conversation (UnknownLink link_type) answer = answer ≡ Err (faults.Link link_type)
 IsSelected conversation (Fragment addresses) answer =
     IsAnswerIf (AreBetween conversation addresses.from addresses.to) (Err faults.Fragment) answer
 IsSelected conversation (NoPorts addresses) answer =

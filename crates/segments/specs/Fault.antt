@@ -4,11 +4,11 @@ use Rattle.segments.specs.declared.fault.PacketFault.{PacketFault}
 use Rattle.segments.specs.declared.fault.PacketFault.TheVariants as faults
 
 abbrev pub fault_number : PacketFault → ℕ
-fault_number faults.Link = 6
+fault_number (faults.Link link_type) = 6
 fault_number faults.Fragment = 7
 fault_number faults.Cut = 8
 
 abbrev pub fault_name : PacketFault → List ℕ
-fault_name faults.Link = codes "Link"
+fault_name (faults.Link link_type) = codes "Link"
 fault_name faults.Fragment = codes "Fragment"
 fault_name faults.Cut = codes "Cut"

@@ -17,10 +17,10 @@ abbrev pub found_in_packet : Option (List ℕ) → Finding
 found_in_packet None = Nothing
 found_in_packet (Some octets) = found_in_payload (payload_in octets)
 
--- in a frame of a link, if that is known
-abbrev pub found_on : Option LinkLayer → List ℕ → Finding
-found_on None octets = UnknownLink
-found_on (Some layer) octets = found_in_packet (packet_in layer octets)
+-- in a frame of a link of this type, if that is known
+abbrev pub found_on : ℕ → Option LinkLayer → List ℕ → Finding
+found_on link_type None octets = UnknownLink link_type
+found_on link_type (Some layer) octets = found_in_packet (packet_in layer octets)
 
 abbrev pub found_in : ℕ → List ℕ → Finding
-found_in link_type octets = found_on (link_layer link_type) octets
+found_in link_type octets = found_on link_type (link_layer link_type) octets

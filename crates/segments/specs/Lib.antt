@@ -6,4 +6,5 @@ pub mod Tcp
 pub mod Found
 pub mod Fault
 pub mod Conversation
+pub mod Wrapping
 pub mod Values

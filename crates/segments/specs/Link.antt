@@ -44,29 +44,42 @@ is_tag ether_type = is_of ether_type (0x8100 ∷ 0x88a8 ∷ 0x9100 ∷ [])
 abbrev pub is_ip : ℕ → Bool
 is_ip ether_type = is_of ether_type (0x0800 ∷ 0x86dd ∷ [])
 
-abbrev pub when : Bool → List ℕ → Option (List ℕ)
-when is octets = if is then Some octets else None
+-- what stands in a frame behind its tags: its EtherType, and its octets
+pub record Carried : Type 0 where
+  pub ether_type : ℕ
+  pub octets : List ℕ
 
--- The packet behind an EtherType. A tag takes four octets, of which the last two are the EtherType
+abbrev pub carried : ℕ → List ℕ → Option Carried
+carried ether_type octets = Some (record { ether_type = ether_type; octets = octets })
+
+-- What stands behind an EtherType. A tag takes four octets, of which the last two are the EtherType
 -- of what follows.
-abbrev pub packet_behind : ℕ → List ℕ → Option (List ℕ)
-packet_behind ether_type (a ∷ b ∷ c ∷ d ∷ octets) =
-    if is_tag ether_type then packet_behind (big_number 2 (c ∷ d ∷ [])) octets
-    else when (is_ip ether_type) (a ∷ b ∷ c ∷ d ∷ octets)
-packet_behind ether_type octets =
-    if is_tag ether_type then None else when (is_ip ether_type) octets
+abbrev pub carried_behind : ℕ → List ℕ → Option Carried
+carried_behind ether_type (a ∷ b ∷ c ∷ d ∷ octets) =
+    if is_tag ether_type then carried_behind (big_number 2 (c ∷ d ∷ [])) octets
+    else carried ether_type (a ∷ b ∷ c ∷ d ∷ octets)
+carried_behind ether_type octets =
+    if is_tag ether_type then None else carried ether_type octets
 
--- the packet in a frame whose EtherType stands at a place in a header of so many octets
-abbrev pub packet_at : ℕ → ℕ → List ℕ → Option (List ℕ)
-packet_at place header_len octets =
+-- what a frame carries whose EtherType stands at a place in a header of so many octets
+abbrev pub carried_at : ℕ → ℕ → List ℕ → Option Carried
+carried_at place header_len octets =
     if nat_lt (length octets) header_len then None
-    else packet_behind (big_number 2 (drop place octets)) (drop header_len octets)
+    else carried_behind (big_number 2 (drop place octets)) (drop header_len octets)
 
--- the packet of IP in a frame, if it has one
+-- What a frame carries. A frame without an EtherType has a packet of IP, of either version.
+abbrev pub carried_in : LinkLayer → List ℕ → Option Carried
+carried_in layers.Ethernet octets = carried_at 12 14 octets
+carried_in layers.LinuxCooked octets = carried_at 14 16 octets
+carried_in layers.LinuxCooked2 octets = carried_at 0 20 octets
+carried_in layers.Loopback octets =
+    if nat_lt (length octets) 4 then None else carried 0x0800 (drop 4 octets)
+carried_in layers.RawIp octets = carried 0x0800 octets
+
+-- the packet of IP among that, if it is one
+abbrev pub ip_of : Option Carried → Option (List ℕ)
+ip_of None = None
+ip_of (Some carried) = if is_ip carried.ether_type then Some carried.octets else None
+
 abbrev pub packet_in : LinkLayer → List ℕ → Option (List ℕ)
-packet_in layers.Ethernet octets = packet_at 12 14 octets
-packet_in layers.LinuxCooked octets = packet_at 14 16 octets
-packet_in layers.LinuxCooked2 octets = packet_at 0 20 octets
-packet_in layers.Loopback octets =
-    if nat_lt (length octets) 4 then None else Some (drop 4 octets)
-packet_in layers.RawIp octets = Some octets
+packet_in layer octets = ip_of (carried_in layer octets)

@@ -28,11 +28,11 @@ segment_value segment = record {
   wire_count = segment.wire_count;
 }
 
--- no segment, or too little to tell; a link of an unknown type; a fragment; a segment whose ports
--- were not kept; one whose header wasn't kept to its end; a segment
+-- no segment, or too little to tell; a link of this type, which is unknown; a fragment; a segment
+-- whose ports were not kept; one whose header wasn't kept to its end; a segment
 pub data Finding : Type 0 where
   Nothing : Finding
-  UnknownLink : Finding
+  UnknownLink : ℕ → Finding
   Fragment : Addresses → Finding
   NoPorts : Addresses → Finding
   CutHeader : Ends → Finding
@@ -41,7 +41,7 @@ pub data Finding : Type 0 where
 -- what a `Found` is
 abbrev pub finding_of : Found → Finding
 finding_of found.Nothing = Nothing
-finding_of found.UnknownLink = UnknownLink
+finding_of (found.UnknownLink link_type) = UnknownLink link_type
 finding_of (found.Fragment addresses) = Fragment addresses
 finding_of (found.NoPorts addresses) = NoPorts addresses
 finding_of (found.CutHeader ends) = CutHeader ends

@@ -1,6 +1,8 @@
 -- What the reader's functions answer, as values.
 use Rattle.std.specs.Prelude.{◌≤◌, ℕ, List, length}
 use Rattle.segments.specs.Ip as ip
+use Rattle.segments.specs.Link.{Carried}
+use Rattle.segments.specs.declared.link.Carried as declared_link
 use Rattle.segments.specs.Ip.{Extension, Passed, Transport, Fragmented, Unknown}
 use Rattle.segments.specs.Tcp as tcp
 use Rattle.segments.specs.declared.ip.Payload.{Payload}
@@ -10,6 +12,12 @@ use Rattle.segments.specs.declared.ip.Extension.TheVariants as extensions
 use Rattle.segments.specs.declared.ip.Ipv4Header.{Ipv4Header}
 use Rattle.segments.specs.declared.ip.Ipv6Header.{Ipv6Header}
 use Rattle.segments.specs.declared.tcp.TcpHeader.{TcpHeader}
+
+abbrev pub carried_value : declared_link.Carried → Carried
+carried_value carried = record {
+  ether_type = carried.ether_type;
+  octets = carried.octets.now;
+}
 
 abbrev pub ipv4_value : Ipv4Header → ip.Ipv4Header
 ipv4_value header = record {

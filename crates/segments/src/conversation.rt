@@ -45,7 +45,7 @@ pub fn segment_between<'a>(
 {
     match found {
         Found::Nothing => Ok(None),
-        Found::UnknownLink => Err(PacketFault::Link),
+        Found::UnknownLink(link_type) => Err(PacketFault::Link(link_type)),
         Found::Fragment(addresses) => {
             if are_between(conversation, addresses.from, addresses.to) {
                 return Err(PacketFault::Fragment);

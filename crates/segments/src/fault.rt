@@ -8,15 +8,15 @@ use thiserror::Error;
 /// Why a packet of a conversation is refused.
 #[derive(Clone, Copy, Debug, PartialEq, Eq, Error)]
 pub enum PacketFault {
-    /// It was recorded on a link of an unknown type.
+    /// It was recorded on a link of this type, which is unknown.
     #[error("a packet is of an unknown link type")]
-    Link = 6,
+    Link(u16),
     /// It is a fragment.
     #[error("a packet is a fragment")]
-    Fragment = 7,
+    Fragment,
     /// Not enough of it was kept.
     #[error("a packet wasn't recorded whole")]
-    Cut = 8,
+    Cut,
 }
 
 impl PacketFault {
@@ -24,7 +24,11 @@ impl PacketFault {
     pub fn number(self) -> u8
         ensures { result ≡ fault_number self }
     {
-        self as u8
+        match self {
+            PacketFault::Link(_) => 6,
+            PacketFault::Fragment => 7,
+            PacketFault::Cut => 8,
+        }
     }
 
     /// Its name, as a program may print it.
@@ -32,7 +36,7 @@ impl PacketFault {
         ensures { result.now ≡ fault_name self }
     {
         match self {
-            PacketFault::Link => "Link",
+            PacketFault::Link(_) => "Link",
             PacketFault::Fragment => "Fragment",
             PacketFault::Cut => "Cut",
         }

@@ -59,8 +59,8 @@ pub struct Segment<'a> {
 pub enum Found<'a> {
     /// No TCP segment, or too little of one to tell.
     Nothing,
-    /// It was recorded on a link of an unknown type.
-    UnknownLink,
+    /// It was recorded on a link of this type, which is unknown.
+    UnknownLink(u16),
     /// A fragment of an IP packet, of which a segment may be part. Its ports may not be in it.
     Fragment(Addresses),
     /// A TCP segment whose ports were not kept.

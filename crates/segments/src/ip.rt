@@ -33,10 +33,10 @@ pub(crate) enum Payload<'a> {
 }
 
 /// How many octets an IPv4 header has without its options.
-const IPV4_HEADER: usize = 20;
+pub(crate) const IPV4_HEADER: usize = 20;
 
 /// How many octets an IPv6 header has.
-const IPV6_HEADER: usize = 40;
+pub(crate) const IPV6_HEADER: usize = 40;
 
 /// The protocol number of TCP.
 const TCP: u8 = 6;
@@ -74,7 +74,7 @@ fn is_ipv4_fragment(fragment: u16) -> bool
 
 /// Reads a header of IPv4.
 #[tactic(auto, unfolding(crate::specs::Ip::ipv4_header_in))]
-fn read_ipv4_header(octets: &[u8]) -> Ipv4Header
+pub(crate) fn read_ipv4_header(octets: &[u8]) -> Ipv4Header
     requires { 20 ≤ length octets.now }
     ensures { ipv4_value result ≡ ipv4_header_in octets.now }
 {
@@ -91,7 +91,7 @@ fn read_ipv4_header(octets: &[u8]) -> Ipv4Header
 }
 
 /// The octets of a packet without the padding of its frame.
-fn without_padding(octets: &[u8], len: usize) -> &[u8]
+pub(crate) fn without_padding(octets: &[u8], len: usize) -> &[u8]
     ensures { result.now ≡ take len octets.now }
 {
     &octets[..len.min(octets.len())]
@@ -133,7 +133,7 @@ pub(crate) struct Ipv6Header {
 
 /// Reads a header of IPv6.
 #[tactic(auto, unfolding(crate::specs::Ip::ipv6_header_in))]
-fn read_ipv6_header(octets: &[u8]) -> Ipv6Header
+pub(crate) fn read_ipv6_header(octets: &[u8]) -> Ipv6Header
     requires { 40 ≤ length octets.now }
     ensures { ipv6_value result ≡ ipv6_header_in octets.now }
 {

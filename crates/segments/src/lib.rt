@@ -17,8 +17,10 @@ mod ip;
 mod link;
 mod reading;
 mod tcp;
+mod wrapping;
 
 pub use conversation::{Conversation, segment_between};
 pub use fault::PacketFault;
 pub use found::{Addresses, Endpoint, Ends, Flags, Found, Segment};
 pub use reading::read_segment;
+pub use wrapping::{Wrapping, wrapping_of};

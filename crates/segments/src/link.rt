@@ -1,9 +1,10 @@
 //! The link below IP (`specs/Link.antt` draws the frames).
 
-ghost use Rattle.std.specs.Prelude.{◌≡◌, ◌≤◌, ◌+◌};
+ghost use Rattle.std.specs.Prelude.{◌≡◌, ◌≤◌, ◌+◌, Some};
 ghost use Rattle.std.specs.Option.{option_map};
-ghost use Rattle.segments.specs.Link.{link_layer, is_tag, is_ip, packet_behind};
-ghost use Rattle.segments.specs.Link.{packet_at, packet_in};
+ghost use Rattle.segments.specs.Link.{link_layer, is_tag, is_ip, carried, carried_behind};
+ghost use Rattle.segments.specs.Link.{carried_at, carried_in, packet_in};
+ghost use Rattle.segments.specs.Values.{carried_value};
 
 use byteorder::{BigEndian, ByteOrder};
 
@@ -17,6 +18,13 @@ pub(crate) enum LinkLayer {
     LinuxCooked2,
     Loopback,
     RawIp,
+}
+
+/// What stands in a frame behind its tags.
+#[derive(Clone, Copy)]
+pub(crate) struct Carried<'a> {
+    pub(crate) ether_type: u16,
+    pub(crate) octets: &'a [u8],
 }
 
 /// The link of this type, if it is a known one.
@@ -39,15 +47,15 @@ fn is_tag(ether_type: u16) -> bool
     ether_type == 0x8100 || ether_type == 0x88a8 || ether_type == 0x9100
 }
 
-fn is_ip(ether_type: u16) -> bool
+pub(crate) fn is_ip(ether_type: u16) -> bool
     ensures { result ≡ is_ip ether_type }
 {
     ether_type == 0x0800 || ether_type == 0x86dd
 }
 
-/// The packet behind an EtherType, and behind the tags that follow on it.
-fn packet_behind(ether_type: u16, octets: &[u8]) -> Option<&[u8]>
-    ensures { option_map (λ packet. packet.now) result ≡ packet_behind ether_type octets.now }
+/// What stands behind an EtherType, and behind the tags that follow on it.
+fn carried_behind(ether_type: u16, octets: &[u8]) -> Option<Carried<'_>>
+    ensures { option_map carried_value result ≡ carried_behind ether_type octets.now }
 {
     let mut kind = ether_type;
     let mut rest = octets;
@@ -58,32 +66,58 @@ fn packet_behind(ether_type: u16, octets: &[u8]) -> Option<&[u8]>
         kind = BigEndian::read_u16(rest.split_at(2).1);
         rest = rest.split_at(4).1;
     }
-    is_ip(kind).then_some(rest)
+    Some(Carried {
+        ether_type: kind,
+        octets: rest,
+    })
 }
 
-/// The packet in a frame whose EtherType stands at a place in a header of so many octets.
-fn packet_at(place: usize, header_len: usize, octets: &[u8]) -> Option<&[u8]>
+/// What a frame carries whose EtherType stands at a place in a header of so many octets.
+fn carried_at(place: usize, header_len: usize, octets: &[u8]) -> Option<Carried<'_>>
     requires { place + 2 ≤ header_len }
-    ensures { option_map (λ packet. packet.now) result ≡ packet_at place header_len octets.now }
+    ensures { option_map carried_value result ≡ carried_at place header_len octets.now }
 {
     if octets.len() < header_len {
         return None;
     }
-    packet_behind(
+    carried_behind(
         BigEndian::read_u16(octets.split_at(place).1),
         octets.split_at(header_len).1,
     )
+}
+
+/// What a frame carries that has no EtherType: a packet of IP.
+fn carried_ip(octets: &[u8]) -> Carried<'_>
+    ensures { Some (carried_value result) ≡ carried 0x0800 octets.now }
+{
+    Carried {
+        ether_type: 0x0800,
+        octets,
+    }
+}
+
+/// What a frame carries.
+pub(crate) fn carried_in(layer: LinkLayer, octets: &[u8]) -> Option<Carried<'_>>
+    ensures { option_map carried_value result ≡ carried_in layer octets.now }
+{
+    match layer {
+        LinkLayer::Ethernet => carried_at(12, 14, octets),
+        LinkLayer::LinuxCooked => carried_at(14, 16, octets),
+        LinkLayer::LinuxCooked2 => carried_at(0, 20, octets),
+        LinkLayer::Loopback => {
+            if octets.len() < 4 {
+                return None;
+            }
+            Some(carried_ip(octets.split_at(4).1))
+        }
+        LinkLayer::RawIp => Some(carried_ip(octets)),
+    }
 }
 
 /// The packet of IP in a frame, if it has one.
 pub(crate) fn packet_in(layer: LinkLayer, octets: &[u8]) -> Option<&[u8]>
     ensures { option_map (λ packet. packet.now) result ≡ packet_in layer octets.now }
 {
-    match layer {
-        LinkLayer::Ethernet => packet_at(12, 14, octets),
-        LinkLayer::LinuxCooked => packet_at(14, 16, octets),
-        LinkLayer::LinuxCooked2 => packet_at(0, 20, octets),
-        LinkLayer::Loopback => octets.get(4..),
-        LinkLayer::RawIp => Some(octets),
-    }
+    let carried = carried_in(layer, octets)?;
+    is_ip(carried.ether_type).then_some(carried.octets)
 }

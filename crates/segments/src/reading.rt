@@ -15,7 +15,7 @@ pub fn read_segment(link_type: u16, octets: &[u8]) -> Found<'_>
     ensures { finding_of result ≡ found_in link_type octets.now }
 {
     let Some(layer) = link_layer(link_type) else {
-        return Found::UnknownLink;
+        return Found::UnknownLink(link_type);
     };
     let Some(packet) = packet_in(layer, octets) else {
         return Found::Nothing;

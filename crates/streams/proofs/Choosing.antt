@@ -1,10 +1,8 @@
 -- What is told of a connection that is held.
 use Rattle.std.proofs.Common.{◌≡◌, ◌<◌, ◌≤◌, ◌+◌, ◌∙◌, ℕ, Some, None, Option, cond, List, [], ◌∷◌, refl, sym, ap, arith, length, subst}
 use Rattle.std.specs.Option.{option_or, unwrap_or, is_none}
-use Rattle.std.specs.BTreeMap.{get}
 use Rattle.std.specs.List.{AllByRecursion}
 use Rattle.std.proofs.lemmas.List.Elements.{recursion_from_All}
-use Rattle.std.specs.Ordering.{nat_cmp}
 use Rattle.streams.specs.declared.fault.Fault.{Fault}
 use Rattle.streams.specs.declared.passed.Side.{Side}
 use Rattle.streams.specs.declared.passed.Side.TheVariants.{Local, Peer}
@@ -25,12 +23,12 @@ use Rattle.streams.specs.Gatherings.{HoldsConnection, refusal_in, Shows, Opens}
 use Rattle.streams.specs.Held.{IsOne}
 use Rattle.streams.specs.Choice.{refusal_of, IsStreamOf, Tells, OpensAs}
 use Rattle.streams.proofs.Known.{known_within}
-use Rattle.streams.proofs.Places.{given_is}
+use Rattle.streams.proofs.Places.{known_given}
 use Rattle.streams.proofs.Histories.{next_is}
 
 missing_is : {Z : Type 0} (side : Side) (segments : List Segment) (d : Direction Z) → Holds side segments d → missing_in d ≡ missing side segments
 missing_is side segments d holds =
-    let n = length d.gathered.octets.items in
+    let n = length d.gathered.known.octets.items in
     ap (λ (f : Option ℕ). cond (is_fin f n) (first_above d.shown.items (n + 1)) (first_above d.shown.items n)) holds.fin
     ∙ ap (λ (o : Option ℕ). cond (is_fin (fin_of side segments) n) o (first_above d.shown.items n)) (holds.shown (n + 1))
     ∙ ap (λ (o : Option ℕ). cond (is_fin (fin_of side segments) n) (first_shown side segments (n + 1)) o) (holds.shown n)
@@ -48,12 +46,12 @@ halves_are segments g holds received sent =
     ∙ ap (λ (o : Option ℕ). half_of (half_shown Peer segments) o) (half_is Local segments g.sent g.local_start sent holds.local_start)
 
 rest_is : {Z : Type 0} (segments : List Segment) (g : Gathering Z) → Holds Peer segments g.received → Holds Local segments g.sent
-    → missing_of (missing_in g.received) (missing_in g.sent) (length g.received.gathered.octets.items) (length g.sent.gathered.octets.items)
+    → missing_of (missing_in g.received) (missing_in g.sent) (length g.received.gathered.known.octets.items) (length g.sent.gathered.known.octets.items)
     ≡ missing_of (missing Peer segments) (missing Local segments) (next_of Peer segments) (next_of Local segments)
 rest_is segments g received sent =
-    ap (λ (o : Option ℕ). missing_of o (missing_in g.sent) (length g.received.gathered.octets.items) (length g.sent.gathered.octets.items)) (missing_is Peer segments g.received received)
-    ∙ ap (λ (o : Option ℕ). missing_of (missing Peer segments) o (length g.received.gathered.octets.items) (length g.sent.gathered.octets.items)) (missing_is Local segments g.sent sent)
-    ∙ ap (λ (n : ℕ). missing_of (missing Peer segments) (missing Local segments) n (length g.sent.gathered.octets.items)) (next_is Peer segments g.received received)
+    ap (λ (o : Option ℕ). missing_of o (missing_in g.sent) (length g.received.gathered.known.octets.items) (length g.sent.gathered.known.octets.items)) (missing_is Peer segments g.received received)
+    ∙ ap (λ (o : Option ℕ). missing_of (missing Peer segments) o (length g.received.gathered.known.octets.items) (length g.sent.gathered.known.octets.items)) (missing_is Local segments g.sent sent)
+    ∙ ap (λ (n : ℕ). missing_of (missing Peer segments) (missing Local segments) n (length g.sent.gathered.known.octets.items)) (next_is Peer segments g.received received)
     ∙ ap (λ (n : ℕ). missing_of (missing Peer segments) (missing Local segments) (next_of Peer segments) n) (next_is Local segments g.sent sent)
 
 either : (fault : Option Fault) (one other : Option Fault) → (fault ≡ None → one ≡ other) → option_or fault one ≡ option_or fault other
@@ -63,7 +61,7 @@ either (Some x) one other h = refl
 -- the refusal of what is held is that of the segments
 refusal_is : {Z : Type 0} (segments : List Segment) (g : Gathering Z) → HoldsConnection segments g → refusal_in g ≡ refusal_of segments
 refusal_is segments g holds =
-    let missed = missing_of (missing_in g.received) (missing_in g.sent) (length g.received.gathered.octets.items) (length g.sent.gathered.octets.items) in
+    let missed = missing_of (missing_in g.received) (missing_in g.sent) (length g.received.gathered.known.octets.items) (length g.sent.gathered.known.octets.items) in
     let half = half_of (half_shown Peer segments) (half_shown Local segments) in
     let lacks = missing_of (missing Peer segments) (missing Local segments) (next_of Peer segments) (next_of Local segments) in
     either g.fault (option_or (half_of (half_in g.peer_start g.received) (half_in g.local_start g.sent)) missed) (option_or half lacks) (λ none.
@@ -80,16 +78,16 @@ no_fault None rest h = refl
 no_fault (Some x) rest h = absurd (grind arith)
 
 stream_is : {Z : Type 0} (side : Side) (segments : List Segment) (d : Direction Z) (stream : Stream) → Holds side segments d
-    → stream.octets.now ≡ d.gathered.octets.items → stream.runs.now ≡ d.gathered.runs.items → IsStreamOf side segments stream
+    → stream.octets.now ≡ d.gathered.known.octets.items → stream.runs.now ≡ d.gathered.known.runs.items → IsStreamOf side segments stream
 stream_is side segments d stream holds os rs = record {
   count = ap length os ∙ next_is side segments d holds;
   given = λ place lt.
-      let within : place < length d.gathered.octets.items = omega (arith, lt, ap length os) in
-      let known = known_within d.gathered.octets.items d.gathered.runs.items place holds.sound.covered within in
-      ap (λ (xs : List ℕ). known_at xs stream.runs.now place) os ∙ ap (λ (rs' : List Run). known_at d.gathered.octets.items rs' place) rs
-      ∙ known.1 ∙ sym (given_is d.gathered place ∙ ap (λ o. option_or o (get nat_cmp d.gathered.waiting place)) known.1) ∙ holds.given place;
+      let within : place < length d.gathered.known.octets.items = omega (arith, lt, ap length os) in
+      let known = known_within d.gathered.known.octets.items d.gathered.known.runs.items place holds.sound.covered within in
+      ap (λ (xs : List ℕ). known_at xs stream.runs.now place) os ∙ ap (λ (rs' : List Run). known_at d.gathered.known.octets.items rs' place) rs
+      ∙ known.1 ∙ sym (known_given d.gathered place _ known.1) ∙ holds.given place;
   covered = ap total rs ∙ holds.sound.covered ∙ sym (ap length os);
-  counted = subst (AllByRecursion (λ (run : Run). 1 ≤ run.count)) (sym rs) (recursion_from_All (λ (run : Run). 1 ≤ run.count) d.gathered.runs.items holds.sound.counted);
+  counted = subst (AllByRecursion (λ (run : Run). 1 ≤ run.count)) (sym rs) (recursion_from_All (λ (run : Run). 1 ≤ run.count) d.gathered.known.runs.items holds.sound.counted);
 }
 
 -- what is told of a connection that isn't refused

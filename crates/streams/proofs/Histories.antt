@@ -7,7 +7,8 @@ use Rattle.streams.specs.declared.passed.Side.TheVariants.{Local, Peer}
 use Rattle.streams.specs.declared.gathered.Given.{Given}
 use Rattle.streams.specs.declared.gathered.Gathered.{Gathered}
 use Rattle.streams.specs.declared.direction.Direction.{Direction}
-use Rattle.streams.specs.Given.{IsSound, given_at, piece_at, size, first_conflict, first_new, contradicts, octet_of}
+use Rattle.streams.specs.Given.{given_at, piece_at, size, first_conflict, first_new, contradicts, octet_of}
+use Rattle.streams.specs.Islands.{IsSound}
 use Rattle.streams.specs.Passed.{Segment, giver_of, is_side, other_side}
 use Rattle.streams.specs.Places.{Piece, after}
 use Rattle.streams.specs.History.{start_of, count_of, first_hole, given_by, given_of, acknowledged_of, next_of, piece_in, placed, end_in, end_of, fin_of, has_rst}
@@ -15,8 +16,8 @@ use Rattle.streams.specs.Refusals.{octet_conflict, fin_conflict, after_reset, co
 use Rattle.streams.specs.Places.{shown_by_acknowledgment}
 use Rattle.streams.specs.Sent.{first_shown, acknowledges, first_acknowledged}
 use Rattle.streams.specs.Directions.{Adds, Acknowledges, Holds, piece_faults, fin_faults, rst_faults, shown_by_own}
-use Rattle.streams.specs.declared.gathered.Giver.{Giver}
-use Rattle.streams.proofs.Places.{known_is_given, waits}
+use Rattle.streams.proofs.Places.{known_is_given, held}
+use Rattle.streams.proofs.Islands.{free_is}
 
 -- the first hole
 pub hole_is : (given : ℕ → Option Given) (place limit n : ℕ) → place ≤ n → n ≤ place + limit → ((p : ℕ) → place ≤ p → p < n → is_some (given p) ≡ true) → given n ≡ None → first_hole given place limit ≡ n
@@ -37,10 +38,11 @@ same_hole f g place (suc limit) same =
     ap (λ (o : Option Given). cond (is_some o) (first_hole f (place + 1) limit) place) (same place)
     ∙ ap (λ (n : ℕ). cond (is_some (g place)) n place) (same_hole f g (place + 1) limit same)
 
-pub next_is : {Z : Type 0} (side : Side) (segments : List Segment) (d : Direction Z) → Holds side segments d → length d.gathered.octets.items ≡ next_of side segments
+pub next_is : {Z : Type 0} (side : Side) (segments : List Segment) (d : Direction Z) → Holds side segments d → length d.gathered.known.octets.items ≡ next_of side segments
 next_is side segments d holds =
-    let n = length d.gathered.octets.items in
-    let hole : given_at d.gathered n ≡ None = waits d.gathered n (omega arith) ∙ holds.sound.hole in
+    let n = length d.gathered.known.octets.items in
+    let hole : given_at d.gathered n ≡ None =
+    held d.gathered n (omega arith) ∙ free_is d.gathered.islands holds.sound.islands.ordered n (λ end island is. inr (holds.sound.hole end island is)) in
     sym (sym (same_hole (given_at d.gathered) (given_of side segments) 0 (count_of side segments) holds.given)
     ∙ hole_is (given_at d.gathered) 0 (count_of side segments) n (omega arith) (omega (arith, holds.size))
     (λ p h lt. known_is_given d.gathered p holds.sound.covered lt) hole)
@@ -142,29 +144,29 @@ acknowledged_more s side before e = ap (λ (t : Bool). option_or (first_acknowle
 
 -- a direction that has taken a segment of its side
 pub added : {Z : Type 0} (s : Segment) (before : List Segment) (old new : Direction Z) → Holds s.sender before old
-    → Adds s (piece_in s (start_of s.sender (s ∷ before)) (length old.gathered.octets.items) old.acknowledged) old new
+    → Adds s (piece_in s (start_of s.sender (s ∷ before)) (length old.gathered.known.octets.items) old.acknowledged) old new
     → Holds s.sender (s ∷ before) new
 added s before old new holds adds =
     let start = start_of s.sender (s ∷ before) in
     let n = next_is s.sender before old holds in
-    let piece : piece_in s start (length old.gathered.octets.items) old.acknowledged ≡ placed s before =
+    let piece : piece_in s start (length old.gathered.known.octets.items) old.acknowledged ≡ placed s before =
     ap (λ (k : ℕ). piece_in s start k old.acknowledged) n ∙ ap (piece_in s start (next_of s.sender before)) holds.acknowledged in
     record {
       sound = adds.sound;
       given = λ place.
           adds.given place
-          ∙ ap (λ o. option_or o (piece_at (piece_in s start (length old.gathered.octets.items) old.acknowledged).first (piece_in s start (length old.gathered.octets.items) old.acknowledged).octets (giver_of s) place)) (holds.given place)
+          ∙ ap (λ o. option_or o (piece_at (piece_in s start (length old.gathered.known.octets.items) old.acknowledged).first (piece_in s start (length old.gathered.known.octets.items) old.acknowledged).octets (giver_of s) place)) (holds.given place)
           ∙ ap (λ (p : Piece). option_or (given_of s.sender before place) (piece_at p.first p.octets (giver_of s) place)) piece
           ∙ sym (given_more s before place);
       size = own_size s before (size new.gathered) (size old.gathered) adds.size holds.size;
-      end = adds.end ∙ ap (λ (k : ℕ). max k (end_in (piece_in s start (length old.gathered.octets.items) old.acknowledged))) holds.end
+      end = adds.end ∙ ap (λ (k : ℕ). max k (end_in (piece_in s start (length old.gathered.known.octets.items) old.acknowledged))) holds.end
           ∙ ap (λ (p : Piece). max (end_of s.sender before) (end_in p)) piece ∙ sym (end_more s before);
-      fin = adds.fin ∙ ap (λ o. option_or o (cond s.fin (Some (after (piece_in s start (length old.gathered.octets.items) old.acknowledged))) None)) holds.fin
+      fin = adds.fin ∙ ap (λ o. option_or o (cond s.fin (Some (after (piece_in s start (length old.gathered.known.octets.items) old.acknowledged))) None)) holds.fin
           ∙ ap (λ (p : Piece). option_or (fin_of s.sender before) (cond s.fin (Some (after p)) None)) piece ∙ sym (fin_more s before);
       rst = adds.rst ∙ ap (λ (t : Bool). t || s.rst) holds.rst ∙ sym (ap (λ (t : Bool). has_rst s.sender before || (t && s.rst)) (own_side s.sender));
       shown = λ place.
           adds.shown place
-          ∙ ap (λ o. option_or o (cond (nat_lt place (shown_by_own s (piece_in s start (length old.gathered.octets.items) old.acknowledged))) (Some s.packet) None)) (holds.shown place)
+          ∙ ap (λ o. option_or o (cond (nat_lt place (shown_by_own s (piece_in s start (length old.gathered.known.octets.items) old.acknowledged))) (Some s.packet) None)) (holds.shown place)
           ∙ ap (λ (p : Piece). option_or (first_shown s.sender before place) (cond (nat_lt place (shown_by_own s p)) (Some s.packet) None)) piece
           ∙ sym (shown_more s before place);
       acknowledged = adds.acknowledged ∙ holds.acknowledged ∙ sym (bound_own s before);
@@ -173,7 +175,7 @@ added s before old new holds adds =
 
 -- a direction that has taken what a segment of the other side acknowledges
 pub acknowledged : {Z : Type 0} (s : Segment) (side : Side) (before : List Segment) (old new : Direction Z) → is_side s.sender side ≡ false → Holds side before old
-    → Acknowledges s (shown_by_acknowledgment (start_of side before) (length old.gathered.octets.items) s.acknowledgment s.rst) old new
+    → Acknowledges s (shown_by_acknowledgment (start_of side before) (length old.gathered.known.octets.items) s.acknowledgment s.rst) old new
     → Holds side (s ∷ before) new
 acknowledged s side before old new e holds acks =
     let n = next_is side before old holds in
@@ -186,11 +188,11 @@ acknowledged s side before old new e holds acks =
       rst = acks.rst ∙ holds.rst ∙ sym (rst_other s side before e);
       shown = λ place.
           acks.shown place
-          ∙ ap (λ o. option_or o (cond (nat_lt place (shown_by_acknowledgment (start_of side before) (length old.gathered.octets.items) s.acknowledgment s.rst)) (Some s.packet) None)) (holds.shown place)
+          ∙ ap (λ o. option_or o (cond (nat_lt place (shown_by_acknowledgment (start_of side before) (length old.gathered.known.octets.items) s.acknowledgment s.rst)) (Some s.packet) None)) (holds.shown place)
           ∙ ap (λ (k : ℕ). option_or (first_shown side before place) (cond (nat_lt place (shown_by_acknowledgment (start_of side before) k s.acknowledgment s.rst)) (Some s.packet) None)) n
           ∙ sym (shown_other s side before place e);
       acknowledged = acks.acknowledged
-          ∙ ap (λ (k : ℕ). max k (shown_by_acknowledgment (start_of side before) (length old.gathered.octets.items) s.acknowledgment s.rst)) holds.acknowledged
+          ∙ ap (λ (k : ℕ). max k (shown_by_acknowledgment (start_of side before) (length old.gathered.known.octets.items) s.acknowledgment s.rst)) holds.acknowledged
           ∙ ap (λ (k : ℕ). max (acknowledged_of side before) (shown_by_acknowledgment (start_of side before) k s.acknowledgment s.rst)) n
           ∙ sym (bound_other s side before e);
       acknowledged_by = acks.acknowledged_by ∙ ap (λ o. option_or o (cond (acknowledges s) (Some s.packet) None)) holds.acknowledged_by ∙ sym (acknowledged_more s side before e);
@@ -198,7 +200,7 @@ acknowledged s side before old new e holds acks =
 
 -- the first refusal of a segment's piece
 pub faults : {Z : Type 0} (s : Segment) (before : List Segment) (d : Direction Z) → Holds s.sender before d
-    → piece_faults s (piece_in s (start_of s.sender (s ∷ before)) (length d.gathered.octets.items) d.acknowledged) (given_at d.gathered) d.fin d.end d.has_rst
+    → piece_faults s (piece_in s (start_of s.sender (s ∷ before)) (length d.gathered.known.octets.items) d.acknowledged) (given_at d.gathered) d.fin d.end d.has_rst
     ≡ option_or (octet_conflict s before) (option_or (fin_conflict s before) (after_reset s before))
 faults s before d holds =
     let start = start_of s.sender (s ∷ before) in
@@ -206,7 +208,7 @@ faults s before d holds =
     let told = given_of s.sender before in
     let fin = fin_of s.sender before in
     let end = end_of s.sender before in
-    let piece : piece_in s start (length d.gathered.octets.items) d.acknowledged ≡ placed s before =
+    let piece : piece_in s start (length d.gathered.known.octets.items) d.acknowledged ≡ placed s before =
     ap (λ (k : ℕ). piece_in s start k d.acknowledged) (next_is s.sender before d holds) ∙ ap (piece_in s start (next_of s.sender before)) holds.acknowledged in
     let p : Piece = placed s before in
     ap (λ (q : Piece). piece_faults s q given d.fin d.end d.has_rst) piece

@@ -87,3 +87,33 @@ known_within octets runs place covered lt =
 
 pub known_past : (octets : List ℕ) (runs : List Run) (place : ℕ) → length octets ≤ place → known_at octets runs place ≡ None
 known_past octets runs place ge = ap (λ o. joined o (giver_at runs place)) (slice_get_past octets place ge)
+
+-- ---- one list after another
+
+giver_left : (runs more : List Run) (place : ℕ) → place < total runs → giver_at (runs ++ more) place ≡ giver_at runs place
+giver_left [] more place h = absurd (omega (arith, h))
+giver_left (r ∷ rs) more place h =
+    elim (cases_lt place r.count) [
+      | inl lt ↦ rw (lt-ltb place r.count lt) refl
+      | inr ge ↦ rw (le-ltb place r.count ge) (giver_left rs more (place - r.count) (omega (arith, h, ge, total-cons r rs)))
+    ]
+
+giver_right : (runs more : List Run) (place : ℕ) → total runs ≤ place → giver_at (runs ++ more) place ≡ giver_at more (place - total runs)
+giver_right [] more place h = ap (λ (k : ℕ). giver_at more k) (omega arith)
+giver_right (r ∷ rs) more place h =
+    let ge : r.count ≤ place = omega (arith, h, total-cons r rs) in
+    let back : place - r.count - total rs ≡ place - total (r ∷ rs) = omega (arith, total-cons r rs) in
+    rw (le-ltb place r.count ge) (giver_right rs more (place - r.count) (omega (arith, h, total-cons r rs)) ∙ ap (λ (k : ℕ). giver_at more k) back)
+
+pub join_left : (octets others : List ℕ) (runs more : List Run) (place : ℕ) → total runs ≡ length octets → place < length octets
+    → known_at (octets ++ others) (runs ++ more) place ≡ known_at octets runs place
+join_left octets others runs more place covered lt =
+    ap (λ o. joined o (giver_at (runs ++ more) place)) (slice_get-append_left octets others place lt)
+    ∙ ap (λ w. joined (slice_get octets place) w) (giver_left runs more place (omega (arith, covered, lt)))
+
+pub join_right : (octets others : List ℕ) (runs more : List Run) (place : ℕ) → total runs ≡ length octets → length octets ≤ place
+    → known_at (octets ++ others) (runs ++ more) place ≡ known_at others more (place - length octets)
+join_right octets others runs more place covered ge =
+    ap (λ o. joined o (giver_at (runs ++ more) place)) (slice_get-append_right octets others place ge)
+    ∙ ap (λ w. joined (slice_get others (place - length octets)) w)
+    (giver_right runs more place (omega (arith, covered, ge)) ∙ ap (λ (k : ℕ). giver_at more (place - k)) covered)

@@ -2,6 +2,8 @@ pub mod Runs
 pub mod Known
 pub mod Pieces
 pub mod Places
+pub mod Islands
+pub mod Holding
 pub mod Firsts
 pub mod Showing
 pub mod Histories

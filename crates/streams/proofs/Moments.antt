@@ -10,7 +10,7 @@ use Rattle.streams.specs.declared.passed.Side.TheVariants.{Local, Peer}
 use Rattle.streams.specs.Given.{piece_at}
 use Rattle.streams.specs.Passed.{Segment, giver_of, is_side}
 use Rattle.streams.specs.Places.{after}
-use Rattle.streams.specs.History.{start_of, count_of, given_of, next_of, placed, end_in, end_of, fin_of}
+use Rattle.streams.specs.History.{count_of, given_of, placed, end_in, end_of, fin_of}
 use Rattle.streams.specs.Sent.{first_shown}
 use Rattle.streams.specs.Directions.{shown_by_own}
 use Rattle.streams.proofs.Pieces.{piece_before, piece_past, piece_within}

@@ -1,5 +1,5 @@
 -- The connections held, one by one, and those that hold octets.
-use Rattle.std.proofs.Common.{◌≡◌, ◌<◌, ◌+◌, ◌-◌, ◌∙◌, ℕ, Some, None, Option, Bool, true, false, cond, List, [], ◌∷◌, ◌++◌, refl, sym, ap, arith, zero, suc, length, get_or, set, drop, take, filter, subst, inl, inr}
+use Rattle.std.proofs.Common.{◌≡◌, ◌<◌, ◌+◌, ◌∙◌, ℕ, Some, None, Option, Bool, true, false, cond, List, [], ◌∷◌, ◌++◌, refl, sym, ap, arith, zero, suc, length, get_or, set, drop, take, filter, subst, inl, inr}
 use Rattle.std.specs.Option.{option_or, option_map}
 use Rattle.std.proofs.lemmas.Bool.{cases_Bool}
 use Rattle.std.proofs.lemmas.List.{drop_more, take_more, length-take-le}

@@ -77,14 +77,14 @@ taken s before g fault sent received holds sound is directions = record {
 }
 
 own : {Z : Type 0} (side : Side) (s : Segment) (before : List Segment) (old new : Direction Z) → s.sender ≡ side → Holds side before old
-    → Adds s (piece_in s (start_of s.sender (s ∷ before)) (length old.gathered.octets.items) old.acknowledged) old new → Holds side (s ∷ before) new
+    → Adds s (piece_in s (start_of s.sender (s ∷ before)) (length old.gathered.known.octets.items) old.acknowledged) old new → Holds side (s ∷ before) new
 own side s before old new e holds adds =
     subst (λ (t : Side). Holds t (s ∷ before) new) e (histories.added s before old new (subst (λ (t : Side). Holds t before old) (sym e) holds) adds)
 
 other : {Z : Type 0} (side : Side) (s : Segment) (before : List Segment) (old new : Direction Z) (start : Option ℕ) → is_side s.sender side ≡ false → start ≡ start_of side before → Holds side before old
-    → Acknowledges s (shown_by_acknowledgment start (length old.gathered.octets.items) s.acknowledgment s.rst) old new → Holds side (s ∷ before) new
+    → Acknowledges s (shown_by_acknowledgment start (length old.gathered.known.octets.items) s.acknowledgment s.rst) old new → Holds side (s ∷ before) new
 other side s before old new start no_side e holds acks =
-    histories.acknowledged s side before old new no_side holds (subst (λ (o : Option ℕ). Acknowledges s (shown_by_acknowledgment o (length old.gathered.octets.items) s.acknowledgment s.rst) old new) e acks)
+    histories.acknowledged s side before old new no_side holds (subst (λ (o : Option ℕ). Acknowledges s (shown_by_acknowledgment o (length old.gathered.known.octets.items) s.acknowledgment s.rst) old new) e acks)
 
 -- what both directions hold, once a segment is gathered
 pub gathered : {Z : Type 0} (side : Side) (s : Segment) (before : List Segment) (g : Gathering Z) (sent received : Direction Z) → s.sender ≡ side → HoldsConnection before g → g.fault ≡ None

@@ -1,5 +1,5 @@
 -- Half a connection is never answered.
-use Rattle.std.proofs.Common.{◌≡◌, ◌∙◌, ℕ, Some, None, Option, Bool, true, false, cond, not, List, [], ◌∷◌, refl, sym, ap, inl, inr, min, ◌&&◌}
+use Rattle.std.proofs.Common.{◌≡◌, ◌∙◌, ℕ, Some, None, Option, Bool, true, cond, List, [], ◌∷◌, refl, sym, ap, min}
 use Rattle.std.specs.Option.{option_or, is_some, is_none}
 use Rattle.std.specs.List.{AllByRecursion}
 use Rattle.std.proofs.lemmas.Option.{none-some}
@@ -7,10 +7,10 @@ use Rattle.streams.specs.declared.connection.Connection.{Connection}
 use Rattle.streams.specs.declared.fault.Fault.TheVariants as faults
 use Rattle.streams.specs.declared.passed.Side.{Side}
 use Rattle.streams.specs.declared.passed.Side.TheVariants.{Local, Peer}
-use Rattle.streams.specs.Passed.{Segment, is_side, other_side}
-use Rattle.streams.specs.History.{start_of, next_of}
-use Rattle.streams.specs.Refusals.{first_fault, half_of, missing_of}
-use Rattle.streams.specs.Sent.{acknowledges, first_acknowledged, half_shown, missing}
+use Rattle.streams.specs.Passed.{Segment, other_side}
+use Rattle.streams.specs.History.{start_of}
+use Rattle.streams.specs.Refusals.{first_fault, half_of}
+use Rattle.streams.specs.Sent.{acknowledges, first_acknowledged, half_shown}
 use Rattle.streams.specs.Choice.{refusal_of, numbered_one, IsAnswered}
 use Rattle.streams.specs.Wholeness.{AreWhole}
 use Rattle.streams.proofs.Histories.{not_other_side, acknowledged_more}

@@ -1,7 +1,7 @@
 -- The connections of a recording: the segments of one pair of ports, up to the next SYN that begins
 -- another. A connection's segments are told from the last one back to the first, the connections in
 -- the order of their first segments.
-use Rattle.std.specs.Prelude.{ℕ, ◌+◌, List, [], ◌∷◌, ◌++◌, Option, Some, None, cond, Bool}
+use Rattle.std.specs.Prelude.{ℕ, List, [], ◌∷◌, ◌++◌, Option, Some, None, cond, Bool}
 use Rattle.std.specs.Prelude.{false, not, ◌&&◌, ◌||◌, nat_eq, nat_lt, length, suc}
 use Rattle.std.specs.Prelude.{get_or, filter, slice_set}
 use Rattle.std.specs.Option.{option_or, option_map, is_some, is_none}

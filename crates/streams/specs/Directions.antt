@@ -7,7 +7,8 @@ use Rattle.streams.specs.declared.direction.Shown.{Shown}
 use Rattle.streams.specs.declared.direction.Direction.{Direction}
 use Rattle.streams.specs.declared.gathered.Given.{Given}
 use Rattle.streams.specs.declared.passed.Side.{Side}
-use Rattle.streams.specs.Given.{IsSound, given_at, piece_at, size, first_conflict, first_new}
+use Rattle.streams.specs.Given.{given_at, piece_at, size, first_conflict, first_new}
+use Rattle.streams.specs.Islands.{IsSound}
 use Rattle.streams.specs.History.{given_of, acknowledged_of, count_of, end_of, fin_of}
 use Rattle.streams.specs.History.{has_rst, end_in}
 use Rattle.streams.specs.Sent.{first_shown, shown_by_piece, is_fin}
@@ -99,6 +100,6 @@ half_in start d = cond (is_none start) d.acknowledged_by None
 
 -- the first packet that shows an octet which is missing
 abbrev pub missing_in : {Z : Type 0} → Direction Z → Option ℕ
-missing_in d = cond (is_fin d.fin (length d.gathered.octets.items))
-    (first_above d.shown.items (length d.gathered.octets.items + 1))
-    (first_above d.shown.items (length d.gathered.octets.items))
+missing_in d = cond (is_fin d.fin (length d.gathered.known.octets.items))
+    (first_above d.shown.items (length d.gathered.known.octets.items + 1))
+    (first_above d.shown.items (length d.gathered.known.octets.items))

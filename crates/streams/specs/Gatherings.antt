@@ -10,7 +10,8 @@ use Rattle.streams.specs.declared.direction.Direction.{Direction}
 use Rattle.streams.specs.declared.gathering.Gathering.{Gathering}
 use Rattle.streams.specs.declared.connection.Connection.{Connection}
 use Rattle.streams.specs.declared.connection.Opening.{Opening}
-use Rattle.streams.specs.Given.{IsSound, given_at}
+use Rattle.streams.specs.Given.{given_at}
+use Rattle.streams.specs.Islands.{IsSound}
 use Rattle.streams.specs.Passed.{Segment, is_side}
 use Rattle.streams.specs.History.{start_of, piece_in}
 use Rattle.streams.specs.Refusals.{cut, first_fault, half_of, missing_of}
@@ -40,7 +41,7 @@ unstarted s start = cond ((nat_lt 0 (length s.octets) || s.fin) && is_none start
 
 abbrev pub direction_faults : {Z : Type 0} → Segment → Option ℕ → Direction Z → Option Fault
 direction_faults s start direction = piece_faults s
-    (piece_in s start (length direction.gathered.octets.items) direction.acknowledged)
+    (piece_in s start (length direction.gathered.known.octets.items) direction.acknowledged)
     (given_at direction.gathered) direction.fin direction.end direction.has_rst
 
 abbrev pub direction_in : {Z : Type 0} → Side → Gathering Z → Direction Z
@@ -96,9 +97,9 @@ noted s start g = record g {
 pub record Gathers {Z : Type 0} (s : Segment) (start other : Option ℕ)
     (own acknowledged own' acknowledged' : Direction Z) : Type 0 where
   pub adds : Adds s
-      (piece_in s start (length own.gathered.octets.items) own.acknowledged) own own'
+      (piece_in s start (length own.gathered.known.octets.items) own.acknowledged) own own'
   pub acknowledges : Acknowledges s (shown_by_acknowledgment other
-      (length acknowledged.gathered.octets.items) s.acknowledgment s.rst)
+      (length acknowledged.gathered.known.octets.items) s.acknowledgment s.rst)
       acknowledged acknowledged'
 
 -- a segment has been gathered
@@ -118,7 +119,7 @@ abbrev pub refusal_in : {Z : Type 0} → Gathering Z → Option Fault
 refusal_in g = option_or g.fault
     (option_or (half_of (half_in g.peer_start g.received) (half_in g.local_start g.sent))
     (missing_of (missing_in g.received) (missing_in g.sent)
-    (length g.received.gathered.octets.items) (length g.sent.gathered.octets.items)))
+    (length g.received.gathered.known.octets.items) (length g.sent.gathered.known.octets.items)))
 
 -- what of a connection is told without its streams
 pub record Opens {Z : Type 0} (n : ℕ) (g : Gathering Z) (opening : Opening) : Type 0 where
@@ -138,8 +139,8 @@ pub record Shows {Z : Type 0} (n : ℕ) (g : Gathering Z) (connection : Connecti
     pub opened_by : connection.opened_by ≡ unwrap_or g.opener g.first_from
     pub packet : connection.packet ≡ g.packet
     pub second : connection.second ≡ g.second
-    pub received_octets : connection.received.octets.now ≡ g.received.gathered.octets.items
-    pub received_runs : connection.received.runs.now ≡ g.received.gathered.runs.items
-    pub sent_octets : connection.sent.octets.now ≡ g.sent.gathered.octets.items
-    pub sent_runs : connection.sent.runs.now ≡ g.sent.gathered.runs.items
+    pub received_octets : connection.received.octets.now ≡ g.received.gathered.known.octets.items
+    pub received_runs : connection.received.runs.now ≡ g.received.gathered.known.runs.items
+    pub sent_octets : connection.sent.octets.now ≡ g.sent.gathered.known.octets.items
+    pub sent_runs : connection.sent.runs.now ≡ g.sent.gathered.known.runs.items
     pub end : connection.end ≡ g.end

@@ -1,10 +1,9 @@
 -- The octets of a stream that are given, each with the packet that gave it first: a map from
 -- places.
 use Rattle.std.specs.Prelude.{ℕ, ◌+◌, ◌-◌, List, [], ◌∷◌, Option, Some, None, cond, nat_lt, length}
-use Rattle.std.specs.Prelude.{◌≡◌, ◌≤◌, get_or, All, max}
+use Rattle.std.specs.Prelude.{◌≤◌, get_or, All, max}
 use Rattle.std.specs.List.{sum_by}
-use Rattle.std.specs.BTreeMap.{get, btree_map_len}
-use Rattle.std.specs.Ordering.{nat_cmp}
+use Rattle.std.specs.Map.{values_of}
 use Rattle.std.specs.Option.{option_or, option_map, option_and_then, is_none}
 use Rattle.std.specs.List.{slice_get}
 use Rattle.std.specs.Prelude.{Bool, false, not, ◌||◌, ◌&&◌, nat_eq, nat_le}
@@ -12,6 +11,7 @@ use Rattle.streams.specs.declared.connection.Run.{Run}
 use Rattle.streams.specs.declared.gathered.Giver.{Giver}
 use Rattle.streams.specs.declared.gathered.Given.{Given}
 use Rattle.streams.specs.declared.gathered.Gathered.{Gathered}
+use Rattle.streams.specs.declared.stretch.Stretch.{Stretch}
 
 -- how many octets the runs are
 abbrev pub total : List Run → ℕ
@@ -30,11 +30,27 @@ known_at octets runs place = option_and_then
     (λ octet. option_map (λ giver. record { octet = octet; giver = giver }) (giver_at runs place))
     (slice_get octets place)
 
+-- how many octets a stretch has
+abbrev pub extent_of : {Z : Type 0} → Stretch Z → ℕ
+extent_of stretch = length stretch.octets.items
+
+-- the octet at the place, of a stretch that ends right before the place `end`
+abbrev pub island_at : {Z : Type 0} → ℕ → Stretch Z → ℕ → Option Given
+island_at end island place = cond (nat_le end (place + extent_of island))
+    (known_at island.octets.items island.runs.items (place + extent_of island - end)) None
+
+-- that of the first island which ends after the place: each has the place right after its last
+-- octet beside it, in their order
+unfoldable pub held_at : {Z : Type 0} → List (ℕ × Stretch Z) → ℕ → Option Given
+held_at [] place = None
+held_at ((end, island) ∷ later) place =
+    cond (nat_lt place end) (island_at end island place) (held_at later place)
+
 -- the octet given at the place: its packet is the first that gave it
 unfoldable pub given_at : {Z : Type 0} → Gathered Z → ℕ → Option Given
 given_at gathered place = option_or
-    (known_at gathered.octets.items gathered.runs.items place)
-    (get nat_cmp gathered.waiting place)
+    (known_at gathered.known.octets.items gathered.known.runs.items place)
+    (held_at gathered.islands.entries place)
 
 -- these octets from their first one's place on, all of one giver
 abbrev pub piece_at : ℕ → List ℕ → Giver → ℕ → Option Given
@@ -87,10 +103,5 @@ AreCounted runs = All (λ run. 1 ≤ run.count) runs
 
 -- how many octets are held
 abbrev pub size : {Z : Type 0} → Gathered Z → ℕ
-size gathered = length gathered.octets.items + btree_map_len gathered.waiting
-
--- the runs are those of the octets known, after which one is missing
-pub record IsSound {Z : Type 0} (gathered : Gathered Z) : Type 0 where
-  pub covered : total gathered.runs.items ≡ length gathered.octets.items
-  pub counted : AreCounted gathered.runs.items
-  pub hole : get nat_cmp gathered.waiting (length gathered.octets.items) ≡ None
+size gathered = length gathered.known.octets.items
+    + sum_by extent_of (values_of gathered.islands.entries)

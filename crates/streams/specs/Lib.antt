@@ -1,5 +1,6 @@
 pub mod Fault
 pub mod Given
+pub mod Islands
 pub mod Passed
 pub mod Places
 pub mod History

@@ -1,7 +1,7 @@
 -- What is known to have been sent: what stands below an octet given, below the FIN, or is
 -- acknowledged by a segment of the other side without RST.
 use Rattle.std.specs.Prelude.{ℕ, ◌+◌, ◌-◌, List, [], ◌∷◌, Option, Some, None, cond, Bool}
-use Rattle.std.specs.Prelude.{true, false, not, ◌||◌, ◌&&◌, nat_lt, nat_eq, length}
+use Rattle.std.specs.Prelude.{false, not, ◌||◌, ◌&&◌, nat_lt, nat_eq, length}
 use Rattle.std.specs.Option.{option_or, is_some, is_none}
 use Rattle.streams.specs.declared.passed.Side.{Side}
 use Rattle.streams.specs.Passed.{Segment, is_side}

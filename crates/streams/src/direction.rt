@@ -5,7 +5,8 @@ ghost use Rattle.std.specs.Prelude.{cond, max};
 ghost use Rattle.std.specs.Prelude.{nat_lt, length, OnOk, [], List};
 ghost use Rattle.std.specs.Option.{is_some, option_or, option_map};
 ghost use Rattle.streams.specs.declared.passed.Side.{Side};
-ghost use Rattle.streams.specs.Given.{IsSound, given_at};
+ghost use Rattle.streams.specs.Given.{given_at};
+ghost use Rattle.streams.specs.Islands.{IsSound};
 ghost use Rattle.streams.specs.Passed.{segment_of};
 ghost use Rattle.streams.specs.Places.{after, shown_by_acknowledgment};
 ghost use Rattle.streams.specs.History.{piece_in, end_in};
@@ -101,7 +102,7 @@ impl<A: Allocator + Copy> Direction<A> {
         requires sound { IsSound self.now.gathered }
         requires short { length passed.now.octets.now < 2 ^ 32 }
         ensures { result ≡ piece_faults (segment_of passed.now)
-            (piece_in (segment_of passed.now) start (length self.now.gathered.octets.items)
+            (piece_in (segment_of passed.now) start (length self.now.gathered.known.octets.items)
             self.now.acknowledged) (given_at self.now.gathered) self.now.fin self.now.end
             self.now.has_rst }
     {
@@ -166,7 +167,7 @@ impl<A: Allocator + Copy> Direction<A> {
         requires sound { IsSound self.old.gathered }
         requires short { length passed.now.octets.now < 2 ^ 32 }
         ensures { OnOk result (Adds (segment_of passed.now)
-            (piece_in (segment_of passed.now) start (length self.old.gathered.octets.items)
+            (piece_in (segment_of passed.now) start (length self.old.gathered.known.octets.items)
             self.old.acknowledged)
             self.old self.new) }
     {
@@ -189,7 +190,7 @@ impl<A: Allocator + Copy> Direction<A> {
     /// this side's SYN.
     pub fn acknowledge(&mut self, passed: &Passed<'_>, start: Option<u32>) -> Result<(), AllocError>
         ensures { OnOk result (Acknowledges (segment_of passed.now)
-            (shown_by_acknowledgment start (length self.old.gathered.octets.items)
+            (shown_by_acknowledgment start (length self.old.gathered.known.octets.items)
             passed.now.acknowledgment passed.now.rst)
             self.old self.new) }
     {

@@ -1,16 +1,15 @@
 //! The octets of a stream that are given, in whatever order they come.
 
-ghost use Rattle.std.specs.Prelude.{◌≡◌, ◌<◌, ◌≤◌, ◌+◌, ◌^◌, ℕ, Some, None, cond, nat_lt};
-ghost use Rattle.std.specs.Prelude.{IfOk, OnOk, OnErr, length};
-ghost use Rattle.std.specs.Option.{option_or};
-ghost use Rattle.std.specs.Option.{is_some, option_map};
-ghost use Rattle.std.specs.BTreeMap.{get};
-ghost use Rattle.std.specs.Ordering.{nat_cmp};
-ghost use Rattle.streams.specs.Given.{total, giver_at, known_at, given_at, piece_at, size};
-ghost use Rattle.streams.specs.Given.{AreCounted, IsSound, contradicts, first_conflict, first_new};
-ghost use Rattle.streams.specs.Given.{first_after};
+ghost use Rattle.std.specs.Prelude.{◌≡◌, ◌<◌, ◌≤◌, ◌+◌, ◌^◌, ℕ, Some, None, IsTrue, IsFalse};
+ghost use Rattle.std.specs.Prelude.{OnOk, MatchOption, length, true};
+ghost use Rattle.std.specs.Option.{option_or, option_map, is_some};
+ghost use Rattle.streams.specs.Given.{total, given_at, piece_at, size, AreCounted};
+ghost use Rattle.streams.specs.Given.{contradicts, first_conflict, first_new, first_after};
+ghost use Rattle.streams.specs.Islands.{AreIslands, AreFrom, IsFree, IsFirstAfter, IsNoneAfter};
+ghost use Rattle.streams.specs.Islands.{IsSound, IsTouching};
 
-use crate::connection::{Run, Stream};
+use crate::connection::Stream;
+use crate::stretch::Stretch;
 use std::alloc::{AllocError, Allocator};
 use std::collections::BTreeMap;
 
@@ -31,50 +30,30 @@ pub struct Given {
 /// The octets of a stream that are given.
 #[derive(Drop)]
 pub struct Gathered<A: Allocator> {
+    alloc: A,
     /// Those from the first on, as far as none is missing.
-    octets: Vec<u8, A>,
-    /// Who gave them.
-    runs: Vec<Run, A>,
-    /// Those after a hole, by their places.
-    waiting: BTreeMap<u64, Given, A>,
+    known: Stretch<A>,
+    /// Those after a hole, by the place right after their last one: no two of them overlap.
+    islands: BTreeMap<u64, Stretch<A>, A>,
 }
 
-/// Puts so many octets of one giver after the others.
-fn add_run<A: Allocator>(
-    runs: &mut Vec<Run, A>,
+/// So many places: all of them are given, or none is.
+#[derive(Clone, Copy)]
+struct Part {
+    is_given: bool,
     count: usize,
-    giver: Giver,
-) -> Result<(), AllocError>
-    requires fits { total runs.old.items + count < 2 ^ 64 }
-    ensures total { OnOk result (total runs.new.items ≡ total runs.old.items + count) }
-    ensures givers { OnOk result ((place : ℕ) → giver_at runs.new.items place
-        ≡ option_or (giver_at runs.old.items place)
-        (cond (nat_lt place (total runs.old.items + count)) (Some giver) None)) }
-    ensures counted { OnOk result (AreCounted runs.old.items → AreCounted runs.new.items) }
-{
-    if count == 0 {
-        return Ok(());
-    }
-    let mut count = count;
-    if let Some(last) = runs.pop() {
-        if last.packet == giver.packet && last.second == giver.second {
-            count += last.count;
-        } else {
-            runs.push(last)?;
-        }
-    }
-    runs.push(run_of(count, giver))?;
-    Ok(())
 }
 
-/// So many octets of one giver.
-fn run_of(count: usize, giver: Giver) -> Run
-    ensures { result ≡ record { count = count; packet = giver.packet; second = giver.second } }
+/// The lesser of two counts.
+fn at_most(places: u64, count: usize) -> usize
+    ensures within { result ≤ count }
+    ensures few { result ≤ places }
+    ensures some { 0 < places → 0 < count → 0 < result }
 {
-    Run {
-        count,
-        packet: giver.packet,
-        second: giver.second,
+    if places < count as u64 {
+        places as usize
+    } else {
+        count
     }
 }
 
@@ -86,92 +65,151 @@ impl<A: Allocator + Copy> Gathered<A> {
         ensures size { size result ≡ 0 }
     {
         Gathered {
-            octets: Vec::new(alloc),
-            runs: Vec::new(alloc),
-            waiting: BTreeMap::new(alloc),
+            alloc,
+            known: Stretch::new(alloc),
+            islands: BTreeMap::new(alloc),
         }
     }
 
     /// How many octets are known: given from the first on, none missing.
     pub fn known(&self) -> u64
-        ensures count { result ≡ length self.now.octets.items }
+        ensures count { result ≡ length self.now.known.octets.items }
         ensures bound { result < 2 ^ 63 }
     {
-        self.octets.len() as u64
+        self.known.count()
     }
 
     /// The octets known, and who gave them.
     pub fn stream(&self) -> Stream<'_>
-        ensures octets { result.octets.now ≡ self.entry.now.octets.items }
-        ensures runs { result.runs.now ≡ self.entry.now.runs.items }
+        ensures octets { result.octets.now ≡ self.entry.now.known.octets.items }
+        ensures runs { result.runs.now ≡ self.entry.now.known.runs.items }
     {
-        Stream {
-            octets: &self.octets,
-            runs: &self.runs,
+        self.known.stream()
+    }
+
+    /// The first island that ends after the place, and the place right after its last octet.
+    fn island_after(&self, place: u64) -> Option<(u64, &Stretch<A>)>
+        requires { place + 1 < 2 ^ 64 }
+        ensures { MatchOption result (IsNoneAfter self.entry.now.islands place)
+            (λ found. IsFirstAfter self.entry.now.islands place found.0 found.1.now) }
+    {
+        match self.islands.range(place + 1..).next() {
+            Some((end, island)) => Some((*end, island)),
+            None => None,
         }
     }
 
-    /// Puts octets of one giver after those that are known.
-    fn append(&mut self, octets: &[u8], giver: Giver) -> Result<(), AllocError>
-        requires covered { total self.old.runs.items ≡ length self.old.octets.items }
-        ensures octets { OnOk result (length self.new.octets.items
-            ≡ length self.old.octets.items + length octets.now) }
-        ensures covered { OnOk result (total self.new.runs.items ≡ length self.new.octets.items) }
-        ensures counted { OnOk result (AreCounted self.old.runs.items
-            → AreCounted self.new.runs.items) }
-        ensures known { OnOk result ((place : ℕ) →
-            known_at self.new.octets.items self.new.runs.items place
-            ≡ option_or (known_at self.old.octets.items self.old.runs.items place)
-            (piece_at (length self.old.octets.items) octets.now giver place)) }
-        ensures waiting { self.new.waiting ≡ self.old.waiting }
+    /// How many of so many places, from this one on, are all given, or how many aren't.
+    fn part_from(&self, place: u64, count: usize) -> Part
+        requires sound { IsSound self.now }
+        requires some { 0 < count }
+        requires fits { place + count < 2 ^ 64 }
+        ensures some { 0 < result.count }
+        ensures within { result.count ≤ count }
+        ensures given { IsTrue result.is_given → (at : ℕ) → place ≤ at →
+            at < place + result.count → is_some (given_at self.now at) ≡ true }
+        ensures free { IsFalse result.is_given →
+            IsFree self.now place (place + result.count) }
     {
-        self.octets.extend_from_slice(octets)?;
-        add_run(&mut self.runs, octets.len(), giver)?;
-        Ok(())
+        let known = self.known();
+        if place < known {
+            return Part {
+                is_given: true,
+                count: at_most(known - place, count),
+            };
+        }
+        let Some((end, island)) = self.island_after(place) else {
+            return Part {
+                is_given: false,
+                count,
+            };
+        };
+        let first = end - island.count();
+        if first <= place {
+            Part {
+                is_given: true,
+                count: at_most(end - place, count),
+            }
+        } else {
+            Part {
+                is_given: false,
+                count: at_most(first - place, count),
+            }
+        }
     }
 
-    /// Whether the octet at the place is given.
-    fn is_given(&self, place: u64) -> bool
-        requires covered { total self.now.runs.items ≡ length self.now.octets.items }
-        ensures { result ≡ is_some (given_at self.now place) }
-    {
-        place < self.octets.len() as u64 || self.waiting.contains_key(&place)
-    }
-
-    /// Lets those of the octets wait that aren't given: the first has this place.
+    /// Puts octets of one giver, none of which is given, after a hole: onto the end of the island
+    /// that ends where they begin, or as an island of their own.
     fn hold(&mut self, place: u64, octets: &[u8], giver: Giver) -> Result<(), AllocError>
-        requires covered { total self.old.runs.items ≡ length self.old.octets.items }
+        requires sound { IsSound self.old }
         requires fits { place + length octets.now < 2 ^ 64 }
-        ensures octets { self.new.octets ≡ self.old.octets }
-        ensures runs { self.new.runs ≡ self.old.runs }
+        requires some { 0 < length octets.now }
+        requires free { IsFree self.old place (place + length octets.now) }
+        requires apart { length self.old.known.octets.items < place }
+        ensures sound { OnOk result (IsSound self.new) }
         ensures given { OnOk result ((at : ℕ) → given_at self.new at
             ≡ option_or (given_at self.old at) (piece_at place octets.now giver at)) }
         ensures size { OnOk result (size self.new ≤ size self.old + length octets.now) }
     {
-        for (i, octet) in octets.iter().enumerate() {
-            let at = place + i as u64;
-            if !self.is_given(at) {
-                let given = Given {
-                    octet: *octet,
-                    giver,
-                };
-                self.waiting.insert(at, given)?;
-            }
+        let mut island = match self.islands.remove(&place) {
+            Some(island) => island,
+            None => Stretch::new(self.alloc),
+        };
+        island.append(octets, giver)?;
+        match self.islands.insert(place + octets.len() as u64, island) {
+            Ok(_) => Ok(()),
+            Err(_) => Err(AllocError),
         }
-        Ok(())
     }
 
-    /// Puts after the octets known those that wait for it.
+    /// The place right after the island that begins right after what is known, if there is one.
+    fn touching(&self) -> Option<u64>
+        requires islands { AreIslands self.now.islands }
+        requires from { AreFrom (length self.now.known.octets.items) self.now.islands }
+        ensures { IsTouching self.now result }
+    {
+        let known = self.known();
+        match self.island_after(known) {
+            Some((end, island)) if end - island.count() == known => Some(end),
+            _ => None,
+        }
+    }
+
+    /// Puts after the octets known the islands that begin there.
     fn absorb(&mut self) -> Result<(), AllocError>
-        requires covered { total self.old.runs.items ≡ length self.old.octets.items }
-        requires counted { AreCounted self.old.runs.items }
+        requires covered { total self.old.known.runs.items ≡ length self.old.known.octets.items }
+        requires counted { AreCounted self.old.known.runs.items }
+        requires islands { AreIslands self.old.islands }
+        requires from { AreFrom (length self.old.known.octets.items) self.old.islands }
         ensures sound { OnOk result (IsSound self.new) }
         ensures given { OnOk result ((at : ℕ) → given_at self.new at ≡ given_at self.old at) }
         ensures size { OnOk result (size self.new ≡ size self.old) }
     {
-        while let Some(given) = self.waiting.remove(&(self.octets.len() as u64)) {
-            self.append(&[given.octet], given.giver)?;
+        while let Some(end) = self.touching() {
+            let Some(island) = self.islands.remove(&end) else {
+                unreachable!();
+            };
+            self.known.join(&island)?;
         }
+        Ok(())
+    }
+
+    /// Puts octets of one giver, none of which is given.
+    fn put_part(&mut self, place: u64, octets: &[u8], giver: Giver) -> Result<(), AllocError>
+        requires sound { IsSound self.old }
+        requires fits { place + length octets.now < 2 ^ 64 }
+        requires some { 0 < length octets.now }
+        requires free { IsFree self.old place (place + length octets.now) }
+        ensures sound { OnOk result (IsSound self.new) }
+        ensures given { OnOk result ((at : ℕ) → given_at self.new at
+            ≡ option_or (given_at self.old at) (piece_at place octets.now giver at)) }
+        ensures size { OnOk result (size self.new ≤ size self.old + length octets.now) }
+    {
+        if place > self.known() {
+            return self.hold(place, octets, giver);
+        }
+        self.known.append(octets, giver)?;
+        self.absorb()?;
         Ok(())
     }
 
@@ -185,11 +223,15 @@ impl<A: Allocator + Copy> Gathered<A> {
             ≡ option_or (given_at self.old at) (piece_at place octets.now giver at)) }
         ensures size { OnOk result (size self.new ≤ size self.old + length octets.now) }
     {
-        if place == self.octets.len() as u64 && self.waiting.is_empty() {
-            self.append(octets, giver)?;
-        } else {
-            self.hold(place, octets, giver)?;
-            self.absorb()?;
+        let mut done = 0;
+        while done < octets.len() {
+            let at = place + done as u64;
+            let part = self.part_from(at, octets.len() - done);
+            let next = done + part.count;
+            if !part.is_given {
+                self.put_part(at, &octets[done..next], giver)?;
+            }
+            done = next;
         }
         Ok(())
     }
@@ -201,7 +243,7 @@ impl<A: Allocator + Copy> Gathered<A> {
         requires fits { place + length octets.now < 2 ^ 64 }
         ensures { result ≡ first_conflict (given_at self.now) fin place octets.now }
     {
-        if place >= self.octets.len() as u64 && self.waiting.is_empty() {
+        if !octets.is_empty() && place >= self.known() && self.island_after(place).is_none() {
             return first_after(fin, place, octets.len());
         }
         self.first_contradicted(place, octets, fin)
@@ -237,18 +279,32 @@ impl<A: Allocator + Copy> Gathered<A> {
         None
     }
 
+    /// Whether the octet at the place is given.
+    fn is_given(&self, place: u64) -> bool
+        requires sound { IsSound self.now }
+        requires fits { place + 1 < 2 ^ 64 }
+        ensures { result ≡ is_some (given_at self.now place) }
+    {
+        self.octet_at(place).is_some()
+    }
+
     /// The octet at the place, if it is given.
     fn octet_at(&self, place: u64) -> Option<u8>
-        requires covered { total self.now.runs.items ≡ length self.now.octets.items }
+        requires sound { IsSound self.now }
+        requires fits { place + 1 < 2 ^ 64 }
         ensures { result ≡ option_map (λ given. given.octet) (given_at self.now place) }
     {
-        if place < self.octets.len() as u64 {
-            return Some(self.octets[place as usize]);
+        if place < self.known() {
+            return Some(self.known.octets[place as usize]);
         }
-        match self.waiting.get(&place) {
-            Some(given) => Some(given.octet),
-            None => None,
+        let Some((end, island)) = self.island_after(place) else {
+            return None;
+        };
+        let first = end - island.count();
+        if place < first {
+            return None;
         }
+        Some(island.octets[(place - first) as usize])
     }
 }
 

@@ -3,7 +3,7 @@
 ghost use Rattle.std.specs.Prelude.{◌≡◌, ◌<◌, ◌^◌, ◌∷◌, [], List, ℕ, length, IfOk, OnOk, cond};
 ghost use Rattle.std.specs.Prelude.{None};
 ghost use Rattle.std.specs.Option.{option_or};
-ghost use Rattle.streams.specs.Given.{IsSound};
+ghost use Rattle.streams.specs.Islands.{IsSound};
 ghost use Rattle.streams.specs.Passed.{Segment, segment_of, other_side};
 ghost use Rattle.streams.specs.Connections.{begins, has_ports, end_by, opener_by};
 ghost use Rattle.streams.specs.Directions.{half_in, missing_in};
@@ -258,8 +258,8 @@ impl<A: Allocator + Copy> Gathering<A> {
     /// The refusal of what was sent and isn't given.
     fn missing(&self) -> Option<Fault>
         ensures { result ≡ missing_of (missing_in self.now.received) (missing_in self.now.sent)
-            (length self.now.received.gathered.octets.items)
-            (length self.now.sent.gathered.octets.items) }
+            (length self.now.received.gathered.known.octets.items)
+            (length self.now.sent.gathered.known.octets.items) }
     {
         match (self.received.missing(), self.sent.missing()) {
             (None, None) => None,
@@ -272,8 +272,8 @@ impl<A: Allocator + Copy> Gathering<A> {
 
     /// The refusal of what the peer sent and isn't given, as a packet shows.
     fn lacks_received(&self, packet: u64) -> Fault
-        ensures { result
-            ≡ Fault.Missing packet Side.Peer (length self.now.received.gathered.octets.items) }
+        ensures { result ≡ Fault.Missing packet Side.Peer
+            (length self.now.received.gathered.known.octets.items) }
     {
         Fault::Missing {
             packet,
@@ -284,8 +284,8 @@ impl<A: Allocator + Copy> Gathering<A> {
 
     /// The refusal of what the local system sent and isn't given, as a packet shows.
     fn lacks_sent(&self, packet: u64) -> Fault
-        ensures { result
-            ≡ Fault.Missing packet Side.Local (length self.now.sent.gathered.octets.items) }
+        ensures { result ≡ Fault.Missing packet Side.Local
+            (length self.now.sent.gathered.known.octets.items) }
     {
         Fault::Missing {
             packet,

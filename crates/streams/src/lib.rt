@@ -26,6 +26,7 @@ mod gathering;
 mod laws;
 mod passed;
 mod placing;
+mod stretch;
 
 pub use connection::{Connection, End, Opening, Run, Stream};
 pub use connections::Connections;

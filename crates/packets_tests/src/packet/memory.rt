@@ -97,7 +97,12 @@ fn long_source(alloc: Global, size: usize, file: &LongFile) -> Option<(MemSource
 /// Whether a file tells one packet with so much memory.
 fn is_long_file_read(alloc: Global, size: usize, file: &LongFile) -> bool {
     match long_source(alloc, size, file) {
-        Some((mut source, heap)) => are_next(&mut Reader::new(&heap), &mut source, 1, &Ok(None)),
+        Some((mut source, heap)) => are_next(
+            &mut Reader::new(&heap),
+            &mut source,
+            1,
+            Ending::Whole,
+        ),
         None => false,
     }
 }
@@ -121,13 +126,27 @@ fn has_long_packet(alloc: Global, size: usize, file: &LongFile) -> bool {
 type HeapRow = (usize, Row);
 
 static HEAP_ROWS: [HeapRow; 8] = [
-    (1024, (&[&LITTLE, &PCAP_PACKET], 0, Some(FaultKind::Memory))),
-    (BUFFER - 16, (&[&SECTION], 0, Some(FaultKind::Memory))),
-    (BUFFER, (&[&LITTLE, &PCAP_PACKET], 1, None)),
-    (BUFFER, (&[&SECTION], 0, None)),
+    (
+        1024,
+        (
+            &[&LITTLE, &PCAP_PACKET],
+            0,
+            Ending::Fault(FaultKind::Memory),
+        ),
+    ),
+    (
+        BUFFER - 16,
+        (&[&SECTION], 0, Ending::Fault(FaultKind::Memory)),
+    ),
+    (BUFFER, (&[&LITTLE, &PCAP_PACKET], 1, Ending::Whole)),
+    (BUFFER, (&[&SECTION], 0, Ending::Whole)),
     (
         BUFFER,
-        (&[&SECTION, &INTERFACE, &PACKET], 0, Some(FaultKind::Memory)),
+        (
+            &[&SECTION, &INTERFACE, &PACKET],
+            0,
+            Ending::Fault(FaultKind::Memory),
+        ),
     ),
     (
         BUFFER + FOUR,
@@ -137,7 +156,7 @@ static HEAP_ROWS: [HeapRow; 8] = [
                 &INTERFACE, &PACKET,
             ],
             2,
-            None,
+            Ending::Whole,
         ),
     ),
     (
@@ -148,7 +167,7 @@ static HEAP_ROWS: [HeapRow; 8] = [
                 &PACKET,
             ],
             1,
-            Some(FaultKind::Memory),
+            Ending::Fault(FaultKind::Memory),
         ),
     ),
     (
@@ -158,7 +177,7 @@ static HEAP_ROWS: [HeapRow; 8] = [
                 &SECTION, &INTERFACE, &INTERFACE, &INTERFACE, &INTERFACE, &INTERFACE, &PACKET,
             ],
             1,
-            None,
+            Ending::Whole,
         ),
     ),
 ];

@@ -51,26 +51,50 @@ const GREATEST: [u8; 16] = [
 ];
 
 static ROWS: [Row; 14] = [
-    (&[&LITTLE, &PACKET, &PACKET], 2, None),
-    (&[&BIG, &BIG_PACKET, &BIG_PACKET], 2, None),
-    (&[&LITTLE_NANOSECONDS, &PACKET], 1, None),
-    (&[&BIG_NANOSECONDS, &BIG_PACKET], 1, None),
-    (&[&MARKED_LINK, &BIG_PACKET], 1, None),
-    (&[&LITTLE], 0, None),
-    (&[], 0, Some(FaultKind::Truncated)),
-    (&[&[0xd4, 0xc3, 0xb2]], 0, Some(FaultKind::Truncated)),
-    (&[&[0xd4, 0xc3, 0xa1]], 0, Some(FaultKind::Format)),
-    (&[&[0xd4, 0xc3, 0xb2, 0xa2]], 0, Some(FaultKind::Format)),
-    (&[&[0xd4, 0xc3, 0xb2, 0xa1]], 0, Some(FaultKind::Truncated)),
-    (&[&OTHER_VERSION], 0, Some(FaultKind::Format)),
-    (&[&OTHER_VERSION, &BIG_PACKET], 0, Some(FaultKind::Format)),
-    (&[&LITTLE, &PACKET, &TOO_LONG], 1, Some(FaultKind::TooLong)),
+    (&[&LITTLE, &PACKET, &PACKET], 2, Ending::Whole),
+    (&[&BIG, &BIG_PACKET, &BIG_PACKET], 2, Ending::Whole),
+    (&[&LITTLE_NANOSECONDS, &PACKET], 1, Ending::Whole),
+    (&[&BIG_NANOSECONDS, &BIG_PACKET], 1, Ending::Whole),
+    (&[&MARKED_LINK, &BIG_PACKET], 1, Ending::Whole),
+    (&[&LITTLE], 0, Ending::Whole),
+    (&[], 0, Ending::Fault(FaultKind::Truncated)),
+    (
+        &[&[0xd4, 0xc3, 0xb2]],
+        0,
+        Ending::Fault(FaultKind::Truncated),
+    ),
+    (&[&[0xd4, 0xc3, 0xa1]], 0, Ending::Fault(FaultKind::Format)),
+    (
+        &[&[0xd4, 0xc3, 0xb2, 0xa2]],
+        0,
+        Ending::Fault(FaultKind::Format),
+    ),
+    (
+        &[&[0xd4, 0xc3, 0xb2, 0xa1]],
+        0,
+        Ending::Fault(FaultKind::Truncated),
+    ),
+    (&[&OTHER_VERSION], 0, Ending::Fault(FaultKind::Format)),
+    (
+        &[&OTHER_VERSION, &BIG_PACKET],
+        0,
+        Ending::Fault(FaultKind::Format),
+    ),
+    (
+        &[&LITTLE, &PACKET, &TOO_LONG],
+        1,
+        Ending::Fault(FaultKind::TooLong),
+    ),
 ];
 
 static CUT_ROWS: [Row; 6] = [
-    (&[&LITTLE, &PACKET, &GREATEST], 1, Some(FaultKind::TooLong)),
-    (&[&LITTLE, &MOST], 0, Some(FaultKind::Truncated)),
-    (&[&LITTLE, &PACKET, &[0]], 1, Some(FaultKind::Truncated)),
+    (
+        &[&LITTLE, &PACKET, &GREATEST],
+        1,
+        Ending::Fault(FaultKind::TooLong),
+    ),
+    (&[&LITTLE, &MOST], 0, Ending::CutShort),
+    (&[&LITTLE, &PACKET, &[0]], 1, Ending::CutShort),
     (
         &[
             &LITTLE,
@@ -78,7 +102,7 @@ static CUT_ROWS: [Row; 6] = [
             &[100, 0, 0, 0, 0, 0, 0, 0, 3, 0, 0, 0, 5, 0, 0],
         ],
         1,
-        Some(FaultKind::Truncated),
+        Ending::CutShort,
     ),
     (
         &[
@@ -86,9 +110,9 @@ static CUT_ROWS: [Row; 6] = [
             &[100, 0, 0, 0, 0, 0, 0, 0, 3, 0, 0, 0, 5, 0, 0, 0, b'a', b'b'],
         ],
         0,
-        Some(FaultKind::Truncated),
+        Ending::CutShort,
     ),
-    (&[&OTHER_VERSION, &[]], 0, Some(FaultKind::Format)),
+    (&[&OTHER_VERSION, &[]], 0, Ending::Fault(FaultKind::Format)),
 ];
 
 #[test]
@@ -107,7 +131,7 @@ fn an_mrt_record_is_of_another_format(rt: HostRuntime) {
     static ROW: Row = (
         &[&[0, 0, 0, 100, 0, 16, 0, 5, 0, 0, 0, 24, 0, 0, 0xfd, 0xea]],
         0,
-        Some(FaultKind::Format),
+        Ending::Fault(FaultKind::Format),
     );
     assert!(rt; is_read(rt.alloc(), &ROW));
 }

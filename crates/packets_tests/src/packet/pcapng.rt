@@ -100,21 +100,25 @@ const OLD_PACKET: [u8; 16] = [2, 0, 0, 0, 16, 0, 0, 0, 0, 0, 0, 0, 16, 0, 0, 0];
 const SIMPLE: [u8; 16] = [3, 0, 0, 0, 16, 0, 0, 0, 0, 0, 0, 0, 16, 0, 0, 0];
 
 static ROWS: [Row; 13] = [
-    (&[&SECTION, &INTERFACE, &PACKET, &PACKET], 2, None),
-    (&[&BIG_SECTION, &BIG_INTERFACE, &BIG_PACKET], 1, None),
-    (&[&SECTION, &SECONDS, &TENTH], 1, None),
-    (&[&SECTION, &HALVES, &AT_201], 1, None),
+    (&[&SECTION, &INTERFACE, &PACKET, &PACKET], 2, Ending::Whole),
+    (
+        &[&BIG_SECTION, &BIG_INTERFACE, &BIG_PACKET],
+        1,
+        Ending::Whole,
+    ),
+    (&[&SECTION, &SECONDS, &TENTH], 1, Ending::Whole),
+    (&[&SECTION, &HALVES, &AT_201], 1, Ending::Whole),
     (
         &[&SECTION, &INTERFACE, &SECONDS, &PACKET, &SECOND_INTERFACE],
         2,
-        None,
+        Ending::Whole,
     ),
     (
         &[
             &SECTION, &OTHER, &OTHER_16, &INTERFACE, &OTHER_20, &PACKET, &OTHER,
         ],
         1,
-        None,
+        Ending::Whole,
     ),
     (
         &[
@@ -126,33 +130,49 @@ static ROWS: [Row; 13] = [
             &BIG_PACKET,
         ],
         2,
-        None,
+        Ending::Whole,
     ),
-    (&[&SECTION], 0, None),
+    (&[&SECTION], 0, Ending::Whole),
     (
         &[&SECTION, &INTERFACE, &SECTION, &PACKET],
         0,
-        Some(FaultKind::Block),
+        Ending::Fault(FaultKind::Block),
     ),
     (
         &[&SECTION, &INTERFACE, &PACKET, &SIMPLE],
         1,
-        Some(FaultKind::Block),
+        Ending::Fault(FaultKind::Block),
     ),
-    (&[&SECTION, &OLD_PACKET], 0, Some(FaultKind::Block)),
-    (&[&SECTION, &SECOND_INTERFACE], 0, Some(FaultKind::Block)),
-    (&[&SECTION, &LONG_OPTION], 0, Some(FaultKind::Block)),
+    (&[&SECTION, &OLD_PACKET], 0, Ending::Fault(FaultKind::Block)),
+    (
+        &[&SECTION, &SECOND_INTERFACE],
+        0,
+        Ending::Fault(FaultKind::Block),
+    ),
+    (
+        &[&SECTION, &LONG_OPTION],
+        0,
+        Ending::Fault(FaultKind::Block),
+    ),
 ];
 
 static BLOCK_ROWS: [Row; 13] = [
-    (&[&SECTION, &WIDE_RESOLUTION], 0, Some(FaultKind::Block)),
-    (&[&SECTION, &SHORT_OFFSET], 0, Some(FaultKind::Block)),
+    (
+        &[&SECTION, &WIDE_RESOLUTION],
+        0,
+        Ending::Fault(FaultKind::Block),
+    ),
+    (
+        &[&SECTION, &SHORT_OFFSET],
+        0,
+        Ending::Fault(FaultKind::Block),
+    ),
     // No order of octets; another version; lengths that aren't a multiple of 4, too small, or
     // others at the end.
     (
         &[&[0x0a, 0x0d, 0x0d, 0x0a, 28, 0, 0, 0, 0x4d, 0x3c, 0x2b, 0x1b]],
         0,
-        Some(FaultKind::Format),
+        Ending::Fault(FaultKind::Format),
     ),
     (
         &[
@@ -162,27 +182,27 @@ static BLOCK_ROWS: [Row; 13] = [
             &[255, 255, 255, 255, 255, 255, 255, 255, 28, 0, 0, 0],
         ],
         0,
-        Some(FaultKind::Format),
+        Ending::Fault(FaultKind::Format),
     ),
     (
         &[&[0x0a, 0x0d, 0x0d, 0x0a, 24, 0, 0, 0, 0x4d, 0x3c, 0x2b, 0x1a]],
         0,
-        Some(FaultKind::Block),
+        Ending::Fault(FaultKind::Block),
     ),
     (
         &[&SECTION, &[5, 0, 0, 0, 14, 0, 0, 0, 1, 2, 14, 0, 0, 0]],
         0,
-        Some(FaultKind::Block),
+        Ending::Fault(FaultKind::Block),
     ),
     (
         &[&SECTION, &[5, 0, 0, 0, 8, 0, 0, 0, 8, 0, 0, 0]],
         0,
-        Some(FaultKind::Block),
+        Ending::Fault(FaultKind::Block),
     ),
     (
         &[&SECTION, &[5, 0, 0, 0, 12, 0, 0, 0, 13, 0, 0, 0]],
         0,
-        Some(FaultKind::Block),
+        Ending::Fault(FaultKind::Block),
     ),
     (
         &[
@@ -190,7 +210,7 @@ static BLOCK_ROWS: [Row; 13] = [
             &[4, 0, 0, 0, 16, 0, 0, 0, 1, 2, 3, 4, 20, 0, 0, 0],
         ],
         0,
-        Some(FaultKind::Block),
+        Ending::Fault(FaultKind::Block),
     ),
     (
         &[
@@ -198,24 +218,24 @@ static BLOCK_ROWS: [Row; 13] = [
             &[1, 0, 0, 0, 16, 0, 0, 0, 101, 0, 0, 0, 16, 0, 0, 0],
         ],
         0,
-        Some(FaultKind::Block),
+        Ending::Fault(FaultKind::Block),
     ),
     // An Interface Description and an Enhanced Packet that are longer than is read.
     (
         &[&SECTION, &[1, 0, 0, 0, 4, 0, 1, 0, 101, 0, 0, 0]],
         0,
-        Some(FaultKind::TooLong),
+        Ending::Fault(FaultKind::TooLong),
     ),
     (
         &[&SECTION, &INTERFACE, &[6, 0, 0, 0, 4, 0, 5, 0, 0, 0, 0, 0]],
         0,
-        Some(FaultKind::TooLong),
+        Ending::Fault(FaultKind::TooLong),
     ),
     // Of another type it is passed over.
     (
         &[&SECTION, &[7, 0, 0, 0, 4, 0, 5, 0, 0, 0, 0, 0]],
         0,
-        Some(FaultKind::Truncated),
+        Ending::CutShort,
     ),
 ];
 
@@ -260,45 +280,57 @@ const OTHER_END: [u8; 36] = [
 ];
 
 static PACKET_ROWS: [Row; 12] = [
-    (&[&SECTION, &LATE, &TENTH], 0, Some(FaultKind::Time)),
-    (&[&SECTION, &EARLY, &TENTH], 0, Some(FaultKind::Time)),
-    (&[&SECTION, &EARLIER, &AT_201], 1, None),
-    (&[&SECTION, &FINE, &AT_201], 1, None),
+    (
+        &[&SECTION, &LATE, &TENTH],
+        0,
+        Ending::Fault(FaultKind::Time),
+    ),
+    (
+        &[&SECTION, &EARLY, &TENTH],
+        0,
+        Ending::Fault(FaultKind::Time),
+    ),
+    (&[&SECTION, &EARLIER, &AT_201], 1, Ending::Whole),
+    (&[&SECTION, &FINE, &AT_201], 1, Ending::Whole),
     (
         &[&SECTION, &INTERFACE, &RUNS_OVER],
         0,
-        Some(FaultKind::Block),
+        Ending::Fault(FaultKind::Block),
     ),
     (
         &[&SECTION, &INTERFACE, &LONG_KEPT],
         0,
-        Some(FaultKind::TooLong),
+        Ending::Fault(FaultKind::TooLong),
     ),
-    (&[&SECTION, &LONG_KEPT], 0, Some(FaultKind::TooLong)),
+    (
+        &[&SECTION, &LONG_KEPT],
+        0,
+        Ending::Fault(FaultKind::TooLong),
+    ),
     (
         &[&SECTION, &INTERFACE, &OTHER_END],
         0,
-        Some(FaultKind::Block),
+        Ending::Fault(FaultKind::Block),
     ),
     (
         &[&SECTION, &INTERFACE, &PACKET, &[6, 0, 0, 0]],
         1,
-        Some(FaultKind::Truncated),
+        Ending::CutShort,
     ),
     (
         &[&SECTION, &[1, 0, 0, 0, 20, 0, 0, 0, 101, 0, 0, 0, 0]],
         0,
-        Some(FaultKind::Truncated),
+        Ending::CutShort,
     ),
     (
         &[&SECTION, &[5, 0, 0, 0, 16, 0, 0, 0, 1, 2, 3, 4, 16]],
         0,
-        Some(FaultKind::Truncated),
+        Ending::CutShort,
     ),
     (
         &[&[0x0a, 0x0d, 0x0d, 0x0a, 28, 0, 0, 0]],
         0,
-        Some(FaultKind::Truncated),
+        Ending::Fault(FaultKind::Truncated),
     ),
 ];
 

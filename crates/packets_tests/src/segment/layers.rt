@@ -136,8 +136,9 @@ fn short_frames_are_nothing(rt: HostRuntime) {
         );
     }
     for link_type in &[105u16, 2, 127, 65535, 11] {
-        let is_unknown = read_segment(*link_type, &PACKET) == Found::UnknownLink
-            && read_segment(*link_type, &[]) == Found::UnknownLink;
+        let unknown = Found::UnknownLink(*link_type);
+        let is_unknown = read_segment(*link_type, &PACKET) == unknown
+            && read_segment(*link_type, &[]) == unknown;
         assert!(rt; is_unknown, "{link_type}");
     }
 }

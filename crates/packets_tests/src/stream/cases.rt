@@ -24,7 +24,7 @@ pub struct Case {
     pub wanted: Wanted,
 }
 
-pub static CASES: [Case; 50] = [
+pub static CASES: [Case; 51] = [
     Case {
         name: "in order",
         rows: &[T1, T2, T3, T4, T5, T6, T7, T8, T9],
@@ -105,6 +105,18 @@ pub static CASES: [Case; 50] = [
         number: None,
         wanted: Wanted::Told {
             received: &[(20, 6), (10, 5), (19, 4), (19, 9), (45, 10)],
+            sent: &[(49, 7), (19, 8)],
+            end: None,
+        },
+    },
+    Case {
+        name: "a part comes between what is known and what waits, and overlaps that",
+        rows: &[T1, T2, T3, T4_BACK, T4_FIRST, T4_MIDDLE, T5, T6, T7, T8, T9],
+        peer_start: 1000,
+        local_start: 5000,
+        number: None,
+        wanted: Wanted::Told {
+            received: &[(20, 5), (10, 6), (19, 4), (19, 9), (45, 10)],
             sent: &[(49, 7), (19, 8)],
             end: None,
         },

@@ -1,4 +1,4 @@
-use Rattle.std.proofs.Common.{◌≡◌, ◌∙◌, ◌++◌, ℕ, Bool, true, false, List, [], ◌∷◌, refl, sym, ap, subst, arith, inl, inr, Result, Ok, Err, is_ok, if◌then◌else◌}
+use Rattle.std.proofs.Common.{◌≡◌, ◌∙◌, ◌++◌, ℕ, Bool, true, false, List, [], ◌∷◌, refl, sym, ap, subst, arith, inl, inr, Result, Ok, Err, is_ok, if◌then◌else◌, cond, append-nil}
 use Rattle.std.specs.Result.{is_err}
 use Rattle.packets.specs.declared.blocks.Interface.{Interface}
 use Rattle.packets.specs.declared.fault.FaultKind.TheVariants as kinds
@@ -7,10 +7,14 @@ use Rattle.packets.specs.declared.progress.Format.{Format}
 use Rattle.packets.specs.declared.reading.Read.{Read}
 use Rattle.packets.specs.declared.reading.Read.TheVariants as reads
 use Rattle.packets.specs.Fault.{device_count}
-use Rattle.packets.specs.Recording.{judgement_at}
+use Rattle.packets.specs.Context.{Context, Start, Packets, Blocks}
+use Rattle.packets.specs.Judgement.{Refused}
+use Rattle.packets.specs.Recording.{judgement_at, CutShort, Fault, cut_or, ending_at}
+use Rattle.packets.specs.declared.fault.FaultKind.{FaultKind}
+use Rattle.packets.specs.declared.progress.Progress.{Progress}
 use Rattle.packets.specs.Reading.{context_of, with_interface, IsReadAs, IsBegunAs}
 use Rattle.packets.specs.Reader.{state_of}
-use Rattle.packets.proofs.Advancing.{Passes, passes_on, ends_there, finds_there, fails_there, one_more, stands_with, refused_is_no_device}
+use Rattle.packets.proofs.Advancing.{Passes, passes_on, ends_there, cut_there, finds_there, fails_there, one_more, stands_with, refused_is_no_device}
 use Rattle.packets.proofs.Placing.{no_octets}
 use Rattle.packets.proofs.reader.advance.Goals as goal
 
@@ -36,20 +40,25 @@ returns-in-Ok-End-clause-next g c =
     let there = there_as c.loop-progress.progress.format _ _ octets (g.S.Source.has_ended c.read_item.new.source) c.read_item.new.buffer reads.End c.deref.ensures.value is in
     let state = state_of c.loop-progress.progress c.loop-progress.interfaces.items in
     let empty = no_octets octets none.0 in
-    ends_there _ _ g.met.S.Source.joined _ _ _ _ state octets c.loop-progress.invariant.passes given empty none.1
+    ends_there _ _ g.met.S.Source.joined _ _ _ _ state _ octets c.loop-progress.invariant.passes given empty none.1
     (ap (λ (o : List ℕ). judgement_at state.context (o ++ [])) (sym empty) ∙ there [] (λ e h. refl))
+    (ap (λ (p : Progress). state_of p c.loop-progress.interfaces.items) c.end.ensures)
 
-pub returns-in-Ok-Refused-clause-next : goal.returns-in-Ok-Refused-clause-next
-returns-in-Ok-Refused-clause-next g c =
+pub returns-then-not-is_cut_by-clause-next : goal.returns-then-not-is_cut_by-clause-next
+returns-then-not-is_cut_by-clause-next g c =
     let (octets, given, is, _) = rw c.in-Ok-Refused.field-0-is at c.in-Ok-Refused.ensures.ok in
+    let kind = c.in-Ok-Refused.kind in
+    let items = c.loop-progress.interfaces.items in
     let there = there_as c.loop-progress.progress.format _ _ octets (g.S.Source.has_ended c.read_item.new.source) c.read_item.new.buffer
-    (reads.Refused c.in-Ok-Refused.kind) c.deref.ensures.value is in
-    fails_there _ _ g.met.S.Source.joined _ _ _ _ (state_of c.loop-progress.progress c.loop-progress.interfaces.items) _ octets c.in-Ok-Refused.kind c.refuse.result
-    c.loop-progress.invariant.passes given (inl (λ more none. there more (λ e h. none h))) c.refuse.ensures.fault
-    (stands_with c.loop-progress.progress c.refuse.new.self c.refuse.result c.loop-progress.interfaces.items c.loop-progress.interfaces.items c.refuse.ensures.state refl)
+    (reads.Refused kind) c.deref.ensures.value is in
+    let whole : ending_at (context_of c.loop-progress.progress.format items) kind ≡ Fault kind =
+    c.is_cut_by.ensures items ∙ ap (λ (b : Bool). cond b CutShort (Fault kind)) c.if-not-is_cut_by.true in
+    fails_there _ _ g.met.S.Source.joined _ _ _ _ (state_of c.loop-progress.progress items) _ octets kind c.refuse.result
+    c.loop-progress.invariant.passes given (inl (λ more none. there more (λ e h. none h), whole)) c.refuse.ensures.fault
+    (stands_with c.loop-progress.progress c.refuse.new.self c.refuse.result items items c.refuse.ensures.state refl)
 
-pub returns-in-Ok-Refused-clause-failures : goal.returns-in-Ok-Refused-clause-failures
-returns-in-Ok-Refused-clause-failures g c =
+pub returns-then-not-is_cut_by-clause-failures : goal.returns-then-not-is_cut_by-clause-failures
+returns-then-not-is_cut_by-clause-failures g c =
     let (octets, given, is, _) = rw c.in-Ok-Refused.field-0-is at c.in-Ok-Refused.ensures.ok in
     let there = there_as c.loop-progress.progress.format _ _ octets (g.S.Source.has_ended c.read_item.new.source) c.read_item.new.buffer
     (reads.Refused c.in-Ok-Refused.kind) c.deref.ensures.value is in
@@ -58,6 +67,36 @@ returns-in-Ok-Refused-clause-failures g c =
     (λ more none. there more (λ e h. none h)) in
     let kind = ap (λ (f : FileFault). device_count f.kind) c.refuse.ensures.fault in
     let calm = c.in-Ok-Refused.ensures.failures in omega (arith, c.loop-progress.invariant.calm)
+
+-- what is cut short is truncated, and nothing else
+by_kind : (kind : FaultKind) → cut_or kind ≡ CutShort → kind ≡ kinds.Truncated
+by_kind kinds.Truncated is = refl
+by_kind kinds.Format is = absurd (cc)
+by_kind kinds.TooLong is = absurd (cc)
+by_kind kinds.Block is = absurd (cc)
+by_kind kinds.Time is = absurd (cc)
+by_kind kinds.Device is = absurd (cc)
+by_kind kinds.Memory is = absurd (cc)
+
+is_truncated : (context : Context) (kind : FaultKind) → ending_at context kind ≡ CutShort → kind ≡ kinds.Truncated
+is_truncated Start kind is = absurd (cc)
+is_truncated (Packets order link_type) kind is = by_kind kind is
+is_truncated (Blocks order interfaces) kind is = by_kind kind is
+
+pub returns-in-Ok-Refused-clause-next : goal.returns-in-Ok-Refused-clause-next
+returns-in-Ok-Refused-clause-next g c =
+    let (octets, given, is, ended) = rw c.in-Ok-Refused.field-0-is at c.in-Ok-Refused.ensures.ok in
+    let kind = c.in-Ok-Refused.kind in
+    let items = c.loop-progress.interfaces.items in
+    let context = context_of c.loop-progress.progress.format items in
+    let there = there_as c.loop-progress.progress.format _ _ octets (g.S.Source.has_ended c.read_item.new.source) c.read_item.new.buffer
+    (reads.Refused kind) c.deref.ensures.value is in
+    let cut : ending_at context kind ≡ CutShort =
+    c.is_cut_by.ensures items ∙ ap (λ (b : Bool). cond b CutShort (Fault kind)) c.if-not-is_cut_by.false in
+    let judged : judgement_at context octets ≡ Refused kind = ap (λ (o : List ℕ). judgement_at context o) (sym (append-nil octets)) ∙ there [] (λ e h. refl) in
+    cut_there _ _ g.met.S.Source.joined _ _ _ _ (state_of c.loop-progress.progress items) _ octets kind c.loop-progress.invariant.passes given
+    (ended (is_truncated context kind cut)) judged cut
+    (ap (λ (p : Progress). state_of p items) c.end-in-Ok-Refused.ensures)
 
 pub loop-progress-preserved-in-Ok-Opened : goal.loop-progress-preserved-in-Ok-Opened
 loop-progress-preserved-in-Ok-Opened g c =

@@ -11,7 +11,7 @@ returns-in_default-clause-ok g c =
       [],
       g.met.S.Source.nothing c.args.source.now,
       λ more told. without_order c.args.section c.args.interfaces.now head more many (sym c.in_default.is ∙ c.block_order.ensures),
-      tt,
+      λ truncated. absurd (cc),
     )
 
 pub returns-then-has_bad_len-clause-ok : goal.returns-then-has_bad_len-clause-ok
@@ -24,7 +24,7 @@ returns-then-has_bad_len-clause-ok g c =
       λ more told.
           of_bad_len c.args.section c.args.interfaces.now order head more c.block_kind-kind.result c.block_len-len.result many
           (sym c.in-Some.is ∙ c.block_order.ensures) c.block_kind-kind.ensures c.block_len-len.ensures (sym c.has_bad_len.ensures ∙ c.if-has_bad_len.true),
-      tt,
+      λ truncated. absurd (cc),
     )
 
 pub returns-then-is_too_long-clause-ok : goal.returns-then-is_too_long-clause-ok
@@ -38,7 +38,7 @@ returns-then-is_too_long-clause-ok g c =
           of_too_long c.args.section c.args.interfaces.now order head more c.block_kind-kind.result c.block_len-len.result many
           (sym c.in-Some.is ∙ c.block_order.ensures) c.block_kind-kind.ensures c.block_len-len.ensures (sym c.has_bad_len.ensures ∙ c.if-has_bad_len.false)
           (sym c.is_too_long.ensures ∙ c.if-is_too_long.true),
-      tt,
+      λ truncated. absurd (cc),
     )
 
 pub returns-clause-ok : goal.returns-clause-ok

@@ -52,7 +52,7 @@ returns-then-there-kept-clause-ok g c =
           ∙ packet_front order link front part many
           ∙ ap (λ (h : PacketHeader). packet_by link h part) (sym c.packet_header_in-header.ensures)
           ∙ packet_cut link (packet_value header) part (omega arith) (omega arith),
-      tt,
+      λ truncated. c.in_ok-there.ensures.ended (omega (arith, c.fill-2.ensures.room)),
     )
 
 pub returns-clause-ok : goal.returns-clause-ok

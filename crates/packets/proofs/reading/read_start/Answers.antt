@@ -26,7 +26,7 @@ returns-then-not-begins_magic-clause-ok g c =
       λ more told.
           no_magic octets more (λ few. told tt (c.in_ok-filled.ensures.ended (omega (arith, few))))
           (same ∙ sym c.begins_magic.ensures ∙ c.if-not-begins_magic.true),
-      tt,
+      λ truncated. absurd (cc),
     )
 
 pub returns-then-filled-lt-HEAD-clause-ok : goal.returns-then-filled-lt-HEAD-clause-ok
@@ -41,7 +41,7 @@ returns-then-filled-lt-HEAD-clause-ok g c =
       λ more told.
           nothing_behind octets more (told tt (c.in_ok-filled.ensures.ended (omega arith)))
           (start_cut octets (same ∙ sym c.begins_magic.ensures ∙ c.if-not-begins_magic.false) (omega arith)),
-      tt,
+      λ truncated. c.in_ok-filled.ensures.ended (omega arith),
     )
 
 pub returns-in-Some-clause-ok : goal.returns-in-Some-clause-ok

@@ -1,7 +1,7 @@
 use Rattle.std.proofs.Common.{◌∙◌, List, ℕ, ap}
 use Rattle.streams.specs.Given.{known_at}
 use Rattle.streams.proofs.Known.{known-append}
-use Rattle.streams.proofs.gathered.Gathered.append.Goals as goal
+use Rattle.streams.proofs.stretch.Stretch.append.Goals as goal
 
 pub returns-clause-known : goal.returns-clause-known
 returns-clause-known g c = λ place.

@@ -7,8 +7,8 @@ use Rattle.streams.specs.declared.connection.Run.{Run}
 use Rattle.streams.specs.declared.gathered.Giver.{Giver}
 use Rattle.streams.proofs.Runs.{giver-push, giver_merged, total-push, below, giver_of}
 use Rattle.streams.proofs.Nothing.{nothing_more}
-use Rattle.streams.proofs.gathered.add_run.Goals as goal
-use Rattle.streams.proofs.gathered.add_run.Goals.{in-Some+then-last-giver+then-last-giver-2, in-Some+else-last-giver+in_ok-push, in_default}
+use Rattle.streams.proofs.stretch.add_run.Goals as goal
+use Rattle.streams.proofs.stretch.add_run.Goals.{in-Some+then-last-giver+then-last-giver-2, in-Some+else-last-giver+in_ok-push, in_default}
 
 -- the run stands alone after the others
 alone : (runs before : List Run) (run : Run) (place count : ℕ) (giver : Giver) → before ≡ runs → run.count ≡ count → giver_of run ≡ giver
