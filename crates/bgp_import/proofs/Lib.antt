@@ -1,7 +1,7 @@
 pub mod Entries
 pub mod Refreshed
 pub mod Goes
-pub mod Imported
+pub mod AllImported
 pub mod InOrder
 pub mod SoFar
 pub mod Taken

@@ -46,7 +46,7 @@ one_answer Holds wanted a b (inr h) (inr k) = h.1 ∙ sym k.1
 
 one_selected : (conversation : Conversation) (finding : Finding) (a b : Answer) → IsSelected conversation finding a → IsSelected conversation finding b → a ≡ b
 one_selected conversation Nothing a b h k = h ∙ sym k
-one_selected conversation UnknownLink a b h k = h ∙ sym k
+one_selected conversation (UnknownLink link_type) a b h k = h ∙ sym k
 one_selected conversation (Fragment addresses) a b h k = one_answer _ _ a b h k
 one_selected conversation (NoPorts addresses) a b h k = one_answer _ _ a b h k
 one_selected conversation (CutHeader ends) a b h k = one_answer _ _ a b h k

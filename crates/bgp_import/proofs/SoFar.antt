@@ -6,7 +6,7 @@ use Rattle.packets.specs.Packet.{Recorded, recorded_of}
 use Rattle.packets.specs.Reader.{ReaderState, fresh_reader, HasRead, Ends, Fails, IsAnswer, NextBy, IsNext}
 use Rattle.packets.specs.Fault.{device_count}
 use Rattle.packets.specs.Reader as reader
-use Rattle.packets.specs.Recording.{Whole, Fault, IsRead, IsReadIn, IsReadBy, judgement_at}
+use Rattle.packets.specs.Recording.{Fault, end_by, ending_at, IsRead, IsReadIn, IsReadBy, judgement_at}
 use Rattle.packets.specs.Judgement.{Refused}
 use Rattle.packets.specs.declared.fault.FaultKind.{FaultKind}
 use Rattle.packets.specs.declared.fault.FaultKind.TheVariants as kinds
@@ -35,9 +35,10 @@ then_passed : (from mid to : Context) (a b : List ℕ) (p : List Recorded) → H
 then_passed from mid to a b p first second =
     subst (λ (l : List Recorded). HasRead from (a ++ b) l to) (append-nil p) (then_read from mid to a b p [] first second)
 
-refused_there : (context : Context) (octets : List ℕ) (kind : FaultKind) → judgement_at context octets ≡ Refused kind → IsRead context octets [] (Fault kind)
-refused_there context octets kind judged =
-    (1, subst (λ (j : Judgement). IsReadBy (λ after rest later. IsReadIn 0 after rest later (Fault kind)) context octets [] (Fault kind) j) (sym judged) (refl, refl))
+refused_there : (context : Context) (octets : List ℕ) (kind : FaultKind) → judgement_at context octets ≡ Refused kind → ending_at context kind ≡ Fault kind
+    → IsRead context octets [] (Fault kind)
+refused_there context octets kind judged whole =
+    (1, subst (λ (j : Judgement). IsReadBy (λ after rest later. IsReadIn 0 after rest later (Fault kind)) context octets [] (Fault kind) j) (sym judged) (refl, sym whole))
 
 -- the place behind what was read is refused
 read_to_fault : (to : Context) (a rest : List ℕ) (packets : List Recorded) (kind : FaultKind) → HasRead Start a packets to → IsRead to rest [] (Fault kind)
@@ -45,10 +46,10 @@ read_to_fault : (to : Context) (a rest : List ℕ) (packets : List Recorded) (ki
 read_to_fault to a rest packets kind read there =
     subst (λ (l : List Recorded). IsRead Start (a ++ rest) l (Fault kind)) (append-nil packets) (read rest [] (Fault kind) there)
 
-read_to_end : (to : Context) (a : List ℕ) (packets : List Recorded) → HasRead Start a packets to → IsRead to [] [] Whole → IsRead Start a packets Whole
-read_to_end to a packets read there =
-    subst (λ (o : List ℕ). IsRead Start o packets Whole) (append-nil a)
-    (subst (λ (l : List Recorded). IsRead Start (a ++ []) l Whole) (append-nil packets) (read [] [] Whole there))
+read_to_end : (to : Context) (a rest : List ℕ) (packets : List Recorded) (cut : Bool) → HasRead Start a packets to → IsRead to rest [] (end_by cut)
+    → IsRead Start (a ++ rest) packets (end_by cut)
+read_to_end to a rest packets cut read there =
+    subst (λ (l : List Recorded). IsRead Start (a ++ rest) l (end_by cut)) (append-nil packets) (read rest [] (end_by cut) there)
 
 file_is : (fault : FileFault) (kind : FaultKind) (number : ℕ) → fault.kind ≡ kind → fault.packet ≡ number → refusals.File fault ≡ refusals.File (record { kind = kind; packet = number })
 file_is fault kind number is there = λ i. refusals.File (record { kind = is i; packet = there i })
@@ -116,16 +117,17 @@ module _ {S : Type 0} (gives : S → S → List ℕ → Type 0) (has_ended : S �
 
   -- the end
   pub all_taken : {Z : Type 0} (now next : S) (state after : ReaderState) (connections : Connections Z)
-      → SoFar now state connections → Ends gives has_ended now next state after → HasTakenAll gives has_ended selection source next connections after.number
+      → SoFar now state connections → Ends gives has_ended now next state after → HasTakenAll gives has_ended selection source next connections after.number after.is_cut
   all_taken now next state after connections so ends = record {
-    octets = so.octets ++ ends.octets;
+    octets = so.octets ++ (ends.octets ++ ends.rest);
     packets = so.packets;
     segments = so.segments;
     all = record {
-      exactly = gives_joined source now next so.octets ends.octets so.gave ends.exactly;
+      exactly = gives_joined source now next so.octets _ so.gave ends.exactly;
       ended = ends.ended;
-      spells = read_to_end after.context (so.octets ++ ends.octets) so.packets
-          (then_passed Start state.context after.context so.octets ends.octets so.packets so.read ends.passed) ends.whole;
+      spells = subst (λ (o : List ℕ). IsRead Start o so.packets (end_by after.is_cut)) (append_assoc so.octets ends.octets ends.rest)
+          (read_to_end after.context (so.octets ++ ends.octets) ends.rest so.packets after.is_cut
+          (then_passed Start state.context after.context so.octets ends.octets so.packets so.read ends.passed) ends.ending);
       taken = so.taken;
     };
     holds = so.holds;
@@ -152,7 +154,7 @@ module _ {S : Type 0} (gives : S → S → List ℕ → Type 0) (has_ended : S �
             first = subst (λ (o : List ℕ). IsRead Start o so.packets (Fault fault.kind))
                 (sym (append_assoc front fails.rest more) ∙ ap (λ (o : List ℕ). o ++ more) (sym whole))
                 (read_to_fault after.context front (fails.rest ++ more) so.packets fault.kind read
-                (refused_there after.context (fails.rest ++ more) fault.kind (refused more none)));
+                (refused_there after.context (fails.rest ++ more) fault.kind (refused.0 more none) refused.1));
             taken = so.taken;
             is = upset fault.kind refl;
           }))

@@ -1,6 +1,6 @@
 -- What is gathered of a recording by reading it to its end, packet by packet.
-use Rattle.std.specs.Prelude.{◌≡◌, ◌⊎◌, ◌+◌, ◌++◌, ℕ, Bool, List, [], length, reverse}
-use Rattle.std.specs.Prelude.{Option, Result, Ok, Err, IsTrue}
+use Rattle.std.specs.Prelude.{◌≡◌, ◌⊎◌, ◌+◌, ◌++◌, ℕ, Bool, true, false, List, [], length}
+use Rattle.std.specs.Prelude.{Option, None, Some, Result, Ok, Err, IsTrue, reverse}
 use Rattle.packets.specs.Context.{Context, Start}
 use Rattle.packets.specs.Packet.{Recorded}
 use Rattle.packets.specs.Fault.{device_count}
@@ -14,6 +14,7 @@ use Rattle.streams.specs.Held.{HoldsConnections}
 use Rattle.streams.specs.declared.fault.Fault.{Fault}
 use Rattle.bgp_import.specs.Importing.{IsPassageRefused}
 use Rattle.bgp_import.specs.Selecting.{AreTaken}
+use Rattle.bgp_import.specs.declared.cut_short.CutShort.{CutShort}
 use Rattle.bgp_import.specs.declared.gathering.Gathered.{Gathered}
 use Rattle.bgp_import.specs.declared.refusal.Refusal.{Refusal}
 use Rattle.bgp_import.specs.declared.refusal.Refusal.TheVariants as refusals
@@ -25,6 +26,11 @@ pub record HoldsSession {Z : Type 0} (segments : List Segment) (count : ℕ) (ga
     : Type 0 where
   pub connections : HoldsConnections segments gathered.connections
   pub last : gathered.last_packet ≡ count
+
+-- what is told of a recording of so many packets that is whole, or was cut short
+abbrev pub cut_short_by : Bool → ℕ → Option CutShort
+cut_short_by false count = None
+cut_short_by true count = Some (record { before = count })
 
 -- the connection that is asked for isn't there, or is refused
 pub record IsNotChosen (number : Option ℕ) (count : ℕ) (segments : List Segment)
@@ -64,13 +70,13 @@ IsRefusedBy selection octets ended refusal =
 -- What is gathered of a source that goes from `old` to `new`. The members are the source's.
 module _ {S : Type 0} (gives : S → S → List ℕ → Type 0) (has_ended : S → Bool)
     (selection : Selection) (old new : S) where
-  -- The octets that were given are all of the recording, and these packets; and these are their
-  -- segments of the session.
+  -- The octets that were given are all of the recording, and these packets, whether it is whole or
+  -- was cut short; and these are their segments of the session.
   pub record HasReadAll (octets : List ℕ) (packets : List Recorded) (segments : List Segment)
-      : Type 0 where
+      (cut : Bool) : Type 0 where
     pub exactly : gives old new octets
     pub ended : IsTrue (has_ended new)
-    pub spells : Spells octets packets
+    pub spells : Spells octets packets cut
     pub taken : AreTaken selection 0 packets segments
 
   -- it was read to its end
@@ -78,8 +84,10 @@ module _ {S : Type 0} (gives : S → S → List ℕ → Type 0) (has_ended : S �
     pub octets : List ℕ
     pub packets : List Recorded
     pub segments : List Segment
-    pub all : HasReadAll octets packets segments
+    pub cut : Bool
+    pub all : HasReadAll octets packets segments cut
     pub holds : HoldsSession (reverse segments) (length packets) gathered
+    pub is_cut : gathered.is_cut_short ≡ cut
 
   -- or refused, by the octets that were given so far
   pub record IsStopped (refusal : Refusal) : Type 0 where

@@ -1,5 +1,5 @@
 -- What is imported of a recording: the capture of one connection, or the first refusal.
-use Rattle.std.specs.Prelude.{◌≡◌, ◌⊎◌, ◌+◌, ◌++◌, ℕ, List, [], ◌∷◌, length, reverse}
+use Rattle.std.specs.Prelude.{◌≡◌, ◌⊎◌, ◌+◌, ◌++◌, ℕ, Bool, List, [], ◌∷◌, length, reverse}
 use Rattle.bgp_wire.specs.Header.{limit_with}
 use Rattle.packets.specs.Context.{Context, Start}
 use Rattle.packets.specs.Packet.{Recorded}
@@ -49,11 +49,12 @@ pub record IsCaptureOf (wanted : Import) (connection : Connection) (octets : Lis
   pub made : IsMadeOf wanted connection entries notes
   pub capture : IsCapture wanted.selection.session entries octets
 
--- the capture that is made of a recording with these octets
+-- the capture that is made of a recording with these octets, which is whole or was cut short
 pub record IsImported (wanted : Import) (recording octets : List ℕ) (notes : Notes) : Type 0 where
   pub packets : List Recorded
+  pub cut : Bool
   pub connection : Connection
-  pub spells : Spells recording packets
+  pub spells : Spells recording packets cut
   pub is_connection : IsConnection wanted packets connection
   pub made : IsCaptureOf wanted connection octets notes
 
@@ -96,8 +97,9 @@ pub record IsConnectionRefused (wanted : Import) (recording : List ℕ) (refusal
     : Type 0 where
   pub packets : List Recorded
   pub segments : List Segment
+  pub cut : Bool
   pub fault : Fault
-  pub spells : Spells recording packets
+  pub spells : Spells recording packets cut
   pub taken : AreTaken wanted.selection 0 packets segments
   pub refused : IsRefused wanted.connection (length packets) (numbered (reverse segments)) fault
   pub is : refusal ≡ refusals.Connection fault

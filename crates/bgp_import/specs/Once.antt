@@ -1,10 +1,11 @@
 -- What is made of a recording is one thing, whoever makes it.
-use Rattle.std.specs.Prelude.{◌≡◌, ℕ, List, Option, false, length, map, reverse}
+use Rattle.std.specs.Prelude.{◌≡◌, ℕ, List, Option, length, map, reverse}
 use Rattle.packets.specs.Packet.{Recorded}
 use Rattle.streams.specs.Choice.{IsAnswered}
 use Rattle.streams.specs.Connections.{numbered}
 use Rattle.streams.specs.Passed.{Segment}
 use Rattle.streams.specs.declared.connection.Connection.{Connection}
+use Rattle.bgp_prefix.specs.declared.session.RouteRefresh.TheVariants as refreshes
 use Rattle.bgp_recording.specs.Tells.{numbered_of}
 use Rattle.bgp_recording.specs.declared.entry.Entry.{Entry}
 use Rattle.bgp_import.specs.Importing.{IsMadeOf}
@@ -25,7 +26,7 @@ pub record IsMadeOfPackets (wanted : Import) (number : Option ℕ) (packets : Li
 -- the session without ROUTE-REFRESH, which plays no part in what is made
 abbrev pub calm_selection : Selection → Selection
 calm_selection selection =
-    record selection { session = record selection.session { refresh = false } }
+    record selection { session = record selection.session { refresh = refreshes.NotOffered } }
 
 -- two that mean the same session, ports and patience
 pub record MeanTheSame (one other : Import) : Type 0 where

@@ -21,16 +21,19 @@ IsNotTaken selection number packet refusal =
 
 module _ {S : Type 0} (gives : S → S → List ℕ → Type 0) (has_ended : S → Bool)
     (selection : Selection) (old new : S) where
-  -- all were taken, so many, and these connections are held of them
-  pub record HasTakenAll {Z : Type 0} (connections : Connections Z) (count : ℕ) : Type 0 where
+  -- all were taken, so many, of a recording that is whole or was cut short, and these connections
+  -- are held of them
+  pub record HasTakenAll {Z : Type 0} (connections : Connections Z) (count : ℕ) (cut : Bool)
+      : Type 0 where
     pub octets : List ℕ
     pub packets : List Recorded
     pub segments : List Segment
-    pub all : HasReadAll gives has_ended selection old new octets packets segments
+    pub all : HasReadAll gives has_ended selection old new octets packets segments cut
     pub holds : HoldsConnections (reverse segments) connections
     pub many : count ≡ length packets
 
-  abbrev pub TakesAll : {Z : Type 0} → Connections Z → ℕ → Result (Unit {0}) Refusal → Type 0
-  TakesAll connections count (Ok done) = HasTakenAll connections count
-  TakesAll connections count (Err refusal) =
+  abbrev pub TakesAll : {Z : Type 0} → Connections Z → ℕ → Bool → Result (Unit {0}) Refusal
+      → Type 0
+  TakesAll connections count cut (Ok done) = HasTakenAll connections count cut
+  TakesAll connections count cut (Err refusal) =
       IsStopped gives has_ended selection old new refusal

@@ -8,11 +8,13 @@ ghost use Rattle.streams.specs.Choice.{IsAnswered, IsNoNumber, OpensAs, numbered
 ghost use Rattle.streams.specs.Connections.{numbered};
 ghost use Rattle.streams.specs.Held.{AllSound, HoldsConnections};
 ghost use Rattle.streams.specs.Passed.{Segment};
-ghost use Rattle.bgp_import.specs.Gathers.{Gathers, HoldsSession, IsNotChosen, failures_in};
+ghost use Rattle.bgp_import.specs.Gathers.{Gathers, HoldsSession, IsNotChosen, cut_short_by};
+ghost use Rattle.bgp_import.specs.Gathers.{failures_in};
 ghost use Rattle.bgp_import.specs.Selecting.{HasPart};
 ghost use Rattle.bgp_import.specs.Taking.{IsNotTaken, TakesAll};
 ghost use Rattle.bgp_import.specs.declared.refusal.Refusal.TheVariants.{Memory, Packet as OfPacket};
 
+use crate::cut_short::CutShort;
 use crate::refusal::Refusal;
 use crate::selection::{Selection, passed};
 use mrt::Source;
@@ -21,12 +23,15 @@ use segments::{PacketFault, read_segment, segment_between};
 use std::alloc::{AllocError, Allocator};
 use streams::{Connection, Connections, Opening};
 
-/// The connections of one session in a recording that was read to its end.
+/// The connections of one session in a recording that was read to its end, or to where it was cut
+/// short.
 #[derive(Drop)]
 pub struct Gathered<A: Allocator> {
     connections: Connections<A>,
     /// The number of the recording's last packet: 0 of none.
     last_packet: u64,
+    /// Whether the recording was cut short after it.
+    is_cut_short: bool,
 }
 
 impl<A: Allocator + Copy> Gathered<A> {
@@ -60,6 +65,14 @@ impl<A: Allocator + Copy> Gathered<A> {
             Ok(connection) => Ok(connection),
             Err(fault) => Err(Refusal::Connection(fault)),
         }
+    }
+
+    /// That the recording was cut short, where it was.
+    pub fn cut_short(&self) -> Option<CutShort>
+        ensures { (segments : List Segment) (count : ℕ) → HoldsSession segments count self.now
+            → result ≡ cut_short_by self.now.is_cut_short count }
+    {
+        CutShort::told(self.is_cut_short, self.last_packet)
     }
 
     /// What is refused where there is no memory for what is made of a connection.
@@ -125,7 +138,7 @@ fn take_all<A: Allocator + Copy, R: Source>(
     requires fresh { reader.old ≡ fresh_reader }
     requires failures { R.failures source.old < u64.MAX }
     ensures takes { TakesAll R.gives R.has_ended selection.now source.old source.new
-        connections.new reader.new.number result }
+        connections.new reader.new.number reader.new.is_cut result }
     ensures failures { R.failures source.new ≡ R.failures source.old + failures_in result }
 {
     loop {
@@ -141,8 +154,8 @@ fn take_all<A: Allocator + Copy, R: Source>(
     }
 }
 
-/// Reads a recording to its end, and gathers the connections of one session. It holds one packet
-/// and what it gathers.
+/// Reads a recording to its end, also where it was cut short, and gathers the connections of one
+/// session. It holds one packet and what it gathers.
 ///
 /// The refusal is the first that is found where packets are read one after another: that of a
 /// packet of the session, or of the file. It is `Device` where the source failed, and `Memory`
@@ -162,6 +175,7 @@ pub fn gather<A: Allocator + Copy, R: Source>(
         Ok(()) => Ok(Gathered {
             connections,
             last_packet: reader.number(),
+            is_cut_short: reader.is_cut_short(),
         }),
         Err(refusal) => Err(refusal),
     }

@@ -10,6 +10,7 @@ ghost use Rattle.bgp_import.specs.Making.{HoldsTaken, TellsOne, IsTurnedDown, Im
 ghost use Rattle.bgp_import.specs.Selecting.{AreTaken};
 
 use crate::capture::{notes_on, write_capture};
+use crate::cut_short::CutShort;
 use crate::gathering::{Gathered, gather};
 use crate::note::Notes;
 use crate::refusal::Refusal;
@@ -37,6 +38,15 @@ pub enum Stopped {
     Refused(Refusal),
     /// The sink failed.
     Unwritten,
+}
+
+/// How an import ended.
+#[derive(Clone, Copy, Debug, PartialEq, Eq)]
+pub struct Imported {
+    /// That the recording was cut short, where it was: to be told first.
+    pub cut_short: Option<CutShort>,
+    /// What there is to tell of the capture, or why there is none.
+    pub ended: Result<Notes, Stopped>,
 }
 
 /// The records that tell the connection of this number, counted from 1, or the only one. Refused
@@ -97,9 +107,9 @@ fn import_gathered<A: Allocator + Copy, W: Sink>(
     }
 }
 
-/// Writes the capture that is made of one connection of a recording, and answers what there is to
-/// tell of it. Where the recording is refused nothing is written; and where the sink fails, a
-/// beginning of the capture.
+/// Writes the capture that is made of one connection of a recording, also of what there is of one
+/// that was cut short, and answers what there is to tell of it. Where the recording is refused
+/// nothing is written; and where the sink fails, a beginning of the capture.
 ///
 /// Both addresses of the session have to be of one family, as those of a packet are. Messages are
 /// as long as the session's may be (RFC 8654).
@@ -108,7 +118,7 @@ pub fn import_recording<A: Allocator + Copy, R: Source, W: Sink>(
     import: &Import,
     source: &mut R,
     sink: &mut W,
-) -> Result<Notes, Stopped>
+) -> Imported
     requires families { family_of import.now.selection.session.peer
         ≡ family_of import.now.selection.session.local }
     requires source_failures { R.failures source.old < u64.MAX }
@@ -116,11 +126,18 @@ pub fn import_recording<A: Allocator + Copy, R: Source, W: Sink>(
     ensures imports { Imports R.gives R.has_ended W.takes import.now source.old source.new
         sink.old sink.new result }
     ensures source_failures { R.failures source.new
-        ≡ R.failures source.old + source_failures result }
-    ensures sink_failures { W.failures sink.new ≡ W.failures sink.old + sink_failures result }
+        ≡ R.failures source.old + source_failures result.ended }
+    ensures sink_failures { W.failures sink.new ≡ W.failures sink.old
+        + sink_failures result.ended }
 {
     match gather(alloc, &import.selection, source) {
-        Ok(gathered) => import_gathered(alloc, import, &gathered, sink),
-        Err(refusal) => Err(Stopped::Refused(refusal)),
+        Ok(gathered) => Imported {
+            cut_short: gathered.cut_short(),
+            ended: import_gathered(alloc, import, &gathered, sink),
+        },
+        Err(refusal) => Imported {
+            cut_short: None,
+            ended: Err(Stopped::Refused(refusal)),
+        },
     }
 }

@@ -6,7 +6,7 @@
 //! other, `list_recording` lists the connections of a recording.
 //!
 //! ```text
-//! match import_recording(alloc, &import, &mut source, &mut sink) {
+//! match import_recording(alloc, &import, &mut source, &mut sink).ended {
 //!     Ok(notes) => notes.in_order().into_iter().flatten().for_each(print),
 //!     Err(Stopped::Refused(refusal)) => print(refusal), // nothing is written
 //!     Err(Stopped::Unwritten) => print("the sink failed"),
@@ -15,7 +15,9 @@
 #![tactic(auto)]
 
 mod capture;
+mod cut_short;
 mod gathering;
+mod help;
 mod importing;
 mod laws;
 mod listed;
@@ -25,10 +27,13 @@ mod refresh;
 mod refusal;
 mod selection;
 mod sender;
+mod wrapped;
 
 pub use capture::{notes_on, write_capture};
+pub use cut_short::CutShort;
 pub use gathering::{Gathered, gather, refused};
-pub use importing::{Import, Stopped, import_recording, records_of};
+pub use help::Help;
+pub use importing::{Import, Imported, Stopped, import_recording, records_of};
 pub use laws::recordings_are_made_once;
 pub use listed::{Listed, NothingListed};
 pub use listing::{
@@ -39,3 +44,4 @@ pub use refresh::refresh_in;
 pub use refusal::{Cause, Refusal};
 pub use selection::{Selection, passed};
 pub use sender::as_number;
+pub use wrapped::{NotLookedInto, Wrapped};

@@ -8,16 +8,19 @@ ghost use Rattle.bgp_import.specs.Refusals.{reason_text, place_text, refusal_lin
 ghost use Rattle.bgp_import.specs.ListText.{end_text, end_of, other_side, opening_text};
 ghost use Rattle.bgp_import.specs.ListText.{refused_text, octets_text};
 
+use crate::cut_short::CutShort;
 use crate::gathering::refused;
-use crate::importing::Stopped;
 use crate::listed::Listed;
 use crate::refusal::{Place, Refusal, direction};
 use crate::selection::{Selection, passed};
-use bgp_prefix::Session;
+use crate::wrapped::Wrapped;
+use bgp_prefix::{RouteRefresh, Session};
 use bgp_text::{Lines, put_address};
-use mrt::{Sink, Source};
+use mrt::{Failed, Sink, Source};
 use packets::{Packet, Reader};
-use segments::{Addresses, Endpoint, Found, PacketFault, read_segment, segment_between};
+use segments::{
+    Addresses, Endpoint, Found, PacketFault, read_segment, segment_between, wrapping_of,
+};
 use std::alloc::{AllocError, Allocator};
 use std::collections::BTreeMap;
 use streams::{Connections, Opening, Passed, Side};
@@ -62,6 +65,7 @@ struct Talks<A: Allocator> {
     alloc: A,
     port: u16,
     by_addresses: BTreeMap<Addresses, Talk<A>, A>,
+    wrapped: Wrapped,
 }
 
 /// A line of the list.
@@ -76,7 +80,7 @@ enum Line {
 /// The two addresses of what was found in a packet.
 fn addresses_of(found: Found<'_>) -> Option<Addresses> {
     match found {
-        Found::Nothing | Found::UnknownLink => None,
+        Found::Nothing | Found::UnknownLink(_) => None,
         Found::Fragment(addresses) | Found::NoPorts(addresses) => Some(addresses),
         Found::CutHeader(ends) => Some(Addresses {
             from: ends.from.address,
@@ -103,7 +107,7 @@ fn selection_of(addresses: Addresses, port: u16) -> Selection {
         session: Session {
             local: addresses.from,
             peer: addresses.to,
-            refresh: false,
+            refresh: RouteRefresh::NotOffered,
             extended: false,
         },
         port,
@@ -122,9 +126,12 @@ impl<A: Allocator + Copy> Talks<A> {
 
     /// Takes what a packet has of a connection.
     fn take(&mut self, packet: &Packet<'_>) -> Result<(), Refusal> {
+        if let Some(wrapping) = wrapping_of(packet.link_type, packet.octets) {
+            self.wrapped.count(wrapping);
+        }
         let found = read_segment(packet.link_type, packet.octets);
-        if matches!(found, Found::UnknownLink) {
-            return Err(refused(PacketFault::Link, packet.number));
+        if let Found::UnknownLink(link_type) = found {
+            return Err(refused(PacketFault::Link(link_type), packet.number));
         }
         let Some(addresses) = addresses_of(found) else {
             return Ok(());
@@ -308,12 +315,12 @@ pub fn put_counts<W: Sink>(lines: &mut Lines<'_, W>, first: usize, second: usize
 }
 
 /// What a connection's line ends with: how many octets each side sent, whoever opened it first, or
-/// why that can't be told.
+/// why that can't be told, which it answers.
 fn put_octets<W: Sink, A: Allocator + Copy>(
     lines: &mut Lines<'_, W>,
     connections: &Connections<A>,
     opening: Opening,
-) {
+) -> Option<Refusal> {
     match connections.choose(Some(opening.number), 0) {
         Ok(connection) => {
             let received = connection.received.octets.len();
@@ -322,29 +329,29 @@ fn put_octets<W: Sink, A: Allocator + Copy>(
                 Side::Local => put_counts(lines, sent, received),
                 Side::Peer => put_counts(lines, received, sent),
             }
+            None
         }
-        Err(fault) => put_refused(lines, Refusal::Connection(fault)),
+        Err(fault) => {
+            put_refused(lines, Refusal::Connection(fault));
+            Some(Refusal::Connection(fault))
+        }
     }
 }
 
-/// A line of the list.
+/// A line of the list. Answers the refusal in it, if there is one.
 fn put_line<W: Sink, A: Allocator + Copy>(
     lines: &mut Lines<'_, W>,
     talks: &Talks<A>,
     packet: u64,
     line: Line,
-) {
-    match line {
+) -> Option<Refusal> {
+    let refusal = match line {
         Line::Connection(addresses, number) => {
-            let Some(talk) = talks.by_addresses.get(&addresses) else {
-                return;
-            };
-            let Some(opening) = talk.connections.opening(number) else {
-                return;
-            };
+            let talk = talks.by_addresses.get(&addresses)?;
+            let opening = talk.connections.opening(number)?;
             put_opening(lines, &selection_of(addresses, talks.port).session, opening);
             lines.put(b" ");
-            put_octets(lines, &talk.connections, opening);
+            put_octets(lines, &talk.connections, opening)
         }
         Line::Refused(addresses, fault) => {
             lines.put(b"session ");
@@ -352,36 +359,43 @@ fn put_line<W: Sink, A: Allocator + Copy>(
             lines.put(b" ");
             put_address(lines, addresses.to);
             lines.put(b" ");
-            put_refused(lines, refused(fault, packet));
+            let refusal = refused(fault, packet);
+            put_refused(lines, refusal);
+            Some(refusal)
         }
-    }
+    };
     lines.put(b"\n");
+    refusal
 }
 
-/// Puts the lines of all connections, in the order of their first packets.
+/// Adds a refusal where none of its number is there yet, and there is memory for it.
+fn add_refusal<A: Allocator + Copy>(refusals: &mut Vec<Refusal, A>, refusal: Refusal) {
+    if refusals
+        .iter()
+        .all(|other| other.number() != refusal.number())
+    {
+        // Without memory what helps isn't told.
+        let _ = refusals.push(refusal);
+    }
+}
+
+/// Puts the lines of all connections, in the order of their first packets, and adds the refusals in
+/// them. Answers how many lines there are.
 fn put_talks<W: Sink, A: Allocator + Copy>(
     lines: &mut Lines<'_, W>,
     talks: &Talks<A>,
-    last_packet: u64,
-) -> Result<Listed, Refusal> {
-    match talks.lines() {
-        Ok(listed) => {
-            for (packet, line) in &listed {
-                put_line(lines, talks, *packet, *line);
-            }
-            Ok(Listed {
-                port: talks.port,
-                lines: listed.len(),
-                packets: last_packet,
-            })
+    refusals: &mut Vec<Refusal, A>,
+) -> Result<usize, AllocError> {
+    let listed = talks.lines()?;
+    for (packet, line) in &listed {
+        if let Some(refusal) = put_line(lines, talks, *packet, *line) {
+            add_refusal(refusals, refusal);
         }
-        Err(AllocError) => Err(Refusal::Memory {
-            packet: last_packet,
-        }),
     }
+    Ok(listed.len())
 }
 
-/// Takes all packets of a recording.
+/// Takes all packets of a recording, also of one that was cut short.
 fn take_all<A: Allocator + Copy, R: Source>(
     reader: &mut Reader<A>,
     talks: &mut Talks<A>,
@@ -405,14 +419,14 @@ fn take_all<A: Allocator + Copy, R: Source>(
 
 /// Writes a line for each connection in a recording that holds octets and one of whose ports is
 /// this, in the order of their first packets; for two addresses of whose connections none can be
-/// told a line that says why; and last, where the recording is refused, that refusal. Answers how
-/// many lines and packets there were.
+/// told a line that says why; and last, where the recording can't be read on, that refusal. Answers
+/// how many lines and packets there were, and the refusals. Fails where the sink does.
 pub fn list_recording<A: Allocator + Copy, R: Source, W: Sink>(
     alloc: A,
     port: u16,
     source: &mut R,
     sink: &mut W,
-) -> Result<Listed, Stopped>
+) -> Result<Listed<A>, Failed>
     requires source_failures { R.failures source.old < u64.MAX }
     requires sink_failures { W.failures sink.old < u64.MAX }
 {
@@ -421,19 +435,33 @@ pub fn list_recording<A: Allocator + Copy, R: Source, W: Sink>(
         alloc,
         port,
         by_addresses: BTreeMap::new(alloc),
+        wrapped: Wrapped::none(),
     };
     let taken = take_all(&mut reader, &mut talks, source);
+    let packets = reader.number();
+    let mut refusals = Vec::new(alloc);
     let mut lines = Lines::new(sink);
-    let put = put_talks(&mut lines, &talks, reader.number());
-    let told = taken.and(put);
-    if let Err(refusal) = told {
+    let put = put_talks(&mut lines, &talks, &mut refusals);
+    let refusal = match (taken, put) {
+        (Err(refusal), _) => Some(refusal),
+        (Ok(()), Err(AllocError)) => Some(Refusal::Memory { packet: packets }),
+        (Ok(()), Ok(_)) => None,
+    };
+    if let Some(refusal) = refusal {
         put_refusal(&mut lines, refusal);
+        add_refusal(&mut refusals, refusal);
     }
     let handed_over = lines.hand_over();
     // No effect: it ends the loan of the sink.
     lines.into_sink();
-    match handed_over {
-        Ok(()) => told.map_err(Stopped::Refused),
-        Err(_) => Err(Stopped::Unwritten),
-    }
+    handed_over?;
+    Ok(Listed {
+        port,
+        lines: put.unwrap_or(0),
+        packets,
+        wrapped: talks.wrapped,
+        cut_short: CutShort::told(reader.is_cut_short(), packets),
+        refusals,
+        refusal,
+    })
 }

@@ -2,7 +2,6 @@
 
 ghost use Rattle.std.specs.Prelude.{◌≡◌, ◌↔◌, IsTrue, IfSome, IfNone, Some};
 ghost use Rattle.std.specs.List.{AllByRecursion};
-ghost use Rattle.mrt.specs.Rules.{IsRouteRefresh};
 ghost use Rattle.bgp_recording.specs.Captured.{IsNoRefresh, records_of};
 ghost use Rattle.bgp_import.specs.Refreshes.{IsRefreshFrom, IsRefreshPacket, IsRefreshOf};
 ghost use Rattle.bgp_import.specs.Refreshes.{IsRefreshIn, earlier, place_of};
@@ -10,22 +9,9 @@ ghost use Rattle.bgp_import.specs.Refreshes.{IsRefreshIn, earlier, place_of};
 use crate::capture::message_from;
 use crate::refusal::Refusal;
 use bgp_recording::{Entry, Recording, Rest};
-use bgp_wire::{header_at, read_type};
+use mrt::is_route_refresh;
 use std::alloc::Allocator;
 use streams::Side;
-
-/// The type of a ROUTE-REFRESH (RFC 2918, 3).
-const ROUTE_REFRESH: u8 = 5;
-
-/// Whether a message is a ROUTE-REFRESH.
-fn is_route_refresh(octets: &[u8]) -> bool
-    ensures { IsTrue result ↔ IsRouteRefresh octets.now }
-{
-    match header_at(octets) {
-        Some(header) => read_type(header) == ROUTE_REFRESH,
-        None => false,
-    }
-}
 
 /// Whether an entry shows a ROUTE-REFRESH that this system sent.
 fn is_refresh_from(entry: Entry<'_>, from: Side) -> bool

@@ -7,6 +7,7 @@ use Rattle.bgp_prefix.specs.Shown as shown
 use Rattle.bgp_prefix.specs.Shown.{ShownRecord, second_of}
 use Rattle.bgp_prefix.specs.declared.address.Address.{Address}
 use Rattle.bgp_prefix.specs.declared.address.Address.TheVariants.{V4, V6}
+use Rattle.bgp_prefix.specs.RouteRefresh.{is_offered}
 use Rattle.bgp_prefix.specs.declared.session.Session.{Session}
 use Rattle.bgp_prefix.specs.Address.{family_of}
 use Rattle.bgp_wire.specs.declared.header.Limit.{Limit}
@@ -16,9 +17,9 @@ use Rattle.bgp_wire.specs.Framing.{IsFrame}
 use Rattle.bgp_wire.specs.Header.{header_of, length_of, type_of, greatest_length, limit_with, IsSound}
 use Rattle.mrt.specs.Layout.{IsState}
 use Rattle.mrt.specs.Reader.{shown_of}
-use Rattle.mrt.specs.Rules.{HasOtherLength, body_limit}
+use Rattle.mrt.specs.Rules.{IsRouteRefresh, HasOtherLength, body_limit}
 use Rattle.streams.specs.declared.connection.Connection.{Connection}
-use Rattle.mrt.specs.Written.{IsWritable, IsAllowed, CanBeCaptured, AreInOrder, address_octets, content_for, body_len}
+use Rattle.mrt.specs.Written.{IsWritable, IsAllowed, IsMessageAllowed, CanBeCaptured, AreInOrder, address_octets, content_for, body_len}
 use Rattle.mrt.proofs.WrittenCapture.{captures_read_back}
 use Rattle.bgp_recording.specs.declared.entry.Entry.{Entry}
 use Rattle.bgp_recording.specs.declared.message.Message.{Message}
@@ -114,17 +115,27 @@ all_writable : (session : Session) (records : List ShownRecord) → family_of se
 all_writable session [] family can = tt
 all_writable session (r ∷ rs) family can = (writable session r family can.0, all_writable session rs family can.1)
 
+-- none of them is refused or passed over
+may_stand : (session : Session) (octets : List ℕ) → CanBeMessage (limit_with session.extended) octets
+    → (IsTrue (is_offered session.refresh) → ¬ IsRouteRefresh octets) → IsMessageAllowed session octets
+may_stand session octets can without = (
+  can.long,
+  λ refused. without (rw refused refl),
+  λ passed whole. without (rw passed refl) (whole.least, whole.kind),
+  can.whole,
+)
+
 captured : (session : Session) (record' : ShownRecord) → CanBeNamed session → CanBeRecord (limit_with session.extended) record' → second_of record' < 2 ^ 32
-    → (IsTrue session.refresh → IsNoRefresh record') → CanBeCaptured session record'
+    → (IsTrue (is_offered session.refresh) → IsNoRefresh record') → CanBeCaptured session record'
 captured session (shown.Received second octets) named can fits without = record {
   writable = writable session (shown.Received second octets) named.family can;
   fits = record { second = fits; states = tt; peer = named.peer; local = named.local };
-  allowed = ((can.long, without, can.whole), λ none. none);
+  allowed = (may_stand session octets can without, λ none. none);
 }
 captured session (shown.Sent second octets) named can fits without = record {
   writable = writable session (shown.Sent second octets) named.family can;
   fits = record { second = fits; states = tt; peer = named.peer; local = named.local };
-  allowed = ((can.long, without, can.whole), λ none. none);
+  allowed = (may_stand session octets can without, λ none. none);
 }
 captured session (shown.Changed second old new) named can fits without = record {
   writable = writable session (shown.Changed second old new) named.family can;
@@ -133,19 +144,19 @@ captured session (shown.Changed second old new) named can fits without = record 
 }
 
 all_captured : (session : Session) (records : List ShownRecord) → CanBeNamed session → AllByRecursion (CanBeRecord (limit_with session.extended)) records
-    → AllByRecursion (λ r. second_of r < 2 ^ 32) records → (IsTrue session.refresh → AllByRecursion IsNoRefresh records) → AllByRecursion (CanBeCaptured session) records
+    → AllByRecursion (λ r. second_of r < 2 ^ 32) records → (IsTrue (is_offered session.refresh) → AllByRecursion IsNoRefresh records) → AllByRecursion (CanBeCaptured session) records
 all_captured session [] named can fits without = tt
 all_captured session (r ∷ rs) named can fits without =
     (captured session r named can.0 fits.0 (λ t. (without t).0), all_captured session rs named can.1 fits.1 (λ t. (without t).1))
 
 -- a capture of the session may have such a record
-allowed : (session : Session) (record' : ShownRecord) → CanBeRecord (limit_with session.extended) record' → (IsTrue session.refresh → IsNoRefresh record') → IsAllowed session None record'
-allowed session (shown.Received second octets) can without = ((can.long, without, can.whole), λ none. none)
-allowed session (shown.Sent second octets) can without = ((can.long, without, can.whole), λ none. none)
+allowed : (session : Session) (record' : ShownRecord) → CanBeRecord (limit_with session.extended) record' → (IsTrue (is_offered session.refresh) → IsNoRefresh record') → IsAllowed session None record'
+allowed session (shown.Received second octets) can without = (may_stand session octets can without, λ none. none)
+allowed session (shown.Sent second octets) can without = (may_stand session octets can without, λ none. none)
 allowed session (shown.Changed second old new) can without = (can.0, can.1, λ none. none)
 
 all_allowed : (session : Session) (entries : List Entry) → AllByRecursion (CanBeRecord (limit_with session.extended)) (records_of entries)
-    → (IsTrue session.refresh → AllByRecursion IsNoRefresh (records_of entries)) → AllByRecursion (λ entry. IsAllowed session None (shown_of entry.record)) entries
+    → (IsTrue (is_offered session.refresh) → AllByRecursion IsNoRefresh (records_of entries)) → AllByRecursion (λ entry. IsAllowed session None (shown_of entry.record)) entries
 all_allowed session [] can without = tt
 all_allowed session (e ∷ es) can without = (allowed session (shown_of e.record) can.0 (λ t. (without t).0), all_allowed session es can.1 (λ t. (without t).1))
 
@@ -230,7 +241,7 @@ made_are_writable session within connection entries received_rest sent_rest fami
 
 -- and a capture of the session may have it
 pub made_are_allowed : (session : Session) (within : ℕ) (connection : Connection) (entries : List Entry) (received_rest sent_rest : Rest)
-    → (IsTrue session.refresh → AllByRecursion IsNoRefresh (records_of entries)) → IsRecorded (limit_with session.extended) within connection entries received_rest sent_rest
+    → (IsTrue (is_offered session.refresh) → AllByRecursion IsNoRefresh (records_of entries)) → IsRecorded (limit_with session.extended) within connection entries received_rest sent_rest
     → AllByRecursion (λ entry. IsAllowed session None (shown_of entry.record)) entries
 made_are_allowed session within connection entries received_rest sent_rest without made =
     all_allowed session entries (made_can (limit_with session.extended) within connection entries received_rest sent_rest made) without

@@ -3,6 +3,7 @@ use Rattle.std.specs.Prelude.{◌≡◌, ℕ, List, map, IsTrue}
 use Rattle.std.specs.List.{AllByRecursion}
 use Rattle.bgp_prefix.specs.Address.{family_of, IsAddress}
 use Rattle.bgp_prefix.specs.Shown.{ShownRecord, Received, Sent, Changed}
+use Rattle.bgp_prefix.specs.RouteRefresh.{is_offered}
 use Rattle.bgp_prefix.specs.declared.session.Session.{Session}
 use Rattle.bgp_wire.specs.Header.{limit_with}
 use Rattle.mrt.specs.Capture.{Spells}
@@ -38,6 +39,6 @@ MadeRecordsAreRead =
     (entries : List Entry) (received_rest sent_rest : Rest) →
     CanBeNamed session →
     IsRecorded (limit_with session.extended) within connection entries received_rest sent_rest →
-    (IsTrue session.refresh → AllByRecursion IsNoRefresh (records_of entries)) →
+    (IsTrue (is_offered session.refresh) → AllByRecursion IsNoRefresh (records_of entries)) →
     Spells session (capture_octets session peer_as local_as (records_of entries))
     (records_of entries)

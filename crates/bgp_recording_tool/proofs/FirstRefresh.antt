@@ -3,20 +3,24 @@ use Rattle.std.proofs.Common.{◌≡◌, ◌∙◌, ◌⊎◌, ◌||◌, ◌++�
 use Rattle.std.proofs.lemmas.Bool.{cases_lt, cases_eq}
 use Rattle.std.specs.List.{AllByRecursion, list_any}
 use Rattle.bgp_prefix.specs.Shown.{ShownRecord, Received, Sent, Changed, second_of}
+use Rattle.bgp_prefix.specs.RouteRefresh.{is_offered}
 use Rattle.bgp_prefix.specs.declared.session.Session.{Session}
+use Rattle.bgp_prefix.specs.declared.session.RouteRefresh.{RouteRefresh}
+use Rattle.bgp_prefix.specs.declared.session.RouteRefresh.TheVariants as refreshes
 use Rattle.bgp_wire.specs.Header as wire
-use Rattle.mrt.specs.Capture.{Piece, Other, OtherEnds, Shown, ArePieces, IsPiece, Spells, IsFirstFault, joined, records_of, last_after, last_of, octets_of, shown_of}
+use Rattle.mrt.specs.Capture.{Piece, Other, OtherEnds, PassedOver, Shown, ArePieces, IsPiece, Spells, IsFirstFault, joined, records_of, last_after, last_of, octets_of, shown_of}
 use Rattle.mrt.specs.CaptureLaws.{OneFault, NeverBoth}
 use Rattle.mrt.specs.Layout.{header_of, body_of, content_in, is_of, old_state_in, new_state_in}
-use Rattle.mrt.specs.Rules.{Place, Rule, Holds, FirstSays, Judgement, End, Skipped, SkippedSession, Refused, OfSession, IsJudged, IsRouteRefresh, judgement_of, place_of, content_rules}
-use Rattle.mrt.specs.Rules.{Nothing, CutHeader, OtherTypeCut, OtherType, LongBody, CutBody, OtherSubtype, NoFields, OtherSession, WithAddPath, NoStates, BadStates, CutMessage, Refresh, OtherLength, Back, Allowed}
+use Rattle.mrt.specs.Rules.{Place, Rule, Holds, FirstSays, Judgement, End, Skipped, SkippedSession, SkippedRefresh, Refused, OfSession, IsJudged, IsRouteRefresh, judgement_of, place_of, content_rules, rules}
+use Rattle.mrt.specs.Rules.{Nothing, CutHeader, OtherTypeCut, OtherType, LongBody, CutBody, OtherSubtype, NoFields, OtherSession, WithAddPath, NoStates, BadStates, CutMessage, Refresh, WholeRefresh, OtherLength, Back, Allowed}
 use Rattle.mrt.specs.declared.fault.FaultKind.{FaultKind}
 use Rattle.mrt.specs.declared.fault.FaultKind.TheVariants as kinds
 use Rattle.mrt.proofs.OneReading.{judged_on}
+use Rattle.mrt.proofs.TakenOut.{IsSame, never_refused, passed_over_by}
 use Rattle.bgp_recording.specs.Captured.{IsNoRefresh}
-use Rattle.bgp_recording_tool.specs.Headline.{IsFirstRefresh}
+use Rattle.bgp_recording_tool.specs.Headline.{IsFirstRefresh, PassesNone}
 use Rattle.bgp_recording_tool.specs.Options.{calm}
-use Rattle.bgp_recording_tool.proofs.Calm.{IsSame, each_rule, never}
+use Rattle.bgp_recording_tool.proofs.Calm.{each_but_one}
 
 -- ---- whether a record is one
 
@@ -75,6 +79,7 @@ is_refresh NoStates = false
 is_refresh BadStates = false
 is_refresh CutMessage = false
 is_refresh Refresh = true
+is_refresh WholeRefresh = false
 is_refresh OtherLength = false
 is_refresh Back = false
 is_refresh Allowed = false
@@ -85,6 +90,7 @@ sort_of Skipped = 1
 sort_of SkippedSession = 2
 sort_of (Refused kind) = 3
 sort_of OfSession = 4
+sort_of SkippedRefresh = 5
 
 abbrev says : ℕ → Rule → Bool
 says sort rule = nat_eq (sort_of (judgement_of rule)) sort
@@ -108,7 +114,7 @@ before_refresh =
     ∷ WithAddPath ∷ NoStates ∷ BadStates ∷ CutMessage ∷ []
 
 abbrev after_refresh : List Rule
-after_refresh = OtherLength ∷ Back ∷ Allowed ∷ []
+after_refresh = WholeRefresh ∷ OtherLength ∷ Back ∷ Allowed ∷ []
 
 none_says : (H : Rule → Type 0) (some : List Rule) (judgement : Judgement) → list_any (says (sort_of judgement)) some ≡ false → FirstSays H some judgement → ⊥
 none_says H [] judgement denied h = h
@@ -125,9 +131,9 @@ not_held H (one ∷ before) after rule judgement denied not (inl here) holds =
 not_held H (one ∷ before) after rule judgement denied not (inr there) holds =
     not_held H before after rule judgement (neither (says (sort_of judgement) one) (list_any (says (sort_of judgement)) before) denied).1 not there.1 holds
 
--- ---- for a session that may have one
+-- ---- for a session that refuses them
 
-module _ (session : Session) (last : Option ℕ) (place : Place) where
+module _ (session : Session) (may : session.refresh ≡ refreshes.Refused) (last : Option ℕ) (place : Place) where
   abbrev Calmly : Rule → Type 0
   Calmly = Holds (calm session) last place
 
@@ -135,7 +141,7 @@ module _ (session : Session) (last : Option ℕ) (place : Place) where
   Really = Holds session last place
 
   other_rule : (rule : Rule) → is_refresh rule ≡ false → IsSame (Really rule) (Calmly rule)
-  other_rule rule denied = elim (each_rule session last place rule) [
+  other_rule rule denied = elim (each_but_one session may last place rule) [
     | inl both ↦ both
     | inr is ↦ absurd (let both = sym denied ∙ ap is_refresh is in cc)
   ]
@@ -143,7 +149,7 @@ module _ (session : Session) (last : Option ℕ) (place : Place) where
   -- what is decided before that rule
   decided_before : (before after : List Rule) (judgement : Judgement) → list_any is_refresh before ≡ false → list_any (says (sort_of judgement)) after ≡ false
       → FirstSays Calmly (before ++ (Refresh ∷ after)) judgement → FirstSays Really (before ++ (Refresh ∷ after)) judgement
-  decided_before [] after judgement others none (inl here) = absurd (never session last place here.0)
+  decided_before [] after judgement others none (inl here) = absurd (never_refused session last place here.0)
   decided_before [] after judgement others none (inr there) = absurd (none_says Calmly after judgement none there.1)
   decided_before (rule ∷ before) after judgement others none (inl here) =
       inl ((other_rule rule (neither (is_refresh rule) (list_any is_refresh before) others).0).1 here.0, here.1)
@@ -162,7 +168,7 @@ module _ (session : Session) (last : Option ℕ) (place : Place) where
 
   without_it : (before after : List Rule) (judgement : Judgement) → list_any is_refresh before ≡ false → list_any is_refresh after ≡ false → ¬ Really Refresh
       → FirstSays Calmly (before ++ (Refresh ∷ after)) judgement → FirstSays Really (before ++ (Refresh ∷ after)) judgement
-  without_it [] after judgement others more denied (inl here) = absurd (never session last place here.0)
+  without_it [] after judgement others more denied (inl here) = absurd (never_refused session last place here.0)
   without_it [] after judgement others more denied (inr there) = inr (denied, decided_after after judgement more there.1)
   without_it (rule ∷ before) after judgement others more denied (inl here) =
       inl ((other_rule rule (neither (is_refresh rule) (list_any is_refresh before) others).0).1 here.0, here.1)
@@ -214,7 +220,7 @@ module _ {F : Type 0} (change received sent path : F) (second old new : ℕ) (co
   no_refresh_by not_received not_sent false true c d not form = not
   no_refresh_by not_received not_sent false false c d not form = not
 
-module _ (session : Session) (last : Option ℕ) (octets : List ℕ) where
+module _ (session : Session) (may : session.refresh ≡ refreshes.Refused) (last : Option ℕ) (octets : List ℕ) where
   abbrev here : Place
   here = place_of octets
 
@@ -225,19 +231,19 @@ module _ (session : Session) (last : Option ℕ) (octets : List ℕ) where
   content = content_in (header_of octets) (body_of octets)
 
   -- it is refused
-  refused_here : IsTrue session.refresh → IsJudged (calm session) last octets OfSession → ¬ IsNoRefresh (shown_of octets) → IsJudged session last octets (Refused kinds.RouteRefresh)
-  refused_here may judged is =
-      let known = not_held (Calmly session last here) (Nothing ∷ CutHeader ∷ OtherTypeCut ∷ OtherType ∷ LongBody ∷ CutBody ∷ []) (NoFields ∷ OtherSession ∷ content_rules) OtherSubtype OfSession refl refl judged in
-      let plain = not_held (Calmly session last here) (Nothing ∷ CutHeader ∷ OtherTypeCut ∷ OtherType ∷ LongBody ∷ CutBody ∷ OtherSubtype ∷ NoFields ∷ OtherSession ∷ [])
+  refused_here : IsJudged (calm session) last octets OfSession → ¬ IsNoRefresh (shown_of octets) → IsJudged session last octets (Refused kinds.RouteRefresh)
+  refused_here judged is =
+      let known = not_held (Calmly session may last here) (Nothing ∷ CutHeader ∷ OtherTypeCut ∷ OtherType ∷ LongBody ∷ CutBody ∷ []) (NoFields ∷ OtherSession ∷ content_rules) OtherSubtype OfSession refl refl judged in
+      let plain = not_held (Calmly session may last here) (Nothing ∷ CutHeader ∷ OtherTypeCut ∷ OtherType ∷ LongBody ∷ CutBody ∷ OtherSubtype ∷ NoFields ∷ OtherSession ∷ [])
       (NoStates ∷ BadStates ∷ CutMessage ∷ Refresh ∷ after_refresh) WithAddPath OfSession refl refl judged in
       let both = refresh_by _ _ _ _ (header_of octets).second (old_state_in content) (new_state_in content) content
       (is_of subtype (0 ∷ 5 ∷ [])) (is_of subtype (1 ∷ 4 ∷ [])) (is_of subtype (6 ∷ 7 ∷ [])) (is_of subtype (8 ∷ 9 ∷ 10 ∷ 11 ∷ [])) known plain is in
-      by_it session last here before_refresh after_refresh OfSession refl refl (both.0, both.1, may) judged
+      by_it session may last here before_refresh after_refresh OfSession refl refl (both.0, both.1, may) judged
 
   -- and it isn't
   read_here : IsJudged (calm session) last octets OfSession → IsNoRefresh (shown_of octets) → IsJudged session last octets OfSession
   read_here judged not =
-      without_it session last here before_refresh after_refresh OfSession refl refl
+      without_it session may last here before_refresh after_refresh OfSession refl refl
       (λ holds. no_refresh_by _ _ _ _ (header_of octets).second (old_state_in content) (new_state_in content) content
       (λ is. absurd (cc)) (λ is. absurd (cc))
       (is_of subtype (0 ∷ 5 ∷ [])) (is_of subtype (1 ∷ 4 ∷ [])) (is_of subtype (6 ∷ 7 ∷ [])) (is_of subtype (8 ∷ 9 ∷ 10 ∷ 11 ∷ [])) not holds.0 holds.1)
@@ -278,18 +284,20 @@ abbrev tail_of : List ShownRecord → List ShownRecord
 tail_of [] = []
 tail_of (shown ∷ later) = later
 
-module _ (session : Session) (may : IsTrue session.refresh) (refresh : ShownRecord) (later : List ShownRecord) (is_one : ¬ IsNoRefresh refresh) where
+module _ (session : Session) (may : session.refresh ≡ refreshes.Refused) (refresh : ShownRecord) (later : List ShownRecord) (is_one : ¬ IsNoRefresh refresh) where
   parted : (last : Option ℕ) (pieces : List Piece) (front : List ShownRecord) → ArePieces (calm session) last pieces
       → records_of pieces ≡ front ++ (refresh ∷ later) → AllByRecursion IsNoRefresh front → Parted session last pieces front
   parted last [] front each shown none = absurd (empty_has front later refresh shown)
   parted last (Other octets ∷ pieces) front each shown none =
       skipped session last (Other octets) pieces front
-      record { whole = each.0.whole; judged = decided_before session last (place_of octets) before_refresh after_refresh Skipped refl refl each.0.judged }
+      record { whole = each.0.whole; judged = decided_before session may last (place_of octets) before_refresh after_refresh Skipped refl refl each.0.judged }
       (λ more. refl) (parted last pieces front each.1 shown none)
   parted last (OtherEnds octets ∷ pieces) front each shown none =
       skipped session last (OtherEnds octets) pieces front
-      record { whole = each.0.whole; judged = decided_before session last (place_of octets) before_refresh after_refresh SkippedSession refl refl each.0.judged }
+      record { whole = each.0.whole; judged = decided_before session may last (place_of octets) before_refresh after_refresh SkippedSession refl refl each.0.judged }
       (λ more. refl) (parted last pieces front each.1 shown none)
+  parted last (PassedOver octets ∷ pieces) front each shown none =
+      let passed = (passed_over_by (calm session) last (place_of octets) rules each.0.judged).0 in absurd (cc)
   parted last (Shown octets ∷ pieces) [] each shown none =
       let same : shown_of octets ≡ refresh = ap (λ (rs : List ShownRecord). head_or refresh rs) shown in record {
         before = [];
@@ -298,7 +306,7 @@ module _ (session : Session) (may : IsTrue session.refresh) (refresh : ShownReco
         each = tt;
         shown = refl;
         judged = judged_on session last octets (joined pieces) (Refused kinds.RouteRefresh) each.0.whole
-            (refused_here session last octets may each.0.judged (subst (λ (r : ShownRecord). ¬ IsNoRefresh r) (sym same) is_one));
+            (refused_here session may last octets each.0.judged (subst (λ (r : ShownRecord). ¬ IsNoRefresh r) (sym same) is_one));
       }
   parted last (Shown octets ∷ pieces) (first ∷ front) each shown none =
       let same : shown_of octets ≡ first = ap (λ (rs : List ShownRecord). head_or refresh rs) shown in
@@ -308,14 +316,14 @@ module _ (session : Session) (may : IsTrue session.refresh) (refresh : ShownReco
         rest = more.rest;
         whole = ap (λ (o : List ℕ). octets ++ o) more.whole ∙ sym (append_assoc octets (joined more.before) more.rest);
         each = (
-          record { whole = each.0.whole; judged = read_here session last octets each.0.judged (subst IsNoRefresh (sym same) none.0) },
+          record { whole = each.0.whole; judged = read_here session may last octets each.0.judged (subst IsNoRefresh (sym same) none.0) },
           more.each,
         );
         shown = ap (λ (rs : List ShownRecord). first ∷ rs) more.shown ∙ ap (λ (r : ShownRecord). r ∷ records_of more.before) (sym same);
         judged = more.judged;
       }
 
-pub first_refused : (session : Session) (octets : List ℕ) (records front : List ShownRecord) → Spells (calm session) octets records → IsTrue session.refresh
+pub first_refused : (session : Session) (octets : List ℕ) (records front : List ShownRecord) → Spells (calm session) octets records → session.refresh ≡ refreshes.Refused
     → IsFirstRefresh records front → (offset : ℕ) × IsFirstFault session octets front kinds.RouteRefresh offset
 first_refused session octets records front spells may first =
     let both = parted session may first.refresh first.later first.is_one None spells.pieces front spells.text.each (sym spells.shown ∙ first.whole) first.none_before in (
@@ -336,19 +344,22 @@ first_refused session octets records front spells may first =
 
 -- ---- and no other fault is the first
 
-may_or_not : (b : Bool) → IsTrue b ⊎ (b ≡ false)
-may_or_not true = inl refl
-may_or_not false = inr refl
+module _ (one : OneFault) (never : NeverBoth) (session : Session) (octets : List ℕ) (records front : List ShownRecord) (kind : FaultKind) (offset : ℕ)
+    (spells : Spells (calm session) octets records) (reads : (IsTrue (is_offered session.refresh) → AllByRecursion IsNoRefresh records) → Spells session octets records)
+    (without : PassesNone session records) (fault : IsFirstFault session octets front kind offset) where
+  -- where they read as these records there is none
+  read_whole : {X : Type 0} → (IsTrue (is_offered session.refresh) → AllByRecursion IsNoRefresh records) → X
+  read_whole none = absurd (never session octets records front kind offset (reads none) fault)
 
-pub alone : OneFault → NeverBoth → (session : Session) (octets : List ℕ) (records front : List ShownRecord) (kind : FaultKind) (offset : ℕ) → Spells (calm session) octets records
-    → ((IsTrue session.refresh → AllByRecursion IsNoRefresh records) → Spells session octets records) → IsFirstFault session octets front kind offset
-    → (kind ≡ kinds.RouteRefresh) × IsTrue session.refresh × IsFirstRefresh records front
-alone one never session octets records front kind offset spells reads fault = elim (may_or_not session.refresh) [
-  | inr not ↦ absurd (never session octets records front kind offset (reads (λ may. absurd (let denied = sym not ∙ may in cc))) fault)
-  | inl may ↦ elim (first_or_none records) [
-    | inl none ↦ absurd (never session octets records front kind offset (reads (λ yes. none)) fault)
-    | inr some ↦ let refused = first_refused session octets records some.0 spells may some.1 in
+  alone_by : (refresh : RouteRefresh) → session.refresh ≡ refresh → (kind ≡ kinds.RouteRefresh) × (session.refresh ≡ refreshes.Refused) × IsFirstRefresh records front
+  alone_by refreshes.NotOffered is = read_whole (λ may. let denied : IsTrue false = subst (λ (r : RouteRefresh). IsTrue (is_offered r)) is may in absurd (cc))
+  alone_by refreshes.PassedOver is = read_whole (λ may. without is)
+  alone_by refreshes.Refused is = elim (first_or_none records) [
+    | inl none ↦ read_whole (λ may. none)
+    | inr some ↦ let refused = first_refused session octets records some.0 spells is some.1 in
         let same = one session octets front some.0 kind kinds.RouteRefresh offset refused.0 fault refused.1 in
-        (same.1, may, subst (λ (f : List ShownRecord). IsFirstRefresh records f) (sym same.0) some.1)
+        (same.1, is, subst (λ (f : List ShownRecord). IsFirstRefresh records f) (sym same.0) some.1)
   ]
-]
+
+  pub alone : (kind ≡ kinds.RouteRefresh) × (session.refresh ≡ refreshes.Refused) × IsFirstRefresh records front
+  alone = alone_by session.refresh refl

@@ -1,10 +1,10 @@
 -- What is told of one connection, by what was made of it and what is answered of that.
 use Rattle.std.proofs.Common.{◌≡◌, ◌∙◌, ◌++◌, ℕ, List, [], Option, Some, IsTrue, refl, sym, ap, append-nil, length, reverse, inl, inr}
 use Rattle.std.specs.List.{AllByRecursion}
-use Rattle.std.specs.Option.{unwrap_or}
 use Rattle.packets.specs.Packet.{Recorded}
 use Rattle.streams.specs.Connections.{numbered}
 use Rattle.streams.specs.Passed.{Segment}
+use Rattle.bgp_prefix.specs.RouteRefresh.{is_offered}
 use Rattle.bgp_open.specs.declared.config.Config.{Config}
 use Rattle.bgp_judge.specs.Verdict.{VerdictValue, HasVerdict}
 use Rattle.bgp_recording.specs.Captured.{IsNoRefresh, records_of}
@@ -15,22 +15,21 @@ use Rattle.bgp_import.specs.Refreshes.{IsRefreshIn}
 use Rattle.bgp_import.specs.declared.importing.Import.{Import}
 use Rattle.bgp_import.specs.declared.refusal.Refusal.{Refusal}
 use Rattle.bgp_recording_tool.specs.declared.remark.Remark.{Remark}
-use Rattle.bgp_recording_tool.specs.Connections.{IsJudged, IsTold, AddsTold}
-use Rattle.bgp_recording_tool.specs.Remarks.{notes_of, remarks_on}
+use Rattle.bgp_recording_tool.specs.Connections.{IsJudged, IsTold}
+use Rattle.bgp_recording_tool.specs.Remarks.{AddsTold, IsHelp, notes_of, remarks_on}
 use Rattle.bgp_recording_tool.specs.Told.{Judged, Refused}
-use Rattle.bgp_recording_tool.proofs.Numbers.{number_is}
 
 -- these entries are made of the connection
 pub is_made : {Z : Type 0} (wanted : Import) (number : Option ℕ) (packets : List Recorded) (segments : List Segment) (made : Recording Z)
     → (tells : TellsOne wanted number packets segments made) → IsMadeOf wanted tells.connection made.entries.items (notes_of made)
 is_made wanted number packets segments made tells = record { recorded = tells.recorded; counts = refl }
 
-module _ (config : Config) (wanted : Import) (packets : List Recorded) (segments : List Segment) (number : Option ℕ) where
+module _ (config : Config) (wanted : Import) (packets : List Recorded) (segments : List Segment) (number named : Option ℕ) where
   -- it was judged
   is_judged : {Z : Type 0} (made : Recording Z) → TellsOne wanted number packets segments made → (verdict : VerdictValue)
-      → (IsTrue wanted.selection.session.refresh → AllByRecursion IsNoRefresh (records_of made.entries.items))
+      → (IsTrue (is_offered wanted.selection.session.refresh) → AllByRecursion IsNoRefresh (records_of made.entries.items))
       → HasVerdict config (records_of made.entries.items) verdict
-      → IsJudged config wanted packets segments number verdict (remarks_on (unwrap_or number 1) made.entries.items (notes_of made) verdict)
+      → IsJudged config wanted packets segments number named verdict (remarks_on named made.entries.items (notes_of made) verdict)
   is_judged made tells verdict without is = record {
     connection = tells.connection;
     entries = made.entries.items;
@@ -39,38 +38,37 @@ module _ (config : Config) (wanted : Import) (packets : List Recorded) (segments
     made = is_made wanted number packets segments made tells;
     without = without;
     is = is;
-    remarked = ap (λ (n : ℕ). remarks_on n made.entries.items (notes_of made) verdict)
-        (sym (number_is number (length packets) (numbered (reverse segments)) tells.connection.number tells.answered.chosen));
+    remarked = refl;
   }
 
   -- and what there is to tell of it was added
   pub adds_judged : {Z : Type 0} (old new : List Remark) (made : Recording Z) → TellsOne wanted number packets segments made → (verdict : VerdictValue)
-      → (IsTrue wanted.selection.session.refresh → AllByRecursion IsNoRefresh (records_of made.entries.items))
+      → (IsTrue (is_offered wanted.selection.session.refresh) → AllByRecursion IsNoRefresh (records_of made.entries.items))
       → HasVerdict config (records_of made.entries.items) verdict
-      → new ≡ old ++ remarks_on (unwrap_or number 1) made.entries.items (notes_of made) verdict
-      → AddsTold old new (IsTold config wanted packets segments number (Judged verdict))
+      → new ≡ old ++ remarks_on named made.entries.items (notes_of made) verdict
+      → AddsTold old new (IsTold config wanted packets segments number named (Judged verdict))
   adds_judged old new made tells verdict without is added = record {
-    own = remarks_on (unwrap_or number 1) made.entries.items (notes_of made) verdict;
+    own = remarks_on named made.entries.items (notes_of made) verdict;
     added = added;
     is_told = is_judged made tells verdict without is;
   }
 
-  -- or it is refused, and nothing was added
-  pub adds_refused : (old new : List Remark) (refusal : Refusal) → IsTurnedDown number packets segments refusal → new ≡ old
-      → AddsTold old new (IsTold config wanted packets segments number (Refused refusal))
-  adds_refused old new refusal down same = record {
-    own = [];
-    added = same ∙ sym (append-nil old);
-    is_told = record { why = inl down; none = refl };
+  -- or it is refused, and what helps was added
+  pub adds_refused : (old new : List Remark) (refusal : Refusal) → IsTurnedDown number packets segments refusal → AddsTold old new (IsHelp named refusal)
+      → AddsTold old new (IsTold config wanted packets segments number named (Refused refusal))
+  adds_refused old new refusal down adds = record {
+    own = adds.own;
+    added = adds.added;
+    is_told = record { why = inl down; helps = adds.is_told };
   }
 
   -- or it has a ROUTE-REFRESH
   pub adds_refresh : {Z : Type 0} (old new : List Remark) (refusal : Refusal) (made : Recording Z) → TellsOne wanted number packets segments made
-      → IsTrue wanted.selection.session.refresh → IsRefreshIn made.entries.items made.received_rest made.sent_rest (Some refusal) → new ≡ old
-      → AddsTold old new (IsTold config wanted packets segments number (Refused refusal))
-  adds_refresh old new refusal made tells may is same = record {
-    own = [];
-    added = same ∙ sym (append-nil old);
+      → IsTrue (is_offered wanted.selection.session.refresh) → IsRefreshIn made.entries.items made.received_rest made.sent_rest (Some refusal)
+      → AddsTold old new (IsHelp named refusal) → AddsTold old new (IsTold config wanted packets segments number named (Refused refusal))
+  adds_refresh old new refusal made tells may is adds = record {
+    own = adds.own;
+    added = adds.added;
     is_told = record {
       why = inr (record {
         connection = tells.connection;
@@ -81,6 +79,6 @@ module _ (config : Config) (wanted : Import) (packets : List Recorded) (segments
         may = may;
         is = is;
       });
-      none = refl;
+      helps = adds.is_told;
     };
   }

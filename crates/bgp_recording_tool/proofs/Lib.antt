@@ -1,12 +1,12 @@
 mod Calm
 mod FirstRefresh
-mod Judgings
-mod Numbers
-mod Outcomes
-mod Puttings
+pub mod Judgings
+pub mod Numbers
+pub mod Outcomes
+pub mod Puttings
 mod SomeRemarks
-mod Statuses
-mod Texts
+pub mod Statuses
+pub mod Texts
 mod ToldAlike
 mod YesShown
 mod EntryLines

@@ -1,5 +1,5 @@
 -- What is put of connections one after another, and of a recording.
-use Rattle.std.proofs.Common.{◌≡◌, ◌∙◌, ◌++◌, ◌+◌, ℕ, suc, List, [], Some, Bool, refl, sym, ap, subst, inl, inr, append-nil, append_assoc, ◌∷◌, codes, arith}
+use Rattle.std.proofs.Common.{◌≡◌, ◌∙◌, ◌++◌, ◌+◌, ℕ, suc, List, [], Option, None, Some, Bool, length, refl, sym, ap, subst, inl, inr, append-nil, append_assoc, ◌∷◌, codes, arith}
 use Rattle.packets.specs.Packet.{Recorded}
 use Rattle.streams.specs.Passed.{Segment}
 use Rattle.streams.specs.declared.connection.Opening.{Opening}
@@ -8,14 +8,16 @@ use Rattle.bgp_open.specs.declared.config.Config.{Config}
 use Rattle.bgp_text.specs.Lines.{Writes}
 use Rattle.bgp_text.specs.declared.lines.Lines.{Lines}
 use Rattle.bgp_text.proofs.Pieces.{Joins, and_then, nothing_yet}
-use Rattle.bgp_import.specs.Gathers.{HasReadAll, IsStopped, failures_by}
+use Rattle.bgp_import.specs.Gathers.{HasReadAll, IsStopped, cut_short_by, failures_by}
 use Rattle.bgp_import.specs.ListText.{opening_text}
 use Rattle.bgp_import.specs.Refusals.{refusal_line}
+use Rattle.bgp_import.specs.declared.cut_short.CutShort.{CutShort}
 use Rattle.bgp_import.specs.declared.importing.Import.{Import}
 use Rattle.bgp_import.specs.declared.refusal.Refusal.{Refusal}
 use Rattle.bgp_recording_tool.specs.declared.remark.Remark.{Remark}
-use Rattle.bgp_recording_tool.specs.Connections.{AddsTold, IsTold, IsOpening, AreTold, HasSeveral, AllAreTold}
+use Rattle.bgp_recording_tool.specs.Connections.{IsTold, IsOpening, AreTold, HasSeveral, AllAreTold}
 use Rattle.bgp_recording_tool.specs.Judging.{Puts, TellsRecording}
+use Rattle.bgp_recording_tool.specs.Remarks.{AddsTold, IsHelp}
 use Rattle.bgp_recording_tool.specs.Told.{Told, told_text, told_status, refused_status, status_over}
 use Rattle.bgp_recording_tool.proofs.Statuses.{over_more}
 
@@ -35,7 +37,7 @@ module _ {T : Type 0} {sink : sinks.Ghosts T} (law : Joins sink) (a b c : Lines 
     -- one connection more
     pub one_more : (n before status : ℕ) (opening : Opening) (told : Told) → Puts a b r s before (AreTold config wanted packets segments n)
         → IsOpening config wanted packets segments (suc n) opening
-        → AddsTold s t (IsTold config wanted packets segments (Some (suc n)) told)
+        → AddsTold s t (IsTold config wanted packets segments (Some (suc n)) (Some (suc n)) told)
         → Writes b c (opening_text config.parts.session opening ++ (codes "\n" ++ told_text told))
         → status ≡ status_over (before ∷ told_status told ∷ [])
         → Puts a c r t status (AreTold config wanted packets segments (suc n))
@@ -67,14 +69,14 @@ module _ {T : Type 0} {sink : sinks.Ghosts T} (law : Joins sink) (a b c : Lines 
     pub one_more_at : (n number before status : ℕ) (opening : Opening) (told : Told) → number ≡ suc n
         → Puts a b r s before (AreTold config wanted packets segments n)
         → IsOpening config wanted packets segments number opening
-        → AddsTold s t (IsTold config wanted packets segments (Some number) told)
+        → AddsTold s t (IsTold config wanted packets segments (Some number) (Some number) told)
         → Writes b c (opening_text config.parts.session opening ++ (codes "\n" ++ told_text told))
         → status ≡ status_over (before ∷ told_status told ∷ [])
         → Puts a c r t status (AreTold config wanted packets segments number)
     one_more_at n number before status opening told next so_far opens adds wrote is =
         (subst
         (λ (k : ℕ). IsOpening config wanted packets segments k opening
-        → AddsTold s t (IsTold config wanted packets segments (Some k) told)
+        → AddsTold s t (IsTold config wanted packets segments (Some k) (Some k) told)
         → Puts a c r t status (AreTold config wanted packets segments k))
         (sym next)
         (λ o adds'. one_more n before status opening told so_far o adds' wrote is))
@@ -82,7 +84,7 @@ module _ {T : Type 0} {sink : sinks.Ghosts T} (law : Joins sink) (a b c : Lines 
 
     -- the one that is meant
     pub one_meant : (status : ℕ) (told : Told) → ¬ HasSeveral config wanted packets segments
-        → AddsTold r s (IsTold config wanted packets segments wanted.connection told) → Writes a b (told_text told)
+        → AddsTold r s (IsTold config wanted packets segments wanted.connection None told) → Writes a b (told_text told)
         → status ≡ told_status told
         → Puts a b r s status (AllAreTold config wanted packets segments)
     one_meant status told alone adds wrote is = record {
@@ -111,13 +113,14 @@ same_count : (old new : ℕ) → new ≡ old + 0 → new ≡ old
 same_count old new is = omega (arith, is)
 
 module _ {S T : Type 0} {sink : sinks.Ghosts T} (gives : S → S → List ℕ → Type 0) (has_ended : S → Bool) (failures : S → ℕ)
-    (config : Config) (wanted : Import) (old new : S) (a b : Lines T sink) (r s : List Remark) (status : ℕ) where
+    (config : Config) (wanted : Import) (old new : S) (a b : Lines T sink) (r s : List Remark) (status : ℕ) (cut_short : Option CutShort) where
   -- it was read to its end
-  pub was_read : (octets : List ℕ) (packets : List Recorded) (segments : List Segment)
-      → HasReadAll gives has_ended wanted.selection old new octets packets segments → failures new ≡ failures old + 0
+  pub was_read : (octets : List ℕ) (packets : List Recorded) (segments : List Segment) (cut : Bool)
+      → HasReadAll gives has_ended wanted.selection old new octets packets segments cut → cut_short ≡ cut_short_by cut (length packets)
+      → failures new ≡ failures old + 0
       → Puts a b r s status (AllAreTold config wanted packets segments)
-      → Puts a b r s status (TellsRecording gives has_ended failures config wanted old new)
-  was_read octets packets segments all counted puts = record {
+      → Puts a b r s status (TellsRecording gives has_ended failures config wanted old new cut_short)
+  was_read octets packets segments cut all is_cut counted puts = record {
     text = puts.text;
     own = puts.own;
     wrote = puts.wrote;
@@ -126,7 +129,9 @@ module _ {S T : Type 0} {sink : sinks.Ghosts T} (gives : S → S → List ℕ �
       octets = octets;
       packets = packets;
       segments = segments;
+      cut = cut;
       all = all;
+      is_cut = is_cut;
       told = puts.holds;
       counted = same_count (failures old) (failures new) counted;
     };
@@ -134,12 +139,12 @@ module _ {S T : Type 0} {sink : sinks.Ghosts T} (gives : S → S → List ℕ �
 
   -- it is refused
   pub was_refused : (refusal : Refusal) → IsStopped gives has_ended wanted.selection old new refusal
-      → failures new ≡ failures old + failures_by refusal → Writes a b (refusal_line refusal) → status ≡ refused_status refusal → s ≡ r
-      → Puts a b r s status (TellsRecording gives has_ended failures config wanted old new)
-  was_refused refusal stopped counted wrote is same = record {
+      → failures new ≡ failures old + failures_by refusal → Writes a b (refusal_line refusal) → status ≡ refused_status refusal → AddsTold r s (IsHelp None refusal) → cut_short ≡ None
+      → Puts a b r s status (TellsRecording gives has_ended failures config wanted old new cut_short)
+  was_refused refusal stopped counted wrote is adds uncut = record {
     text = refusal_line refusal;
-    own = [];
+    own = adds.own;
     wrote = wrote;
-    added = same ∙ sym (append-nil r);
-    holds = inr record { refusal = refusal; stopped = stopped; prints = refl; tells = is; none = refl; counted = counted };
+    added = adds.added;
+    holds = inr record { refusal = refusal; stopped = stopped; prints = refl; tells = is; helps = adds.is_told; uncut = uncut; counted = counted };
   }

@@ -2,7 +2,10 @@
 use Rattle.std.proofs.Common.{◌≡◌, ◌∙◌, ℕ, Bool, List, [], ◌∷◌, false, IsTrue, map, refl, sym, ap, subst, inl, inr}
 use Rattle.std.specs.List.{AllByRecursion}
 use Rattle.bgp_prefix.specs.Shown.{ShownRecord}
+use Rattle.bgp_prefix.specs.RouteRefresh.{is_offered}
 use Rattle.bgp_prefix.specs.declared.session.Session.{Session}
+use Rattle.bgp_prefix.specs.declared.session.RouteRefresh.{RouteRefresh}
+use Rattle.bgp_prefix.specs.declared.session.RouteRefresh.TheVariants as refreshes
 use Rattle.bgp_wire.specs.Header.{limit_with}
 use Rattle.streams.specs.declared.connection.Connection.{Connection}
 use Rattle.mrt.specs.Capture.{Spells}
@@ -23,7 +26,7 @@ use Rattle.bgp_import.specs.Once.{RecordingsAreMadeOnce}
 use Rattle.bgp_import.specs.declared.importing.Import.{Import}
 use Rattle.bgp_import.specs.declared.note.Notes.{Notes}
 use Rattle.bgp_import.specs.declared.selection.Selection.{Selection}
-use Rattle.bgp_recording_tool.specs.Headline.{Agrees, IsFirstRefresh, EachEndIsShown, ImportAndJudgeAgree}
+use Rattle.bgp_recording_tool.specs.Headline.{Agrees, PassesNone, IsFirstRefresh, EachEndIsShown, ImportAndJudgeAgree}
 use Rattle.bgp_recording_tool.specs.Options.{calm}
 use Rattle.bgp_recording_tool.proofs.Calm.{spells_same, written_same}
 use Rattle.bgp_recording_tool.proofs.FirstRefresh.{first_refused, alone}
@@ -62,7 +65,7 @@ module _ (read : MadeRecordsAreRead) (spelling : OneSpelling) (verdicts : HasOne
       ∙ sym (written_same wanted.selection.session capture.numbers.peer capture.numbers.local (records_of entries))
       ∙ ap (λ (s : Session). capture_octets s capture.numbers.peer capture.numbers.local (records_of entries)) same
 
-  reads : (IsTrue session.refresh → AllByRecursion IsNoRefresh (records_of entries)) → Spells session octets (records_of entries)
+  reads : (IsTrue (is_offered session.refresh) → AllByRecursion IsNoRefresh (records_of entries)) → Spells session octets (records_of entries)
   reads without =
       subst (λ (o : List ℕ). Spells session o (records_of entries))
       (sym (whole ∙ written_same session capture.numbers.peer capture.numbers.local (records_of entries)))
@@ -77,8 +80,17 @@ module _ (read : MadeRecordsAreRead) (spelling : OneSpelling) (verdicts : HasOne
       (read (calm session) capture.numbers.peer capture.numbers.local wanted.within connection entries notes.received notes.sent
       (named session can) recorded none)
 
-  shows : (records : List ShownRecord) → Spells session octets records → records_of entries ≡ records
-  shows records spells = spelling (calm session) octets (records_of entries) records read_back (spells_same session octets records spells)
+  shows_by : (refresh : RouteRefresh) → session.refresh ≡ refresh → (records : List ShownRecord) → PassesNone session (records_of entries)
+      → Spells session octets records → records_of entries ≡ records
+  shows_by refreshes.NotOffered is records without spells =
+      spelling (calm session) octets (records_of entries) records read_back (spells_same session (λ e. absurd (cc)) octets records spells)
+  shows_by refreshes.Refused is records without spells =
+      spelling (calm session) octets (records_of entries) records read_back (spells_same session (λ e. absurd (cc)) octets records spells)
+  shows_by refreshes.PassedOver is records without spells =
+      spelling session octets (records_of entries) records (reads (λ _. without is)) spells
+
+  shows : (records : List ShownRecord) → PassesNone session (records_of entries) → Spells session octets records → records_of entries ≡ records
+  shows = shows_by session.refresh refl
 
 agree_one : MadeRecordsAreRead → OneSpelling → OneFault → NeverBoth → HasOneVerdict → (config : Config) (wanted : Import) (connection : Connection) (entries : List Entry) (notes : Notes) (octets : List ℕ)
     → CanBeNamed config.parts.session → calm wanted.selection.session ≡ calm config.parts.session → IsMadeOf wanted connection entries notes
@@ -86,17 +98,17 @@ agree_one : MadeRecordsAreRead → OneSpelling → OneFault → NeverBoth → Ha
 agree_one read spelling fault never verdicts config wanted connection entries notes octets can same made capture = record {
   reads = reads read spelling verdicts config wanted connection entries notes octets can same made capture;
   shows = shows read spelling verdicts config wanted connection entries notes octets can same made capture;
-  one = λ records verdict judged spells is also.
+  one = λ records verdict judged without spells is also.
       verdicts config records verdict judged is
       (subst (λ (rs : List ShownRecord). HasVerdict config rs judged)
-      (shows read spelling verdicts config wanted connection entries notes octets can same made capture records spells) also);
+      (shows read spelling verdicts config wanted connection entries notes octets can same made capture records without spells) also);
   refused = λ may front first.
       first_refused config.parts.session octets (records_of entries) front
       (read_back read spelling verdicts config wanted connection entries notes octets can same made capture) may first;
-  alone = λ front kind offset at.
+  alone = λ front kind offset without at.
       alone fault never config.parts.session octets (records_of entries) front kind offset
       (read_back read spelling verdicts config wanted connection entries notes octets can same made capture)
-      (reads read spelling verdicts config wanted connection entries notes octets can same made capture) at;
+      (reads read spelling verdicts config wanted connection entries notes octets can same made capture) without at;
 }
 
 -- ---- whatever is judged
@@ -107,13 +119,13 @@ records_by (e ∷ later) = ap (λ (rs : List ShownRecord). shown_of e.record ∷
 
 agrees_as : (config : Config) (entries judged : List Entry) (octets : List ℕ) → records_of entries ≡ records_of judged → Agrees config entries octets → Agrees config judged octets
 agrees_as config entries judged octets same agrees = record {
-  reads = subst (λ (rs : List ShownRecord). (IsTrue config.parts.session.refresh → AllByRecursion IsNoRefresh rs) → Spells config.parts.session octets rs) same agrees.reads;
-  shows = λ records spells. sym same ∙ agrees.shows records spells;
-  one = λ records verdict judged' spells is also.
-      agrees.one records verdict judged' spells is (subst (λ (rs : List ShownRecord). HasVerdict config rs judged') (sym same) also);
+  reads = subst (λ (rs : List ShownRecord). (IsTrue (is_offered config.parts.session.refresh) → AllByRecursion IsNoRefresh rs) → Spells config.parts.session octets rs) same agrees.reads;
+  shows = λ records without spells. sym same ∙ agrees.shows records (subst (PassesNone config.parts.session) (sym same) without) spells;
+  one = λ records verdict judged' without spells is also.
+      agrees.one records verdict judged' (subst (PassesNone config.parts.session) (sym same) without) spells is (subst (λ (rs : List ShownRecord). HasVerdict config rs judged') (sym same) also);
   refused = λ may front first. agrees.refused may front (subst (λ (rs : List ShownRecord). IsFirstRefresh rs front) (sym same) first);
-  alone = λ front kind offset at.
-      let was = agrees.alone front kind offset at in (was.0, was.1, subst (λ (rs : List ShownRecord). IsFirstRefresh rs front) same was.2);
+  alone = λ front kind offset without at.
+      let was = agrees.alone front kind offset (subst (PassesNone config.parts.session) (sym same) without) at in (was.0, was.1, subst (λ (rs : List ShownRecord). IsFirstRefresh rs front) same was.2);
 }
 
 pub agree : MadeRecordsAreRead → OneSpelling → OneFault → NeverBoth → HasOneVerdict → RecordingsAreMadeOnce → ImportAndJudgeAgree

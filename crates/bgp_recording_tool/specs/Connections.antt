@@ -8,6 +8,7 @@ use Rattle.streams.specs.Connections.{numbered}
 use Rattle.streams.specs.Passed.{Segment}
 use Rattle.streams.specs.declared.connection.Connection.{Connection}
 use Rattle.streams.specs.declared.connection.Opening.{Opening}
+use Rattle.bgp_prefix.specs.RouteRefresh.{is_offered}
 use Rattle.bgp_open.specs.declared.config.Config.{Config}
 use Rattle.bgp_judge.specs.Verdict.{VerdictValue, HasVerdict}
 use Rattle.bgp_recording.specs.Captured.{IsNoRefresh, records_of}
@@ -20,15 +21,9 @@ use Rattle.bgp_import.specs.declared.importing.Import.{Import}
 use Rattle.bgp_import.specs.declared.note.Notes.{Notes}
 use Rattle.bgp_import.specs.declared.refusal.Refusal.{Refusal}
 use Rattle.bgp_recording_tool.specs.declared.remark.Remark.{Remark}
-use Rattle.bgp_recording_tool.specs.Remarks.{remarks_on}
+use Rattle.bgp_recording_tool.specs.Remarks.{IsHelp, remarks_on}
 use Rattle.bgp_recording_tool.specs.Told.{Told, Judged, Refused, told_text, told_status}
 use Rattle.bgp_recording_tool.specs.Told.{status_over}
-
--- something was added to what is told of connections
-pub record AddsTold (old new : List Remark) (IsTold : List Remark → Type 0) : Type 0 where
-  pub own : List Remark
-  pub added : new ≡ old ++ own
-  pub is_told : IsTold own
 
 -- One connection more is told of, under its line: what was told before it stands before it. Its
 -- status comes first.
@@ -55,17 +50,17 @@ module _ (config : Config) (wanted : Import) (packets : List Recorded) (segments
     -- These entries are made of the connection with this number, or of the only one, and this is
     -- the verdict on their records. None of them is a ROUTE-REFRESH, where the session may have
     -- one.
-    pub record IsJudged (number : Option ℕ) (verdict : VerdictValue) (remarks : List Remark)
-        : Type 0 where
+    pub record IsJudged (number named : Option ℕ) (verdict : VerdictValue)
+        (remarks : List Remark) : Type 0 where
       pub connection : Connection
       pub entries : List Entry
       pub notes : Notes
       pub chosen : IsAnswered number (length packets) (numbered (reverse segments)) connection
       pub made : IsMadeOf wanted connection entries notes
-      pub without : IsTrue wanted.selection.session.refresh
+      pub without : IsTrue (is_offered wanted.selection.session.refresh)
           → AllByRecursion IsNoRefresh (records_of entries)
       pub is : HasVerdict config (records_of entries) verdict
-      pub remarked : remarks ≡ remarks_on connection.number entries notes verdict
+      pub remarked : remarks ≡ remarks_on named entries notes verdict
 
     -- the session may have a ROUTE-REFRESH, and there is one, at which it is refused
     pub record HasRefresh (number : Option ℕ) (refusal : Refusal) : Type 0 where
@@ -74,24 +69,26 @@ module _ (config : Config) (wanted : Import) (packets : List Recorded) (segments
       pub notes : Notes
       pub chosen : IsAnswered number (length packets) (numbered (reverse segments)) connection
       pub made : IsMadeOf wanted connection entries notes
-      pub may : IsTrue wanted.selection.session.refresh
+      pub may : IsTrue (is_offered wanted.selection.session.refresh)
       pub is : IsRefreshIn entries notes.received notes.sent (Some refusal)
 
     -- or it is refused, or memory was refused
-    pub record IsNotJudged (number : Option ℕ) (refusal : Refusal) (remarks : List Remark)
+    pub record IsNotJudged (number named : Option ℕ) (refusal : Refusal) (remarks : List Remark)
         : Type 0 where
       pub why : IsTurnedDown number packets segments refusal ⊎ HasRefresh number refusal
-      pub none : remarks ≡ []
+      pub helps : IsHelp named refusal remarks
 
-    abbrev pub IsTold : Option ℕ → Told → List Remark → Type 0
-    IsTold number (Judged verdict) remarks = IsJudged number verdict remarks
-    IsTold number (Refused refusal) remarks = IsNotJudged number refusal remarks
+    -- What is told of the connection with this number, or of the only one. What is remarked names
+    -- it where several are told of.
+    abbrev pub IsTold : Option ℕ → Option ℕ → Told → List Remark → Type 0
+    IsTold number named (Judged verdict) remarks = IsJudged number named verdict remarks
+    IsTold number named (Refused refusal) remarks = IsNotJudged number named refusal remarks
 
-    -- it is told of with this text and this status
+    -- it alone is told of, with this text and this status
     pub record IsToldAs (number : Option ℕ) (text : List ℕ) (status : ℕ) (remarks : List Remark)
         : Type 0 where
       pub told : Told
-      pub is_told : IsTold number told remarks
+      pub is_told : IsTold number None told remarks
       pub prints : text ≡ told_text told
       pub tells : status ≡ told_status told
 
@@ -105,7 +102,7 @@ module _ (config : Config) (wanted : Import) (packets : List Recorded) (segments
     abbrev pub AreEachTold : ℕ → List ℕ → List ℕ → List Remark → Type 0
     AreEachTold zero text statuses remarks = (text ≡ []) × (statuses ≡ []) × (remarks ≡ [])
     AreEachTold (suc count) text statuses remarks =
-        HasOneMore (AreEachTold count) (IsOpening (suc count)) (IsTold (Some (suc count)))
+        HasOneMore (AreEachTold count) (IsOpening (suc count)) (IsTold (Some (suc count)) (Some (suc count)))
         (opening_text config.parts.session) text statuses remarks
 
     -- and this is the status over them

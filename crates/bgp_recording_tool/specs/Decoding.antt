@@ -1,6 +1,6 @@
 -- What decoding a recording reads, writes and answers: the lines of the records that are made of
 -- one connection.
-use Rattle.std.specs.Prelude.{◌≡◌, ◌⊎◌, ◌+◌, ℕ, Bool, List, [], None, length, reverse}
+use Rattle.std.specs.Prelude.{◌≡◌, ◌⊎◌, ◌+◌, ℕ, Bool, List, [], Option, None, length, reverse}
 use Rattle.packets.specs.Packet.{Recorded}
 use Rattle.streams.specs.Choice.{IsAnswered}
 use Rattle.streams.specs.Connections.{numbered}
@@ -13,10 +13,11 @@ use Rattle.bgp_recording.specs.declared.entry.Entry.{Entry}
 use Rattle.bgp_text.specs.Capture.{AreRecordLines}
 use Rattle.bgp_tool.specs.Answer.{IsWritten}
 use Rattle.bgp_import.specs.Captures.{shown_by}
-use Rattle.bgp_import.specs.Gathers.{HasReadAll, IsStopped, failures_by}
+use Rattle.bgp_import.specs.Gathers.{HasReadAll, IsStopped, cut_short_by, failures_by}
 use Rattle.bgp_import.specs.Importing.{IsMadeOf}
 use Rattle.bgp_import.specs.Making.{IsTurnedDown}
 use Rattle.bgp_import.specs.Refusals.{refusal_line}
+use Rattle.bgp_import.specs.declared.cut_short.CutShort.{CutShort}
 use Rattle.bgp_import.specs.declared.importing.Import.{Import}
 use Rattle.bgp_import.specs.declared.note.Notes.{Notes}
 use Rattle.bgp_import.specs.declared.refusal.Refusal.{Refusal}
@@ -25,7 +26,7 @@ use Rattle.bgp_words.specs.declared.recording.RecordingOptions.{RecordingOptions
 use Rattle.bgp_recording_tool.specs.declared.remark.Remark.{Remark}
 use Rattle.bgp_recording_tool.specs.Judging.{IsUnmeant}
 use Rattle.bgp_recording_tool.specs.Options.{IsMisfit, calm, import_of}
-use Rattle.bgp_recording_tool.specs.Remarks.{making_remarks, some_of}
+use Rattle.bgp_recording_tool.specs.Remarks.{IsHelp, making_remarks, some_of}
 use Rattle.bgp_recording_tool.specs.Told.{refused_status}
 
 -- a capture of the session may have such a record, where it may have a ROUTE-REFRESH
@@ -49,7 +50,7 @@ module _ {T : Type 0} (takes : T → T → List ℕ → Type 0) (failures : T �
     pub made : IsMadeOf wanted connection entries notes
     pub are_lines : AreRecordLines wanted.selection.session (records_of entries) text
     pub written : IsWritten takes failures text 0 empty filled status
-    pub remarked : remarks ≡ some_of (making_remarks notes)
+    pub remarked : remarks ≡ some_of (making_remarks None notes)
 
   -- or the connection is refused; or memory was refused
   pub record TellsTurnedDown : Type 0 where
@@ -57,7 +58,7 @@ module _ {T : Type 0} (takes : T → T → List ℕ → Type 0) (failures : T �
     pub turned_down : IsTurnedDown wanted.connection packets segments refusal
     pub written : IsWritten takes failures (refusal_line refusal) (refused_status refusal)
         empty filled status
-    pub none : remarks ≡ []
+    pub helps : IsHelp None refusal remarks
 
   abbrev pub DecodesOne : Type 0
   DecodesOne = DecodesMade ⊎ TellsTurnedDown
@@ -65,13 +66,17 @@ module _ {T : Type 0} (takes : T → T → List ℕ → Type 0) (failures : T �
 -- And the source goes from `old` to `new`. The members are the source's and the sink's.
 module _ {S T : Type 0} (gives : S → S → List ℕ → Type 0) (has_ended : S → Bool)
     (takes : T → T → List ℕ → Type 0) (source_failures : S → ℕ) (failures : T → ℕ)
-    (wanted : Import) (old new : S) (empty filled : T) (status : ℕ) (remarks : List Remark) where
-  -- it was read to its end, and the connection that is meant was decoded or refused
+    (wanted : Import) (old new : S) (empty filled : T) (status : ℕ) (cut_short : Option CutShort)
+    (remarks : List Remark) where
+  -- it was read to its end, or to where it was cut short, and the connection that is meant was
+  -- decoded or refused
   pub record DecodesRead : Type 0 where
     pub octets : List ℕ
     pub packets : List Recorded
     pub segments : List Segment
-    pub all : HasReadAll gives has_ended wanted.selection old new octets packets segments
+    pub cut : Bool
+    pub all : HasReadAll gives has_ended wanted.selection old new octets packets segments cut
+    pub is_cut : cut_short ≡ cut_short_by cut (length packets)
     pub decodes : DecodesOne takes failures wanted packets segments empty filled status remarks
     pub counted : source_failures new ≡ source_failures old
 
@@ -81,7 +86,8 @@ module _ {S T : Type 0} (gives : S → S → List ℕ → Type 0) (has_ended : S
     pub stopped : IsStopped gives has_ended wanted.selection old new refusal
     pub written : IsWritten takes failures (refusal_line refusal) (refused_status refusal)
         empty filled status
-    pub none : remarks ≡ []
+    pub helps : IsHelp None refusal remarks
+    pub uncut : cut_short ≡ None
     -- one failure more, where a device failed
     pub counted : source_failures new ≡ source_failures old + failures_by refusal
 
@@ -91,9 +97,9 @@ abbrev pub DecodesRecording : {S T X : Type 0} → (S → S → List ℕ → Typ
 DecodesRecording gives has_ended takes source_failures failures session options old new
     empty filled judged =
     let wanted = import_of session options in
-    IsUnmeant wanted old new empty filled judged.status judged.remarks.items
+    IsUnmeant wanted old new empty filled judged.status judged.cut_short judged.remarks.items
     ⊎ (IsMisfit wanted None
     × (DecodesRead gives has_ended takes source_failures failures wanted old new empty filled
-    judged.status judged.remarks.items
+    judged.status judged.cut_short judged.remarks.items
     ⊎ TellsRefusal gives has_ended takes source_failures failures wanted old new empty filled
-    judged.status judged.remarks.items))
+    judged.status judged.cut_short judged.remarks.items))

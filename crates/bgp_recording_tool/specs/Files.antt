@@ -18,6 +18,7 @@ use Rattle.bgp_tool.specs.OpenedJudging.{JudgesOpened}
 use Rattle.bgp_tool.specs.declared.note.Note.{Note}
 use Rattle.bgp_tool.specs.declared.note.Note.TheVariants.{Unread, OutOfMemory}
 use Rattle.bgp_recording_tool.specs.declared.files.FileOutcome.{FileOutcome}
+use Rattle.bgp_recording_tool.specs.declared.judging.Judged.{Judged}
 use Rattle.bgp_words.specs.declared.recording.RecordingOptions.{RecordingOptions}
 use Rattle.bgp_recording_tool.specs.declared.peeked.Peeked.{Peeked}
 use Rattle.bgp_recording_tool.specs.Decoding.{DecodesRecording}
@@ -60,6 +61,14 @@ pub record ReadsRecording {R W : Type 0} (file : Bor (List ℕ)) (peeked : Peeke
   pub is_read : IsRead begun read
   pub told : TellsRead file (reader_state read) (writer_state old) (writer_state new) status note
 
+-- what is answered of a recording
+abbrev pub judged_by : {X : Type 0} → FileOutcome X → Judged X
+judged_by outcome = record {
+  status = outcome.status;
+  cut_short = outcome.cut_short;
+  remarks = outcome.remarks;
+}
+
 -- It is read as a recording or as a capture, by a reader that gives just the same octets.
 pub record ReadsFile {R W X : Type 0} (remaining : R → Option (List ℕ)) (file : Bor (List ℕ))
     (reader : R) (old new : FromWrite W) (outcome : FileOutcome X)
@@ -70,7 +79,7 @@ pub record ReadsFile {R W X : Type 0} (remaining : R → Option (List ℕ)) (fil
   pub is : (IsTrue (is_recording peeked.front.items)
       × ReadsRecording file peeked old new outcome.status outcome.note IsRecording)
       ⊎ (IsFalse (is_recording peeked.front.items) × IsCapture peeked
-      × (outcome.remarks.items ≡ []))
+      × (outcome.cut_short ≡ None) × (outcome.remarks.items ≡ []))
 
 module _ {R W X : Type 0} (remaining : R → Option (List ℕ)) (contents : W → Option (List ℕ))
     (options : RecordingOptions) (file : Bor (List ℕ)) (reader : R) (old new : FromWrite W)
@@ -87,7 +96,7 @@ module _ {R W X : Type 0} (remaining : R → Option (List ℕ)) (contents : W �
       (λ from to. JudgesRecording GivesRead (λ source. (reader_state source).has_ended)
       TakesWritten (λ source. (reader_state source).failures)
       (λ sink. (writer_state sink).failures) config options from to old new
-      (record { status = outcome.status; remarks = outcome.remarks }))
+      (judged_by outcome))
       (λ peeked. JudgesOpened (peeked_remaining remaining) contents config may_lack file peeked
       (writer_state old) (writer_state new)
       (record { status = outcome.status; note = outcome.note }))
@@ -97,7 +106,7 @@ module _ {R W X : Type 0} (remaining : R → Option (List ℕ)) (contents : W �
       (λ from to. DecodesRecording GivesRead (λ source. (reader_state source).has_ended)
       TakesWritten (λ source. (reader_state source).failures)
       (λ sink. (writer_state sink).failures) session options from to old new
-      (record { status = outcome.status; remarks = outcome.remarks }))
+      (judged_by outcome))
       (λ peeked. DecodesOpened (peeked_remaining remaining) contents session file peeked
       (writer_state old) (writer_state new)
       (record { status = outcome.status; note = outcome.note }))

@@ -1,8 +1,11 @@
 -- The laws on what a yes is worth that is answered of a recording, and that what is imported of it
 -- is judged the same.
-use Rattle.std.specs.Prelude.{◌≡◌, ◌⊎◌, ◌++◌, ℕ, List, ◌∷◌, Option, IsTrue, length, reverse}
+use Rattle.std.specs.Prelude.{◌≡◌, ◌≢◌, ◌⊎◌, ◌++◌, ℕ, List, ◌∷◌, Option, IsTrue, length, reverse}
 use Rattle.std.specs.List.{AllByRecursion}
 use Rattle.bgp_prefix.specs.Shown.{ShownRecord}
+use Rattle.bgp_prefix.specs.RouteRefresh.{is_offered}
+use Rattle.bgp_prefix.specs.declared.session.Session.{Session}
+use Rattle.bgp_prefix.specs.declared.session.RouteRefresh.TheVariants as refreshes
 use Rattle.bgp_wire.specs.Header.{limit_with}
 use Rattle.streams.specs.declared.connection.Connection.{Connection}
 use Rattle.streams.specs.Choice.{IsAnswered}
@@ -59,24 +62,34 @@ pub record IsFirstRefresh (records front : List ShownRecord) : Type 0 where
   pub none_before : AllByRecursion IsNoRefresh front
   pub is_one : ¬ IsNoRefresh refresh
 
+-- none of these records is a ROUTE-REFRESH, where the session passes such over
+abbrev pub PassesNone : Session → List ShownRecord → Type 0
+PassesNone session records =
+    session.refresh ≡ refreshes.PassedOver → AllByRecursion IsNoRefresh records
+
 -- The octets read as just the records of these entries, unless one of them is a ROUTE-REFRESH and
 -- the session may have one; and any verdict on what they read as is the one on these records.
--- Where there is one, a reader refuses them at the first of them, and for nothing else.
+-- Where there is one and the session refuses it, a reader refuses them at the first, and for nothing
+-- else. Of a session that passes such over this holds where there is none.
 pub record Agrees (config : Config) (entries : List Entry) (octets : List ℕ) : Type 0 where
   pub reads :
-      (IsTrue config.parts.session.refresh → AllByRecursion IsNoRefresh (records_of entries))
+      (IsTrue (is_offered config.parts.session.refresh)
+      → AllByRecursion IsNoRefresh (records_of entries))
       → Spells config.parts.session octets (records_of entries)
   pub shows : (records : List ShownRecord)
+      → PassesNone config.parts.session (records_of entries)
       → Spells config.parts.session octets records → records_of entries ≡ records
   pub one : (records : List ShownRecord) (verdict judged : VerdictValue)
+      → PassesNone config.parts.session (records_of entries)
       → Spells config.parts.session octets records → HasVerdict config records verdict
       → HasVerdict config (records_of entries) judged → verdict ≡ judged
-  pub refused : IsTrue config.parts.session.refresh → (front : List ShownRecord)
+  pub refused : config.parts.session.refresh ≡ refreshes.Refused → (front : List ShownRecord)
       → IsFirstRefresh (records_of entries) front
       → (offset : ℕ) × IsFirstFault config.parts.session octets front kinds.RouteRefresh offset
   pub alone : (front : List ShownRecord) (kind : FaultKind) (offset : ℕ)
+      → PassesNone config.parts.session (records_of entries)
       → IsFirstFault config.parts.session octets front kind offset
-      → (kind ≡ kinds.RouteRefresh) × IsTrue config.parts.session.refresh
+      → (kind ≡ kinds.RouteRefresh) × (config.parts.session.refresh ≡ refreshes.Refused)
       × IsFirstRefresh (records_of entries) front
 
 -- Whatever is imported of packets and whatever is judged of them, of the same session, number and
@@ -108,13 +121,14 @@ TellsAs config octets (Refused refusal) =
     ⊎ (refusal_number refusal ≡ 17)
 
 -- Where a capture can be imported of packets, whatever is told of the connection that is judged is
--- what the capture reads as.
+-- what the capture reads as, unless the session passes a ROUTE-REFRESH over.
 abbrev pub JudgeTellsTheCapture : Type 0
 JudgeTellsTheCapture =
     (config : Config) (imports judges : Import) (number : Option ℕ) (packets : List Recorded)
     (segments : List Segment) (connection : Connection) (entries : List Entry) (notes : Notes)
-    (octets : List ℕ) (told : Told) (remarks : List Remark)
+    (octets : List ℕ) (named : Option ℕ) (told : Told) (remarks : List Remark)
     → CanBeNamed config.parts.session
+    → config.parts.session.refresh ≢ refreshes.PassedOver
     → judges.selection.session ≡ config.parts.session
     → MeanTheSame imports judges
     → AreTaken imports.selection 0 packets segments
@@ -122,5 +136,5 @@ JudgeTellsTheCapture =
     → IsAnswered number (length packets) (numbered (reverse segments)) connection
     → IsMadeOf imports connection entries notes
     → IsCapture imports.selection.session entries octets
-    → IsTold config judges packets segments number told remarks
+    → IsTold config judges packets segments number named told remarks
     → TellsAs config octets told

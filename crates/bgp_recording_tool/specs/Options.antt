@@ -1,11 +1,13 @@
 -- What is imported of a recording, and of which sessions it has nothing.
-use Rattle.std.specs.Prelude.{◌≡◌, Option, None, Some, false}
+use Rattle.std.specs.Prelude.{◌≡◌, Option, None, Some}
 use Rattle.bgp_prefix.specs.Address.{family_of}
 use Rattle.bgp_prefix.specs.declared.session.Session.{Session}
+use Rattle.bgp_prefix.specs.declared.session.RouteRefresh.TheVariants as refreshes
 use Rattle.bgp_import.specs.declared.importing.Import.{Import}
 use Rattle.bgp_words.specs.declared.recording.RecordingOptions.{RecordingOptions}
 use Rattle.bgp_recording_tool.specs.declared.remark.Remark.{Remark}
-use Rattle.bgp_recording_tool.specs.declared.remark.Remark.TheVariants as remarks
+use Rattle.bgp_recording_tool.specs.declared.remark.RemarkKind.{RemarkKind}
+use Rattle.bgp_recording_tool.specs.declared.remark.RemarkKind.TheVariants as kinds
 
 -- what is imported of a recording that is read so, for this session
 abbrev pub import_of : Session → RecordingOptions → Import
@@ -21,7 +23,7 @@ import_of session options = record {
 
 -- the session without ROUTE-REFRESH
 abbrev pub calm : Session → Session
-calm session = record session { refresh = false }
+calm session = record session { refresh = refreshes.NotOffered }
 
 -- both addresses are of one family: packets go between such alone
 abbrev pub IsOneFamily : Session → Type 0
@@ -33,11 +35,17 @@ IsOneSystem wanted =
     (wanted.selection.session.peer ≡ wanted.selection.session.local)
     × (wanted.selection.local_port ≡ None)
 
--- no recording can be meant, for this reason, or one can
+-- no recording can be meant, for this reason
+abbrev pub IsMisfitFor : Import → RemarkKind → Type 0
+IsMisfitFor wanted (kinds.Made note) = ⊥
+IsMisfitFor wanted kinds.NothingSent = ⊥
+IsMisfitFor wanted (kinds.No before packet) = ⊥
+IsMisfitFor wanted (kinds.Refused help) = ⊥
+IsMisfitFor wanted kinds.TwoFamilies = ¬ IsOneFamily wanted.selection.session
+IsMisfitFor wanted kinds.OneAddress =
+    IsOneFamily wanted.selection.session × IsOneSystem wanted
+
+-- none can, or one can
 abbrev pub IsMisfit : Import → Option Remark → Type 0
 IsMisfit wanted None = IsOneFamily wanted.selection.session × (¬ IsOneSystem wanted)
-IsMisfit wanted (Some (remarks.Made note)) = ⊥
-IsMisfit wanted (Some (remarks.No connection before packet)) = ⊥
-IsMisfit wanted (Some remarks.TwoFamilies) = ¬ IsOneFamily wanted.selection.session
-IsMisfit wanted (Some remarks.OneAddress) =
-    IsOneFamily wanted.selection.session × IsOneSystem wanted
+IsMisfit wanted (Some remark) = (remark.connection ≡ None) × IsMisfitFor wanted remark.kind

@@ -1,15 +1,23 @@
 -- What is told of a recording and its connections besides what is answered, sentence by sentence.
-use Rattle.std.specs.Prelude.{ℕ, List, [], ◌∷◌, ◌++◌, Option, None, Some, map}
-use Rattle.std.specs.List.{slice_get}
+use Rattle.std.specs.Prelude.{◌≡◌, ◌⊎◌, ℕ, Bool, List, [], ◌∷◌, ◌++◌, Option, None, Some, map}
+use Rattle.std.specs.Prelude.{if◌then◌else◌}
+use Rattle.std.specs.List.{list_any, slice_get}
+use Rattle.mrt.specs.Reader.{shown_of}
+use Rattle.bgp_tool.specs.Seen.{is_sent}
 use Rattle.bgp_judge.specs.Verdict.{VerdictValue, Yes, No, Unfinished}
 use Rattle.bgp_recording.specs.declared.entry.Entry.{Entry}
 use Rattle.bgp_recording.specs.declared.making.Recording.{Recording}
 use Rattle.bgp_import.specs.Captures.{put_off}
 use Rattle.bgp_import.specs.Notes.{notes_in_order}
+use Rattle.bgp_import.specs.Refusals.{cause_of}
+use Rattle.bgp_import.specs.declared.refusal.Cause.{Cause}
+use Rattle.bgp_import.specs.declared.refusal.Cause.TheVariants as causes
+use Rattle.bgp_import.specs.declared.refusal.Refusal.{Refusal}
 use Rattle.bgp_import.specs.declared.note.Note.{Note}
 use Rattle.bgp_import.specs.declared.note.Notes.{Notes}
 use Rattle.bgp_recording_tool.specs.declared.remark.Remark.{Remark}
-use Rattle.bgp_recording_tool.specs.declared.remark.Remark.TheVariants as remarks
+use Rattle.bgp_recording_tool.specs.declared.remark.RemarkKind.{RemarkKind}
+use Rattle.bgp_recording_tool.specs.declared.remark.RemarkKind.TheVariants as kinds
 
 -- those that there are
 abbrev pub some_of : {X : Type 0} → List (Option X) → List X
@@ -25,12 +33,16 @@ notes_of made = record {
   put_off = put_off 0 made.entries.items;
 }
 
-abbrev pub making_remark : Option Note → Option Remark
-making_remark None = None
-making_remark (Some note) = Some (remarks.Made note)
+-- a sentence on the connection of this number, where several are told of, or on the only one
+abbrev pub remark_on : Option ℕ → RemarkKind → Remark
+remark_on connection kind = record { connection = connection; kind = kind }
 
-abbrev pub making_remarks : Notes → List (Option Remark)
-making_remarks notes = map making_remark (notes_in_order notes)
+abbrev pub making_remark : Option ℕ → Option Note → Option Remark
+making_remark connection None = None
+making_remark connection (Some note) = Some (remark_on connection (kinds.Made note))
+
+abbrev pub making_remarks : Option ℕ → Notes → List (Option Remark)
+making_remarks connection notes = map (making_remark connection) (notes_in_order notes)
 
 -- the packet that shows the entry after so many
 abbrev pub packet_of : Option Entry → ℕ
@@ -40,14 +52,42 @@ packet_of (Some entry) = entry.packet
 abbrev pub packet_after : List Entry → ℕ → ℕ
 packet_after entries count = packet_of (slice_get entries count)
 
--- of a no: how many records come before the first impossible one, and the packet that shows that
-abbrev pub verdict_remark : ℕ → List Entry → VerdictValue → Option Remark
-verdict_remark connection entries (Yes ends) = None
+-- some entry is a message that the local system sent
+abbrev pub has_sent : List Entry → Bool
+has_sent entries = list_any (λ entry. is_sent (shown_of entry.record)) entries
+
+-- Of a yes, that nothing was sent, where that is so; of a no, how many records come before the first
+-- impossible one, and the packet that shows that.
+abbrev pub verdict_remark : Option ℕ → List Entry → VerdictValue → Option Remark
+verdict_remark connection entries (Yes ends) =
+    if has_sent entries then None else Some (remark_on connection kinds.NothingSent)
 verdict_remark connection entries (No count) =
-    Some (remarks.No connection count (packet_after entries count))
+    Some (remark_on connection (kinds.No count (packet_after entries count)))
 verdict_remark connection entries Unfinished = None
 
--- all that is told of the connection of this number, of which these entries are made
-abbrev pub remarks_on : ℕ → List Entry → Notes → VerdictValue → List Remark
+-- all that is told of a connection of which these entries are made
+abbrev pub remarks_on : Option ℕ → List Entry → Notes → VerdictValue → List Remark
 remarks_on connection entries notes verdict =
-    some_of (making_remarks notes ++ verdict_remark connection entries verdict ∷ [])
+    some_of (making_remarks connection notes ++ verdict_remark connection entries verdict ∷ [])
+
+-- what helps against a refusal, if anything does
+abbrev pub help_by : Cause → Option ℕ → Refusal → Option Remark
+help_by causes.Recording connection refusal =
+    Some (remark_on connection (kinds.Refused (record { refusal = refusal })))
+help_by causes.Memory connection refusal =
+    Some (remark_on connection (kinds.Refused (record { refusal = refusal })))
+help_by causes.Device connection refusal = None
+
+abbrev pub refused_remark : Option ℕ → Refusal → Option Remark
+refused_remark connection refusal = help_by (cause_of refusal) connection refusal
+
+-- that is told, or nothing where there was no memory for it
+abbrev pub IsHelp : Option ℕ → Refusal → List Remark → Type 0
+IsHelp connection refusal remarks =
+    (remarks ≡ some_of (refused_remark connection refusal ∷ [])) ⊎ (remarks ≡ [])
+
+-- something was added to what is told of connections
+pub record AddsTold (old new : List Remark) (IsTold : List Remark → Type 0) : Type 0 where
+  pub own : List Remark
+  pub added : new ≡ old ++ own
+  pub is_told : IsTold own

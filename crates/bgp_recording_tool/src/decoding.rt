@@ -1,12 +1,12 @@
 //! `bgp decode --mrt` of a recording.
 
-ghost use Rattle.std.specs.Prelude.{◌≡◌, ◌<◌, ◌^◌, [], ℕ, List, IfOk, length, reverse};
+ghost use Rattle.std.specs.Prelude.{◌≡◌, ◌<◌, ◌^◌, ℕ, List, None, IfOk, length, reverse};
 ghost use Rattle.std.specs.List.{AllByRecursion};
 ghost use Rattle.bgp_text.specs.Capture.{AreRecordLines};
 ghost use Rattle.bgp_text.specs.Lines.{Writes};
 ghost use Rattle.bgp_tool.specs.Answer.{IsWritten};
 ghost use Rattle.bgp_recording.specs.Captured.{records_of};
-ghost use Rattle.bgp_import.specs.Gathers.{HoldsSession};
+ghost use Rattle.bgp_import.specs.Gathers.{HoldsSession, cut_short_by};
 ghost use Rattle.bgp_import.specs.Making.{HoldsTaken};
 ghost use Rattle.bgp_import.specs.Refusals.{refusal_line};
 ghost use Rattle.bgp_import.specs.Selecting.{AreTaken};
@@ -14,15 +14,15 @@ ghost use Rattle.packets.specs.Packet.{Recorded};
 ghost use Rattle.streams.specs.Passed.{Segment};
 ghost use Rattle.bgp_recording_tool.specs.Decoding.{DecodesOne, DecodesRecording, HasLine};
 ghost use Rattle.bgp_recording_tool.specs.Options.{IsOneFamily};
-ghost use Rattle.bgp_recording_tool.specs.Remarks.{making_remarks, notes_of, some_of};
+ghost use Rattle.bgp_recording_tool.specs.Remarks.{IsHelp, making_remarks, notes_of, some_of};
 ghost use Rattle.bgp_recording_tool.specs.Told.{refused_status};
 
 use crate::answering::making_remarks;
 use crate::judging::{Judged, misfit, status_of};
 use crate::options::{import_of, misfit_of};
-use crate::remark::{Remark, add_remarks};
-use bgp_import::{Gathered, Import, Refusal, gather, put_refusal, records_of};
-use bgp_prefix::Session;
+use crate::remark::{Remark, add_help, add_remarks};
+use bgp_import::{CutShort, Gathered, Import, Refusal, gather, put_refusal, records_of};
+use bgp_prefix::{RouteRefresh, Session};
 use bgp_recording::{Entry, Recording};
 use bgp_text::{Lines, put_record};
 use bgp_tool::{Status, hand_over};
@@ -38,7 +38,7 @@ fn put_entries<W: Sink>(lines: &mut Lines<'_, W>, session: &Session, entries: &[
 {
     // A ROUTE-REFRESH has a line, too: its header is a faulty one.
     let calm = Session {
-        refresh: false,
+        refresh: RouteRefresh::NotOffered,
         ..*session
     };
     for entry in entries {
@@ -76,15 +76,24 @@ fn write_refusal<W: Sink>(sink: &mut W, refusal: Refusal) -> u8
 }
 
 /// How decoding a recording ends that is refused.
-fn refused<A: Allocator + Copy, W: Sink>(alloc: A, sink: &mut W, refusal: Refusal) -> Judged<A>
+fn refused<A: Allocator + Copy, W: Sink>(
+    alloc: A,
+    sink: &mut W,
+    refusal: Refusal,
+    cut_short: Option<CutShort>,
+) -> Judged<A>
     requires { W.failures sink.old < 2 ^ 63 }
     ensures written { IsWritten W.takes W.failures (refusal_line refusal)
         (refused_status refusal) sink.old sink.new result.status }
-    ensures none { result.remarks.items ≡ [] }
+    ensures helps { IsHelp None refusal result.remarks.items }
+    ensures cut { result.cut_short ≡ cut_short }
 {
+    let mut remarks = Vec::new(alloc);
+    add_help(&mut remarks, None, refusal);
     Judged {
         status: write_refusal(sink, refusal),
-        remarks: Vec::new(alloc),
+        cut_short,
+        remarks,
     }
 }
 
@@ -94,10 +103,10 @@ fn made_remarks<A: Allocator + Copy>(
     made: &Recording<'_, A>,
 ) -> Result<Vec<Remark, A>, AllocError>
     ensures { IfOk result (λ remarks.
-        remarks.items ≡ some_of (making_remarks (notes_of made.now))) }
+        remarks.items ≡ some_of (making_remarks None (notes_of made.now))) }
 {
     let mut remarks = Vec::new(alloc);
-    add_remarks(&mut remarks, &making_remarks(made))?;
+    add_remarks(&mut remarks, &making_remarks(None, made))?;
     Ok(remarks)
 }
 
@@ -115,18 +124,21 @@ fn decode_gathered<A: Allocator + Copy, W: Sink>(
         → AreTaken import.now.selection 0 packets segments
         → HoldsSession (reverse segments) (length packets) gathered.now
         → DecodesOne W.takes W.failures import.now packets segments sink.old sink.new
-        result.status result.remarks.items }
+        result.status result.remarks.items
+        × (result.cut_short ≡ cut_short_by gathered.now.is_cut_short (length packets)) }
 {
+    let cut_short = gathered.cut_short();
     let made = match records_of(alloc, import, gathered, import.connection) {
         Ok(made) => made,
-        Err(refusal) => return refused(alloc, sink, refusal),
+        Err(refusal) => return refused(alloc, sink, refusal, cut_short),
     };
     let remarks = match made_remarks(alloc, &made) {
         Ok(remarks) => remarks,
-        Err(AllocError) => return refused(alloc, sink, gathered.no_memory()),
+        Err(AllocError) => return refused(alloc, sink, gathered.no_memory(), cut_short),
     };
     Judged {
         status: write_entries(sink, &import.selection.session, made.entries.as_slice()),
+        cut_short,
         remarks,
     }
 }
@@ -157,6 +169,6 @@ pub fn decode_recording<A: Allocator + Copy, R: Source, W: Sink>(
     }
     match gather(alloc, &import.selection, source) {
         Ok(gathered) => decode_gathered(alloc, &import, &gathered, sink),
-        Err(refusal) => refused(alloc, sink, refusal),
+        Err(refusal) => refused(alloc, sink, refusal, None),
     }
 }

@@ -12,6 +12,7 @@ use crate::decoding::decode_recording;
 use crate::headline::judge_recording;
 use crate::peeked::Peeked;
 use crate::remark::Remark;
+use bgp_import::CutShort;
 use bgp_judge::Tracker;
 use bgp_open::Config;
 use bgp_prefix::Session;
@@ -27,7 +28,9 @@ use std::io::{Read, Write};
 pub struct FileOutcome<'a, A: Allocator> {
     /// The exit status.
     pub status: u8,
-    /// What there is to tell of a recording's connections, in their order: to be told first.
+    /// That a recording was cut short, where it was: to be told first.
+    pub cut_short: Option<CutShort>,
+    /// What there is to tell of a recording's connections, in their order: to be told then.
     pub remarks: Vec<Remark, A>,
     /// What went wrong, if anything did.
     pub note: Option<Note<'a>>,
@@ -38,9 +41,11 @@ fn without_remarks<'a, A: Allocator + Copy>(alloc: A, outcome: Outcome<'a>) -> F
     ensures status { result.status ≡ outcome.entry.status }
     ensures note { result.note ≡ outcome.entry.note }
     ensures remarks { result.remarks.items ≡ [] }
+    ensures uncut { result.cut_short ≡ None }
 {
     FileOutcome {
         status: outcome.status,
+        cut_short: None,
         remarks: Vec::new(alloc),
         note: outcome.note,
     }
@@ -69,7 +74,7 @@ fn note_of<'a, R: Read>(status: u8, file: &'a str, source: &FromRead<R>) -> Opti
 
 /// What to tell of a recording that was read from a source, with this status, into a sink which had
 /// failed so often before.
-fn told<'a, R: Read, W: Write>(
+pub fn recording_note<'a, R: Read, W: Write>(
     status: u8,
     file: &'a str,
     source: &FromRead<R>,
@@ -111,7 +116,7 @@ pub fn judge_file<'a, A: Allocator + Copy, T: Tracker<A>, R: Read + Drop, W: Wri
         file.entry reader sink.old sink.new result config.now T.may_lack) }
     ensures unopened { IfErr opened (λ error. IsUnopened file.entry (error_kind error)
         (record { status = result.status; note = result.note })
-        × (result.remarks.items ≡ []) × (sink.new ≡ sink.old)) }
+        × (result.cut_short ≡ None) × (result.remarks.items ≡ []) × (sink.new ≡ sink.old)) }
 {
     let peeked = match opened {
         Ok(reader) => Peeked::new(reader),
@@ -124,9 +129,10 @@ pub fn judge_file<'a, A: Allocator + Copy, T: Tracker<A>, R: Read + Drop, W: Wri
     let mut source = FromRead::new(peeked);
     let failures = sink.failures();
     let judged = judge_recording::<A, T, _, _>(alloc, config, options, &mut source, sink);
-    let note = told(judged.status, file, &source, sink, failures);
+    let note = recording_note(judged.status, file, &source, sink, failures);
     FileOutcome {
         status: judged.status,
+        cut_short: judged.cut_short,
         remarks: judged.remarks,
         note,
     }
@@ -151,7 +157,7 @@ pub fn decode_file<'a, A: Allocator + Copy, R: Read + Drop, W: Write>(
         file.entry reader sink.old sink.new result session.now) }
     ensures unopened { IfErr opened (λ error. IsUnopened file.entry (error_kind error)
         (record { status = result.status; note = result.note })
-        × (result.remarks.items ≡ []) × (sink.new ≡ sink.old)) }
+        × (result.cut_short ≡ None) × (result.remarks.items ≡ []) × (sink.new ≡ sink.old)) }
 {
     let peeked = match opened {
         Ok(reader) => Peeked::new(reader),
@@ -164,9 +170,10 @@ pub fn decode_file<'a, A: Allocator + Copy, R: Read + Drop, W: Write>(
     let mut source = FromRead::new(peeked);
     let failures = sink.failures();
     let judged = decode_recording(alloc, session, options, &mut source, sink);
-    let note = told(judged.status, file, &source, sink, failures);
+    let note = recording_note(judged.status, file, &source, sink, failures);
     FileOutcome {
         status: judged.status,
+        cut_short: judged.cut_short,
         remarks: judged.remarks,
         note,
     }

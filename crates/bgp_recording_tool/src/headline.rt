@@ -41,6 +41,8 @@ use std::alloc::Allocator;
 /// * 64: no recording can be meant, as a remark tells: the session's addresses are of two families,
 ///   or one, and the local system's port isn't named. Nothing is read or written then.
 ///
+/// A recording that was cut short is judged by what it has, and it is told that it was.
+///
 /// A recording holds its packets one at a time; of the session it holds each connection's streams,
 /// and of one connection its messages and records besides, which point into these.
 pub fn judge_recording<A: Allocator + Copy, T: Tracker<A>, R: Source, W: Sink>(
@@ -61,7 +63,7 @@ pub fn judge_recording<A: Allocator + Copy, T: Tracker<A>, R: Source, W: Sink>(
     }
     let mut remarks = Vec::new(alloc);
     let mut lines = Lines::new(sink);
-    let status = judge_source::<A, T, R, W>(
+    let (status, cut_short) = judge_source::<A, T, R, W>(
         alloc,
         config,
         &import,
@@ -74,6 +76,7 @@ pub fn judge_recording<A: Allocator + Copy, T: Tracker<A>, R: Source, W: Sink>(
     lines.into_sink();
     Judged {
         status: status.code(),
+        cut_short,
         remarks,
     }
 }

@@ -1,6 +1,6 @@
 //! `bgp judge` of a recording.
 
-ghost use Rattle.std.specs.Prelude.{◌≡◌, ◌<◌, ◌⊎◌, ◌∷◌, [], List, length, reverse};
+ghost use Rattle.std.specs.Prelude.{◌≡◌, ◌<◌, ◌⊎◌, ◌∷◌, [], List, None, length, reverse};
 ghost use Rattle.packets.specs.Packet.{Recorded};
 ghost use Rattle.streams.specs.Connections.{numbered};
 ghost use Rattle.streams.specs.Passed.{Segment};
@@ -17,8 +17,8 @@ ghost use Rattle.bgp_recording_tool.specs.Told.{refused_status, told_by, told_st
 ghost use Rattle.bgp_recording_tool.specs.Told.{status_over, value_status};
 
 use crate::answering::answer_to;
-use crate::remark::{Remark, add_remarks};
-use bgp_import::{Cause, Gathered, Import, Refusal, gather, put_opening, put_refusal};
+use crate::remark::{Remark, add_help, add_remarks};
+use bgp_import::{Cause, CutShort, Gathered, Import, Refusal, gather, put_opening, put_refusal};
 use bgp_judge::{Tracker, Verdict};
 use bgp_open::Config;
 use bgp_text::Lines;
@@ -31,12 +31,14 @@ use std::alloc::Allocator;
 pub struct Judged<A: Allocator> {
     /// The exit status.
     pub status: u8,
-    /// What there is to tell of the connections, in their order.
+    /// That the recording was cut short, where it was: to be told first.
+    pub cut_short: Option<CutShort>,
+    /// What there is to tell of the connections, in their order, or of the recording.
     pub remarks: Vec<Remark, A>,
 }
 
 /// The exit status of a recording that is refused.
-pub(crate) fn status_of(refusal: Refusal) -> Status
+pub fn status_of(refusal: Refusal) -> Status
     ensures { code_of result ≡ refused_status refusal }
 {
     match refusal.cause() {
@@ -48,7 +50,7 @@ pub(crate) fn status_of(refusal: Refusal) -> Status
 
 /// The exit status over two connections: where a device or memory failed, not all was judged; then
 /// a no, which nothing told of the other hides.
-fn status_over(status: Status, other: Status) -> Status
+pub fn status_over(status: Status, other: Status) -> Status
     ensures { code_of result ≡ status_over (code_of status ∷ code_of other ∷ []) }
 {
     match (status, other) {
@@ -62,7 +64,7 @@ fn status_over(status: Status, other: Status) -> Status
 }
 
 /// The exit status of a verdict.
-fn verdict_status<A: Allocator>(verdict: &Verdict<A>) -> Status
+pub fn verdict_status<A: Allocator>(verdict: &Verdict<A>) -> Status
     ensures { code_of result ≡ value_status (verdict_value verdict.now) }
 {
     match verdict {
@@ -120,7 +122,8 @@ fn judge_each<A: Allocator + Copy, T: Tracker<A>, W: Sink>(
         };
         put_opening(lines, &config.parts.session, opening);
         lines.put(b"\n");
-        let answer = answer_to::<A, T>(alloc, config, import, gathered, Some(number), remarks);
+        let named = Some(number);
+        let answer = answer_to::<A, T>(alloc, config, import, gathered, named, named, remarks);
         status = status_over(status, put_told(lines, &answer));
     }
     status
@@ -146,11 +149,13 @@ fn judge_gathered<A: Allocator + Copy, T: Tracker<A>, W: Sink>(
     if import.connection.is_none() && gathered.count() > 1 {
         return judge_each::<A, T, W>(alloc, config, import, gathered, lines, remarks);
     }
-    let answer = answer_to::<A, T>(alloc, config, import, gathered, import.connection, remarks);
+    let number = import.connection;
+    let answer = answer_to::<A, T>(alloc, config, import, gathered, number, None, remarks);
     put_told(lines, &answer)
 }
 
-/// Judges what is read of a recording.
+/// Judges what is read of a recording, and answers the exit status; and that the recording was cut
+/// short, where it was.
 pub(crate) fn judge_source<A: Allocator + Copy, T: Tracker<A>, R: Source, W: Sink>(
     alloc: A,
     config: &Config,
@@ -158,28 +163,33 @@ pub(crate) fn judge_source<A: Allocator + Copy, T: Tracker<A>, R: Source, W: Sin
     source: &mut R,
     lines: &mut Lines<'_, W>,
     remarks: &mut Vec<Remark, A>,
-) -> Status
+) -> (Status, Option<CutShort>)
     requires family { IsOneFamily import.now.selection.session }
     requires failures { R.failures source.old < u64.MAX }
-    ensures { Puts lines.old lines.new remarks.old.items remarks.new.items (code_of result)
+    ensures { Puts lines.old lines.new remarks.old.items remarks.new.items (code_of result.0)
         (TellsRecording R.gives R.has_ended R.failures config.now import.now
-        source.old source.new) }
+        source.old source.new result.1) }
 {
     match gather(alloc, &import.selection, source) {
         Ok(gathered) => {
-            judge_gathered::<A, T, W>(alloc, config, import, &gathered, lines, remarks)
+            let status = judge_gathered::<A, T, W>(
+                alloc, config, import, &gathered, lines, remarks,
+            );
+            (status, gathered.cut_short())
         }
         Err(refusal) => {
             put_refusal(lines, refusal);
-            status_of(refusal)
+            add_help(remarks, None, refusal);
+            (status_of(refusal), None)
         }
     }
 }
 
 /// How a command over a recording ends where none can be meant, and why.
-pub(crate) fn misfit<A: Allocator + Copy>(alloc: A, remark: Remark) -> Judged<A>
-    ensures { ((result.status ≡ 64) × (result.remarks.items ≡ remark ∷ []))
+pub fn misfit<A: Allocator + Copy>(alloc: A, remark: Remark) -> Judged<A>
+    ensures told { ((result.status ≡ 64) × (result.remarks.items ≡ remark ∷ []))
         ⊎ ((result.status ≡ 4) × (result.remarks.items ≡ [])) }
+    ensures uncut { result.cut_short ≡ None }
 {
     let mut remarks = Vec::new(alloc);
     let status = match add_remarks(&mut remarks, &[Some(remark)]) {
@@ -188,6 +198,7 @@ pub(crate) fn misfit<A: Allocator + Copy>(alloc: A, remark: Remark) -> Judged<A>
     };
     Judged {
         status: status.code(),
+        cut_short: None,
         remarks,
     }
 }

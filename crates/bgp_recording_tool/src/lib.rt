@@ -23,10 +23,12 @@ mod peeked;
 mod remark;
 mod verdict;
 
+pub use answering::{add_remarks_on, refused_refresh};
 pub use bgp_words::RecordingOptions;
 pub use decoding::decode_recording;
-pub use files::{FileOutcome, decode_file, judge_file};
+pub use files::{FileOutcome, decode_file, judge_file, recording_note};
 pub use headline::{a_no_is_told, each_end_is_shown, import_and_judge_agree, judge_recording};
-pub use judging::Judged;
-pub use options::import_of;
-pub use remark::Remark;
+pub use judging::{Judged, misfit, status_of, status_over, verdict_status};
+pub use options::{import_of, misfit_of};
+pub use peeked::Peeked;
+pub use remark::{Remark, RemarkKind, add_help};

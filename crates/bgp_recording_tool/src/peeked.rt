@@ -12,7 +12,7 @@ const FRONT: usize = 4;
 /// A reader whose first four octets have been looked at. It gives them again, then the error that
 /// came after them, if one did, and then what the reader gives.
 #[derive(Drop)]
-pub(crate) struct Peeked<R> {
+pub struct Peeked<R> {
     front: ArrayVec<u8, FRONT>,
     error: Option<io::Error>,
     reader: R,
@@ -22,7 +22,7 @@ impl<R: Read> Peeked<R> {
     ghost use Rattle.bgp_recording_tool.specs.Files.{IsPeeked, is_recording};
 
     /// Looks at the first octets of a reader: four, or fewer where it ends or fails before.
-    pub(crate) fn new(mut reader: R) -> Peeked<R>
+    pub fn new(mut reader: R) -> Peeked<R>
         ensures { IsPeeked R.remaining reader result }
     {
         let mut front: ArrayVec<u8, FRONT> = ArrayVec::new();
@@ -47,7 +47,7 @@ impl<R: Read> Peeked<R> {
 
     /// Whether a recording begins so: with a magic number of a packet capture as libpcap writes it,
     /// in either order and of either clock, or with a Section Header Block.
-    pub(crate) fn is_recording(&self) -> bool
+    pub fn is_recording(&self) -> bool
         ensures { result ≡ is_recording self.now.front.items }
     {
         matches!(

@@ -1,27 +1,38 @@
 //! What there is to tell of a recording, besides what is answered.
 
 ghost use Rattle.std.specs.Prelude.{◌≡◌, ◌++◌, OnOk, OnErr};
-ghost use Rattle.bgp_recording_tool.specs.Remarks.{some_of};
+ghost use Rattle.bgp_recording_tool.specs.Remarks.{AddsTold, IsHelp, refused_remark, some_of};
 
-use bgp_import::Note;
+use bgp_import::{Help, Note, Refusal};
 use std::alloc::{AllocError, Allocator};
 use std::fmt;
 
 /// What there is to tell of a recording or of one of its connections, besides what is answered: one
 /// sentence.
 #[derive(Clone, Copy, Debug, PartialEq, Eq)]
-pub enum Remark {
+pub struct Remark {
+    /// The number of the connection that it is about, counted from 1, where several are told of.
+    pub connection: Option<usize>,
+    /// What is told.
+    pub kind: RemarkKind,
+}
+
+/// What a remark tells.
+#[derive(Clone, Copy, Debug, PartialEq, Eq)]
+pub enum RemarkKind {
     /// How the capture of a connection was made.
     Made(Note),
+    /// A connection is answered yes, and the local system sent nothing.
+    NothingSent,
     /// A connection is answered no, in one order of its messages that the packets allow.
     No {
-        /// The number of the connection, counted from 1.
-        connection: usize,
         /// How many records come before the first impossible one.
         before: u64,
         /// The number of the packet that shows that one, counted from 1.
         packet: u64,
     },
+    /// The recording or a connection is refused: what helps.
+    Refused(Help),
     /// The session's addresses are of two families, between which no packet goes.
     TwoFamilies,
     /// The session has one address on both sides, and the local system's port isn't named.
@@ -30,27 +41,59 @@ pub enum Remark {
 
 impl fmt::Display for Remark {
     fn fmt<W: fmt::Write>(&self, f: &mut fmt::Formatter<W>) -> fmt::Result {
+        match self.connection {
+            Some(number) => write!(f, "connection {number}: {}", self.kind),
+            None => write!(f, "{}", self.kind),
+        }
+    }
+}
+
+impl fmt::Display for RemarkKind {
+    fn fmt<W: fmt::Write>(&self, f: &mut fmt::Formatter<W>) -> fmt::Result {
         match *self {
-            Remark::Made(note) => write!(f, "{note}"),
-            Remark::No {
-                connection,
-                before,
-                packet,
-            } => write!(
+            RemarkKind::Made(note) => write!(f, "{note}"),
+            RemarkKind::NothingSent => {
+                f.write_str("no message was sent: nothing of the local system was judged")
+            }
+            RemarkKind::No { before, packet } => write!(
                 f,
-                "no at record {} of connection {connection}: packet {packet} shows it, and it is \
-                 about one order of the messages that these packets allow",
+                "no at record {}: packet {packet} shows it; this is about one order of the \
+                 messages that these packets allow",
                 u128::from(before) + 1
             ),
-            Remark::TwoFamilies => f.write_str(
+            RemarkKind::Refused(help) => write!(f, "{help}"),
+            RemarkKind::TwoFamilies => f.write_str(
                 "--local and --peer are addresses of two families, and a recording has no session \
                  between them",
             ),
-            Remark::OneAddress => f.write_str(
+            RemarkKind::OneAddress => f.write_str(
                 "where --local and --peer are one address, a recording wants --local-port",
             ),
         }
     }
+}
+
+/// What helps where the recording, or the connection of this number, is refused, if anything does.
+pub(crate) fn refused_remark(connection: Option<usize>, refusal: Refusal) -> Option<Remark>
+    ensures { result ≡ refused_remark connection refusal }
+{
+    let help = refusal.help()?;
+    Some(Remark {
+        connection,
+        kind: RemarkKind::Refused(help),
+    })
+}
+
+/// Adds what helps, if anything does and there is memory for it.
+pub fn add_help<A: Allocator + Copy>(
+    remarks: &mut Vec<Remark, A>,
+    connection: Option<usize>,
+    refusal: Refusal,
+)
+    ensures { AddsTold remarks.old.items remarks.new.items (IsHelp connection refusal) }
+{
+    // Without memory the refusal is told alone.
+    let _ = add_remarks(remarks, &[refused_remark(connection, refusal)]);
 }
 
 /// Adds those that there are, or none where a growth is refused.

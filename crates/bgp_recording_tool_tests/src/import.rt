@@ -4,7 +4,7 @@ mod memory;
 mod refusals;
 
 use bgp_import::{Import, Notes, Selection, Stopped, import_recording};
-use bgp_prefix::{Address, Session};
+use bgp_prefix::{Address, RouteRefresh, Session};
 use mrt::{MemSink, MemSource, SourceUpset};
 use std::alloc::{AllocError, Allocator, Global};
 use std::num::NonZeroUsize;
@@ -15,7 +15,7 @@ pub(crate) const IMPORT: Import = Import {
         session: Session {
             peer: Address::V4(0xc000_0202),
             local: Address::V4(0xc000_0201),
-            refresh: true,
+            refresh: RouteRefresh::Refused,
             extended: false,
         },
         port: 179,
@@ -47,6 +47,6 @@ pub(crate) fn imported(
         source = source.upset_at(call, SourceUpset::Fail);
     }
     let mut sink = MemSink::new(alloc);
-    let answer = import_recording(alloc, &IMPORT, &mut source, &mut sink);
-    Some((answer, sink.octets().len()))
+    let imported = import_recording(alloc, &IMPORT, &mut source, &mut sink);
+    Some((imported.ended, sink.octets().len()))
 }

@@ -8,7 +8,7 @@ ghost use Rattle.mrt.specs.MemSource.{source_state};
 
 use bgp_judge::PlainTracker;
 use bgp_open::{Config, ConfigParts, Families};
-use bgp_prefix::{Address, Session};
+use bgp_prefix::{Address, RouteRefresh, Session};
 use bgp_recording_tool::{Judged, RecordingOptions, judge_recording};
 use mrt::{MemSink, MemSource};
 use std::alloc::{AllocError, Allocator, Global};
@@ -17,7 +17,7 @@ use std::alloc::{AllocError, Allocator, Global};
 pub(crate) const SESSION: Session = Session {
     peer: Address::V4(0xc000_0202),
     local: Address::V4(0xc000_0201),
-    refresh: true,
+    refresh: RouteRefresh::Refused,
     extended: false,
 };
 

@@ -8,8 +8,8 @@ fn imported_over(alloc: Global, size: usize) -> Option<(Result<Notes, Stopped>, 
     let heap = LocalHeap::new(alloc, size).ok()?;
     let mut source = MemSource::new(joined(alloc, &super::refusals::WHOLE).ok()?);
     let mut sink = MemSink::new(alloc);
-    let answer = import_recording(&heap, &IMPORT, &mut source, &mut sink);
-    Some((answer, sink.octets().len()))
+    let imported = import_recording(&heap, &IMPORT, &mut source, &mut sink);
+    Some((imported.ended, sink.octets().len()))
 }
 
 /// Whether an import is done, or refused for memory with nothing written.

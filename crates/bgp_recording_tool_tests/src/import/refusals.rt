@@ -215,10 +215,9 @@ const PACKET: [u8; 32] = [
 type Pieces = &'static [&'static [u8]];
 
 /// Files at fault, and at which packet.
-static FILES: [(Pieces, FaultKind, u64); 7] = [
+static FILES: [(Pieces, FaultKind, u64); 6] = [
     (&[b"text"], FaultKind::Format, 1),
     (&[&[0xd4, 0xc3]], FaultKind::Truncated, 1),
-    (&[&HEADER, &SYN, &[100]], FaultKind::Truncated, 2),
     (&[&HEADER, &TOO_LONG], FaultKind::TooLong, 1),
     (&[&SECTION, &BAD_BLOCK], FaultKind::Block, 1),
     (&[&SECTION, &PACKET], FaultKind::Block, 1),
@@ -227,18 +226,19 @@ static FILES: [(Pieces, FaultKind, u64); 7] = [
 
 /// Files with a packet that is refused. A fault of the file behind it isn't told.
 static PACKETS: [(Pieces, PacketFault, u64); 4] = [
-    (&[&OTHER_LINK, &SYN], PacketFault::Link, 1),
+    (&[&OTHER_LINK, &SYN], PacketFault::Link(105), 1),
     (&[&HEADER, &SYN, &FRAGMENT], PacketFault::Fragment, 2),
     (&[&HEADER, &NO_PORTS], PacketFault::Cut, 1),
     (&[&HEADER, &NO_PORTS, &TOO_LONG], PacketFault::Cut, 1),
 ];
 
 /// Files without a connection that can be told.
-static CONNECTIONS: [(Pieces, Fault); 10] = [
+static CONNECTIONS: [(Pieces, Fault); 11] = [
     (&[&HEADER, &SYN, &CUT], Fault::Cut { packet: 2 }),
     (&[&HEADER, &SYN, &EARLY], Fault::TimeBack { packet: 2 }),
     (&[&HEADER], Fault::NoConnection { packet: 0 }),
     (&[&HEADER, &SYN], Fault::NoConnection { packet: 1 }),
+    (&[&HEADER, &SYN, &[100]], Fault::NoConnection { packet: 1 }),
     (
         &[&HEADER, &SYN, &FIRST, &OTHER_SYN, &OTHER_DATA],
         Fault::Several { packet: 3 },

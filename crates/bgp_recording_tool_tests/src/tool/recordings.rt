@@ -1,9 +1,11 @@
 //! A recording of two connections.
 
 use super::*;
-use bgp_recording_tool::{Remark, decode_recording};
+use bgp_import::{Help, Note, Refusal};
+use bgp_recording_tool::{Remark, RemarkKind, decode_recording};
 use linked_list_allocator::LocalHeap;
 use mrt::SourceUpset;
+use segments::PacketFault;
 use std::num::NonZeroUsize;
 use std::test::Fail;
 
@@ -136,48 +138,96 @@ fn no_recording_is_read_of_one_address_or_two_families(rt: HostRuntime) {
         peer: SESSION.local,
         ..SESSION
     };
-    assert!(rt; misfit(rt.alloc(), one) == Some(Remark::OneAddress));
+    assert!(rt; misfit(rt.alloc(), one) == Some(alone(RemarkKind::OneAddress)));
     let two = Session {
         peer: Address::V6(1),
         ..SESSION
     };
-    assert!(rt; misfit(rt.alloc(), two) == Some(Remark::TwoFamilies));
+    assert!(rt; misfit(rt.alloc(), two) == Some(alone(RemarkKind::TwoFamilies)));
 }
 
-/// What there is to tell besides notes, with its sentence.
-static REMARKS: [(Remark, &str); 4] = [
+/// A remark on the only connection, or on none.
+fn alone(kind: RemarkKind) -> Remark {
+    Remark {
+        connection: None,
+        kind,
+    }
+}
+
+/// What there is to tell, with its sentence.
+static REMARKS: [(Option<usize>, RemarkKind, &str); 9] = [
     (
-        Remark::No {
-            connection: 1,
+        None,
+        RemarkKind::No {
             before: 10,
             packet: 10,
         },
-        "no at record 11 of connection 1: packet 10 shows it, and it is about one order of the \
-         messages that these packets allow",
+        "no at record 11: packet 10 shows it; this is about one order of the messages that these \
+         packets allow",
     ),
     (
-        Remark::No {
-            connection: 2,
+        Some(2),
+        RemarkKind::No {
             before: u64::MAX,
             packet: u64::MAX,
         },
-        "no at record 18446744073709551616 of connection 2: packet 18446744073709551615 shows it, \
-         and it is about one order of the messages that these packets allow",
+        "connection 2: no at record 18446744073709551616: packet 18446744073709551615 shows it; \
+         this is about one order of the messages that these packets allow",
     ),
     (
-        Remark::TwoFamilies,
+        Some(1),
+        RemarkKind::Made(Note::PutOff(2)),
+        "connection 1: received messages put off: 2",
+    ),
+    (
+        None,
+        RemarkKind::NothingSent,
+        "no message was sent: nothing of the local system was judged",
+    ),
+    (
+        Some(12),
+        RemarkKind::NothingSent,
+        "connection 12: no message was sent: nothing of the local system was judged",
+    ),
+    (
+        Some(2),
+        RemarkKind::Refused(Help {
+            refusal: Refusal::Packet {
+                fault: PacketFault::Link(105),
+                packet: 1,
+            },
+        }),
+        "connection 2: link type 105 isn't read (Ethernet, Linux cooked, loopback and raw IP \
+         are): record by tcpdump -i any on a Linux system",
+    ),
+    (
+        None,
+        RemarkKind::Refused(Help {
+            refusal: Refusal::Memory { packet: 3 },
+        }),
+        "all connections of the session are held whole: try a file of fewer packets, or more \
+         memory",
+    ),
+    (
+        None,
+        RemarkKind::TwoFamilies,
         "--local and --peer are addresses of two families, and a recording has no session between \
          them",
     ),
     (
-        Remark::OneAddress,
+        None,
+        RemarkKind::OneAddress,
         "where --local and --peer are one address, a recording wants --local-port",
     ),
 ];
 
 /// Whether each remark has its words.
 fn have_words(alloc: Global) -> Result<bool, Fail> {
-    for (remark, words) in &REMARKS {
+    for (connection, kind, words) in &REMARKS {
+        let remark = Remark {
+            connection: *connection,
+            kind: *kind,
+        };
         let told = format!(in alloc; "{remark}")?;
         if told.as_str() != *words {
             return Ok(false);

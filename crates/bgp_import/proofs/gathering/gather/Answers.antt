@@ -7,6 +7,8 @@ returns-in-Ok-clause-gathers g c =
       octets = t.octets;
       packets = t.packets;
       segments = t.segments;
+      cut = _;
       all = t.all;
       holds = record { connections = t.holds; last = c.number.ensures ∙ t.many };
+      is_cut = c.is_cut_short.ensures;
     }

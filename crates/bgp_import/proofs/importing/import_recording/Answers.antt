@@ -1,5 +1,6 @@
-use Rattle.std.proofs.Common.{arith}
-use Rattle.bgp_import.proofs.Imported.{imports_all, source_calm}
+use Rattle.std.proofs.Common.{◌∙◌, Bool, ap, arith, length, reverse}
+use Rattle.bgp_import.specs.Gathers.{cut_short_by}
+use Rattle.bgp_import.proofs.AllImported.{imports_all, source_calm}
 use Rattle.bgp_import.proofs.importing.import_recording.Goals as goal
 
 pub import_gathered-requires-clause-holds : goal.import_gathered-requires-clause-holds
@@ -9,8 +10,9 @@ import_gathered-requires-clause-holds g c =
 pub returns-in-Ok-clause-imports : goal.returns-in-Ok-clause-imports
 returns-in-Ok-clause-imports g c =
     let i = c.in-Ok.ensures.gathers in
-    imports_all g.R.Source.gives g.R.Source.has_ended g.W.Sink.takes c.args.import.now c.args.source.now c.gather.new.source c.args.sink.now c.import_gathered.new.sink i.octets i.packets i.segments i.all
-    c.import_gathered.result (c.import_gathered.ensures.imports i.packets i.segments i.all.taken i.holds)
+    let is_cut = c.cut_short.ensures (reverse i.segments) (length i.packets) i.holds ∙ ap (λ (b : Bool). cut_short_by b (length i.packets)) i.is_cut in
+    imports_all g.R.Source.gives g.R.Source.has_ended g.W.Sink.takes c.args.import.now c.args.source.now c.gather.new.source c.args.sink.now c.import_gathered.new.sink i.octets i.packets i.segments i.cut i.all
+    c.cut_short.result is_cut c.import_gathered.result (c.import_gathered.ensures.imports i.packets i.segments i.all.taken i.holds)
 
 pub returns-in-Ok-clause-source_failures : goal.returns-in-Ok-clause-source_failures
 returns-in-Ok-clause-source_failures g c =

@@ -6,4 +6,4 @@ use Rattle.bgp_recording_tool.proofs.answering.judge_made.Goals as goal
 
 pub returns-clause-is : goal.returns-clause-is
 returns-clause-is g c =
-    subst (λ (es : List Entry). IsVerdict c.args.config.now (records_of es) c.in_ok-verdict.verdict) c.as_slice-entries.ensures.value c.in_ok-verdict.ensures
+    subst (λ (es : List Entry). IsVerdict c.args.config.now (records_of es) c.in_ok-verdict.verdict) c.as_slice.ensures.value c.in_ok-verdict.ensures

@@ -21,6 +21,7 @@ returns-then-not-is_recording-clause-decoded g c =
             (writer_state c.args.sink.now) (writer_state c.decode_opened_capture-outcome.new.sink) o)
             (same_outcome c.decode_opened_capture-outcome.result outcome.result.status outcome.result.note outcome.ensures.status outcome.ensures.note)
             c.decode_opened_capture-outcome.ensures.decoded,
+        outcome.ensures.uncut,
         outcome.ensures.remarks,
       );
     })
@@ -28,7 +29,7 @@ returns-then-not-is_recording-clause-decoded g c =
 -- a recording
 pub returns-clause-decoded : goal.returns-clause-decoded
 returns-clause-decoded g c =
-    let note = c.told-note.ensures in
+    let note = c.recording_note-note.ensures in
     let before = c.failures-failures.ensures in
     rw c.in-Ok.is
     (record {

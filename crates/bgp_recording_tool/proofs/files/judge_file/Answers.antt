@@ -21,6 +21,7 @@ returns-then-not-is_recording-clause-judged g c =
             (writer_state c.args.sink.now) (writer_state c.judge_opened-outcome.new.sink) o)
             (same_outcome c.judge_opened-outcome.result outcome.result.status outcome.result.note outcome.ensures.status outcome.ensures.note)
             c.judge_opened-outcome.ensures.judged,
+        outcome.ensures.uncut,
         outcome.ensures.remarks,
       );
     })
@@ -28,7 +29,7 @@ returns-then-not-is_recording-clause-judged g c =
 -- a recording
 pub returns-clause-judged : goal.returns-clause-judged
 returns-clause-judged g c =
-    let note = c.told-note.ensures in
+    let note = c.recording_note-note.ensures in
     let before = c.failures-failures.ensures in
     rw c.in-Ok.is
     (record {

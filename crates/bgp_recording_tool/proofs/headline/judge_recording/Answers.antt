@@ -24,14 +24,14 @@ returns g c =
       subst (λ (w : Import). IsMisfit w None) meant c.in_default.ensures,
       record {
         text = puts.text;
-        code = code_of c.judge_source-status.result;
+        code = code_of c.judge_source-status.result.0;
         told = subst
             (λ (w : Import). TellsRecording g.R.Source.gives g.R.Source.has_ended g.R.Source.failures c.args.config.now w c.args.source.now
-            c.judge_source-status.new.source puts.text (code_of c.judge_source-status.result) c.judge_source-status.new.remarks.items)
+            c.judge_source-status.new.source c.judge_source-status.result.1 puts.text (code_of c.judge_source-status.result.0) c.judge_source-status.new.remarks.items)
             meant
             (subst
             (λ (o : List Remark). TellsRecording g.R.Source.gives g.R.Source.has_ended g.R.Source.failures c.args.config.now c.import_of-import.result
-            c.args.source.now c.judge_source-status.new.source puts.text (code_of c.judge_source-status.result) o)
+            c.args.source.now c.judge_source-status.new.source c.judge_source-status.result.1 puts.text (code_of c.judge_source-status.result.0) o)
             own puts.holds);
         written = rw c.code.ensures
             (is_written c.new-lines.result c.hand_over-status.new.lines c.args.sink.now _ fresh c.new-lines.ensures.now (search rules)
