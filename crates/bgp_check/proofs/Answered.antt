@@ -66,10 +66,11 @@ faultless session None config of = tt
 faultless session (Some own) config of = (of.1.form, none_if_own config own of.1)
 
 pub none_explains : NoConfigurationExplains
-none_explains session records number peer count own config stretch answer has of b =
+none_explains session records number peer count own config stretch answer has of =
     let same = one_own records own answer.own has answer.has_own in
     let mine = subst (λ (o : Option (List ℕ)). IsOf session o config) same of in
-    (answer.over stretch (faultless session answer.own config mine)).2 config mine (front_begins config records (count + 1) b)
+    let none = (answer.over stretch (faultless session answer.own config mine)).2 config mine in
+    (none, λ b. none (front_begins config records (count + 1) b))
 
 -- ---- a verdict where the OPEN has an own fault
 

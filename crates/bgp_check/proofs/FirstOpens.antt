@@ -4,7 +4,7 @@ use Rattle.std.proofs.Math.Seq.{drop-cons}
 use Rattle.mrt.specs.Reader.{shown_of}
 use Rattle.mrt.specs.declared.record.Record.{Record}
 use Rattle.bgp_prefix.specs.Shown.{ShownRecord, Received, Sent, Changed}
-use Rattle.bgp_check.specs.Opens.{FirstSent, HasPeersOpen, IsReceivedOpen, IsSent, ReceivesNoOpen, SendsNone}
+use Rattle.bgp_check.specs.Opens.{FirstReceived, FirstSent, IsReceived, IsSent, ReceivesNone, SendsNone}
 
 sent_first : (Is : List ℕ → Type 0) (shown : ShownRecord) (records : List ShownRecord) (found : List ℕ) → IsSent Is shown found
     → FirstSent Is (shown ∷ records) (Some found)
@@ -17,15 +17,16 @@ sent_later Is (Sent t octets) records found none has = inr (none, has)
 sent_later Is (Received t octets) records found none has = has
 sent_later Is (Changed t old new) records found none has = has
 
-peers_first : (shown : ShownRecord) (records : List ShownRecord) (peers : List ℕ) → IsReceivedOpen shown peers → HasPeersOpen (shown ∷ records) (Some peers)
-peers_first (Received t octets) records peers is = inl (is.0, ap Some is.1)
-peers_first shown records peers is = absurd is
+received_first : (Is : List ℕ → Type 0) (shown : ShownRecord) (records : List ShownRecord) (found : List ℕ) → IsReceived Is shown found
+    → FirstReceived Is (shown ∷ records) (Some found)
+received_first Is (Received t octets) records found is = inl (is.0, ap Some is.1)
+received_first Is shown records found is = absurd is
 
-peers_later : (shown : ShownRecord) (records : List ShownRecord) (peers : Option (List ℕ)) → ReceivesNoOpen shown → HasPeersOpen records peers
-    → HasPeersOpen (shown ∷ records) peers
-peers_later (Received t octets) records peers none has = inr (none, has)
-peers_later (Sent t octets) records peers none has = has
-peers_later (Changed t old new) records peers none has = has
+received_later : (Is : List ℕ → Type 0) (shown : ShownRecord) (records : List ShownRecord) (found : Option (List ℕ)) → ReceivesNone Is shown
+    → FirstReceived Is records found → FirstReceived Is (shown ∷ records) found
+received_later Is (Received t octets) records found none has = inr (none, has)
+received_later Is (Sent t octets) records found none has = has
+received_later Is (Changed t old new) records found none has = has
 
 module _ (records : List Record) (i : ℕ) (d : Record) (within : i < length records) where
   -- those from the index on
@@ -45,11 +46,12 @@ module _ (records : List Record) (i : ℕ) (d : Record) (within : i < length rec
   sent_behind Is found none has = subst (λ (v : List ShownRecord). FirstSent Is v found) (sym from_here)
       (sent_later Is (shown_of (get_or records i d)) (map shown_of (drop (i + 1) records)) found none has)
 
-  pub peers_here : (peers : List ℕ) → IsReceivedOpen (shown_of (get_or records i d)) peers → HasPeersOpen (map shown_of (drop i records)) (Some peers)
-  peers_here peers is = subst (λ (v : List ShownRecord). HasPeersOpen v (Some peers)) (sym from_here)
-      (peers_first (shown_of (get_or records i d)) (map shown_of (drop (i + 1) records)) peers is)
+  pub received_here : (Is : List ℕ → Type 0) (found : List ℕ) → IsReceived Is (shown_of (get_or records i d)) found
+      → FirstReceived Is (map shown_of (drop i records)) (Some found)
+  received_here Is found is = subst (λ (v : List ShownRecord). FirstReceived Is v (Some found)) (sym from_here)
+      (received_first Is (shown_of (get_or records i d)) (map shown_of (drop (i + 1) records)) found is)
 
-  pub peers_behind : (peers : Option (List ℕ)) → ReceivesNoOpen (shown_of (get_or records i d)) → HasPeersOpen (map shown_of (drop (i + 1) records)) peers
-      → HasPeersOpen (map shown_of (drop i records)) peers
-  peers_behind peers none has = subst (λ (v : List ShownRecord). HasPeersOpen v peers) (sym from_here)
-      (peers_later (shown_of (get_or records i d)) (map shown_of (drop (i + 1) records)) peers none has)
+  pub received_behind : (Is : List ℕ → Type 0) (found : Option (List ℕ)) → ReceivesNone Is (shown_of (get_or records i d))
+      → FirstReceived Is (map shown_of (drop (i + 1) records)) found → FirstReceived Is (map shown_of (drop i records)) found
+  received_behind Is found none has = subst (λ (v : List ShownRecord). FirstReceived Is v found) (sym from_here)
+      (received_later Is (shown_of (get_or records i d)) (map shown_of (drop (i + 1) records)) found none has)

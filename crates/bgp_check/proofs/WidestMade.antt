@@ -198,6 +198,9 @@ module _ (session : Session) where
   other_differs : (number : ℕ) → other_than number ≢ number
   other_differs number is = absurd (grind arith)
 
+  other_is_some : (number : ℕ) → other_than number ≢ 0
+  other_is_some number is = absurd (grind arith)
+
   -- no AS number can be told
   nothing_said : (b : Bool) (message : OpenFields) → as_to (not (as_of message == 0)) message ≡ 0 → as_to b message ≡ 0
   nothing_said true message is = elim (cases_eq (as_of message) 0) [
@@ -225,16 +228,24 @@ module _ (session : Session) where
     abbrev told_number : ℕ
     told_number = as_to as4 message
 
-    abbrev internal : ℕ
-    internal = other_than (as_of message)
+    -- the AS number of both
+    abbrev local_as : ℕ
+    local_as = other_than told_number
 
-    faults_it : (b : Config) → b.parts ≡ free_settings session internal internal (some_id message) true → FaultsIt b (Some octets)
+    not_the_peers : local_as ≢ as_of message
+    not_the_peers is = elim (cases_eq (as_of message) 0) [
+      | inl zero_as ↦ other_is_some told_number (is ∙ zero_as)
+      | inr some ↦ other_differs (as_of message)
+          (sym (ap (λ (v : Bool). other_than (as_to (not v) message)) (some_number (as_of message) some)) ∙ is)
+    ]
+
+    faults_it : (b : Config) → b.parts ≡ free_settings session local_as local_as (some_id message) true → FaultsIt b (Some octets)
     faults_it b is readable =
         let peer = ap (λ (p : ConfigParts). p.peer_as) is in
         let local = ap (λ (p : ConfigParts). p.local_as) is in
         let id = ap (λ (p : ConfigParts). p.local_id) is in
         let heard : as_to b.parts.as4 message ≡ as_of message = ap (λ (p : ConfigParts). as_to p.as4 message) is in (
-          λ same. other_differs (as_of message) (sym (sym heard ∙ same ∙ peer)),
+          λ same. not_the_peers (sym (sym heard ∙ same ∙ peer)),
           elim (same_id message b.parts.local_id id) [
             | inl none ↦ inl none
             | inr same ↦ inr (eq-eqb b.parts.local_as b.parts.peer_as (local ∙ sym peer), same)
@@ -251,9 +262,9 @@ module _ (session : Session) where
 
     two_without : (wanting : Option Config) (b : Config)
         → option_map (λ (c : Config). c.parts) wanting ≡ where_some told_number (free_settings session (other_than told_number) told_number (other_than message.id) as4)
-        → b.parts ≡ free_settings session internal internal (some_id message) true → AreWidestWithout session (Some octets) (both_of wanting b)
+        → b.parts ≡ free_settings session local_as local_as (some_id message) true → AreWidestWithout session (Some octets) (both_of wanting b)
     two_without None b w is = record {
-      each = (free_of b internal internal (some_id message) true is, tt);
+      each = (free_of b local_as local_as (some_id message) true is, tt);
       takes = λ config of valid. absurd (config.valid.peer_as (sym (wanted config octets valid)
           ∙ nothing_said config.parts.as4 message (where_zero told_number (free_settings session (other_than told_number) told_number (other_than message.id) as4) w)));
       faults = inl (faults_it b is);
@@ -261,7 +272,7 @@ module _ (session : Session) where
     two_without (Some a) b w is =
         let it = where_suc told_number (free_settings session (other_than told_number) told_number (other_than message.id) as4) a.parts w in
         record {
-          each = (free_of a (other_than told_number) told_number (other_than message.id) as4 it, (free_of b internal internal (some_id message) true is, tt));
+          each = (free_of a (other_than told_number) told_number (other_than message.id) as4 it, (free_of b local_as local_as (some_id message) true is, tt));
           takes = λ config of valid. inl (takes_it config a it valid);
           faults = inr (inl (faults_it b is));
         }

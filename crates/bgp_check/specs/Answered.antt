@@ -1,5 +1,5 @@
 -- What is answered of an end of a session: why it isn't judged, or the verdict on its records.
-use Rattle.std.specs.Prelude.{◌≡◌, ◌<◌, Bool, true, false, ℕ, List, Option, None, Some}
+use Rattle.std.specs.Prelude.{◌≡◌, ◌<◌, ◌+◌, Bool, true, false, ℕ, List, Option, None, Some}
 use Rattle.std.specs.Prelude.{option_map, take}
 use Rattle.bgp_prefix.specs.Shown.{ShownRecord}
 use Rattle.bgp_prefix.specs.declared.session.Session.{Session}
@@ -43,7 +43,8 @@ IsNoByOpen own records Unfinished = ⊥
 
 -- ---- for which peer the verdict is told
 
--- the AS number of the peer's OPEN, as the end hears it: 0 where no configuration can want it
+-- the AS number that is wanted of the peer: 0 where its OPEN says 0, which no configuration wants;
+-- it plays no part where the OPEN's fields can't be told
 abbrev pub heard_as : Option Config → ℕ
 heard_as None = 0
 heard_as (Some wanting) = wanting.parts.peer_as
@@ -110,11 +111,12 @@ FaultIsANo =
     → HasOwnOpen records (Some own) → IsTold widest records wants verdict
     → HasVerdictOver (IsAmong widest) records verdict × IsNoByOpen (Some own) records verdict
 
--- A no says that no configuration under which the OPEN that was sent is the end's own has a run
--- that shows these records: each shows none of the first so many, of which one more was possible.
+-- A no after so many records says that no configuration under which the OPEN that was sent is the
+-- end's own has a run that shows these and one more; nor one, then, that shows all of the records.
 abbrev pub NoConfigurationExplains : Type 0
 NoConfigurationExplains =
     (session : Session) (records : List ShownRecord) (number : Option ℕ) (peer : PeerAs)
     (count : ℕ) (own : Option (List ℕ)) (config : Config) → IsStretch records
     → IsAnswerTo session records (JudgedAs number peer (No count)) → HasOwnOpen records own
-    → IsOf session own config → ¬ Begins config records
+    → IsOf session own config
+    → (¬ Begins config (take (count + 1) records)) × (¬ Begins config records)

@@ -13,13 +13,20 @@ pub record IsOpenMessage (octets : List ℕ) : Type 0 where
   pub sound : IsSound Plain (header_of octets)
   pub type_field : type_of (header_of octets) ≡ 1
 
+-- the first message received that is such
+abbrev pub FirstReceived : (List ℕ → Type 0) → List ShownRecord → Option (List ℕ) → Type 0
+FirstReceived Is [] found = found ≡ None
+FirstReceived Is (Received t octets ∷ records) found =
+    (Is octets × (found ≡ Some octets)) ⊎ ((¬ Is octets) × FirstReceived Is records found)
+FirstReceived Is (shown ∷ records) found = FirstReceived Is records found
+
 -- the peer's OPEN: of the messages received the first that announces one, whatever its fields say
 abbrev pub HasPeersOpen : List ShownRecord → Option (List ℕ) → Type 0
-HasPeersOpen [] peers = peers ≡ None
-HasPeersOpen (Received t octets ∷ records) peers =
-    (IsOpenMessage octets × (peers ≡ Some octets))
-    ⊎ ((¬ IsOpenMessage octets) × HasPeersOpen records peers)
-HasPeersOpen (shown ∷ records) peers = HasPeersOpen records peers
+HasPeersOpen records peers = FirstReceived IsOpenMessage records peers
+
+-- the OPEN that is heard: of the messages received the first that is a whole and well-formed one
+abbrev pub HasHeardOpen : List ShownRecord → Option (List ℕ) → Type 0
+HasHeardOpen records heard = FirstReceived IsWellFormed records heard
 
 -- the first message sent that is such
 abbrev pub FirstSent : (List ℕ → Type 0) → List ShownRecord → Option (List ℕ) → Type 0
@@ -52,12 +59,12 @@ SendsNone Is shown = Unit {0}
 abbrev pub SendsNoOpen : ShownRecord → Type 0
 SendsNoOpen shown = SendsNone IsWellFormed shown
 
--- it is a received message with these octets that announces an OPEN
-abbrev pub IsReceivedOpen : ShownRecord → List ℕ → Type 0
-IsReceivedOpen (Received t octets) peers = IsOpenMessage octets × (peers ≡ octets)
-IsReceivedOpen shown peers = ⊥
+-- it is a received message with these octets, which are such
+abbrev pub IsReceived : (List ℕ → Type 0) → ShownRecord → List ℕ → Type 0
+IsReceived Is (Received t octets) found = Is octets × (found ≡ octets)
+IsReceived Is shown found = ⊥
 
--- no message is received that announces an OPEN
-abbrev pub ReceivesNoOpen : ShownRecord → Type 0
-ReceivesNoOpen (Received t octets) = ¬ IsOpenMessage octets
-ReceivesNoOpen shown = Unit {0}
+-- it is no received message that is such
+abbrev pub ReceivesNone : (List ℕ → Type 0) → ShownRecord → Type 0
+ReceivesNone Is (Received t octets) = ¬ Is octets
+ReceivesNone Is shown = Unit {0}

@@ -97,19 +97,18 @@ widest_with session own number = record {
       (if number == own_as own then other_than number else own_as own);
 }
 
--- An end that sent none. The one has neither the peer's AS number nor its identifier; where the
--- peer's capability of four-octet AS numbers says 0, it has no such capability, and wants My
--- Autonomous System. The other is internal, and has the peer's identifier.
+-- An end that sent none. Neither has the peer's AS number. The one hasn't its identifier, either;
+-- where the peer's capability of four-octet AS numbers says 0, it has no such capability, and wants
+-- My Autonomous System. The other is internal, and has the peer's identifier.
 abbrev pub widest_without : Session → OpenFields → BothParts
 widest_without session peers =
     let as4 = not (as_of peers == 0) in
     let number = as_to as4 peers in
     let local_as = other_than number in
-    let internal = other_than (as_of peers) in
     record {
       wanting = where_some number
           (free_settings session local_as number (other_than peers.id) as4);
-      another = free_settings session internal internal (some_id peers) true;
+      another = free_settings session local_as local_as (some_id peers) true;
     }
 
 abbrev pub widest_of : Session → Option OpenFields → Option OpenFields → BothParts

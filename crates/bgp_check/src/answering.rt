@@ -54,7 +54,8 @@ fn number_of(own: Option<&[u8]>) -> Option<u32>
     }
 }
 
-/// The AS number of the peer's OPEN, as the end hears it: 0 where no configuration can want it.
+/// The AS number that is wanted of the peer: 0 where its OPEN says 0, which no configuration wants.
+/// It plays no part where the OPEN's fields can't be told.
 fn heard_as(widest: &Widest) -> u32
     ensures { result ≡ heard_as widest.now.wanting }
 {

@@ -126,7 +126,8 @@ pub fn an_own_fault_is_a_no()
 }
 
 /// A no that [`check_end`](crate::check_end) answers says that no configuration under which the
-/// OPEN that was sent is the end's own has a run that shows these records.
+/// OPEN that was sent is the end's own has a run that shows these records: none shows even those
+/// before the one that it names, and that one.
 pub fn no_configuration_explains_a_no()
     ensures { NoConfigurationExplains }
 {}

@@ -32,9 +32,9 @@ pub use laws::{
     widest_configurations_have_the_same_ends, widest_configurations_make_the_verdict,
     widest_configurations_without_open_are_enough, widest_settings_are_widest,
 };
-pub use not_judged::{NotJudged, why_not_judged};
+pub use not_judged::NotJudged;
 pub use offer::{Offer, offer_of};
-pub use opens::{own_open, peers_open};
+pub use opens::{heard_open, own_open, peers_open};
 pub use own_fault::OwnFault;
 pub use peer_as::PeerAs;
 pub use settings::has_own_fault;

@@ -12,7 +12,7 @@ ghost use Rattle.bgp_check.specs.WidestOf.{AreTold, OffersNone};
 
 use crate::fields::{Fields, read_fields};
 use crate::offer::offer_of;
-use crate::opens::{own_open, peers_open, whole_open};
+use crate::opens::whole_open;
 use crate::unjudged::UnjudgedOffer;
 use bgp_open::{Families, read_open};
 use mrt::Record;
@@ -131,7 +131,7 @@ fn first_reason(
 }
 
 /// Why the local system of a stretch's records isn't judged that sent this OPEN, or none, and heard
-/// this one, or none.
+/// this one, or none: the first reason that holds, in the order of [`NotJudged`].
 pub(crate) fn why_with_opens(
     records: &[Record<'_>],
     own: Option<&[u8]>,
@@ -146,12 +146,4 @@ pub(crate) fn why_with_opens(
 {
     let extended = have_extended_length(peers, whole_open(records));
     first_reason(sends_some(records), extended, own, peers)
-}
-
-/// Why the local system of a stretch's records isn't judged, if it isn't: the first reason that
-/// holds, in the order of [`NotJudged`].
-pub fn why_not_judged(records: &[Record<'_>]) -> Option<NotJudged>
-    ensures { IsWhyNot (map shown_of records.now) result }
-{
-    why_with_opens(records, own_open(records), peers_open(records))
 }

@@ -4,7 +4,7 @@ ghost use Rattle.std.specs.Prelude.{◌≡◌, is_some, true};
 ghost use Rattle.bgp_open.specs.Offer.{as_number_of, families_of, offers_extended};
 
 use bgp_open::{Config, ConfigParts, Families, Open, negotiate};
-use bgp_prefix::{Address, Session};
+use bgp_prefix::{Address, RouteRefresh, Session};
 
 /// What a system offers by the capabilities of its OPEN.
 #[derive(Clone, Copy, Debug, PartialEq, Eq)]
@@ -34,7 +34,7 @@ fn offering_all() -> Config
         session: Session {
             peer: Address::V4(0),
             local: Address::V4(0),
-            refresh: false,
+            refresh: RouteRefresh::NotOffered,
             extended: false,
         },
     };

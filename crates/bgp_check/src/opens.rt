@@ -4,8 +4,9 @@ ghost use Rattle.std.specs.Prelude.{◌≡◌, ◌↔◌, IsTrue, IfSome, IfNone
 ghost use Rattle.bgp_open.specs.Open.{IsOpen};
 ghost use Rattle.bgp_open.specs.OpenFault.{IsWellFormed};
 ghost use Rattle.mrt.specs.Reader.{shown_of};
-ghost use Rattle.bgp_check.specs.Opens.{HasOwnOpen, HasPeersOpen, HasWholeOpen, IsOpenMessage};
-ghost use Rattle.bgp_check.specs.Opens.{IsReceivedOpen, IsSent, ReceivesNoOpen, SendsNone};
+ghost use Rattle.bgp_check.specs.Opens.{HasHeardOpen, HasOwnOpen, HasPeersOpen, HasWholeOpen};
+ghost use Rattle.bgp_check.specs.Opens.{IsOpenMessage, IsReceived, IsSent, ReceivesNone};
+ghost use Rattle.bgp_check.specs.Opens.{SendsNone};
 
 use crate::fields::FIXED_LEN;
 use bgp_open::read_open;
@@ -103,8 +104,9 @@ pub(crate) fn whole_open<'a>(records: &[Record<'a>]) -> Option<&'a [u8]>
 /// The octets of a message that the record shows as received, if a header without a fault announces
 /// an OPEN.
 fn received_open(shown: Record<'_>) -> Option<&[u8]>
-    ensures some { IfSome result (λ peers. IsReceivedOpen (shown_of shown.entry) peers.now) }
-    ensures none { IfNone result (ReceivesNoOpen (shown_of shown.entry)) }
+    ensures some { IfSome result (λ peers.
+        IsReceived IsOpenMessage (shown_of shown.entry) peers.now) }
+    ensures none { IfNone result (ReceivesNone IsOpenMessage (shown_of shown.entry)) }
 {
     match shown {
         Record::In(_, octets) if is_open_message(octets) => Some(octets),
@@ -119,6 +121,35 @@ pub fn peers_open<'a>(records: &[Record<'a>]) -> Option<&'a [u8]>
 {
     for record in records {
         match received_open(*record) {
+            Some(octets) => return Some(octets),
+            None => {}
+        }
+    }
+    None
+}
+
+/// The octets of a well-formed OPEN that the record shows as received.
+fn heard_in(shown: Record<'_>) -> Option<&[u8]>
+    ensures some { IfSome result (λ heard.
+        IsReceived IsWellFormed (shown_of shown.entry) heard.now) }
+    ensures none { IfNone result (ReceivesNone IsWellFormed (shown_of shown.entry)) }
+    ensures well_formed { IfSome result (λ heard. IsWellFormed heard.now) }
+{
+    match shown {
+        Record::In(_, octets) if is_well_formed(octets) => Some(octets),
+        _ => None,
+    }
+}
+
+/// The OPEN that is heard in a session's records: of the messages received the first that is a
+/// whole and well-formed one.
+pub fn heard_open<'a>(records: &[Record<'a>]) -> Option<&'a [u8]>
+    ensures first { HasHeardOpen (map shown_of records.now)
+        (option_map (λ heard. heard.now) result) }
+    ensures well_formed { IfSome result (λ heard. IsWellFormed heard.now) }
+{
+    for record in records {
+        match heard_in(*record) {
             Some(octets) => return Some(octets),
             None => {}
         }

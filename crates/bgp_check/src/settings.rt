@@ -74,8 +74,8 @@ fn own_hold(fields: &Fields<'_>) -> u16
     }
 }
 
-/// Whether a well-formed OPEN has this own fault: for each there is no configuration under which it
-/// is the local system's own.
+/// Whether a well-formed OPEN, as [`own_open`](crate::own_open) answers one, has this own fault:
+/// for each there is no configuration under which it is the local system's own.
 pub fn has_own_fault(own: &[u8], fault: OwnFault) -> bool
     requires { IsWellFormed own.now }
     ensures { IsTrue result ↔ own_faults (open_of own.now) fault }

@@ -110,15 +110,9 @@ fn widest_without(session: &Session, peers: &Fields<'_>) -> Option<Widest>
 {
     let as4 = peers.as_to(true) != 0;
     let number = peers.as_to(as4);
-    let internal = other_than(peers.as_to(true));
-    let wanting = free_settings(
-        session,
-        other_than(number),
-        number,
-        other_than(peers.id()),
-        as4,
-    );
-    let another = free_settings(session, internal, internal, some_id(peers), true);
+    let local_as = other_than(number);
+    let wanting = free_settings(session, local_as, number, other_than(peers.id()), as4);
+    let another = free_settings(session, local_as, local_as, some_id(peers), true);
     configurations(where_some(number, wanting), another)
 }
 

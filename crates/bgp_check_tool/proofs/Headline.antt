@@ -1,17 +1,23 @@
 -- What a verdict on an end is worth.
-use Rattle.std.proofs.Common.{◌≡◌, Bool, true, false, IsTrue, ℕ, List, Option, None, option_map, refl, sym, subst}
+use Rattle.std.proofs.Common.{◌≡◌, Bool, true, false, IsTrue, ℕ, List, Option, None, option_map, inl, inr, refl, sym, subst}
 use Rattle.bgp_prefix.specs.Shown.{ShownRecord}
+use Rattle.bgp_prefix.specs.declared.session.Session.{Session}
 use Rattle.bgp_open.specs.Open.{OpenFields, open_of}
+use Rattle.streams.specs.declared.connection.Connection.{Connection}
+use Rattle.streams.specs.declared.connection.Opening.{Opening}
+use Rattle.streams.specs.declared.passed.Side.{Side}
 use Rattle.bgp_judge.specs.Verdict.{No}
 use Rattle.bgp_recording.specs.Captured.{records_of}
+use Rattle.bgp_import.specs.ListText.{other_side}
 use Rattle.bgp_check.specs.Answered.{AnswerValue, IsAnswerTo, JudgedAs, NoConfigurationExplains}
 use Rattle.bgp_check.specs.Configurations.{IsOf}
 use Rattle.bgp_check.specs.NotJudged.{IsWhyNot, SendsSome, why_not}
 use Rattle.bgp_check.specs.Over.{HasVerdictOver}
 use Rattle.bgp_check.specs.WidestMade.{IsFaultless}
 use Rattle.bgp_check.proofs.Answered.{one_own}
-use Rattle.bgp_check_tool.specs.Headline.{NoConfigurationHasARun, NothingIsVacuous, VerdictIsOverAll}
+use Rattle.bgp_check_tool.specs.Headline.{IsToldOfSide, NoConfigurationHasARun, NothingIsVacuous, ToldNoHasNoRun, VerdictIsOverAll}
 use Rattle.bgp_check_tool.specs.Seen.{seen_from, session_from}
+use Rattle.bgp_check_tool.specs.Told.{EndTold, IsEndTold}
 use Rattle.bgp_check_tool.proofs.Stretch.{stretch_of}
 
 pub over_all : VerdictIsOverAll
@@ -47,3 +53,33 @@ not_vacuous within session opening connection side told number peer verdict end 
       stretch_of end.made.limit within (seen_from side connection) end.entries end.received_rest end.sent_rest end.made.recorded.told,
       sends_some records answer.none,
     )
+
+-- ---- of a no that is told of a recording
+
+side_told : (within : ℕ) (session : Session) (opening : Opening) (connection : Connection) (opener other told : EndTold) (side : Side)
+    → IsEndTold within session opening connection opening.opened_by opener → IsEndTold within session opening connection (other_side opening.opened_by) other
+    → IsToldOfSide opening opener other side told → IsEndTold within session opening connection side told
+side_told within session opening connection opener other told side is_opener is_other (inl (here, same)) =
+    subst (λ (s : Side). IsEndTold within session opening connection s told) (sym here)
+    (subst (λ (t : EndTold). IsEndTold within session opening connection opening.opened_by t) (sym same) is_opener)
+side_told within session opening connection opener other told side is_opener is_other (inr (here, same)) =
+    subst (λ (s : Side). IsEndTold within session opening connection s told) (sym here)
+    (subst (λ (t : EndTold). IsEndTold within session opening connection (other_side opening.opened_by) t) (sym same) is_other)
+
+pub told_no : NoConfigurationExplains → ToldNoHasNoRun
+told_no law port within last_packet place packets session opening first second opener other told side number peer count block of_side is =
+    let both = block.is_block.2 in
+    let end = side_told within session opening both.connection opener other told side both.is_opener both.is_other of_side in
+    record {
+      addresses = block.addresses;
+      segments = block.segments;
+      has = block.has;
+      is_session = block.is_session;
+      connection = both.connection;
+      chosen = both.chosen;
+      entries = end.entries;
+      received_rest = end.received_rest;
+      sent_rest = end.sent_rest;
+      made = end.made;
+      none = λ own config has of. (no_run law within session opening both.connection side told number peer count own config end is has of).0;
+    }

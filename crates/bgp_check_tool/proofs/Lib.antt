@@ -10,3 +10,5 @@ pub mod Stretch
 pub mod Headline
 pub mod Texts
 pub mod Lists
+pub mod Rising
+pub mod Alone

@@ -31,7 +31,7 @@ use Rattle.bgp_check_tool.specs.declared.talks.Talks.{Talks}
 use Rattle.bgp_check_tool.specs.Checking.{PutsAll, PutsBlock, blocks_text, tally_from}
 use Rattle.bgp_check_tool.specs.Listed.{AreListed, CanBeTold, IsListed, IsPlaceOf, ListsOne}
 use Rattle.bgp_check_tool.specs.Pairs.{selection_of}
-use Rattle.bgp_check_tool.specs.Places.{HasAll, IsTold}
+use Rattle.bgp_check_tool.specs.Places.{HasAll, IsToldAt}
 use Rattle.bgp_check_tool.specs.Talks.{HoldsEach}
 use Rattle.bgp_check_tool.specs.Tally.{no_tally, with_block}
 use Rattle.bgp_check_tool.proofs.ListedSoFar.{among_keys}
@@ -56,7 +56,7 @@ keys_with (x ∷ xs) one rest = ap (λ (ks : List ℕ). x.0 ∷ ks) (keys_with x
 pub record PutsFront {T Z : Type 0} {sink : sinks.Ghosts T} (options : CheckOptions) (packets : List Recorded) (last_packet : ℕ) (entries rest : List (ℕ × Listed Z))
     (lines lines' : Lines T sink) (tally : Tally) : Type 0 where
   pub blocks : List (ℕ × Block)
-  pub told : AllByRecursion (λ (b : ℕ × Block). IsTold options.port packets options.within last_packet b.0 b.1) blocks
+  pub told : AllByRecursion (λ (b : ℕ × Block). IsToldAt options.port packets options.within last_packet b.0 b.1) blocks
   pub places : keys_of blocks ++ keys_of rest ≡ keys_of entries
   pub left : AreListed options.port packets rest
   pub wrote : Writes lines lines' (blocks_text options.routes blocks)
@@ -74,7 +74,7 @@ one_more {T} {Z} law options packets last_packet place one entries before rest l
     subst (λ (es : List (ℕ × Listed Z)). keys_of so_far.blocks ++ keys_of es ≡ keys_of entries) is so_far.places in
     record {
       blocks = so_far.blocks ++ (place, put.block) ∷ [];
-      told = all_of (λ (b : ℕ × Block). IsTold options.port packets options.within last_packet b.0 b.1) so_far.blocks (place, put.block) so_far.told put.told;
+      told = all_of (λ (b : ℕ × Block). IsToldAt options.port packets options.within last_packet b.0 b.1) so_far.blocks (place, put.block) so_far.told put.told;
       places = keys_with so_far.blocks (place, put.block) (keys_of rest) ∙ places;
       left = left.1;
       wrote = subst (λ (text : List ℕ). Writes lines lines' text) (text_of (λ (b : ℕ × Block). block_text options.routes b.1) so_far.blocks (place, put.block)) (and_then law so_far.wrote put.wrote);
@@ -99,7 +99,7 @@ pub is_told : {X Z : Type 0} (port : ℕ) (packets : List Recorded) (within last
     (session : Session) (answer : Result (EndsTold X) Refusal) → session ≡ (selection_of addresses port).session
     → (is : ListsOne port packets place addresses talk opening)
     → ((segments : List Segment) → HoldsConnections segments talk.connections → AreInOrder segments → IsBlock within last_packet segments session opening (block_of session opening answer))
-    → IsTold port packets within last_packet place (block_of session opening answer)
+    → IsToldAt port packets within last_packet place (block_of session opening answer)
 is_told port packets within last_packet place addresses talk opening session (Ok (Both both)) its is told = record {
   addresses = addresses;
   segments = is.segments;

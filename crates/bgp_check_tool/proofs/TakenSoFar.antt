@@ -21,23 +21,23 @@ use Rattle.bgp_import.specs.declared.selection.Selection.{Selection}
 use Rattle.bgp_import.proofs.InOrder.{in_order}
 use Rattle.bgp_import.proofs.Taken.{found_so, last_first, one_more}
 use Rattle.bgp_check_tool.specs.Pairs.{AreOrdered, addresses_in, addresses_of, ordered, selection_of}
-use Rattle.bgp_check_tool.specs.Talks.{AreHeld, Changes, HoldsAll, HoldsBy, HoldsEach, HoldsSome, HoldsTalk, IsFresh, IsRefusedAt, IsRefusedBy, KeepsOthers, TakesSegment, talk_at}
+use Rattle.bgp_check_tool.specs.Talks.{AreHeld, Changes, HoldsAll, HoldsBy, HoldsEach, HoldsSome, HoldsTalk, IsFresh, IsLinkKnown, IsRefusedAt, IsRefusedBy, KeepsOthers, TakesSegment, talk_at}
 use Rattle.bgp_check_tool.specs.declared.talk.Talk.{Talk}
 use Rattle.bgp_check_tool.specs.declared.talks.Talks.{Talks}
 use Rattle.bgp_check_tool.proofs.AddressOrder.{apart, one_way, ordered_is, tied}
 
 -- ---- a packet of other addresses has nothing of these
 
-selected_none : (port : ℕ) (q : Addresses) (finding : Finding) → AreOrdered q → finding ≢ UnknownLink
+selected_none : (port : ℕ) (q : Addresses) (finding : Finding) → AreOrdered q → ((link_type : ℕ) → finding ≢ UnknownLink link_type)
     → ((a : Addresses) → addresses_in finding ≡ Some a → q ≢ ordered a) → IsSelected (conversation_of (selection_of q port)) finding (Ok None)
 selected_none port q Nothing is known other = refl
-selected_none port q UnknownLink is known other = absurd (known refl)
+selected_none port q (UnknownLink link_type) is known other = absurd (known link_type refl)
 selected_none port q (Fragment a) is known other = inr ((λ between. other a refl (one_way q a is between)), refl)
 selected_none port q (NoPorts a) is known other = inr ((λ between. other a refl (one_way q a is between)), refl)
 selected_none port q (CutHeader ends) is known other = inr ((λ are. other (addresses_of ends) refl (one_way q (addresses_of ends) is are.0)), refl)
 selected_none port q (Whole segment) is known other = inr ((λ are. other (addresses_of segment.ends) refl (one_way q (addresses_of segment.ends) is are.0)), refl)
 
-pub no_part : (port number : ℕ) (q : Addresses) (packet : Recorded) → AreOrdered q → found_in packet.link_type packet.octets ≢ UnknownLink
+pub no_part : (port number : ℕ) (q : Addresses) (packet : Recorded) → AreOrdered q → ((link_type : ℕ) → found_in packet.link_type packet.octets ≢ UnknownLink link_type)
     → ((a : Addresses) → addresses_in (found_in packet.link_type packet.octets) ≡ Some a → q ≢ ordered a) → HasPart (selection_of q port) number packet []
 no_part port number q packet is known other = record {
   found = None;
@@ -48,8 +48,8 @@ no_part port number q packet is known other = record {
 some_is : (a b : Addresses) → Some a ≡ Some b → a ≡ b
 some_is a b e = cc
 
-not_link : (finding : Finding) (a : Addresses) → addresses_in finding ≡ Some a → finding ≢ UnknownLink
-not_link finding a e link = let k : None ≡ Some a = sym (ap addresses_in link) ∙ e in cc
+not_link : (finding : Finding) (a : Addresses) → addresses_in finding ≡ Some a → (link_type : ℕ) → finding ≢ UnknownLink link_type
+not_link finding a e link_type link = let k : None ≡ Some a = sym (ap addresses_in link) ∙ e in cc
 
 -- of a packet between these addresses no others have a part
 pub no_other : (port number : ℕ) (q own : Addresses) (packet : Recorded) → AreOrdered q
@@ -268,21 +268,28 @@ module _ (selection : Selection) (own : Addresses) (port : ℕ) (same : selectio
 
 -- ---- a packet without addresses
 
-found_link : (f : Found) → finding_of f ≡ UnknownLink → f ≡ variants.UnknownLink
-found_link variants.Nothing e = absurd cc
-found_link variants.UnknownLink e = refl
-found_link (variants.Fragment a) e = absurd cc
-found_link (variants.NoPorts a) e = absurd cc
-found_link (variants.CutHeader ends) e = absurd cc
-found_link (variants.Segment s) e = absurd cc
+link_is : (a b : ℕ) → UnknownLink a ≡ UnknownLink b → a ≡ b
+link_is a b e = cc
+
+found_link : (f : Found) (link_type : ℕ) → finding_of f ≡ UnknownLink link_type → f ≡ variants.UnknownLink link_type
+found_link variants.Nothing link_type e = absurd cc
+found_link (variants.UnknownLink other) link_type e = ap variants.UnknownLink (link_is other link_type e)
+found_link (variants.Fragment a) link_type e = absurd cc
+found_link (variants.NoPorts a) link_type e = absurd cc
+found_link (variants.CutHeader ends) link_type e = absurd cc
+found_link (variants.Segment s) link_type e = absurd cc
 
 none_is : (a : Addresses) → None ≡ Some a → ⊥
 none_is a e = cc
 
+pub is_known : (packet : Recorded) (f : Found) → finding_of f ≡ found_in packet.link_type packet.octets → ((link_type : ℕ) → f ≢ variants.UnknownLink link_type)
+    → IsLinkKnown packet
+is_known packet f found known link_type link = known link_type (found_link f link_type (found ∙ link))
+
 pub no_addresses : {Z : Type 0} (port : ℕ) (packets : List Recorded) (packet : Recorded) (talks : Talks Z) (f : Found) → finding_of f ≡ found_in packet.link_type packet.octets
-    → f ≢ variants.UnknownLink → (o : Option Addresses) → o ≡ addresses_in (finding_of f) → o ≡ None → HoldsEach port packets talks
+    → ((link_type : ℕ) → f ≢ variants.UnknownLink link_type) → (o : Option Addresses) → o ≡ addresses_in (finding_of f) → o ≡ None → HoldsEach port packets talks
     → HoldsEach port (packets ++ packet ∷ []) talks
 no_addresses port packets packet talks f found known o its none h =
     let without : addresses_in (found_in packet.link_type packet.octets) ≡ None = sym (ap addresses_in found) ∙ sym its ∙ none in
     nothing_taken port packets packet talks h (λ q is.
-    no_part port (length packets + 1) q packet is (λ link. known (found_link f (found ∙ link))) (λ a has same. none_is a (sym without ∙ has)))
+    no_part port (length packets + 1) q packet is (is_known packet f found known) (λ a has same. none_is a (sym without ∙ has)))

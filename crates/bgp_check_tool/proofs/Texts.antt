@@ -12,6 +12,12 @@ pub told_as : (failed : Bool) (status one wanted : ℕ) → (IsFalse failed × (
 told_as failed status one wanted (inl calm) is = inl (calm.0, calm.1 ∙ is)
 told_as failed status one wanted (inr broken) is = inr broken
 
+-- and the same of a status that is this one
+pub coded_as : (failed : Bool) (code status wanted : ℕ) → code ≡ status → (IsFalse failed × (status ≡ wanted)) ⊎ (IsTrue failed × (status ≡ 5))
+    → (IsFalse failed × (code ≡ wanted)) ⊎ (IsTrue failed × (code ≡ 5))
+coded_as failed code status wanted is (inl calm) = inl (calm.0, is ∙ calm.1)
+coded_as failed code status wanted is (inr broken) = inr (broken.0, is ∙ broken.1)
+
 -- the text of a connection that isn't refused
 pub text_of_ends : {X : Type 0} (routes : Bool) (session : Session) (opening : Opening) (told : EndsTold X)
     → opening_text session opening ++ (codes " " ++ ends_text routes session opening told) ≡ block_text routes (ends_block session opening told)

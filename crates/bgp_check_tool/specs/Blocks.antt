@@ -1,7 +1,7 @@
 -- What is told of a recording: connection by connection, and of two addresses at once where none of
 -- their connections can be told.
-use Rattle.std.specs.Prelude.{◌≡◌, ◌⊎◌, ◌++◌, ℕ, Bool, List, Some, Result, Ok, Err, codes}
-use Rattle.std.specs.Prelude.{length}
+use Rattle.std.specs.Prelude.{◌≡◌, ◌⊎◌, ◌++◌, ℕ, Bool, List, Option, None, Some, Result, Ok, Err}
+use Rattle.std.specs.Prelude.{codes, length}
 use Rattle.bgp_prefix.specs.Text.{address_text}
 use Rattle.bgp_prefix.specs.declared.session.Session.{Session}
 use Rattle.segments.specs.declared.found.Addresses.{Addresses}
@@ -21,7 +21,7 @@ use Rattle.bgp_import.specs.declared.refusal.Refusal.{Refusal}
 use Rattle.bgp_import.specs.declared.refusal.Refusal.TheVariants as refusals
 use Rattle.bgp_check_tool.specs.declared.connection.EndsTold.{EndsTold}
 use Rattle.bgp_check_tool.specs.declared.connection.EndsTold.TheVariants as ends
-use Rattle.bgp_check_tool.specs.declared.connection.Untold.{Untold as UntoldEnd}
+use Rattle.bgp_check_tool.specs.declared.connection.Untold.{Untold}
 use Rattle.bgp_check_tool.specs.declared.connection.Untold.TheVariants as untold
 use Rattle.bgp_check_tool.specs.Made.{IsMade}
 use Rattle.bgp_check_tool.specs.Seen.{seen_from}
@@ -31,13 +31,13 @@ use Rattle.bgp_check_tool.specs.Told.{EndTold, IsEndTold, told_value}
 pub data Block : Type 0 where
   -- of a connection: how many octets whoever opened it sent, and how many the other; and what is
   -- told of both ends, in that order
-  Checked : Session → Opening → ℕ → ℕ → EndTold → EndTold → Block
+  BothEnds : Session → Opening → ℕ → ℕ → EndTold → EndTold → Block
   -- of one whose two ends are one: how many octets either sent
   OneEnd : Session → Opening → ℕ → ℕ → Block
   -- a connection that is refused
   Refused : Session → Opening → Refusal → Block
   -- two addresses of whose connections none can be told
-  Untold : Addresses → Refusal → Block
+  AllRefused : Addresses → Refusal → Block
 
 -- ---- the text
 
@@ -61,13 +61,13 @@ neither_text session opening first second =
     ++ one_end_line (end_of (other_side opening.opened_by) session opening)))
 
 abbrev pub block_text : Bool → Block → List ℕ
-block_text routes (Checked session opening first second opener other) =
+block_text routes (BothEnds session opening first second opener other) =
     opening_text session opening ++ (codes " " ++ both_text routes first second opener other)
 block_text routes (OneEnd session opening first second) =
     opening_text session opening ++ (codes " " ++ neither_text session opening first second)
 block_text routes (Refused session opening refusal) =
     opening_text session opening ++ (codes " " ++ turned_down_text refusal)
-block_text routes (Untold addresses refusal) = session_text addresses refusal
+block_text routes (AllRefused addresses refusal) = session_text addresses refusal
 
 -- ---- what is told of a connection
 
@@ -80,14 +80,21 @@ octets_from Peer connection = length connection.received.octets.now
 abbrev pub AreOne : Session → Opening → Type 0
 AreOne session opening = end_of Local session opening ≡ end_of Peer session opening
 
--- a ROUTE-REFRESH is among the messages of one of its ends
-pub record HasRefresh (within : ℕ) (connection : Connection) (refusal : Refusal) : Type 0 where
-  pub side : Side
+-- the refusal for the first ROUTE-REFRESH as this of its ends has the messages, if there is one
+pub record HasRefresh (within : ℕ) (connection : Connection) (side : Side)
+    (refusal : Option Refusal) : Type 0 where
   pub entries : List Entry
   pub received_rest : Rest
   pub sent_rest : Rest
   pub made : IsMade within (seen_from side connection) entries received_rest sent_rest
-  pub is : IsRefreshIn entries received_rest sent_rest (Some refusal)
+  pub is : IsRefreshIn entries received_rest sent_rest refusal
+
+-- as the end has it that opened the connection; where that has none, as the other end does
+abbrev pub IsFirstRefresh : ℕ → Connection → Side → Refusal → Type 0
+IsFirstRefresh within connection opener refusal =
+    HasRefresh within connection opener (Some refusal)
+    ⊎ (HasRefresh within connection opener None
+    × HasRefresh within connection (other_side opener) (Some refusal))
 
 -- The connection of these segments, told from the last one back to the first, that was opened so;
 -- in a recording whose last packet has this number.
@@ -121,12 +128,13 @@ module _ (within last_packet : ℕ) (segments : List Segment) (session : Session
     pub connection : Connection
     pub chosen : IsAnswered (Some opening.number) last_packet (numbered segments) connection
     pub are_two : ¬ AreOne session opening
-    pub why : HasRefresh within connection refusal ⊎ (refusal ≡ refusals.Memory last_packet)
+    pub why : IsFirstRefresh within connection opening.opened_by refusal
+        ⊎ (refusal ≡ refusals.Memory last_packet)
 
 -- this block is told of it
 abbrev pub IsBlock : ℕ → ℕ → List Segment → Session → Opening → Block → Type 0
 IsBlock within last_packet segments session opening
-    (Checked its its_opening first second opener other) =
+    (BothEnds its its_opening first second opener other) =
     (its ≡ session) × (its_opening ≡ opening)
     × TellsBoth within last_packet segments session opening first second opener other
 IsBlock within last_packet segments session opening (OneEnd its its_opening first second) =
@@ -136,18 +144,18 @@ IsBlock within last_packet segments session opening (Refused its its_opening ref
     (its ≡ session) × (its_opening ≡ opening)
     × (IsSpoilt within last_packet segments session opening refusal
     ⊎ IsUncheckable within last_packet segments session opening refusal)
-IsBlock within last_packet segments session opening (Untold addresses refusal) = ⊥
+IsBlock within last_packet segments session opening (AllRefused addresses refusal) = ⊥
 
 -- ---- what is answered
 
--- an end isn't told of
-abbrev pub IsUntold : ℕ → Connection → UntoldEnd → Type 0
-IsUntold within connection untold.NoMemory = Unit {0}
-IsUntold within connection (untold.Refresh refusal) = HasRefresh within connection refusal
+-- an end isn't told of, for want of memory or for a refusal that is such
+abbrev pub IsUntold : (Refusal → Type 0) → Untold → Type 0
+IsUntold Is untold.NoMemory = Unit {0}
+IsUntold Is (untold.Refresh refusal) = Is refusal
 
 abbrev pub ends_block : {X : Type 0} → Session → Opening → EndsTold X → Block
 ends_block session opening (ends.Both both) =
-    Checked session opening both.opener_octets both.other_octets
+    BothEnds session opening both.opener_octets both.other_octets
     (told_value both.opener) (told_value both.other)
 ends_block session opening (ends.One first second) = OneEnd session opening first second
 

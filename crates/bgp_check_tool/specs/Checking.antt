@@ -1,9 +1,11 @@
 -- What checking a recording writes and answers.
-use Rattle.std.specs.Prelude.{◌≡◌, ◌⊎◌, ◌++◌, ℕ, Bool, true, false, List, [], ◌∷◌}
-use Rattle.std.specs.Prelude.{Option, None, Some}
+use Rattle.std.specs.Prelude.{◌≡◌, ◌⊎◌, ◌+◌, ◌++◌, ℕ, Bool, true, false, List, [], ◌∷◌}
+use Rattle.std.specs.Prelude.{Option, None, Some, codes}
+use Rattle.std.specs.Fmt.{decimal}
 use Rattle.std.specs.List.{AllByRecursion, Contains, flat_map}
 use Rattle.std.specs.List.Sorted.{IsStrictlySortedBy}
 use Rattle.std.specs.Map.{keys_of}
+use Rattle.std.specs.Option.{option_or}
 use Rattle.std.specs.Ordering.{nat_cmp}
 use Rattle.packets.specs.Packet.{Recorded}
 use Rattle.mrt.specs.declared.sink.Sink as sinks
@@ -11,6 +13,7 @@ use Rattle.bgp_text.specs.Lines.{Writes}
 use Rattle.bgp_text.specs.declared.lines.Lines.{Lines}
 use Rattle.bgp_tool.specs.Answer.{IsWritten}
 use Rattle.bgp_import.specs.Refusals.{refusal_line}
+use Rattle.bgp_import.specs.declared.cut_short.CutShort.{CutShort}
 use Rattle.bgp_import.specs.declared.refusal.Refusal.{Refusal}
 use Rattle.bgp_import.specs.declared.refusal.Refusal.TheVariants as refusals
 use Rattle.bgp_check_tool.specs.declared.nothing.NothingJudged.{NothingJudged}
@@ -18,8 +21,8 @@ use Rattle.bgp_check_tool.specs.declared.options.CheckOptions.{CheckOptions}
 use Rattle.bgp_check_tool.specs.declared.talks.Talks.{Talks}
 use Rattle.bgp_check_tool.specs.declared.tally.Tally.{Tally}
 use Rattle.bgp_check_tool.specs.Blocks.{Block, block_text}
-use Rattle.bgp_check_tool.specs.Places.{HasAll, IsTold}
-use Rattle.bgp_check_tool.specs.Reading.{IsMemory, IsReadTo, looked_at}
+use Rattle.bgp_check_tool.specs.Places.{HasAll, IsToldAt}
+use Rattle.bgp_check_tool.specs.Reading.{IsMemory, IsReadTo, cut_short_at, failures_of, looked_at}
 use Rattle.bgp_check_tool.specs.Talks.{HoldsEach}
 use Rattle.bgp_check_tool.specs.Tally.{has_verdict, no_tally, nothing_text, status_of, tally_line}
 use Rattle.bgp_check_tool.specs.Tally.{with_block, with_refusal}
@@ -38,7 +41,7 @@ pub record PutsBlock {T : Type 0} {sink : sinks.Ghosts T} (options : CheckOption
     (packets : List Recorded) (last_packet place : ℕ) (lines lines' : Lines T sink)
     (tally tally' : Tally) : Type 0 where
   pub block : Block
-  pub told : IsTold options.port packets options.within last_packet place block
+  pub told : IsToldAt options.port packets options.within last_packet place block
   pub wrote : Writes lines lines' (block_text options.routes block)
   pub tallied : tally' ≡ with_block tally block
 
@@ -48,7 +51,7 @@ pub record PutsBlocks {T : Type 0} {sink : sinks.Ghosts T} (options : CheckOptio
     (tally tally' : Tally) : Type 0 where
   pub blocks : List (ℕ × Block)
   pub told : AllByRecursion
-      (λ (b : ℕ × Block). IsTold options.port packets options.within last_packet b.0 b.1) blocks
+      (λ (b : ℕ × Block). IsToldAt options.port packets options.within last_packet b.0 b.1) blocks
   pub are_places : keys_of blocks ≡ places
   pub wrote : Writes lines lines' (blocks_text options.routes blocks)
   pub tallied : tally' ≡ tally_from tally blocks
@@ -65,10 +68,16 @@ pub record PutsAll {T : Type 0} {sink : sinks.Ghosts T} (options : CheckOptions)
   pub all : lacking ≡ None → HoldsEach options.port packets talks
       → HasAll options.port packets (Contains places)
 
--- what is told of the file, where it can't be read on
+-- what is told of the file, where that is refused
 abbrev pub file_text : Option Refusal → List ℕ
 file_text None = []
 file_text (Some refusal) = refusal_line refusal
+
+-- that the file was cut short, where it was
+abbrev pub cut_note : Option CutShort → List ℕ
+cut_note None = []
+cut_note (Some cut) =
+    codes "note the recording is cut short in packet " ++ (decimal (cut.before + 1) ++ codes "\n")
 
 abbrev pub with_file : Tally → Option Refusal → Tally
 with_file tally None = tally
@@ -80,35 +89,38 @@ nothing_by port true refusal = None
 nothing_by port false (Some refusal) = None
 nothing_by port false None = Some (record { port = port })
 
--- What is told where reading stopped so and a list of the blocks lacks memory so.
-abbrev pub first_refusal : Option Refusal → Option Refusal → Option Refusal
-first_refusal (Some refusal) stopped = Some refusal
-first_refusal None stopped = stopped
-
--- These packets are read, up to the end or to what keeps the file from being read on. Of them these
--- blocks are told, in the order of their places: all, unless memory was refused. Then why the file
--- can't be read on, if it can't, and last how many ends there are of each verdict. All of that was
+-- These packets are read, up to the end, or to where the file was cut short, or to what keeps it
+-- from being read on; the source counts one failure more where that is a device that failed. Of
+-- them these blocks are told, in the order of their places: all, unless memory was refused. Then
+-- why the file can't be read on, if it can't; that there was no memory for a list of the blocks, if
+-- there was none; that the file was cut short, if it was; and last how many ends there are of each verdict. All of that was
 -- written, if the sink didn't fail.
 pub record ChecksRecording {S T : Type 0} (gives : S → S → List ℕ → Type 0) (has_ended : S → Bool)
-    (takes : T → T → List ℕ → Type 0) (failures : T → ℕ) (options : CheckOptions)
-    (source source' : S) (sink sink' : T) (status : ℕ) (refusal : Option Refusal)
-    (nothing : Option NothingJudged) : Type 0 where
+    (takes : T → T → List ℕ → Type 0) (source_failures : S → ℕ) (failures : T → ℕ)
+    (options : CheckOptions) (source source' : S) (sink sink' : T) (status : ℕ)
+    (cut_short : Option CutShort)
+    (refusal : Option Refusal) (nothing : Option NothingJudged) : Type 0 where
   pub packets : List Recorded
+  pub short : Bool
   pub stopped : Option Refusal
-  pub read : IsReadTo gives has_ended source source' packets stopped
+  pub read : IsReadTo gives has_ended source source' packets short stopped
+  pub counted : source_failures source' ≡ source_failures source + failures_of stopped
+  pub is_cut_short : cut_short ≡ cut_short_at (looked_at packets stopped) short stopped
   pub lacking : Option Refusal
   pub lacks : (lacking ≡ None)
       ⊎ (lacking ≡ Some (refusals.Memory (looked_at packets stopped)))
-  pub is_refusal : refusal ≡ first_refusal lacking stopped
+  pub is_refusal : refusal ≡ option_or stopped lacking
   pub blocks : List (ℕ × Block)
-  pub told : AllByRecursion (λ (b : ℕ × Block). IsTold options.port packets options.within
+  pub told : AllByRecursion (λ (b : ℕ × Block). IsToldAt options.port packets options.within
       (looked_at packets stopped) b.0 b.1) blocks
   pub rise : IsStrictlySortedBy nat_cmp (keys_of blocks)
-  pub all : ¬ IsMemory refusal → HasAll options.port packets (Contains (keys_of blocks))
+  pub all : lacking ≡ None → ¬ IsMemory stopped
+      → HasAll options.port packets (Contains (keys_of blocks))
   pub tally : Tally
-  pub counts : tally ≡ with_file (tally_from no_tally blocks) refusal
+  pub counts : tally ≡ with_file (with_file (tally_from no_tally blocks) stopped) lacking
   pub is_nothing : nothing ≡ nothing_by options.port (has_verdict tally) refusal
   pub written : IsWritten takes failures
       (blocks_text options.routes blocks
-      ++ (file_text refusal ++ (nothing_text options.port tally ++ tally_line tally)))
+      ++ (file_text stopped ++ (file_text lacking ++ (cut_note cut_short
+      ++ (nothing_text options.port tally ++ tally_line tally)))))
       (status_of tally) sink sink' status

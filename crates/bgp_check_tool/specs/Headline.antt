@@ -1,13 +1,21 @@
 -- What a verdict on an end is worth.
-use Rattle.std.specs.Prelude.{◌≡◌, ℕ, List, Option}
+use Rattle.std.specs.Prelude.{◌≡◌, ◌⊎◌, ◌+◌, ℕ, List, Option, Some, reverse, take}
+use Rattle.packets.specs.Packet.{Recorded}
 use Rattle.bgp_prefix.specs.declared.session.Session.{Session}
 use Rattle.bgp_open.specs.declared.config.Config.{Config}
 use Rattle.bgp_machine.specs.Run.{Begins}
 use Rattle.bgp_judge.specs.Verdict.{No, VerdictValue}
+use Rattle.segments.specs.declared.found.Addresses.{Addresses}
+use Rattle.streams.specs.Choice.{IsAnswered}
+use Rattle.streams.specs.Connections.{numbered}
+use Rattle.streams.specs.Passed.{Segment}
 use Rattle.streams.specs.declared.connection.Connection.{Connection}
 use Rattle.streams.specs.declared.connection.Opening.{Opening}
 use Rattle.streams.specs.declared.passed.Side.{Side}
 use Rattle.bgp_recording.specs.Captured.{records_of}
+use Rattle.bgp_recording.specs.declared.entry.Entry.{Entry}
+use Rattle.bgp_recording.specs.declared.framing.Rest.{Rest}
+use Rattle.bgp_import.specs.ListText.{other_side}
 use Rattle.bgp_check.specs.Answered.{JudgedAs}
 use Rattle.bgp_check.specs.Configurations.{IsOf}
 use Rattle.bgp_check.specs.NotJudged.{SendsSome}
@@ -16,7 +24,11 @@ use Rattle.bgp_check.specs.Over.{HasVerdictOver}
 use Rattle.bgp_check.specs.Stretch.{IsStretch}
 use Rattle.bgp_check.specs.WidestMade.{IsFaultless}
 use Rattle.bgp_check.specs.declared.peer_as.PeerAs.{PeerAs}
-use Rattle.bgp_check_tool.specs.Seen.{session_from}
+use Rattle.bgp_check_tool.specs.Blocks.{BothEnds}
+use Rattle.bgp_check_tool.specs.Made.{IsMade}
+use Rattle.bgp_check_tool.specs.Pairs.{session_of}
+use Rattle.bgp_check_tool.specs.Places.{HasConnection, IsToldAt}
+use Rattle.bgp_check_tool.specs.Seen.{seen_from, session_from}
 use Rattle.bgp_check_tool.specs.Told.{EndTold, IsEndTold}
 
 -- What is told of an end is told of a stretch, so that the verdict is the one over all
@@ -30,15 +42,17 @@ VerdictIsOverAll =
     → IsFaultless own
     → HasVerdictOver (IsOf (session_from side session) own) (records_of end.entries) verdict
 
--- A no says that no configuration under which the router's OPEN is its own has a run that shows
--- these records.
+-- A no after so many records says that no configuration under which the router's OPEN is its own
+-- has a run that shows these and one more; nor one, then, that shows all of the records.
 abbrev pub NoConfigurationHasARun : Type 0
 NoConfigurationHasARun =
     (within : ℕ) (session : Session) (opening : Opening) (connection : Connection) (side : Side)
     (told : EndTold) (number : Option ℕ) (peer : PeerAs) (count : ℕ) (own : Option (List ℕ))
     (config : Config) (end : IsEndTold within session opening connection side told)
     → told.answer ≡ JudgedAs number peer (No count) → HasOwnOpen (records_of end.entries) own
-    → IsOf (session_from side session) own config → ¬ Begins config (records_of end.entries)
+    → IsOf (session_from side session) own config
+    → (¬ Begins config (take (count + 1) (records_of end.entries)))
+    × (¬ Begins config (records_of end.entries))
 
 -- A verdict is told only of records with a sent message, the first of which leaves Idle.
 abbrev pub NothingIsVacuous : Type 0
@@ -48,3 +62,42 @@ NothingIsVacuous =
     (end : IsEndTold within session opening connection side told)
     → told.answer ≡ JudgedAs number peer verdict
     → IsStretch (records_of end.entries) × SendsSome (records_of end.entries)
+
+-- ---- of a no that is told of a recording
+
+-- of both ends of a connection that was opened so, this is told of that side
+abbrev pub IsToldOfSide : Opening → EndTold → EndTold → Side → EndTold → Type 0
+IsToldOfSide opening opener other side told =
+    ((side ≡ opening.opened_by) × (told ≡ opener))
+    ⊎ ((side ≡ other_side opening.opened_by) × (told ≡ other))
+
+-- The packets have the connection that was opened so. Of the records that are made of it for this
+-- end no run shows the first so many and one more, under no configuration under which the OPEN that
+-- the end sent is its own.
+pub record NoneHasARun (port : ℕ) (packets : List Recorded) (within last_packet : ℕ)
+    (session : Session) (opening : Opening) (side : Side) (count : ℕ) : Type 0 where
+  pub addresses : Addresses
+  pub segments : List Segment
+  pub has : HasConnection port packets addresses segments opening
+  pub is_session : session ≡ session_of addresses
+  pub connection : Connection
+  pub chosen : IsAnswered (Some opening.number) last_packet (numbered (reverse segments))
+      connection
+  pub entries : List Entry
+  pub received_rest : Rest
+  pub sent_rest : Rest
+  pub made : IsMade within (seen_from side connection) entries received_rest sent_rest
+  pub none : (own : Option (List ℕ)) (config : Config) → HasOwnOpen (records_of entries) own
+      → IsOf (session_from side session) own config
+      → ¬ Begins config (take (count + 1) (records_of entries))
+
+-- that is what a no says that is told of an end, in a block of a recording
+abbrev pub ToldNoHasNoRun : Type 0
+ToldNoHasNoRun =
+    (port within last_packet place : ℕ) (packets : List Recorded) (session : Session)
+    (opening : Opening) (first second : ℕ) (opener other told : EndTold) (side : Side)
+    (number : Option ℕ) (peer : PeerAs) (count : ℕ)
+    → IsToldAt port packets within last_packet place
+    (BothEnds session opening first second opener other)
+    → IsToldOfSide opening opener other side told → told.answer ≡ JudgedAs number peer (No count)
+    → NoneHasARun port packets within last_packet session opening side count

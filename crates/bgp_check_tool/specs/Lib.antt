@@ -11,3 +11,4 @@ pub mod Places
 pub mod Listed
 pub mod Checking
 pub mod Headline
+pub mod Alone

@@ -3,6 +3,7 @@ use Rattle.std.specs.Prelude.{◌≡◌, ℕ, Option, None, Some, false, if◌th
 use Rattle.std.specs.Ordering.{is_gt}
 use Rattle.bgp_prefix.specs.contracts.address.AddressOrd.TheImpl as order
 use Rattle.bgp_prefix.specs.contracts.address.AddressPartialEq.TheImpl as equality
+use Rattle.bgp_prefix.specs.declared.session.RouteRefresh.TheVariants as refreshes
 use Rattle.bgp_prefix.specs.declared.session.Session.{Session}
 use Rattle.segments.specs.Segment.{CutHeader, Finding, Fragment, NoPorts, Nothing, UnknownLink}
 use Rattle.segments.specs.Segment.{Whole}
@@ -25,7 +26,7 @@ addresses_of ends = record { from = ends.from.address; to = ends.to.address }
 
 abbrev pub addresses_in : Finding → Option Addresses
 addresses_in Nothing = None
-addresses_in UnknownLink = None
+addresses_in (UnknownLink link_type) = None
 addresses_in (Fragment addresses) = Some addresses
 addresses_in (NoPorts addresses) = Some addresses
 addresses_in (CutHeader ends) = Some (addresses_of ends)
@@ -42,7 +43,7 @@ abbrev pub session_of : Addresses → Session
 session_of addresses = record {
   local = addresses.from;
   peer = addresses.to;
-  refresh = false;
+  refresh = refreshes.NotOffered;
   extended = false;
 }
 

@@ -12,7 +12,7 @@ use Rattle.bgp_prefix.specs.declared.session.Session.{Session}
 use Rattle.bgp_import.specs.Selecting.{AreTaken}
 use Rattle.bgp_import.specs.declared.refusal.Refusal.{Refusal}
 use Rattle.bgp_import.specs.declared.refusal.Refusal.TheVariants as refusals
-use Rattle.bgp_check_tool.specs.Blocks.{Block, Checked, IsBlock, OneEnd, Refused, Untold}
+use Rattle.bgp_check_tool.specs.Blocks.{Block, BothEnds, IsBlock, OneEnd, Refused, AllRefused}
 use Rattle.bgp_check_tool.specs.Pairs.{AreOrdered, selection_of, session_of}
 use Rattle.bgp_check_tool.specs.Talks.{IsRefusedAt}
 
@@ -52,16 +52,17 @@ module _ (port : ℕ) (packets : List Recorded) where
     pub refused : IsRefusedAt port packets addresses fault place
     pub is : refusal ≡ refusals.Packet fault place
 
-  abbrev pub IsTold : ℕ → ℕ → ℕ → Block → Type 0
-  IsTold within last_packet place (Checked session opening first second opener other) =
+  abbrev pub IsToldAt : ℕ → ℕ → ℕ → Block → Type 0
+  IsToldAt within last_packet place (BothEnds session opening first second opener other) =
       IsToldOfOne within last_packet place session opening
-      (Checked session opening first second opener other)
-  IsTold within last_packet place (OneEnd session opening first second) =
+      (BothEnds session opening first second opener other)
+  IsToldAt within last_packet place (OneEnd session opening first second) =
       IsToldOfOne within last_packet place session opening
       (OneEnd session opening first second)
-  IsTold within last_packet place (Refused session opening refusal) =
+  IsToldAt within last_packet place (Refused session opening refusal) =
       IsToldOfOne within last_packet place session opening (Refused session opening refusal)
-  IsTold within last_packet place (Untold addresses refusal) = IsToldOfAll place addresses refusal
+  IsToldAt within last_packet place (AllRefused addresses refusal) =
+      IsToldOfAll place addresses refusal
 
   -- ---- each of them
 

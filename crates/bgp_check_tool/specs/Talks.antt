@@ -1,5 +1,5 @@
 -- What the packets of a recording hold, two addresses at a time; and what is held of them.
-use Rattle.std.specs.Prelude.{◌≡◌, ◌⊎◌, ◌+◌, ◌++◌, ℕ, false, List, [], ◌∷◌, Option, None, Some}
+use Rattle.std.specs.Prelude.{◌≡◌, ◌≢◌, ◌⊎◌, ◌+◌, ◌++◌, ℕ, false, List, [], ◌∷◌, Option, None, Some}
 use Rattle.std.specs.Prelude.{Result, Ok, Err, length, reverse}
 use Rattle.std.specs.BTreeMap.{get}
 use Rattle.std.specs.Option.{option_or}
@@ -115,14 +115,21 @@ IsRefusedBy fault number before after =
     (after.connections ≡ before.connections)
     × (after.refusal ≡ option_or before.refusal (Some (fault, number)))
 
--- What taking a packet after these comes to: what it has is held; or its link is unknown, or
--- memory was refused.
+-- the packet's link is of a type that is known
+abbrev pub IsLinkKnown : Recorded → Type 0
+IsLinkKnown packet =
+    (link_type : ℕ) → found_in packet.link_type packet.octets ≢ UnknownLink link_type
+
+-- What taking a packet after these comes to: its link is known, and what it has is held; or the
+-- link is unknown, or memory was refused.
 abbrev pub TakesPacket : {Z : Type 0} → ℕ → List Recorded → Recorded
     → Result (Unit {0}) Refusal → Talks Z → Type 0
-TakesPacket port packets packet (Ok done) talks = HoldsEach port (packets ++ packet ∷ []) talks
+TakesPacket port packets packet (Ok done) talks =
+    IsLinkKnown packet × HoldsEach port (packets ++ packet ∷ []) talks
 TakesPacket port packets packet (Err (refusals.Packet fault number)) talks =
-    (fault ≡ faults.Link) × (number ≡ length packets + 1)
-    × (found_in packet.link_type packet.octets ≡ UnknownLink) × HoldsEach port packets talks
+    (link_type : ℕ) × (fault ≡ faults.Link link_type) × (number ≡ length packets + 1)
+    × (found_in packet.link_type packet.octets ≡ UnknownLink link_type)
+    × HoldsEach port packets talks
 TakesPacket port packets packet (Err (refusals.Memory number)) talks =
     (number ≡ length packets + 1) × HoldsSome port packets talks
 TakesPacket port packets packet (Err (refusals.File fault)) talks = ⊥

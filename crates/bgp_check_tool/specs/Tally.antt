@@ -9,7 +9,7 @@ use Rattle.bgp_import.specs.declared.refusal.Cause.TheVariants as causes
 use Rattle.bgp_import.specs.declared.refusal.Refusal.{Refusal}
 use Rattle.bgp_check.specs.Answered.{AnswerValue, JudgedAs, Unjudged}
 use Rattle.bgp_check_tool.specs.declared.tally.Tally.{Tally}
-use Rattle.bgp_check_tool.specs.Blocks.{Block, Checked, OneEnd, Refused, Untold}
+use Rattle.bgp_check_tool.specs.Blocks.{Block, BothEnds, OneEnd, Refused, AllRefused}
 
 -- one more, up to the greatest number that is told
 abbrev pub one_more : ℕ → ℕ
@@ -46,11 +46,11 @@ with_refusal tally refusal = record tally {
 }
 
 abbrev pub with_block : Tally → Block → Tally
-with_block tally (Checked session opening first second opener other) =
+with_block tally (BothEnds session opening first second opener other) =
     with_end (with_end tally opener.answer) other.answer
 with_block tally (OneEnd session opening first second) = with_unjudged (with_unjudged tally)
 with_block tally (Refused session opening refusal) = with_refusal tally refusal
-with_block tally (Untold addresses refusal) = with_refusal tally refusal
+with_block tally (AllRefused addresses refusal) = with_refusal tally refusal
 
 abbrev pub no_tally : Tally
 no_tally = record {

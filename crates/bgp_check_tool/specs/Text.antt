@@ -1,6 +1,6 @@
 -- The lines of an end.
-use Rattle.std.specs.Prelude.{◌++◌, ◌+◌, ◌==◌, Bool, true, false, ℕ, List, [], Option, None, Some, codes}
-use Rattle.std.specs.Prelude.{if◌then◌else◌, length, nat_lt}
+use Rattle.std.specs.Prelude.{◌++◌, ◌+◌, ◌==◌, Bool, true, false, ℕ, List, [], Option, None, Some}
+use Rattle.std.specs.Prelude.{codes, if◌then◌else◌, length, nat_lt}
 use Rattle.std.specs.Fmt.{decimal}
 use Rattle.std.specs.List.{flat_map}
 use Rattle.bgp_prefix.specs.Prefix.{PrefixBits}
@@ -96,13 +96,18 @@ ending_text routes highest e =
 -- ---- a no, and what is unfinished
 
 unfoldable pub note_line : ℕ → List ℕ
-note_line delayed =
+note_line count =
     codes "  note judged in one order that the packets allow; received messages put off: "
-    ++ (decimal delayed ++ codes "\n")
+    ++ (decimal count ++ codes "\n")
 
-unfoldable pub no_text : ℕ → ℕ → List ℕ
+abbrev pub packet_text : Option ℕ → List ℕ
+packet_text None = []
+packet_text (Some packet) = codes ", packet " ++ decimal packet
+
+-- the record after so many, and the packet that shows it
+unfoldable pub no_text : ℕ → Option ℕ → List ℕ
 no_text count packet =
-    codes "no at record " ++ (decimal (count + 1) ++ (codes ", packet " ++ decimal packet))
+    codes "no at record " ++ (decimal (count + 1) ++ packet_text packet)
 
 -- ---- all of it
 
@@ -111,9 +116,9 @@ verdict_text routes told number peer (Yes ends) =
     codes "yes" ++ (whose_text told.end number peer
     ++ flat_map (ending_text routes told.highest) ends)
 verdict_text routes told number peer (No count) =
-    no_text count told.packet ++ (whose_text told.end number peer ++ note_line told.delayed)
+    no_text count told.packet ++ (whose_text told.end number peer ++ note_line told.put_off)
 verdict_text routes told number peer Unfinished =
-    codes "unfinished" ++ (whose_text told.end number peer ++ note_line told.delayed)
+    codes "unfinished" ++ (whose_text told.end number peer ++ note_line told.put_off)
 
 abbrev pub answer_text : Bool → EndTold → AnswerValue → List ℕ
 answer_text routes told (Unjudged why) = not_judged_line told.end why

@@ -1,5 +1,5 @@
 -- What is told of one of a connection's two ends.
-use Rattle.std.specs.Prelude.{◌≡◌, ℕ, List, [], ◌∷◌, Option, None, Some, max}
+use Rattle.std.specs.Prelude.{◌≡◌, ℕ, List, [], ◌∷◌, Option, None, max, option_map}
 use Rattle.std.specs.List.{slice_get}
 use Rattle.bgp_prefix.specs.Shown.{ShownRecord, Changed}
 use Rattle.bgp_prefix.specs.declared.session.Session.{Session}
@@ -24,8 +24,9 @@ pub record EndTold : Type 0 where
   pub end : Endpoint
   pub answer : AnswerValue
   -- the packet that shows the first impossible record, of a no
-  pub packet : ℕ
-  pub delayed : ℕ
+  pub packet : Option ℕ
+  -- how many received messages are put off in the order that is judged
+  pub put_off : ℕ
   -- the number of the highest state that is told
   pub highest : ℕ
 
@@ -34,7 +35,7 @@ told_value told = record {
   end = told.end;
   answer = answer_value told.answer;
   packet = told.packet;
-  delayed = told.put_off;
+  put_off = told.put_off;
   highest = told.highest;
 }
 
@@ -49,17 +50,14 @@ highest_state [] = 0
 highest_state (shown ∷ records) = max (new_state shown) (highest_state records)
 
 -- the packet that shows the first impossible record, where there is one
-abbrev pub packet_in : Option Entry → ℕ
-packet_in None = 0
-packet_in (Some entry) = entry.packet
+abbrev pub packet_by : VerdictValue → List Entry → Option ℕ
+packet_by (Yes ends) entries = None
+packet_by (No count) entries =
+    option_map (λ (entry : Entry). entry.packet) (slice_get entries count)
+packet_by Unfinished entries = None
 
-abbrev pub packet_by : VerdictValue → List Entry → ℕ
-packet_by (Yes ends) entries = 0
-packet_by (No count) entries = packet_in (slice_get entries count)
-packet_by Unfinished entries = 0
-
-abbrev pub packet_of : AnswerValue → List Entry → ℕ
-packet_of (Unjudged why) entries = 0
+abbrev pub packet_of : AnswerValue → List Entry → Option ℕ
+packet_of (Unjudged why) entries = None
 packet_of (JudgedAs number peer verdict) entries = packet_by verdict entries
 
 -- This is told of that end of the connection: what is answered of the records that are made of it
@@ -74,5 +72,5 @@ pub record IsEndTold (within : ℕ) (session : Session) (opening : Opening) (con
   pub is_end : told.end ≡ end_of side session opening
   pub answers : IsAnswerTo (session_from side session) (records_of entries) told.answer
   pub is_packet : told.packet ≡ packet_of told.answer entries
-  pub is_delayed : told.delayed ≡ put_off 0 entries
+  pub is_put_off : told.put_off ≡ put_off 0 entries
   pub is_highest : told.highest ≡ highest_state (records_of entries)

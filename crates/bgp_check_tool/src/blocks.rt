@@ -2,7 +2,7 @@
 
 ghost use Rattle.std.specs.Prelude.{◌≡◌};
 ghost use Rattle.bgp_text.specs.Lines.{Writes};
-ghost use Rattle.bgp_check_tool.specs.Blocks.{Untold, block_of, block_text, both_text};
+ghost use Rattle.bgp_check_tool.specs.Blocks.{block_of, block_text, both_text};
 ghost use Rattle.bgp_check_tool.specs.Blocks.{ends_text, neither_text, session_text};
 ghost use Rattle.bgp_check_tool.specs.Blocks.{turned_down_text};
 ghost use Rattle.bgp_check_tool.specs.Tally.{with_block};

@@ -4,9 +4,9 @@ ghost use Rattle.std.specs.Prelude.{◌≡◌, ◌<◌, ◌^◌, List};
 ghost use Rattle.packets.specs.Packet.{Recorded};
 ghost use Rattle.bgp_text.specs.Lines.{Writes};
 ghost use Rattle.bgp_check_tool.specs.Checking.{ChecksRecording, PutsAll, PutsBlock, file_text};
-ghost use Rattle.bgp_check_tool.specs.Checking.{first_refusal, nothing_by, with_file};
+ghost use Rattle.bgp_check_tool.specs.Checking.{cut_note, nothing_by, with_file};
 ghost use Rattle.bgp_check_tool.specs.Listed.{CanBeTold, IsListed};
-ghost use Rattle.bgp_check_tool.specs.Reading.{stopped_by};
+ghost use Rattle.bgp_check_tool.specs.Reading.{cut_short_at};
 ghost use Rattle.bgp_check_tool.specs.Talks.{HoldsSome};
 
 use crate::blocks::{put_connection, put_session, with_connection};
@@ -17,7 +17,7 @@ use crate::options::CheckOptions;
 use crate::pairs::selection_of;
 use crate::talks::{Talks, take_all};
 use crate::tally::Tally;
-use bgp_import::{Refusal, put_refusal, refused};
+use bgp_import::{CutShort, Refusal, put_refusal, refused};
 use bgp_judge::Tracker;
 use bgp_text::Lines;
 use bgp_tool::hand_over;
@@ -26,11 +26,14 @@ use packets::Reader;
 use std::alloc::Allocator;
 
 /// How checking a recording ended.
-#[derive(Clone, Copy, Debug, PartialEq, Eq)]
+#[derive(Clone, Copy, Debug)]
 pub struct CheckedRecording {
     /// The exit status.
     pub status: u8,
-    /// Why the file wasn't read to its end, if it wasn't.
+    /// That the file was cut short, where it was: a line says so.
+    pub cut_short: Option<CutShort>,
+    /// Why the file wasn't read to its end, if it wasn't; else that there was no memory for a list
+    /// of what it holds, if there was none.
     pub refusal: Option<Refusal>,
     /// That no end is judged, of a file that was read to its end.
     pub nothing: Option<NothingJudged>,
@@ -95,22 +98,43 @@ fn put_all<A: Allocator + Copy, T: Tracker<A>, W: Sink>(
     (tally, None)
 }
 
-/// The first refusal, if there is one.
-fn first_refusal(lacking: Option<Refusal>, taken: Result<(), Refusal>) -> Option<Refusal>
-    ensures { result ≡ first_refusal lacking (stopped_by taken) }
+/// That the file was cut short after so many packets, where it was and was read so far.
+fn cut_short_at(packets: u64, is_cut_short: bool, stopped: Option<Refusal>) -> Option<CutShort>
+    ensures { result ≡ cut_short_at packets is_cut_short stopped }
 {
-    match (lacking, taken) {
-        (Some(refusal), _) | (None, Err(refusal)) => Some(refusal),
-        (None, Ok(())) => None,
+    match stopped {
+        None => CutShort::told(is_cut_short, packets),
+        Some(_) => None,
     }
 }
 
-/// Puts why the file can't be read on, if it can't.
-fn put_file<W: Sink>(lines: &mut Lines<'_, W>, refusal: Option<Refusal>)
-    ensures { Writes lines.old lines.new (file_text refusal) }
+/// Puts why the file is refused, if it is, and answers the tally with that.
+fn put_file<W: Sink>(lines: &mut Lines<'_, W>, tally: Tally, refusal: Option<Refusal>) -> Tally
+    ensures wrote { Writes lines.old lines.new (file_text refusal) }
+    ensures tallied { result ≡ with_file tally refusal }
 {
     match refusal {
-        Some(refusal) => put_refusal(lines, refusal),
+        Some(refusal) => {
+            put_refusal(lines, refusal);
+            tally.with_refusal(refusal)
+        }
+        None => {
+            lines.put(b"");
+            tally
+        }
+    }
+}
+
+/// Puts that the file was cut short, where it was.
+fn put_cut_short<W: Sink>(lines: &mut Lines<'_, W>, cut_short: Option<CutShort>)
+    ensures { Writes lines.old lines.new (cut_note cut_short) }
+{
+    match cut_short {
+        Some(CutShort { before }) => {
+            lines.put(b"note the recording is cut short in packet ");
+            lines.put_decimal(before as u128 + 1);
+            lines.put(b"\n");
+        }
         None => lines.put(b""),
     }
 }
@@ -125,16 +149,6 @@ fn nothing_by(port: u16, judged: bool, refusal: Option<Refusal>) -> Option<Nothi
     }
 }
 
-/// The tally with that.
-fn with_file(tally: Tally, refusal: Option<Refusal>) -> Tally
-    ensures { result ≡ with_file tally refusal }
-{
-    match refusal {
-        Some(refusal) => tally.with_refusal(refusal),
-        None => tally,
-    }
-}
-
 /// Checks each end of each connection in a recording that holds octets and one of whose ports is
 /// this one: whether its messages are those of a run of the session machine (RFC 4271, 8.2.2) under
 /// some configuration under which the OPEN that it sent is its own.
@@ -142,12 +156,13 @@ fn with_file(tally: Tally, refusal: Option<Refusal>) -> Tally
 /// It writes a line for each connection, in the order of their first packets, and after it what is
 /// told of both ends, first of that which opened it: the verdict, for which AS number of its peer
 /// it is told, and of a yes each possible end; or why it isn't judged. Then why the file can't be
-/// read on, if it can't, and last how many ends there are of each verdict. It answers the exit
-/// status over all ends, the first of 5, 4, 1, 3, 2, 0 for which there is something:
+/// read on, if it can't, that memory was refused for a list of the connections, if it was, and that
+/// the file was cut short, if it was; last how many ends there are of each verdict. It answers the exit status over all ends, the
+/// first of 5, 4, 1, 3, 2, 0 for which there is something:
 ///
 /// * 0: a yes.
 /// * 1: a no. What it is worth says
-///   [`no_configuration_explains_a_no`](bgp_check::no_configuration_explains_a_no).
+///   [`no_configuration_has_a_run`](crate::no_configuration_has_a_run).
 /// * 2: an end is unfinished: the recording stops within what it had to do.
 /// * 3: the recording or a connection is refused; or no end is judged.
 /// * 4: memory was refused.
@@ -163,17 +178,20 @@ pub fn check_recording<A: Allocator + Copy, T: Tracker<A>, R: Source, W: Sink>(
 ) -> CheckedRecording
     requires source { R.failures source.old < 2 ^ 63 }
     requires sink { W.failures sink.old < 2 ^ 63 }
-    ensures { ChecksRecording R.gives R.has_ended W.takes W.failures options.now source.old
-        source.new sink.old sink.new result.status result.refusal result.nothing }
+    ensures { ChecksRecording R.gives R.has_ended W.takes R.failures W.failures options.now
+        source.old source.new sink.old sink.new result.status result.cut_short result.refusal
+        result.nothing }
 {
     let mut reader = Reader::new(alloc);
     let mut talks = Talks::new(alloc, options.port);
-    let taken = take_all(&mut reader, &mut talks, source);
+    let stopped = take_all(&mut reader, &mut talks, source).err();
+    let cut_short = cut_short_at(reader.number(), reader.is_cut_short(), stopped);
     let mut lines = Lines::new(sink);
     let (tally, lacking) = put_all::<A, T, W>(alloc, options, &talks, reader.number(), &mut lines);
-    let refusal = first_refusal(lacking, taken);
-    put_file(&mut lines, refusal);
-    let tally = with_file(tally, refusal);
+    let tally = put_file(&mut lines, tally, stopped);
+    let tally = put_file(&mut lines, tally, lacking);
+    put_cut_short(&mut lines, cut_short);
+    let refusal = stopped.or(lacking);
     tally.put_nothing(&mut lines, options.port);
     tally.put(&mut lines);
     let status = hand_over(&mut lines, tally.status());
@@ -181,6 +199,7 @@ pub fn check_recording<A: Allocator + Copy, T: Tracker<A>, R: Source, W: Sink>(
     lines.into_sink();
     CheckedRecording {
         status: status.code(),
+        cut_short,
         refusal,
         nothing: nothing_by(options.port, tally.has_verdict(), refusal),
     }

@@ -9,8 +9,8 @@ ghost use Rattle.streams.specs.Passed.{Segment};
 ghost use Rattle.bgp_recording.specs.Gathered.{IsClocked, IsCovered};
 ghost use Rattle.bgp_import.specs.ListText.{other_side};
 ghost use Rattle.bgp_import.specs.declared.refusal.Refusal.TheVariants.{Memory as OfMemory};
-ghost use Rattle.bgp_check_tool.specs.Blocks.{AreOne, HasRefresh, IsBlock, IsUntold, block_of};
-ghost use Rattle.bgp_check_tool.specs.Blocks.{octets_from};
+ghost use Rattle.bgp_check_tool.specs.Blocks.{AreOne, HasRefresh, IsBlock, IsFirstRefresh};
+ghost use Rattle.bgp_check_tool.specs.Blocks.{IsUntold, block_of, octets_from};
 ghost use Rattle.bgp_check_tool.specs.Talks.{AreHeld};
 ghost use Rattle.bgp_check_tool.specs.Told.{IsEndTold, told_value};
 
@@ -71,8 +71,8 @@ fn check_side<A: Allocator + Copy, T: Tracker<A>>(
     requires sent { IsCovered connection.now.sent }
     ensures ok { IfOk result (λ told. IsClocked connection.now → IsEndTold between.now.within
         between.now.session opening connection.now side (told_value told)) }
-    ensures err { IfErr result (λ untold. IsClocked connection.now
-        → IsUntold between.now.within connection.now untold) }
+    ensures err { IfErr result (λ untold. IsClocked connection.now → IsUntold
+        (λ refusal. HasRefresh between.now.within connection.now side (Some refusal)) untold) }
 {
     let Ok(made) = made_of(alloc, &seen_from(connection, side), between.within) else {
         return Err(Untold::NoMemory);
@@ -117,8 +117,8 @@ fn check_both<A: Allocator + Copy, T: Tracker<A>>(
         both.opener_octets ≡ octets_from opening.opened_by connection.now) }
     ensures other_octets { IfOk result (λ both.
         both.other_octets ≡ octets_from (other_side opening.opened_by) connection.now) }
-    ensures err { IfErr result (λ untold. IsClocked connection.now
-        → IsUntold between.now.within connection.now untold) }
+    ensures err { IfErr result (λ untold. IsClocked connection.now → IsUntold
+        (IsFirstRefresh between.now.within connection.now opening.opened_by) untold) }
 {
     let from = opening.opened_by;
     let opener = check_side::<A, T>(alloc, between, opening, connection, from)?;

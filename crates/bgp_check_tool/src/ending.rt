@@ -1,12 +1,11 @@
 //! What is told of one of a connection's two ends.
 
 ghost use Rattle.std.specs.Prelude.{◌≡◌, IfOk, map};
-ghost use Rattle.bgp_judge.specs.Verdict.{verdict_value};
 ghost use Rattle.mrt.specs.Reader.{shown_of};
 ghost use Rattle.bgp_check.specs.Answered.{IsAnswerTo, answer_value};
 ghost use Rattle.bgp_import.specs.Captures.{put_off};
 ghost use Rattle.bgp_recording.specs.Captured.{records_of};
-ghost use Rattle.bgp_check_tool.specs.Told.{highest_state, new_state, packet_by, packet_of};
+ghost use Rattle.bgp_check_tool.specs.Told.{highest_state, new_state, packet_of};
 
 use crate::making::records_of;
 use bgp_check::{Answer, check_end};
@@ -25,8 +24,8 @@ pub(crate) struct Told<A: Allocator> {
     pub(crate) end: Endpoint,
     /// What is answered of its records.
     pub(crate) answer: Answer<A>,
-    /// The packet that shows the first impossible record, where there is one; else 0.
-    pub(crate) packet: u64,
+    /// The packet that shows the first impossible record, of a no.
+    pub(crate) packet: Option<u64>,
     /// How many received messages are put off in the order that is judged.
     pub(crate) put_off: usize,
     /// The number of the highest state that the records tell (RFC 6396, 4.4.1).
@@ -55,24 +54,18 @@ fn highest_state(records: &[Record<'_>]) -> u16
 }
 
 /// The packet that shows the first impossible record: of a no alone.
-fn packet_by<A: Allocator>(verdict: &Verdict<A>, entries: &[Entry<'_>]) -> u64
-    ensures { result ≡ packet_by (verdict_value verdict.now) entries.now }
-{
-    match verdict {
-        Verdict::No(count) => match entries.get(*count as usize) {
-            Some(entry) => entry.packet,
-            None => 0,
-        },
-        Verdict::Yes(_) | Verdict::Unfinished => 0,
-    }
-}
-
-fn packet_of<A: Allocator>(answer: &Answer<A>, entries: &[Entry<'_>]) -> u64
+fn packet_of<A: Allocator>(answer: &Answer<A>, entries: &[Entry<'_>]) -> Option<u64>
     ensures { result ≡ packet_of (answer_value answer.now) entries.now }
 {
-    match answer {
-        Answer::Judged(judged) => packet_by(&judged.verdict, entries),
-        Answer::NotJudged(_) => 0,
+    let Answer::Judged(judged) = answer else {
+        return None;
+    };
+    match &judged.verdict {
+        Verdict::No(count) => match entries.get(*count as usize) {
+            Some(entry) => Some(entry.packet),
+            None => None,
+        },
+        Verdict::Yes(_) | Verdict::Unfinished => None,
     }
 }
 
@@ -88,7 +81,7 @@ pub(crate) fn told_by<A: Allocator + Copy, T: Tracker<A>>(
         (records_of made.now.entries.items) (answer_value told.answer)) }
     ensures packet { IfOk result (λ told. told.packet
         ≡ packet_of (answer_value told.answer) made.now.entries.items) }
-    ensures delayed { IfOk result (λ told. told.put_off ≡ put_off 0 made.now.entries.items) }
+    ensures put_off { IfOk result (λ told. told.put_off ≡ put_off 0 made.now.entries.items) }
     ensures highest { IfOk result (λ told. told.highest
         ≡ highest_state (records_of made.now.entries.items)) }
 {

@@ -1,14 +1,19 @@
 //! Laws of what is told of an end, each on a function that does nothing.
 
+ghost use Rattle.bgp_check_tool.specs.Alone.{ConnectionsStandAlone, EachConnectionIsTold};
+ghost use Rattle.bgp_check_tool.specs.Alone.{EachRefusalIsTold, NoneBeginsAtARefusal};
+ghost use Rattle.bgp_check_tool.specs.Alone.{RefusalsStandAlone};
 ghost use Rattle.bgp_check_tool.specs.Headline.{NoConfigurationHasARun, NothingIsVacuous};
-ghost use Rattle.bgp_check_tool.specs.Headline.{VerdictIsOverAll};
+ghost use Rattle.bgp_check_tool.specs.Headline.{ToldNoHasNoRun, VerdictIsOverAll};
 
 use bgp_check::no_configuration_explains_a_no;
 
 /// A no of [`check_recording`](crate::check_recording) says that no configuration under which the
-/// router's OPEN is its own has a run that shows these records.
+/// router's OPEN is its own has a run that shows these records: none shows even those before the
+/// one that it names, and that one. So it is of each no in a block that is told of a recording.
 pub fn no_configuration_has_a_run()
-    ensures { NoConfigurationHasARun }
+    ensures end { NoConfigurationHasARun }
+    ensures told { ToldNoHasNoRun }
 {
     no_configuration_explains_a_no();
 }
@@ -23,4 +28,16 @@ pub fn a_verdict_is_over_all_configurations()
 /// Idle: no yes is vacuous.
 pub fn no_verdict_is_vacuous()
     ensures { NothingIsVacuous }
+{}
+
+/// No two connections in a recording begin at one packet, and none where a packet is refused; and
+/// that is refused for no two pairs of addresses. So [`check_recording`](crate::check_recording),
+/// which tells what stands at each of these packets, tells each connection, and each two addresses
+/// of whose connections none can be told; and that their packets rise says that it tells each once.
+pub fn each_stands_at_a_packet_of_its_own()
+    ensures connections { ConnectionsStandAlone }
+    ensures refusals { RefusalsStandAlone }
+    ensures neither { NoneBeginsAtARefusal }
+    ensures told { EachConnectionIsTold }
+    ensures refused { EachRefusalIsTold }
 {}

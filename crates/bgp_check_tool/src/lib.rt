@@ -26,7 +26,8 @@ mod tally;
 
 pub use checking::{CheckedRecording, check_recording};
 pub use laws::{
-    a_verdict_is_over_all_configurations, no_configuration_has_a_run, no_verdict_is_vacuous,
+    a_verdict_is_over_all_configurations, each_stands_at_a_packet_of_its_own,
+    no_configuration_has_a_run, no_verdict_is_vacuous,
 };
 pub use nothing::NothingJudged;
 pub use options::CheckOptions;

@@ -7,8 +7,9 @@ ghost use Rattle.bgp_judge.specs.Verdict.{verdict_value};
 ghost use Rattle.bgp_text.specs.Lines.{Writes};
 ghost use Rattle.bgp_check_tool.specs.Text.{as_text, ending_line, ending_text, families_name};
 ghost use Rattle.bgp_check_tool.specs.Text.{no_text, not_judged_line, note_line, one_end_line};
-ghost use Rattle.bgp_check_tool.specs.Text.{peer_text, reached_text, reason_text, route_line};
-ghost use Rattle.bgp_check_tool.specs.Text.{state_name, told_lines, verdict_text, whose_text};
+ghost use Rattle.bgp_check_tool.specs.Text.{packet_text, peer_text, reached_text, reason_text};
+ghost use Rattle.bgp_check_tool.specs.Text.{route_line, state_name, told_lines, verdict_text};
+ghost use Rattle.bgp_check_tool.specs.Text.{whose_text};
 ghost use Rattle.bgp_check_tool.specs.Told.{told_value};
 
 use crate::ending::Told;
@@ -210,14 +211,26 @@ fn put_note<W: Sink>(lines: &mut Lines<'_, W>, put_off: usize)
     lines.put(b"\n");
 }
 
+/// The packet that shows a record, if one does.
+fn put_packet<W: Sink>(lines: &mut Lines<'_, W>, packet: Option<u64>)
+    ensures { Writes lines.old lines.new (packet_text packet) }
+{
+    match packet {
+        Some(packet) => {
+            lines.put(b", packet ");
+            lines.put_decimal(packet);
+        }
+        None => lines.put(b""),
+    }
+}
+
 /// The record at which a no stands, after so many, and the packet that shows it.
-fn put_no<W: Sink>(lines: &mut Lines<'_, W>, count: u64, packet: u64)
+fn put_no<W: Sink>(lines: &mut Lines<'_, W>, count: u64, packet: Option<u64>)
     ensures { Writes lines.old lines.new (no_text count packet) }
 {
     lines.put(b"no at record ");
     lines.put_decimal(count as u128 + 1);
-    lines.put(b", packet ");
-    lines.put_decimal(packet);
+    put_packet(lines, packet);
 }
 
 /// The lines of an end's verdict.

@@ -1,12 +1,13 @@
 //! The records that are made of a connection for one of its ends.
 
-ghost use Rattle.std.specs.Prelude.{◌≡◌, IfOk, map, option_map};
+ghost use Rattle.std.specs.Prelude.{◌≡◌, IfOk, IfSome, map, option_map};
+ghost use Rattle.bgp_open.specs.OpenFault.{IsWellFormed};
 ghost use Rattle.mrt.specs.Reader.{shown_of};
 ghost use Rattle.bgp_recording.specs.Captured.{records_of};
 ghost use Rattle.bgp_recording.specs.Gathered.{IsClocked, IsCovered};
-ghost use Rattle.bgp_check_tool.specs.Made.{HasLimit, IsExtended, IsMade};
+ghost use Rattle.bgp_check_tool.specs.Made.{HasLimit, IsMade, is_extended};
 
-use bgp_check::{offer_of, own_open, peers_open};
+use bgp_check::{heard_open, offer_of, own_open};
 use bgp_open::read_open;
 use bgp_recording::{Entry, Recording, make_records};
 use bgp_wire::Limit;
@@ -28,25 +29,27 @@ pub(crate) fn records_of<'a, A: Allocator + Copy>(
     Ok(records)
 }
 
-/// Whether there is a well-formed OPEN, and it offers extended messages (RFC 8654, 4).
+/// Whether there is an OPEN, and it offers extended messages (RFC 8654, 4).
 fn is_extended(octets: Option<&[u8]>) -> bool
-    ensures { IsExtended (option_map (λ o. o.now) octets.entry) result }
+    requires { IfSome octets (λ o. IsWellFormed o.now) }
+    ensures { result ≡ is_extended (option_map (λ o. o.now) octets.entry) }
 {
     let Some(octets) = octets else {
         return false;
     };
     match read_open(octets) {
         Ok(message) => offer_of(&message).extended,
-        Err(_) => false,
+        Err(_) => unreachable!(),
     }
 }
 
-/// How long the messages of a connection may be: extended where one of both OPENs offers that.
+/// How long the messages of a connection may be: extended where one of both OPENs offers that, the
+/// first well-formed one of either system.
 fn limit_of(records: &[Record<'_>]) -> Limit
     ensures { HasLimit (map shown_of records.now) result }
 {
     let mine = is_extended(own_open(records));
-    let its = is_extended(peers_open(records));
+    let its = is_extended(heard_open(records));
     Limit::with_extended(mine || its)
 }
 

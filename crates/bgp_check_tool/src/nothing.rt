@@ -3,7 +3,7 @@
 use std::fmt;
 
 /// That no end in a recording is judged.
-#[derive(Clone, Copy, Debug, PartialEq, Eq)]
+#[derive(Clone, Copy, Debug)]
 pub struct NothingJudged {
     /// The port whose connections were looked for.
     pub port: u16,

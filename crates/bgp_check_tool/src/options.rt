@@ -1,7 +1,7 @@
 //! How a recording is checked.
 
 /// How a recording is checked.
-#[derive(Clone, Copy, Debug, PartialEq, Eq)]
+#[derive(Clone, Copy, Debug)]
 pub struct CheckOptions {
     /// The port on which BGP is awaited: 179 (RFC 4271, 2), unless the systems have another.
     pub port: u16,

@@ -5,7 +5,7 @@ ghost use Rattle.segments.specs.Segment.{finding_of};
 ghost use Rattle.bgp_check_tool.specs.Pairs.{addresses_in, ordered, selection_of};
 
 use bgp_import::Selection;
-use bgp_prefix::Session;
+use bgp_prefix::{RouteRefresh, Session};
 use segments::{Addresses, Found};
 use std::cmp::Ordering;
 
@@ -14,7 +14,7 @@ pub(crate) fn addresses_of(found: Found<'_>) -> Option<Addresses>
     ensures { result ≡ addresses_in (finding_of found.entry) }
 {
     match found {
-        Found::Nothing | Found::UnknownLink => None,
+        Found::Nothing | Found::UnknownLink(_) => None,
         Found::Fragment(addresses) | Found::NoPorts(addresses) => Some(addresses),
         Found::CutHeader(ends) => Some(Addresses {
             from: ends.from.address,
@@ -49,7 +49,7 @@ pub(crate) fn selection_of(addresses: Addresses, port: u16) -> Selection
         session: Session {
             local: addresses.from,
             peer: addresses.to,
-            refresh: false,
+            refresh: RouteRefresh::NotOffered,
             extended: false,
         },
         port,

@@ -1,21 +1,11 @@
 //! A connection as either of its systems has it.
 
 ghost use Rattle.std.specs.Prelude.{◌≡◌};
-ghost use Rattle.bgp_check_tool.specs.Seen.{other_end, seen_from, session_from};
+ghost use Rattle.bgp_check_tool.specs.Seen.{seen_from, session_from};
 
 use bgp_import::other_side;
 use bgp_prefix::Session;
 use streams::{Connection, End, Side};
-
-/// The end of a connection, as the other system has it.
-fn other_end(end: End) -> End
-    ensures { result ≡ other_end end }
-{
-    End {
-        side: other_side(end.side),
-        ..end
-    }
-}
 
 /// The connection as this of its systems has it: what that system sent is sent.
 pub fn seen_from<'a>(connection: &Connection<'a>, side: Side) -> Connection<'a>
@@ -30,7 +20,10 @@ pub fn seen_from<'a>(connection: &Connection<'a>, side: Side) -> Connection<'a>
             received: connection.sent,
             sent: connection.received,
             end: match connection.end {
-                Some(end) => Some(other_end(end)),
+                Some(end) => Some(End {
+                    side: other_side(end.side),
+                    ..end
+                }),
                 None => None,
             },
             ..*connection

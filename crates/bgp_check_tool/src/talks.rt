@@ -1,13 +1,14 @@
 //! All connections of a recording, by their two addresses.
 
 ghost use Rattle.std.specs.Prelude.{◌≡◌, ◌<◌, ◌+◌, ◌++◌, ◌∷◌, ℕ, [], List, OnErr, OnOk, length};
+ghost use Rattle.std.specs.Result.{result_err};
 ghost use Rattle.packets.specs.Packet.{Recorded, recorded_of};
 ghost use Rattle.packets.specs.Reader.{fresh_reader};
 ghost use Rattle.segments.specs.Found.{found_in};
 ghost use Rattle.segments.specs.Segment.{finding_of};
 ghost use Rattle.streams.specs.Passed.{segment_of};
 ghost use Rattle.bgp_check_tool.specs.Pairs.{IsBetween};
-ghost use Rattle.bgp_check_tool.specs.Reading.{TakesAll};
+ghost use Rattle.bgp_check_tool.specs.Reading.{TakesAll, failures_of};
 ghost use Rattle.bgp_check_tool.specs.Talks.{Changes, HoldsEach, IsRefusedBy, IsSameTalk};
 ghost use Rattle.bgp_check_tool.specs.Talks.{KeepsOthers, TakesPacket, TakesSegment};
 
@@ -125,8 +126,8 @@ impl<A: Allocator + Copy> Talks<A> {
             → TakesPacket port packets (recorded_of packet.now) result self.new }
     {
         let found = read_segment(packet.link_type, packet.octets);
-        if matches!(found, Found::UnknownLink) {
-            return Err(refused(PacketFault::Link, packet.number));
+        if let Found::UnknownLink(link_type) = found {
+            return Err(refused(PacketFault::Link(link_type), packet.number));
         }
         let Some(addresses) = addresses_of(found) else {
             return Ok(());
@@ -153,8 +154,10 @@ pub(crate) fn take_all<A: Allocator + Copy, R: Source>(
     requires fresh { reader.old ≡ fresh_reader }
     requires failures { R.failures source.old < u64.MAX }
     requires empty { HoldsEach talks.old.port [] talks.old }
-    ensures { TakesAll R.gives R.has_ended talks.old.port source.old source.new talks.new
-        reader.new.number result }
+    ensures takes { TakesAll R.gives R.has_ended talks.old.port source.old source.new talks.new
+        reader.new.number reader.new.is_cut result }
+    ensures failures { R.failures source.new
+        ≡ R.failures source.old + failures_of (result_err result) }
 {
     loop {
         let taken = match reader.next_packet(source) {

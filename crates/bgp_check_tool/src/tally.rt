@@ -19,7 +19,7 @@ use std::alloc::Allocator;
 
 /// How many ends there are of each verdict, and how many refusals. No count goes beyond the
 /// greatest `u64`.
-#[derive(Clone, Copy, Debug, PartialEq, Eq)]
+#[derive(Clone, Copy)]
 pub(crate) struct Tally {
     yes: u64,
     no: u64,

@@ -2,8 +2,8 @@ use Rattle.std.proofs.Common.{List, None, Some, map, refl, subst, sym}
 use Rattle.std.proofs.Math.ListN.{drop_of_length-le}
 use Rattle.mrt.specs.Reader.{shown_of}
 use Rattle.mrt.specs.declared.record.Record.{Record}
-use Rattle.bgp_check.specs.Opens.{HasPeersOpen}
-use Rattle.bgp_check.proofs.FirstOpens.{peers_here, peers_behind}
+use Rattle.bgp_check.specs.Opens.{HasPeersOpen, IsOpenMessage}
+use Rattle.bgp_check.proofs.FirstOpens.{received_here, received_behind}
 use Rattle.bgp_check.proofs.opens.peers_open.Goals as goal
 
 pub loop-record-init : goal.loop-record-init
@@ -12,11 +12,11 @@ loop-record-init c = λ it has. has
 pub returns-in-Some : goal.returns-in-Some
 returns-in-Some c =
     c.loop-record.invariant (Some c.in-Some.octets.now)
-    (peers_here c.args.records.now c.loop-record.record-index _ c.loop-record-test.true c.in-Some.octets.now c.in-Some.ensures.some)
+    (received_here c.args.records.now c.loop-record.record-index _ c.loop-record-test.true IsOpenMessage c.in-Some.octets.now c.in-Some.ensures.some)
 
 pub loop-record-preserved : goal.loop-record-preserved
 loop-record-preserved c = λ it later.
-    c.loop-record.invariant it (peers_behind c.args.records.now c.loop-record.record-index _ c.loop-record-test.true it c.in-None.ensures.none later)
+    c.loop-record.invariant it (received_behind c.args.records.now c.loop-record.record-index _ c.loop-record-test.true IsOpenMessage it c.in-None.ensures.none later)
 
 pub returns : goal.returns
 returns c =

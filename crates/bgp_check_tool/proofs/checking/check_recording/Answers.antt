@@ -1,4 +1,4 @@
-use Rattle.std.proofs.Common.{◌≡◌, ◌∙◌, ◌⊎◌, ℕ, Bool, List, [], None, Some, ap, subst, sym, rules}
+use Rattle.std.proofs.Common.{◌≡◌, ◌∙◌, ◌⊎◌, ◌+◌, ℕ, Bool, List, [], Option, None, Some, ap, subst, sym, rules}
 use Rattle.std.specs.List.Sorted.{IsStrictlySortedBy}
 use Rattle.std.specs.Map.{keys_of}
 use Rattle.std.specs.Ordering.{nat_cmp}
@@ -7,47 +7,53 @@ use Rattle.bgp_text.proofs.Fresh.{IsFresh}
 use Rattle.bgp_text.proofs.Pieces.{Joins, and_nothing, and_then}
 use Rattle.bgp_check_tool.specs.declared.tally.Tally.{Tally}
 use Rattle.bgp_check_tool.specs.Checking.{nothing_by, with_file}
-use Rattle.bgp_check_tool.specs.Reading.{TakesAll, stopped_by}
+use Rattle.bgp_check_tool.specs.Reading.{IsMemory, IsReadTo, TakesAll, cut_short_at, failures_of, looked_at}
 use Rattle.bgp_check_tool.specs.Talks.{HoldsEach, HoldsSome}
+use Rattle.bgp_import.specs.declared.refusal.Refusal.{Refusal}
 use Rattle.bgp_import.specs.declared.refusal.Refusal.TheVariants as refusals
-use Rattle.bgp_check_tool.proofs.Texts.{told_as}
+use Rattle.bgp_check_tool.proofs.Texts.{coded_as, told_as}
 use Rattle.bgp_check_tool.proofs.AllTold.{as_many, nothing_lacks}
 use Rattle.bgp_check_tool.proofs.checking.check_recording.Goals as goal
 
-pub take_all-taken-requires-clause-empty : goal.take_all-taken-requires-clause-empty
-take_all-taken-requires-clause-empty g c = subst (λ (p : ℕ). HoldsEach p [] c.new-talks.result) (sym c.new-talks.ensures.right.is_port) c.new-talks.ensures
+pub take_all-requires-clause-empty : goal.take_all-requires-clause-empty
+take_all-requires-clause-empty g c = subst (λ (p : ℕ). HoldsEach p [] c.new-talks.result) (sym c.new-talks.ensures.right.is_port) c.new-talks.ensures
 
 pub put_all-lacking-requires : goal.put_all-lacking-requires
 put_all-lacking-requires g c =
-    let taken = c.take_all-taken.ensures in
-    (taken.packets, subst (λ (p : ℕ). HoldsSome p taken.packets c.take_all-taken.new.talks) c.new-talks.ensures.right.is_port taken.some)
+    let taken = c.take_all.ensures.takes in
+    (taken.packets, subst (λ (p : ℕ). HoldsSome p taken.packets c.take_all.new.talks) c.new-talks.ensures.right.is_port taken.some)
 
 pub returns : goal.returns
 returns g c =
     let law : Joins g.W.Sink = record { joined = g.met.W.Sink.joined } in
     let fresh : IsFresh c.new-lines.result = record { empty = c.new-lines.ensures.empty; calm = c.new-lines.ensures.fresh } in
-    let taken = subst (λ (p : ℕ). TakesAll g.R.Source.gives g.R.Source.has_ended p c.args.source.now c.take_all-taken.new.source c.take_all-taken.new.talks c.take_all-taken.new.reader.number c.take_all-taken.result)
-    c.new-talks.ensures.right.is_port c.take_all-taken.ensures in
+    let taken = subst (λ (p : ℕ). TakesAll g.R.Source.gives g.R.Source.has_ended p c.args.source.now c.take_all.new.source c.take_all.new.talks c.take_all.new.reader.number c.take_all.new.reader.is_cut c.take_all.result)
+    c.new-talks.ensures.right.is_port c.take_all.ensures.takes in
     let all = c.put_all-lacking.ensures taken.packets taken.some in
     let puts = all.puts in
-    let wrote = and_nothing law (and_then law puts.wrote (and_then law c.put_file.ensures (and_then law c.put_nothing.ensures c.put.ensures))) c.hand_over-status.ensures.writes in
-    let last = c.number.ensures ∙ taken.many in
+    let wrote = and_nothing law (and_then law puts.wrote (and_then law c.put_file-tally.ensures.wrote (and_then law c.put_file-tally-2.ensures.wrote (and_then law c.put_cut_short.ensures (and_then law c.put_nothing.ensures c.put.ensures))))) c.hand_over-status.ensures.writes in
+    let same = c.err-stopped.ensures.value in
+    let last = c.number-2.ensures ∙ taken.many ∙ ap (looked_at taken.packets) (sym same) in
+    let last' = c.number.ensures ∙ taken.many ∙ ap (looked_at taken.packets) (sym same) in
     record {
       packets = taken.packets;
-      stopped = stopped_by c.take_all-taken.result;
-      read = taken.read;
+      short = c.take_all.new.reader.is_cut;
+      stopped = c.err-stopped.result;
+      read = subst (λ (s : Option Refusal). IsReadTo g.R.Source.gives g.R.Source.has_ended c.args.source.now c.take_all.new.source taken.packets c.take_all.new.reader.is_cut s) (sym same) taken.read;
+      counted = c.take_all.ensures.failures ∙ ap (λ (s : Option Refusal). g.R.Source.failures c.args.source.now + failures_of s) (sym same);
+      is_cut_short = c.cut_short_at-cut_short.ensures ∙ (λ i. cut_short_at (last' i) (c.is_cut_short.ensures i) c.err-stopped.result);
       lacking = c.put_all-lacking.result.1;
       lacks = subst (λ (n : ℕ). (c.put_all-lacking.result.1 ≡ None) ⊎ (c.put_all-lacking.result.1 ≡ Some (refusals.Memory n))) last all.lacks;
-      is_refusal = c.first_refusal-refusal.ensures;
+      is_refusal = c.or-refusal.ensures;
       blocks = puts.blocks;
       told = as_many c.args.options.now.port c.args.options.now.within _ _ taken.packets puts.blocks last puts.told;
       rise = subst (λ (ks : List ℕ). IsStrictlySortedBy nat_cmp ks) (sym puts.are_places) all.rise;
-      all = nothing_lacks c.args.options.now.port taken.packets all.places (keys_of puts.blocks) _ c.put_all-lacking.result.1 (stopped_by c.take_all-taken.result) _ _ (sym puts.are_places) all.lacks
-          c.first_refusal-refusal.ensures taken.all all.all;
-      tally = c.with_file-tally.result;
-      counts = c.with_file-tally.ensures ∙ ap (λ (t : Tally). with_file t c.first_refusal-refusal.result) puts.tallied;
-      is_nothing = c.nothing_by.ensures ∙ ap (λ (b : Bool). nothing_by c.args.options.now.port b c.first_refusal-refusal.result) c.has_verdict.ensures;
-      written = rw c.code.ensures
-          (is_written c.new-lines.result c.hand_over-status.new.lines c.args.sink.now _ fresh c.new-lines.ensures.now (search rules)
-          _ _ _ wrote c.hand_over-status.ensures.none (told_as _ _ _ _ c.hand_over-status.ensures.told c.status.ensures));
+      all = nothing_lacks c.args.options.now.port taken.packets all.places (keys_of puts.blocks) _ c.put_all-lacking.result.1 c.err-stopped.result (sym puts.are_places)
+          (λ ample. taken.all (subst (λ (s : Option Refusal). ¬ IsMemory s) same ample)) all.all;
+      tally = c.put_file-tally-2.result;
+      counts = c.put_file-tally-2.ensures.tallied
+          ∙ ap (λ (t : Tally). with_file t c.put_all-lacking.result.1) (c.put_file-tally.ensures.tallied ∙ ap (λ (t : Tally). with_file t c.err-stopped.result) puts.tallied);
+      is_nothing = c.nothing_by.ensures ∙ ap (λ (b : Bool). nothing_by c.args.options.now.port b c.or-refusal.result) c.has_verdict.ensures;
+      written = is_written c.new-lines.result c.hand_over-status.new.lines c.args.sink.now _ fresh c.new-lines.ensures.now (search rules)
+          _ _ _ wrote c.hand_over-status.ensures.none (coded_as _ _ _ _ c.code.ensures (told_as _ _ _ _ c.hand_over-status.ensures.told c.status.ensures));
     }

@@ -1,4 +1,4 @@
-use Rattle.bgp_check_tool.specs.Blocks.{Untold, block_of}
+use Rattle.bgp_check_tool.specs.Blocks.{AllRefused, block_of}
 use Rattle.bgp_check_tool.proofs.OneMore.{is_told}
 use Rattle.std.proofs.Common.{ap}
 use Rattle.bgp_import.specs.declared.selection.Selection.{Selection}
@@ -21,7 +21,7 @@ returns-in-Connection g c = λ packets told.
 pub returns-in-Refused : goal.returns-in-Refused
 returns-in-Refused g c = λ packets told.
     let is = rw (c.in-Refused.is) at told in record {
-      block = Untold c.in-Refused.addresses c.refused-refusal.result;
+      block = AllRefused c.in-Refused.addresses c.refused-refusal.result;
       told = record { ordered = is.ordered; fault = c.in-Refused.fault; refused = is.refused; is = c.refused-refusal.ensures };
       wrote = c.put_session.ensures;
       tallied = c.with_refusal.ensures;

@@ -12,7 +12,6 @@ pub returns-in-Some-clause-err : goal.returns-in-Some-clause-err
 returns-in-Some-clause-err g c = λ clock.
     let made = c.in-Ok.made in
     record {
-      side = c.args.side;
       entries = made.entries.items;
       received_rest = made.received_rest;
       sent_rest = made.sent_rest;
@@ -36,6 +35,6 @@ returns-in-Ok-told_by-clause-ok g c = λ clock.
       is_end = is.end ∙ c.end_of-end.ensures;
       answers = subst (λ (v : Session). IsAnswerTo v (records_of made.entries.items) (answer_value told.answer)) c.session_from-session.ensures is.answers;
       is_packet = is.packet;
-      is_delayed = is.delayed;
+      is_put_off = is.put_off;
       is_highest = is.highest;
     }

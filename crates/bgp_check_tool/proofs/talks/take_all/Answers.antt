@@ -1,7 +1,8 @@
 use Rattle.std.proofs.Common.{refl, ap, arith}
+use Rattle.packets.specs.Packet.{recorded_of}
 use Rattle.packets.specs.Reader.{ReaderState}
-use Rattle.bgp_import.proofs.SoFar.{less_left}
-use Rattle.bgp_check_tool.proofs.ReadSoFar.{all_taken, answer_of, file_refused, nothing_read, number_is, packet_refused, taken_on}
+use Rattle.bgp_import.proofs.SoFar.{counted, less_left}
+use Rattle.bgp_check_tool.proofs.ReadSoFar.{all_taken, answer_of, file_refused, nothing_read, no_failure, number_is, packet_refused, taken_on}
 use Rattle.bgp_check_tool.proofs.talks.take_all.Goals as goal
 
 pub loop-packet-init : goal.loop-packet-init
@@ -13,24 +14,24 @@ loop-packet-init g c =
       calm = refl;
     }
 
-pub returns-in-Ok-None : goal.returns-in-Ok-None
-returns-in-Ok-None g c =
+pub returns-in-Ok-None-clause-takes : goal.returns-in-Ok-None-clause-takes
+returns-in-Ok-None-clause-takes g c =
     let so = c.loop-packet.invariant.so_far in
     let answer = answer_of g.R.Source.gives g.R.Source.has_ended g.met.R.Source.joined c.args.talks.now.port c.args.source.now c.loop-packet.source c.next_packet.new.source c.loop-packet.reader
     c.next_packet.follows.lender-at-none c.loop-packet.talks c.next_packet.result so c.next_packet.follows.holds-at-none.0 in
     let is = rw (c.in-Ok-None.is, c.in-Ok-None.field-0-is) at answer in
     all_taken g.R.Source.gives g.R.Source.has_ended g.met.R.Source.joined c.args.talks.now.port c.args.source.now _ _ _ _ c.loop-packet.talks so is
 
-pub returns-in-Err : goal.returns-in-Err
-returns-in-Err g c =
+pub returns-in-Err-clause-takes : goal.returns-in-Err-clause-takes
+returns-in-Err-clause-takes g c =
     let so = c.loop-packet.invariant.so_far in
     let answer = answer_of g.R.Source.gives g.R.Source.has_ended g.met.R.Source.joined c.args.talks.now.port c.args.source.now c.loop-packet.source c.next_packet.new.source c.loop-packet.reader
     c.next_packet.follows.lender-at-none c.loop-packet.talks c.next_packet.result so c.next_packet.follows.holds-at-none.0 in
     let is = rw (c.in-Err.is) at answer in
     file_refused g.R.Source.gives g.R.Source.has_ended g.met.R.Source.joined c.args.talks.now.port c.args.source.now _ _ _ _ c.loop-packet.talks c.in-Err.fault so is
 
-pub returns-in-Err-taken : goal.returns-in-Err-taken
-returns-in-Err-taken g c =
+pub returns-in-Err-taken-clause-takes : goal.returns-in-Err-taken-clause-takes
+returns-in-Err-taken-clause-takes g c =
     let so = c.loop-packet.invariant.so_far in
     let answer = answer_of g.R.Source.gives g.R.Source.has_ended g.met.R.Source.joined c.args.talks.now.port c.args.source.now c.loop-packet.source c.next_packet.new.source c.loop-packet.reader
     c.next_packet.follows.lender-at-none c.loop-packet.talks c.next_packet.result so c.next_packet.follows.holds-at-none.0 in
@@ -38,6 +39,24 @@ returns-in-Err-taken g c =
     let number = number_is g.R.Source.gives g.R.Source.has_ended g.met.R.Source.joined c.args.talks.now.port c.args.source.now _ _ _ _ c.loop-packet.talks c.in-Ok-Some.packet so is in
     packet_refused g.R.Source.gives g.R.Source.has_ended g.met.R.Source.joined c.args.talks.now.port c.args.source.now _ _ _ _ c.loop-packet.talks _ c.in-Ok-Some.packet c.in-Err-taken.refusal so is
     (c.in-Err-taken.ensures c.args.talks.now.port so.packets number so.held)
+
+pub returns-in-Err-clause-failures : goal.returns-in-Err-clause-failures
+returns-in-Err-clause-failures g c =
+    let so = c.loop-packet.invariant.so_far in
+    let failures = rw (c.in-Err.is) at c.next_packet.ensures.failures in
+    let one = counted c.loop-packet.reader c.in-Err.fault so.calm in
+    omega (arith, failures, one, c.loop-packet.invariant.calm)
+
+pub returns-in-Err-taken-clause-failures : goal.returns-in-Err-taken-clause-failures
+returns-in-Err-taken-clause-failures g c =
+    let so = c.loop-packet.invariant.so_far in
+    let answer = answer_of g.R.Source.gives g.R.Source.has_ended g.met.R.Source.joined c.args.talks.now.port c.args.source.now c.loop-packet.source c.next_packet.new.source c.loop-packet.reader
+    c.next_packet.follows.lender-at-none c.loop-packet.talks c.next_packet.result so c.next_packet.follows.holds-at-none.0 in
+    let is = rw (c.in-Ok-Some.is, c.in-Ok-Some.field-0-is) at answer in
+    let number = number_is g.R.Source.gives g.R.Source.has_ended g.met.R.Source.joined c.args.talks.now.port c.args.source.now _ _ _ _ c.loop-packet.talks c.in-Ok-Some.packet so is in
+    let failures = rw (c.in-Ok-Some.is) at c.next_packet.ensures.failures in
+    let none = no_failure c.args.talks.now.port so.packets (recorded_of c.in-Ok-Some.packet) c.take-taken.new.self c.in-Err-taken.refusal (c.in-Err-taken.ensures c.args.talks.now.port so.packets number so.held) in
+    omega (arith, failures, none, c.loop-packet.invariant.calm)
 
 pub loop-packet-smaller : goal.loop-packet-smaller
 loop-packet-smaller g c =

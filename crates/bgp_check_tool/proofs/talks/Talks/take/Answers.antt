@@ -1,21 +1,27 @@
-use Rattle.std.proofs.Common.{◌≡◌, ◌∙◌, true, false, sym}
+use Rattle.std.proofs.Common.{◌∙◌, refl, sym, ap}
 use Rattle.packets.specs.Packet.{recorded_of}
+use Rattle.segments.specs.Segment.{finding_of}
 use Rattle.bgp_check_tool.proofs.Changed.{gone}
-use Rattle.bgp_check_tool.proofs.TakenSoFar.{lost, no_addresses}
-use Rattle.bgp_check_tool.proofs.talks.Talks.take.Goals.{in-UnknownLink, in_default}
+use Rattle.bgp_check_tool.proofs.TakenSoFar.{is_known, lost, no_addresses}
 use Rattle.bgp_check_tool.proofs.talks.Talks.take.Goals as goal
 
-true_false : true ≡ false → ⊥
-true_false e = cc
+pub returns-in-UnknownLink : goal.returns-in-UnknownLink
+returns-in-UnknownLink g c = λ port packets number h.
+    let unknown = sym c.read_segment-found.ensures ∙ ap finding_of c.in-UnknownLink.is in
+    rw c.refused.ensures (c.in-UnknownLink.link_type, refl, number, unknown, h)
 
 pub returns-in_default-addresses_of : goal.returns-in_default-addresses_of
-returns-in_default-addresses_of g c = λ port packets number h.
-    no_addresses port packets (recorded_of c.args.packet.now) c.args.self.now c.read_segment-found.result c.read_segment-found.ensures
-    (elim c.match-matches.branch [
-      | in-UnknownLink w ↦ λ link. true_false (sym w.matches-is ∙ c.if-matches.false)
-      | in_default w ↦ w.in_default.not-UnknownLink
-    ])
-    c.addresses_of.result c.addresses_of.ensures c.in_default-addresses_of.is h
+returns-in_default-addresses_of g c = λ port packets number h. (
+  is_known (recorded_of c.args.packet.now) c.read_segment-found.result c.read_segment-found.ensures c.in_default.not-UnknownLink,
+  no_addresses port packets (recorded_of c.args.packet.now) c.args.self.now c.read_segment-found.result c.read_segment-found.ensures
+      c.in_default.not-UnknownLink c.addresses_of.result c.addresses_of.ensures c.in_default-addresses_of.is h,
+)
+
+pub returns-in-Ok : goal.returns-in-Ok
+returns-in-Ok g c = λ port packets number h. (
+  is_known (recorded_of c.args.packet.now) c.read_segment-found.result c.read_segment-found.ensures c.in_default.not-UnknownLink,
+  c.in-Ok.ensures.ok port packets number h,
+)
 
 pub returns-in-Err : goal.returns-in-Err
 returns-in-Err g c = λ port packets number h.
