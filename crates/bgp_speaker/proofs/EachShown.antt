@@ -6,6 +6,7 @@ use Rattle.byteorder.specs.Endian.{big_bytes}
 use Rattle.bgp_prefix.specs.declared.address.Address.{Address}
 use Rattle.bgp_prefix.specs.declared.address.Address.TheVariants.{V4, V6}
 use Rattle.bgp_prefix.specs.declared.session.Session.{Session}
+use Rattle.bgp_prefix.specs.declared.session.RouteRefresh.{RouteRefresh}
 use Rattle.bgp_prefix.specs.Shown.{ShownRecord, Received, Sent, Changed, second_of}
 use Rattle.bgp_open.specs.declared.link.Link.{Link}
 use Rattle.bgp_wire.specs.declared.header.Limit.{Limit}
@@ -164,7 +165,7 @@ seconds_in_order s e (input ∷ inputs) records x =
 -- ---- each can be written
 
 -- 48 octets besides a message of whatever length
-room_with : (peer local : Address) (refresh extended : Bool)
+room_with : (peer local : Address) (refresh : RouteRefresh) (extended : Bool)
     → most (limit_with extended) + 48 ≤ body_limit (record { peer = peer; local = local; refresh = refresh; extended = extended })
 unfolding body_limit
 room_with peer local refresh true = omega arith
@@ -181,7 +182,7 @@ states_len : (old new : ℕ) → length (big_bytes 2 old ++ big_bytes 2 new) ≡
 states_len old new = refl
 
 message_allowed : (session : Session) (octets : List ℕ) → TakesAll session → IsWholeMessage (limit_with session.extended) octets → IsMessageAllowed session octets
-message_allowed session octets takes whole = (whole.header, (λ may. (let not = takes.refresh in absurd (cc))), whole.agrees)
+message_allowed session octets takes whole = (whole.header, (λ may. (let not = takes.refresh in absurd (cc))), (λ may. (let not = takes.refresh in absurd (cc))), whole.agrees)
 
 captured : (session : Session) (t : ℕ) (shown : ShownRecord) → TakesAll session → t < 2 ^ 32 → IsShownAt (limit_with session.extended) t shown → CanBeCaptured session shown
 captured session t (Received second octets) takes below is = record {

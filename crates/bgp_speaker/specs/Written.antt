@@ -1,21 +1,22 @@
 -- What a core shows can be written as a capture of its session (RFC 6396, 4.4).
-use Rattle.std.specs.Prelude.{◌≡◌, ◌<◌, ◌^◌, ℕ, List, IsFalse}
+use Rattle.std.specs.Prelude.{◌≡◌, ◌<◌, ◌^◌, ℕ, List}
 use Rattle.std.specs.List.{AllByRecursion}
 use Rattle.bgp_prefix.specs.Address.{family_of, IsAddress}
 use Rattle.bgp_prefix.specs.Shown.{ShownRecord}
 use Rattle.bgp_prefix.specs.declared.session.Session.{Session}
+use Rattle.bgp_prefix.specs.declared.session.RouteRefresh.TheVariants as refreshes
 use Rattle.mrt.specs.Written.{CanBeCaptured, AreInOrder}
 use Rattle.bgp_speaker.specs.declared.speaker.Speaker.{Speaker}
 use Rattle.bgp_speaker.specs.Choosing.{Drives}
 use Rattle.bgp_speaker.specs.Core.{CoreState, InputValue, fresh_core}
 
 -- A session whose captures can have all that a core shows: both addresses are of one family, and no
--- ROUTE-REFRESH has to be refused, since the peer may send one all the same.
+-- ROUTE-REFRESH is refused or passed over, since the peer may send one all the same.
 pub record TakesAll (session : Session) : Type 0 where
   pub family : family_of session.peer ≡ family_of session.local
   pub peer : IsAddress session.peer
   pub local : IsAddress session.local
-  pub refresh : IsFalse session.refresh
+  pub refresh : session.refresh ≡ refreshes.NotOffered
 
 -- each record can be written, where the seconds of the inputs fit their field, and a message may be
 -- as long in the session's captures as the core hears one (RFC 8654, 4)

@@ -1,5 +1,5 @@
 -- Each telling of a talk answers the one call that is next.
-use Rattle.std.proofs.Common.{◌≡◌, ◌∙◌, ℕ, suc, ◌+◌, ◌<◌, List, [], ◌∷◌, ◌++◌, length, ap, sym, refl, arith, Bool, false, Option, Some}
+use Rattle.std.proofs.Common.{◌≡◌, ◌∙◌, ℕ, suc, ◌+◌, ◌<◌, List, [], ◌∷◌, ◌++◌, length, ap, sym, arith, Bool, false, Option, Some}
 use Rattle.bgp_prefix.specs.Shown.{ShownRecord}
 use Rattle.bgp_speaker.specs.Core.{InputValue}
 use Rattle.bgp_talk.specs.Account.{Telling, Asked, Read, Clock, Wrote}

@@ -6,8 +6,8 @@ use Rattle.bgp_speaker.specs.Choosing.{Chooses, sent_in}
 use Rattle.bgp_speaker.specs.Core.{InputValue, Stop, Failed}
 use Rattle.bgp_talk.specs.Account.{Telling, ReadTold, Got, NothingYet, Ended, Broke, Asked, Read, Clock, Wrote, turn_inputs, taken_by, taken_of, TookIfWrote, IsCalm}
 use Rattle.bgp_talk.specs.CoreFacts.{is_idle, is_resting, IsQuiet}
-use Rattle.bgp_talk.specs.Talk.{Standing, IsOver, Goes, Talks, closing_of, in_hand}
-use Rattle.bgp_talk.specs.TalkLaws.{OctetsAreTaken}
+use Rattle.bgp_talk.specs.Talk.{Standing, IsFree, IsOver, Goes, Talks, closing_of, in_hand}
+use Rattle.bgp_talk.specs.TalkLaws.{OctetsAreTaken, OctetsAreTheCores}
 use Rattle.bgp_talk.specs.declared.wire.Connection.{Connection}
 use Rattle.bgp_talk.specs.declared.wire.Connection.TheVariants.{NotAsked, Stands}
 use Rattle.bgp_talk.proofs.Accounts.{calm_first, calm_last, sent_joined, taken_joined}
@@ -242,8 +242,13 @@ lost_closing e over lost = record {
     rests (inl first) = absurd (owes_none e.owed over.free.0 first.1)
     rests (inr rest) = rest.0
 
+pub octets_are_the_cores : OctetsAreTheCores
+octets_are_the_cores owed limit core e account records talks =
+    let took = took_so (in_hand owed [] NotAsked limit core) e account records (λ stands. not_stands NotAsked refl stands) talks in
+    (took.rest, took.whole)
+
 pub octets_are_taken : OctetsAreTaken
-octets_are_taken owed limit core e f talk closing first last talks over closes free =
+octets_are_taken owed limit core e f talk closing first last talks over closes =
     either took.how
   where
     start : Standing
@@ -263,23 +268,23 @@ octets_are_taken owed limit core e f talk closing first last talks over closes f
         ∙ ap (λ (o : List ℕ). o ++ unsent) (sym (taken_joined talk closing))
 
     either : (IsSound e × (took.rest ≡ e.unsent)) ⊎ (IsLost e × (IsCalm talk → ⊥))
-        → (unsent : List ℕ) × (sent_in (first ++ last) ≡ taken_of (talk ++ closing) ++ unsent) × (IsCalm (talk ++ closing) → unsent ≡ [])
+        → (unsent : List ℕ) × (sent_in (first ++ last) ≡ taken_of (talk ++ closing) ++ unsent) × (IsFree f → IsCalm (talk ++ closing) → unsent ≡ [])
     either (inl sound) = (
       more.rest,
       joined took.rest took.whole more.rest (ap (λ (o : List ℕ). o ++ sent_in last) sound.1 ∙ more.whole),
-      λ calm. closed (calm_last talk closing calm) more.how,
+      λ free calm. closed free (calm_last talk closing calm) more.how,
     )
       where
         more : TookSo (closing_of e) closing last f
         more = took_so (closing_of e) f closing last (λ stands. inl (closing_quiet (is_idle e.core))) closes
 
-        closed : IsCalm closing → (IsSound f × (more.rest ≡ f.unsent)) ⊎ (IsLost f × (IsCalm closing → ⊥)) → more.rest ≡ []
-        closed calm (inl sound) = sound.1 ∙ free.1
-        closed calm (inr lost) = absurd (lost.1 calm)
+        closed : IsFree f → IsCalm closing → (IsSound f × (more.rest ≡ f.unsent)) ⊎ (IsLost f × (IsCalm closing → ⊥)) → more.rest ≡ []
+        closed free calm (inl sound) = sound.1 ∙ free.1
+        closed free calm (inr lost) = absurd (lost.1 calm)
     either (inr lost) =
         let still = lost_talks (closing_of e) f closing last (lost_closing e over lost.0) closes in (
           took.rest,
           joined took.rest took.whole took.rest
               (ap (λ (o : List ℕ). took.rest ++ o) still.1 ∙ append-nil took.rest ∙ ap (λ (o : List ℕ). o ++ took.rest) (sym still.2)),
-          λ calm. absurd (lost.1 (calm_first talk closing calm)),
+          λ free calm. absurd (lost.1 (calm_first talk closing calm)),
         )

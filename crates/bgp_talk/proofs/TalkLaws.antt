@@ -3,15 +3,16 @@ use Rattle.std.proofs.Common.{◌≡◌, ◌∙◌, ◌≢◌, ℕ, ◌+◌, ◌
 use Rattle.std.specs.List.{AllByRecursion}
 use Rattle.bgp_prefix.specs.Prefix.{PrefixBits}
 use Rattle.bgp_prefix.specs.Shown.{ShownRecord}
-use Rattle.bgp_speaker.specs.Choosing.{Drives}
+use Rattle.bgp_speaker.specs.Choosing.{Chooses, Drives}
 use Rattle.bgp_speaker.specs.Core.{InputValue, Stop, Connected, Failed}
-use Rattle.bgp_talk.specs.Account.{Telling, ReadTold, Got, NothingYet, Ended, Broke, Asked, Read, Clock, Wrote, connect_input, connection_after, turn_inputs, first_owed, owed_by, handed_by, inputs_of, reads_of}
+use Rattle.bgp_talk.specs.Account.{Telling, ReadTold, Got, NothingYet, Ended, Broke, Asked, Read, Clock, Wrote, answers_of, connect_input, connection_after, turn_inputs, first_owed, owed_by, handed_by, inputs_of, reads_of}
 use Rattle.bgp_talk.specs.CoreFacts.{is_idle, is_resting}
-use Rattle.bgp_talk.specs.Talk.{Standing, IsOver, Goes, Talks, closing_of, closing_owed}
-use Rattle.bgp_talk.specs.TalkLaws.{InputsAreHandedIn, IsNoStop, IsFailure, NoStopBeforeTheEnd, StopIsLast, FailureStandsNext, OctetsGoFirst, TurnsAreReads, HasRoom, ReadsHaveRoom, NothingFollowsTheEnd}
+use Rattle.bgp_talk.specs.Talk.{Standing, IsFree, IsOver, Goes, Talks, closing_of, closing_owed, in_hand}
+use Rattle.bgp_talk.specs.TalkLaws.{ConnectIsAskedOnce, InputsAreHandedIn, IsItsFailure, IsNoStop, NoStopBeforeTheEnd, StopIsLast, FailureStandsNext, OctetsGoFirst, TurnsAreReads, HasRoom, ReadsHaveRoom, NothingFollowsTheEnd}
 use Rattle.bgp_talk.specs.declared.wire.Connection.{Connection}
 use Rattle.bgp_talk.specs.declared.wire.Connection.TheVariants.{NotAsked}
 use Rattle.bgp_talk.proofs.Accounts.{drives_joined, one_step}
+use Rattle.bgp_talk.proofs.Resting.{failure_brings_rest}
 
 -- ---- what is handed in
 
@@ -102,65 +103,12 @@ closing_goes s e (Wrote given (octet ∷ octets)) records closing goes = record 
   asked = (closing.asked.0, ap (λ (v : Standing). v.connection) goes.0.goes ∙ closing.asked.1);
 }
 
-abbrev AllFail : List InputValue → Type 0
-AllFail owed = AllByRecursion (λ (input : InputValue). input ≡ Failed) owed
-
--- where failures are owed, failures are handed in
-fails_handed : (owed : List InputValue) (told : Telling) → AllFail owed
-    → (s e : Standing) (records : List ShownRecord) → IsClosing s → Goes s told records e
-    → AllByRecursion IsFailure (handed_by owed told) × AllFail (owed_by owed told)
-fails_handed owed (Asked answer) all s e records closing goes = absurd (asked_before closing.asked.0 s.connection closing.asked.1 goes.0.once)
-fails_handed owed (Read room told) all s e records closing goes =
-    let takes = goes.0.takes in let none = closing.left in absurd (omega (arith, takes, none))
-fails_handed [] (Clock second) all s e records closing goes = (tt, tt)
-fails_handed (input ∷ owed) (Clock second) all s e records closing goes = ((all.0, tt), all.1)
-fails_handed owed (Wrote given []) all s e records closing goes = (tt, (refl, all))
-fails_handed owed (Wrote given (octet ∷ octets)) all s e records closing goes = (tt, all)
-
-both_fail : (xs ys : List (ℕ × InputValue)) → AllByRecursion IsFailure xs → AllByRecursion IsFailure ys → AllByRecursion IsFailure (xs ++ ys)
-both_fail [] ys first second = second
-both_fail (x ∷ xs) ys first second = (first.0, both_fail xs ys first.1 second)
-
-others_fail : (owed : List InputValue) (account : List Telling) → AllFail owed → (s e : Standing) (records : List ShownRecord) → IsClosing s → Talks s account records e
-    → AllByRecursion IsFailure (inputs_of owed account)
-others_fail owed [] all s e records closing talks = tt
-others_fail owed (told ∷ account) all s e records closing talks =
-    let now = fails_handed owed told all s talks.1 talks.0 closing talks.3 in
-    both_fail (handed_by owed told) (inputs_of (owed_by owed told) account) now.0
-    (others_fail (owed_by owed told) account now.1 talks.1 e talks.2 (closing_goes s talks.1 told talks.0 closing talks.3) talks.4)
-
 owes_stop : (b : Bool) → IsFalse b → (if b then [] else Stop ∷ []) ≡ Stop ∷ []
 owes_stop true awake = absurd (cc)
 owes_stop false awake = refl
 
 nothing_less : (n : ℕ) (xs : List ℕ) → xs ≡ [] → n < length xs → ⊥
 nothing_less n xs none some = let zero : length xs ≡ 0 = ap length none in omega (arith, zero, some)
-
-pub stop_is_last : StopIsLast
-stop_is_last s e [] records over awake talks free =
-    let owed : closing_owed s.core ≡ [] = sym (ap (λ (v : Standing). v.owed) talks.1) ∙ free.0 in
-    let stop = owes_stop (is_idle s.core) awake in
-    absurd (some_of (sym stop ∙ owed))
-  where
-    some_of : Stop ∷ [] ≡ [] → ⊥
-    some_of is = absurd (cc)
-stop_is_last s e (Asked answer ∷ account) records over awake talks free =
-    absurd (asked_before over.asked.0 s.connection over.asked.1 talks.3.0.once)
-stop_is_last s e (Read room told ∷ account) records over awake talks free =
-    let takes = talks.3.0.takes in absurd (omega (arith, takes))
-stop_is_last s e (Clock second ∷ account) records over awake talks free = (
-  second,
-  inputs_of [] account,
-  refl,
-  others_fail [] account tt talks.1 e talks.2
-      (closing_goes (closing_of s) talks.1 (Clock second) talks.0 (record { left = refl; asked = over.asked }) talks.3) talks.4,
-)
-stop_is_last s e (Wrote given [] ∷ account) records over awake talks free = absurd (nothing_less 0 s.unsent over.free.1 talks.3.0.some)
-stop_is_last s e (Wrote given (octet ∷ octets) ∷ account) records over awake talks free =
-    absurd (some_of _ (sym talks.3.0.unsent ∙ over.free.1))
-  where
-    some_of : (more : List ℕ) → octet ∷ more ≡ [] → ⊥
-    some_of more is = absurd (cc)
 
 pub failure_stands_next : FailureStandsNext
 failure_stands_next s e given (Asked answer) account records talks = absurd (some_of (sym (ap (λ (v : Standing). v.owed) talks.3.0.goes) ∙ talks.4.3.0.free.0))
@@ -239,3 +187,125 @@ none_goes s e (Wrote given (octet ∷ octets)) records over goes = some_of _ (sy
 pub nothing_follows_the_end : NothingFollowsTheEnd
 nothing_follows_the_end s e [] records over talks = refl
 nothing_follows_the_end s e (told ∷ account) records over talks = absurd (none_goes s talks.1 told talks.0 over talks.3)
+
+-- ---- the Stop
+
+first_of : (owed rest more : List InputValue) (one other : InputValue) → owed ≡ one ∷ rest → owed ≡ other ∷ more → (one ≡ other) × (rest ≡ more)
+first_of owed rest more one other is same = (cc, cc)
+
+owes_more : {input : InputValue} {rest : List InputValue} (owed : List InputValue) → owed ≡ input ∷ rest → owed ≡ [] → ⊥
+owes_more owed some none = absurd (cc)
+
+sent_more : {octet : ℕ} {more : List ℕ} (unsent : List ℕ) → unsent ≡ octet ∷ more → unsent ≡ [] → ⊥
+sent_more unsent some none = absurd (cc)
+
+-- where a failure alone is owed, it is handed in, and nothing more
+fails_once : (s e : Standing) (account : List Telling) (records : List ShownRecord) → IsClosing s → s.owed ≡ Failed ∷ [] → s.unsent ≡ []
+    → Talks s account records e → IsFree e → (second : ℕ) × (inputs_of (Failed ∷ []) account ≡ (second, Failed) ∷ [])
+fails_once s e [] records closing owed unsent talks free =
+    absurd (owes_more s.owed owed (sym (ap (λ (v : Standing). v.owed) talks.1) ∙ free.0))
+fails_once s e (Asked answer ∷ account) records closing owed unsent talks free =
+    absurd (asked_before closing.asked.0 s.connection closing.asked.1 talks.3.0.once)
+fails_once s e (Read room told ∷ account) records closing owed unsent talks free = absurd (owes_more s.owed owed talks.3.0.free.0)
+fails_once s e (Wrote given [] ∷ account) records closing owed unsent talks free = absurd (nothing_less 0 s.unsent unsent talks.3.0.some)
+fails_once s e (Wrote given (octet ∷ octets) ∷ account) records closing owed unsent talks free =
+    absurd (sent_more s.unsent talks.3.0.unsent unsent)
+fails_once s e (Clock second ∷ account) records closing owed unsent talks free =
+    let first = first_of s.owed talks.3.rest [] talks.3.input Failed talks.3.owed owed in
+    let more = closing_goes s talks.1 (Clock second) talks.0 closing talks.3 in
+    let silent = (failure_brings_rest s.core talks.1.core second talks.0
+    (subst (λ (i : InputValue). Chooses s.core i second talks.0 talks.1.core) first.0 talks.3.chosen)).1 in
+    let over : IsOver talks.1 = record {
+      free = (
+        ap (λ (v : Standing). v.owed) talks.3.goes ∙ first.1,
+        ap (λ (v : Standing). v.unsent) talks.3.goes ∙ silent,
+      );
+      asked = more.asked;
+      ends = inr more.left;
+    } in
+    (second, ap (λ (t : List Telling). (second, Failed) ∷ inputs_of [] t) (nothing_follows_the_end talks.1 e account talks.2 over talks.4))
+
+-- where octets are to be sent, they are, or their failure is handed in
+fails_at_most : (s e : Standing) (account : List Telling) (records : List ShownRecord) → IsClosing s → s.owed ≡ []
+    → Talks s account records e → IsFree e → IsItsFailure (inputs_of [] account)
+fails_at_most s e [] records closing owed talks free = inl refl
+fails_at_most s e (Asked answer ∷ account) records closing owed talks free =
+    absurd (asked_before closing.asked.0 s.connection closing.asked.1 talks.3.0.once)
+fails_at_most s e (Read room told ∷ account) records closing owed talks free =
+    let takes = talks.3.0.takes in let none = closing.left in absurd (omega (arith, takes, none))
+fails_at_most s e (Clock second ∷ account) records closing owed talks free = absurd (owes_more s.owed talks.3.owed owed)
+fails_at_most s e (Wrote given [] ∷ account) records closing owed talks free =
+    inr (fails_once talks.1 e account talks.2
+    (closing_goes s talks.1 (Wrote given []) talks.0 closing talks.3)
+    (ap (λ (v : Standing). v.owed) talks.3.0.goes ∙ ap (λ (o : List InputValue). Failed ∷ o) owed)
+    (ap (λ (v : Standing). v.unsent) talks.3.0.goes) talks.4 free)
+fails_at_most s e (Wrote given (octet ∷ octets) ∷ account) records closing owed talks free =
+    fails_at_most talks.1 e account talks.2
+    (closing_goes s talks.1 (Wrote given (octet ∷ octets)) talks.0 closing talks.3)
+    (ap (λ (v : Standing). v.owed) talks.3.0.goes ∙ owed) talks.4 free
+
+pub stop_is_last : StopIsLast
+stop_is_last s e [] records over awake talks free =
+    let owed : closing_owed s.core ≡ [] = sym (ap (λ (v : Standing). v.owed) talks.1) ∙ free.0 in
+    absurd (owes_more (closing_owed s.core) (owes_stop (is_idle s.core) awake) owed)
+stop_is_last s e (Asked answer ∷ account) records over awake talks free =
+    absurd (asked_before over.asked.0 s.connection over.asked.1 talks.3.0.once)
+stop_is_last s e (Read room told ∷ account) records over awake talks free =
+    let takes = talks.3.0.takes in absurd (omega (arith, takes))
+stop_is_last s e (Clock second ∷ account) records over awake talks free =
+    let first = first_of (closing_owed s.core) talks.3.rest [] talks.3.input Stop talks.3.owed (owes_stop (is_idle s.core) awake) in (
+      second,
+      inputs_of [] account,
+      refl,
+      fails_at_most talks.1 e account talks.2
+          (closing_goes (closing_of s) talks.1 (Clock second) talks.0 (record { left = refl; asked = over.asked }) talks.3)
+          (ap (λ (v : Standing). v.owed) talks.3.goes ∙ first.1) talks.4 free,
+    )
+stop_is_last s e (Wrote given [] ∷ account) records over awake talks free = absurd (nothing_less 0 s.unsent over.free.1 talks.3.0.some)
+stop_is_last s e (Wrote given (octet ∷ octets) ∷ account) records over awake talks free =
+    absurd (sent_more s.unsent talks.3.0.unsent over.free.1)
+
+-- ---- connecting
+
+-- once it was asked, it isn't asked again
+asked_no_more : (s e : Standing) (account : List Telling) (records : List ShownRecord) (answer : Bool) → s.connection ≡ connection_after answer
+    → Talks s account records e → (answers_of account ≡ []) × (e.connection ≡ connection_after answer)
+asked_no_more s e [] records answer asked talks = (refl, ap (λ (v : Standing). v.connection) talks.1 ∙ asked)
+asked_no_more s e (Asked other ∷ account) records answer asked talks = absurd (asked_before answer s.connection asked talks.3.0.once)
+asked_no_more s e (Read room told ∷ account) records answer asked talks =
+    asked_no_more talks.1 e account talks.2 answer (ap (λ (v : Standing). v.connection) talks.3.0.goes ∙ asked) talks.4
+asked_no_more s e (Clock second ∷ account) records answer asked talks =
+    asked_no_more talks.1 e account talks.2 answer (ap (λ (v : Standing). v.connection) talks.3.goes ∙ asked) talks.4
+asked_no_more s e (Wrote given [] ∷ account) records answer asked talks =
+    asked_no_more talks.1 e account talks.2 answer (ap (λ (v : Standing). v.connection) talks.3.0.goes ∙ asked) talks.4
+asked_no_more s e (Wrote given (octet ∷ octets) ∷ account) records answer asked talks =
+    asked_no_more talks.1 e account talks.2 answer (ap (λ (v : Standing). v.connection) talks.3.0.goes ∙ asked) talks.4
+
+abbrev NotAskedOrOnce : List Bool → Connection → Type 0
+NotAskedOrOnce answers connection =
+    ((answers ≡ []) × (connection ≡ NotAsked))
+    ⊎ ((answer : Bool) × (answers ≡ answer ∷ []) × (connection ≡ connection_after answer))
+
+asked_at_most : (s e : Standing) (account : List Telling) (records : List ShownRecord) → s.connection ≡ NotAsked
+    → Talks s account records e → NotAskedOrOnce (answers_of account) e.connection
+asked_at_most s e [] records none talks = inl (refl, ap (λ (v : Standing). v.connection) talks.1 ∙ none)
+asked_at_most s e (Asked answer ∷ account) records none talks =
+    let more = asked_no_more talks.1 e account talks.2 answer (ap (λ (v : Standing). v.connection) talks.3.0.goes) talks.4 in
+    inr (answer, ap (λ (b : List Bool). answer ∷ b) more.0, more.1)
+asked_at_most s e (Read room told ∷ account) records none talks =
+    asked_at_most talks.1 e account talks.2 (ap (λ (v : Standing). v.connection) talks.3.0.goes ∙ none) talks.4
+asked_at_most s e (Clock second ∷ account) records none talks =
+    asked_at_most talks.1 e account talks.2 (ap (λ (v : Standing). v.connection) talks.3.goes ∙ none) talks.4
+asked_at_most s e (Wrote given [] ∷ account) records none talks =
+    asked_at_most talks.1 e account talks.2 (ap (λ (v : Standing). v.connection) talks.3.0.goes ∙ none) talks.4
+asked_at_most s e (Wrote given (octet ∷ octets) ∷ account) records none talks =
+    asked_at_most talks.1 e account talks.2 (ap (λ (v : Standing). v.connection) talks.3.0.goes ∙ none) talks.4
+
+pub connect_is_asked_once : ConnectIsAskedOnce
+connect_is_asked_once owed limit core e account records talks over =
+    either (asked_at_most (in_hand owed [] NotAsked limit core) e account records refl talks)
+  where
+    either : NotAskedOrOnce (answers_of account) e.connection
+        → (answer : Bool) × (answers_of account ≡ answer ∷ []) × (e.connection ≡ connection_after answer)
+    either (inl none) = absurd (asked_before over.asked.0 e.connection over.asked.1 none.1)
+    either (inr once) = once

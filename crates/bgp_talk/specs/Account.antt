@@ -118,6 +118,19 @@ abbrev pub IsCalm : List Telling → Type 0
 IsCalm [] = Unit {0}
 IsCalm (told ∷ account) = TookIfWrote told × IsCalm account
 
+-- ---- the answers of `connect`
+
+abbrev pub answers_by : Telling → List Bool
+answers_by (Asked answer) = answer ∷ []
+answers_by (Read room told) = []
+answers_by (Clock second) = []
+answers_by (Wrote given octets) = []
+
+-- those that are told, in order
+abbrev pub answers_of : List Telling → List Bool
+answers_of [] = []
+answers_of (told ∷ account) = answers_by told ++ answers_of account
+
 -- ---- the turns
 
 abbrev pub reads_by : Telling → ℕ

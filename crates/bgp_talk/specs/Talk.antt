@@ -146,13 +146,12 @@ module _ {W C : Type 0}
     pub talked : Talks s account records e
     pub wrote : takes sink sink' (text records)
 
-  -- Where memory is refused, nothing more was told, or the second of an input that was owed, which
-  -- the core didn't take; and nothing was written.
+  -- Where the core is refused memory, the second of an input that was owed was told, and the core
+  -- didn't take it; and nothing was written.
   abbrev pub Refuses : Standing → W → C → W → C → Type 0
   Refuses s wire sink wire' sink' =
-      (sink' ≡ sink) × ((wire' ≡ wire) ⊎ ((input : InputValue) × (rest : List InputValue)
-      × (second : ℕ) × (s.owed ≡ input ∷ rest) × (s.unsent ≡ [])
-      × tells wire wire' (Clock second ∷ [])))
+      (sink' ≡ sink) × (input : InputValue) × (rest : List InputValue) × (second : ℕ)
+      × (s.owed ≡ input ∷ rest) × (s.unsent ≡ []) × tells wire wire' (Clock second ∷ [])
 
   -- Where the capture can't be written, the core took an input, and a beginning of the text of what
   -- it showed on it was written; nothing of what it sent.
@@ -185,11 +184,21 @@ module _ {W C : Type 0}
     pub over : IsOver end
     pub cut : Cut fault (closing_of end) there so_far wire' sink'
 
-  -- What a speaker did that gave up: its talk was cut short, or its closing.
+  -- The talk was over, and there was no memory for a copy of its routes.
+  pub record LacksRoutes (s : Standing) (wire : W) (sink : C) (wire' : W) (sink' : C)
+      : Type 0 where
+    pub end : Standing
+    pub talked : Went s wire sink end wire' sink'
+    pub over : IsOver end
+
+  -- What a speaker did that gave up: its talk was cut short, or its closing; or between them it was
+  -- refused memory for its routes.
   abbrev pub GaveUp : SpeakFault → List InputValue → ℕ → CoreState → W → C → W → C → Type 0
   GaveUp fault owed limit core wire sink wire' sink' =
       Cut fault (in_hand owed [] NotAsked limit core) wire sink wire' sink'
-      ⊎ CutAtTheEnd fault (in_hand owed [] NotAsked limit core) wire sink wire' sink'
+      ⊎ (CutAtTheEnd fault (in_hand owed [] NotAsked limit core) wire sink wire' sink'
+      ⊎ ((fault ≡ Memory)
+      × LacksRoutes (in_hand owed [] NotAsked limit core) wire sink wire' sink'))
 
   -- What a speaker did that ended: it talked until nothing was left to do, and closed. Its turns
   -- are those that aren't left, its routes those before the closing.

@@ -1,13 +1,13 @@
 -- What is so of each talk over a wire.
 use Rattle.std.specs.Prelude.{◌≡◌, ◌≢◌, ◌+◌, ◌<◌, ℕ, length, List, [], ◌∷◌, ◌++◌, IsFalse, Bool}
-use Rattle.std.specs.Prelude.{Some}
+use Rattle.std.specs.Prelude.{Some, ◌⊎◌}
 use Rattle.std.specs.List.{AllByRecursion}
 use Rattle.bgp_prefix.specs.Prefix.{PrefixBits}
 use Rattle.bgp_prefix.specs.Shown.{ShownRecord}
 use Rattle.bgp_speaker.specs.Choosing.{Drives, sent_in}
 use Rattle.bgp_speaker.specs.Core.{CoreState, InputValue, Failed, Stop}
 use Rattle.bgp_talk.specs.Account.{Telling, Asked, Read, Clock, Wrote, first_owed, inputs_of}
-use Rattle.bgp_talk.specs.Account.{IsCalm, taken_of, reads_of}
+use Rattle.bgp_talk.specs.Account.{IsCalm, taken_of, reads_of, answers_of, connection_after}
 use Rattle.bgp_talk.specs.CoreFacts.{is_idle}
 use Rattle.bgp_talk.specs.NextCall.{call_of, next_call}
 use Rattle.bgp_talk.specs.Talk.{Standing, IsFree, IsOver, Talks, closing_of, in_hand, read_room}
@@ -25,14 +25,15 @@ InputsAreHandedIn =
 abbrev pub IsNoStop : ℕ × InputValue → Type 0
 IsNoStop handed = handed.1 ≢ Stop
 
-abbrev pub IsFailure : ℕ × InputValue → Type 0
-IsFailure handed = handed.1 ≡ Failed
-
 -- no Stop is handed in until all is over
 abbrev pub NoStopBeforeTheEnd : Type 0
 NoStopBeforeTheEnd =
     (own : List PrefixBits) (passive : Bool) (account : List Telling)
     → AllByRecursion IsNoStop (inputs_of (first_owed own passive) account)
+
+-- the failure of a last input's octets, or nothing
+abbrev pub IsItsFailure : List (ℕ × InputValue) → Type 0
+IsItsFailure others = (others ≡ []) ⊎ ((second : ℕ) × (others ≡ (second, Failed) ∷ []))
 
 -- And then Stop is, where the core isn't Idle, and after it nothing but the failure of its own
 -- octets.
@@ -41,8 +42,7 @@ StopIsLast =
     (s e : Standing) (account : List Telling) (records : List ShownRecord)
     → IsOver s → IsFalse (is_idle s.core) → Talks (closing_of s) account records e → IsFree e
     → (second : ℕ) × (others : List (ℕ × InputValue))
-    × (inputs_of (Stop ∷ []) account ≡ (second, Stop) ∷ others)
-    × AllByRecursion IsFailure others
+    × (inputs_of (Stop ∷ []) account ≡ (second, Stop) ∷ others) × IsItsFailure others
 
 -- right after a write that took nothing a failure is handed in
 abbrev pub FailureStandsNext : Type 0
@@ -61,17 +61,25 @@ OctetsGoFirst =
     → 0 < length s.unsent → Talks s (told ∷ account) records e
     → (octets : List ℕ) × (told ≡ Wrote (length s.unsent) octets)
 
--- Of the octets that the core sent until the talk was over, and in the closing, the wire took a
--- beginning; and all, where no write failed or took nothing.
+-- at each moment of a talk the wire took a beginning of the octets that the core sent until then
+abbrev pub OctetsAreTheCores : Type 0
+OctetsAreTheCores =
+    (owed : List InputValue) (limit : ℕ) (core : CoreState) (e : Standing)
+    (account : List Telling) (records : List ShownRecord)
+    → Talks (in_hand owed [] NotAsked limit core) account records e
+    → (unsent : List ℕ) × (sent_in records ≡ taken_of account ++ unsent)
+
+-- Of the octets that the core sent until the talk was over, and so far in the closing, the wire
+-- took a beginning; and at its end all, where no write failed or took nothing.
 abbrev pub OctetsAreTaken : Type 0
 OctetsAreTaken =
     (owed : List InputValue) (limit : ℕ) (core : CoreState) (e f : Standing)
     (talk closing : List Telling) (first last : List ShownRecord)
     → Talks (in_hand owed [] NotAsked limit core) talk first e → IsOver e
-    → Talks (closing_of e) closing last f → IsFree f
+    → Talks (closing_of e) closing last f
     → (unsent : List ℕ)
     × (sent_in (first ++ last) ≡ taken_of (talk ++ closing) ++ unsent)
-    × (IsCalm (talk ++ closing) → unsent ≡ [])
+    × (IsFree f → IsCalm (talk ++ closing) → unsent ≡ [])
 
 -- ---- what is read
 
@@ -106,3 +114,12 @@ abbrev pub OneCallIsNext : Type 0
 OneCallIsNext =
     (s e : Standing) (told : Telling) (account : List Telling) (records : List ShownRecord)
     → Talks s (told ∷ account) records e → next_call s ≡ Some (call_of told)
+
+-- by the end of a talk it was asked to connect, once, and there is a connection where it did
+abbrev pub ConnectIsAskedOnce : Type 0
+ConnectIsAskedOnce =
+    (owed : List InputValue) (limit : ℕ) (core : CoreState) (e : Standing)
+    (account : List Telling) (records : List ShownRecord)
+    → Talks (in_hand owed [] NotAsked limit core) account records e → IsOver e
+    → (answer : Bool) × (answers_of account ≡ answer ∷ [])
+    × (e.connection ≡ connection_after answer)

@@ -4,8 +4,9 @@ ghost use Rattle.bgp_talk.specs.CoreFacts.{EachRecordIsShort, FailureBringsRest,
 ghost use Rattle.bgp_talk.specs.CoreFacts.{IdleKeepsPrefix, StartIsSilent};
 ghost use Rattle.bgp_talk.specs.MemWire.{TookWhatIsTold};
 ghost use Rattle.bgp_talk.specs.TalkLaws.{FailureStandsNext, InputsAreHandedIn, NoStopBeforeTheEnd};
-ghost use Rattle.bgp_talk.specs.TalkLaws.{NothingFollowsTheEnd, OctetsAreTaken, OctetsGoFirst};
-ghost use Rattle.bgp_talk.specs.TalkLaws.{OneCallIsNext, ReadsHaveRoom, StopIsLast, TurnsAreReads};
+ghost use Rattle.bgp_talk.specs.TalkLaws.{ConnectIsAskedOnce, NothingFollowsTheEnd, OctetsAreTaken};
+ghost use Rattle.bgp_talk.specs.TalkLaws.{OctetsAreTheCores, OctetsGoFirst, OneCallIsNext};
+ghost use Rattle.bgp_talk.specs.TalkLaws.{ReadsHaveRoom, StopIsLast, TurnsAreReads};
 
 /// Whatever a core shows on an input fits the records of a capture: a message that it received or
 /// sent has at most 4096 octets (RFC 4271, 4.1), or 65535 where it offers extended messages
@@ -25,8 +26,9 @@ pub fn a_core_at_rest_is_quiet()
 {}
 
 /// The inputs of a core that talks are just those that the wire's account makes, each at the second
-/// that was told for it. Stop is the last of them, after the talk is over, and where the core isn't
-/// Idle; right after a write that took nothing stands a failure.
+/// that was told for it. Stop comes after the talk is over, where the core isn't Idle, and is the
+/// last of them but for the failure of its own octets; right after a write that took nothing stands
+/// a failure.
 pub fn a_talk_hands_in_what_is_told()
     ensures inputs { InputsAreHandedIn }
     ensures before { NoStopBeforeTheEnd }
@@ -35,10 +37,12 @@ pub fn a_talk_hands_in_what_is_told()
 {}
 
 /// What a core that talks sends is written before the wire is asked for anything else, each write
-/// being given all that is left of it. The wire took a beginning of it, and all where no write
-/// failed or took nothing.
+/// being given all that is left of it. At each moment the wire took a beginning of what was sent
+/// until then, wherever a fault cuts the talk short; and at the end all, where no write failed or
+/// took nothing.
 pub fn a_talk_writes_what_is_sent()
     ensures first { OctetsGoFirst }
+    ensures moment { OctetsAreTheCores }
     ensures taken { OctetsAreTaken }
 {}
 
@@ -53,8 +57,10 @@ pub fn a_talk_reads_in_its_turns()
 /// At each moment of a talk there is one thing that it may ask its wire, by what it has in hand: to
 /// write all octets that are left, then for the second of the first input that is owed, then to
 /// connect, then to read with room for 4096 octets, while the core doesn't rest and a turn is left.
+/// By its end it was asked to connect, once.
 pub fn a_talk_asks_one_thing()
-    ensures { OneCallIsNext }
+    ensures next { OneCallIsNext }
+    ensures connect { ConnectIsAskedOnce }
 {}
 
 /// The octets that a wire in memory took are those that it tells of its writes, in order.

@@ -1,32 +1,26 @@
-//! What a speaker over a wire in memory does, against records, octets, turns and routes that were
-//! written down by hand from the rules of the session machine (docs/SESSION-MACHINE.md) and of the
-//! core's choices (docs/SPEAKER.md). Messages are by the names of `bgp_wire::vectors` and of
-//! `messages`.
+//! What a speaker over a wire in memory does with little memory, with a sink that fails, and when it
+//! writes, against records, octets, turns and routes that were written down by hand. Messages are by
+//! the names of `bgp_wire::vectors` and of `messages`. What it does over wires that fail or do harm
+//! is compared by the program `speaker_drives`.
 //!
-//! Each capture is compared octet by octet with its records, by the layout of RFC 6396, and is
-//! judged yes by both trackers: the speaker is stopped at last, so all that it may end in is Idle,
-//! without routes.
+//! Each capture is compared octet by octet with its records, by the layout of RFC 6396.
 
 mod arising;
-mod extended;
-mod failing;
-mod hostile;
+mod core_memory;
 mod memory;
 mod messages;
 mod sinks;
 mod whole;
 mod wires;
 
-use bgp_compact::CompactTracker;
-use bgp_judge::{End, PlainTracker, Tracker, Verdict, judge};
 use bgp_machine::Fsm;
 use bgp_open::{Config, ConfigParts, Families};
 use bgp_path::{NextHop, Origin, Path, Segment};
-use bgp_prefix::{Address, Prefix, Seconds, Session, read_prefix};
+use bgp_prefix::{Address, Prefix, RouteRefresh, Seconds, Session, read_prefix};
 use bgp_rib::RibIn;
 use bgp_talk::{MemRead, MemWire, Report, SpeakFault, Wire, WireUpset, speak};
 use mrt::Record::{self, Change, In, Out};
-use mrt::{MemSink, MemSource, Sink, SinkUpset};
+use mrt::{MemSink, Sink, SinkUpset};
 use std::alloc::{AllocError, Allocator, Global};
 use std::num::NonZeroUsize;
 
@@ -44,7 +38,7 @@ const PARTS_A: ConfigParts = ConfigParts {
     session: Session {
         peer: Address::V4(0xc000_0202),
         local: Address::V4(0xc000_0201),
-        refresh: false,
+        refresh: RouteRefresh::NotOffered,
         extended: false,
     },
 };
@@ -221,35 +215,6 @@ fn has_routes<A: Allocator>(rib: &RibIn<A>, texts: &[&str]) -> bool {
     texts.next().is_none() && rib.disabled() == NONE
 }
 
-/// Whether a verdict is yes with one end, Idle without routes.
-fn is_idle(verdict: &Verdict) -> bool {
-    match verdict {
-        Verdict::Yes(ends) => match ends.as_slice() {
-            [End { fsm, rib }] => *fsm == Fsm::Idle && has_routes(rib, &[]),
-            _ => false,
-        },
-        _ => false,
-    }
-}
-
-/// Whether a tracker judges a capture so.
-fn is_judged_by<T: Tracker<Global>>(alloc: Global, config: &Config, capture: &[u8]) -> bool {
-    let Ok(octets) = Vec::from_slice(alloc, capture) else {
-        return false;
-    };
-    let mut source = MemSource::new(octets);
-    match judge::<Global, T, MemSource>(alloc, config, &mut source) {
-        Ok(verdict) => is_idle(&verdict),
-        Err(_) => false,
-    }
-}
-
-/// Whether both trackers do.
-fn is_judged(alloc: Global, config: &Config, capture: &[u8]) -> bool {
-    is_judged_by::<PlainTracker<Global>>(alloc, config, capture)
-        && is_judged_by::<CompactTracker<Global>>(alloc, config, capture)
-}
-
 /// What a wire and a sink hold after a talk, and how often each has failed.
 #[derive(Clone, Copy)]
 struct Held<'a> {
@@ -367,19 +332,10 @@ fn spoken_with<A: Allocator + Copy>(
     spoken(memory, alloc, &config, own.as_slice(), row, capture)
 }
 
-/// Whether the talk of a row comes to this capture, and that is judged yes.
-fn is_capture(alloc: Global, row: &Row<'_>, capture: &[u8]) -> bool {
-    let is_yes = match Config::new(PARTS_A) {
-        Some(config) => is_judged(alloc, &config, capture),
-        None => false,
-    };
-    is_yes && spoken_with(alloc, alloc, row, capture) == Came::Right
-}
-
 /// Whether a row is so.
 fn is_so(alloc: Global, row: &Row<'_>) -> bool {
     match capture_of(alloc, row.2.records) {
-        Ok(capture) => is_capture(alloc, row, capture.as_slice()),
+        Ok(capture) => spoken_with(alloc, alloc, row, capture.as_slice()) == Came::Right,
         Err(_) => false,
     }
 }

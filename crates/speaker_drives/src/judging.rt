@@ -75,14 +75,30 @@ fn is_yes_with(text: &str, end: &str) -> bool {
     ends.split("end ").any(|other| other == wanted)
 }
 
-/// Whether both trackers judge a capture alike: yes, with this end among its ends.
+/// The text of the verdict on a capture, if both trackers judge it alike: yes.
+fn text_of_yes(alloc: Global, config: &Config, capture: &[u8]) -> io::Result<Option<String>> {
+    let plain = answer_to::<PlainTracker<Global>>(alloc, config, capture)?;
+    let compact = answer_to::<CompactTracker<Global>>(alloc, config, capture)?;
+    Ok((plain == compact && plain.1 == 0).then_some(plain.0))
+}
+
+/// Whether both trackers judge a capture so, with this end among its ends.
 pub(crate) fn is_judged(
     alloc: Global,
     config: &Config,
     capture: &[u8],
     end: &str,
 ) -> io::Result<bool> {
-    let plain = answer_to::<PlainTracker<Global>>(alloc, config, capture)?;
-    let compact = answer_to::<CompactTracker<Global>>(alloc, config, capture)?;
-    Ok(plain == compact && plain.1 == 0 && is_yes_with(plain.0.as_str(), end))
+    match text_of_yes(alloc, config, capture)? {
+        Some(text) => Ok(is_yes_with(text.as_str(), end)),
+        None => Ok(false),
+    }
+}
+
+/// Whether both trackers judge a capture so, with one end: Idle, without routes.
+pub(crate) fn is_judged_idle(alloc: Global, config: &Config, capture: &[u8]) -> io::Result<bool> {
+    match text_of_yes(alloc, config, capture)? {
+        Some(text) => Ok(text.as_str() == "yes\nend Idle disabled -\n"),
+        None => Ok(false),
+    }
 }

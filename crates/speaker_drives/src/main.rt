@@ -1,16 +1,23 @@
 //! Drives of a speaker's core, and talks of a speaker over a wire, whose records, octets, states
 //! and routes are known from elsewhere: `drives.txt`, `wires.txt` and `wires-clock.txt`, whose
 //! clock runs, were made at random and answered by a program that was written apart from this one.
-//! What each shows is judged, too, by the plain tracker and by the compact one: yes, with the state
-//! and the routes of its end among the ends.
+//! `drives-by-hand.txt` was written down from the rules of the session machine
+//! (docs/SESSION-MACHINE.md) and of the core's choices, one drive for each thing that it teaches;
+//! each is driven whole, with its pieces cut into single octets, and one input after another.
+//! `wires-by-hand.txt` was written down likewise (docs/SPEAKER.md).
+//!
+//! What a drive or a talk shows is judged, too, by the plain tracker and by the compact one: yes,
+//! with the state and the routes of its end among the ends. So are a thousand drives by chance.
 #![tactic(auto)]
 
 mod case;
+mod chance;
 mod drive;
 mod judging;
 mod talk;
 
-use drive::is_drive;
+use chance::drive_by_chance;
+use drive::{is_drive, is_drive_each_way};
 use std::alloc::Global;
 use std::process::ExitCode;
 use std::rt::Files;
@@ -19,11 +26,20 @@ use talk::is_talk;
 
 /// What the blocks of a table tell of.
 #[derive(Clone, Copy)]
-enum Table {
+enum Told {
     Drives,
+    DrivesEachWay,
     Talks,
-    TalksByTheClock,
 }
+
+/// The tables, what they have, and what their blocks tell of.
+static TABLES: [(&str, &str, Told); 5] = [
+    ("drives.txt", "drives", Told::Drives),
+    ("drives-by-hand.txt", "drives by hand", Told::DrivesEachWay),
+    ("wires.txt", "talks", Told::Talks),
+    ("wires-clock.txt", "talks by the clock", Told::Talks),
+    ("wires-by-hand.txt", "talks by hand", Told::Talks),
+];
 
 fn main(rt: HostRuntime) -> ExitCode {
     match compare_all(&rt) {
@@ -38,20 +54,21 @@ fn main(rt: HostRuntime) -> ExitCode {
 
 /// Prints what is not so, and how much was compared. Answers whether all is so.
 fn compare_all<R: Files + Print + AllocGlobal>(rt: &R) -> io::Result<bool> {
-    let drives = compare(rt, Table::Drives)?;
-    let talks = compare(rt, Table::Talks)?;
-    let by_the_clock = compare(rt, Table::TalksByTheClock)?;
-    Ok(drives && talks && by_the_clock)
+    let mut all = true;
+    for (file, name, told) in &TABLES {
+        all = compare(rt, file, name, *told)? && all;
+    }
+    Ok(drive_by_chance(rt)? && all)
 }
 
 /// Prints each block of a table that is not so, and then how many there were. Answers whether all
 /// are so.
-fn compare<R: Files + Print + AllocGlobal>(rt: &R, table: Table) -> io::Result<bool> {
-    let (file, name) = match table {
-        Table::Drives => ("drives.txt", "drives"),
-        Table::Talks => ("wires.txt", "talks"),
-        Table::TalksByTheClock => ("wires-clock.txt", "talks by the clock"),
-    };
+fn compare<R: Files + Print + AllocGlobal>(
+    rt: &R,
+    file: &str,
+    name: &str,
+    told: Told,
+) -> io::Result<bool> {
     let text = fs::read_to_string(rt, file)?;
     let mut count = 0u64;
     let mut all = true;
@@ -61,7 +78,7 @@ fn compare<R: Files + Print + AllocGlobal>(rt: &R, table: Table) -> io::Result<b
             continue;
         }
         count = count.saturating_add(1);
-        if !is_so(rt.alloc(), table, block)? {
+        if !is_so(rt.alloc(), told, block)? {
             println!(rt; "{file}: number {count} is not so:\n{block}")?;
             all = false;
         }
@@ -71,9 +88,10 @@ fn compare<R: Files + Print + AllocGlobal>(rt: &R, table: Table) -> io::Result<b
 }
 
 /// Whether a block is so.
-fn is_so(alloc: Global, table: Table, block: &str) -> io::Result<bool> {
-    match table {
-        Table::Drives => is_drive(alloc, block),
-        Table::Talks | Table::TalksByTheClock => is_talk(alloc, block),
+fn is_so(alloc: Global, told: Told, block: &str) -> io::Result<bool> {
+    match told {
+        Told::Drives => is_drive(alloc, block),
+        Told::DrivesEachWay => is_drive_each_way(alloc, block),
+        Told::Talks => is_talk(alloc, block),
     }
 }

@@ -1,17 +1,18 @@
 //! A talk of a speaker over a wire and what comes of it, told by a block of lines: `own` and the
 //! prefixes that are announced; `start` and `Start` or `Passive`; `turns` and at most how many;
 //! `clock` and its seconds, the last of which repeats; `connect` and `yes` or `no`; `read` and an
-//! answer of the wire; `fails-read` or `fails-write` and which one fails, counted from 1; `takes`
-//! and at most how many octets a write takes; `taken` and the octets that the wire took; `report
-//! turns` and how many.
+//! answer of the wire; `fails-read` or `fails-write` and which one fails, counted from 1, or
+//! `takes-nothing` and which write takes nothing; `takes` and at most how many octets a write
+//! takes; `taken` and the octets that the wire took; `report turns` and how many; `failures` and
+//! how often the wire failed, if that is told.
 
 use crate::case::{are_routes, config_of, hops_of, is_line, line_of, malformed, pieces_of};
-use crate::judging::{end_text, is_judged};
+use crate::judging::{end_text, is_judged_idle};
 use bgp_judge::End;
 use bgp_machine::Fsm;
 use bgp_open::Config;
 use bgp_prefix::{Prefix, Seconds, read_prefix};
-use bgp_talk::{MemRead, MemWire, Report, WireUpset, speak};
+use bgp_talk::{MemRead, MemWire, Report, Wire, WireUpset, speak};
 use mrt::MemSink;
 use std::alloc::Global;
 use std::io;
@@ -39,6 +40,9 @@ fn upset_of(block: &str) -> (u64, WireUpset) {
     }
     if number_of(block, "takes") == Some(0) {
         return (0, WireUpset::WriteTakesNothing);
+    }
+    if let Some(call) = number_of(block, "takes-nothing") {
+        return (call.wrapping_sub(1), WireUpset::WriteTakesNothing);
     }
     let call = number_of(block, "fails-write").unwrap_or(0);
     (call.wrapping_sub(1), WireUpset::WriteFails)
@@ -141,7 +145,7 @@ fn is_report(
     Ok(
         are_turns
             && are_routes(alloc, text.as_str(), block)?
-            && is_judged(alloc, config, capture, "end Idle disabled -\n")?,
+            && is_judged_idle(alloc, config, capture)?,
     )
 }
 
@@ -173,8 +177,10 @@ fn is_told(
     let Ok(report) = told else {
         return Ok(false);
     };
+    let failures = number_of(block, "failures").unwrap_or(wire.failures());
     Ok(
-        is_line(alloc, block, "taken", wire.taken())?
+        failures == wire.failures()
+            && is_line(alloc, block, "taken", wire.taken())?
             && is_line(alloc, block, "capture", sink.octets())?
             && is_report(alloc, config, block, sink.octets(), report)?,
     )

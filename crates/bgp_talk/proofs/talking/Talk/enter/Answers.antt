@@ -1,4 +1,4 @@
-use Rattle.std.proofs.Common.{rules, sym, refl, map, subst, inr}
+use Rattle.std.proofs.Common.{rules, sym, refl, map, subst}
 use Rattle.std.specs.List.{AllByRecursion}
 use Rattle.mrt.specs.Sink.{TakesBeginning}
 use Rattle.bgp_speaker.specs.Choosing.{sent_in}
@@ -21,7 +21,7 @@ pub returns-in_default-clause-err : goal.returns-in_default-clause-err
 returns-in_default-clause-err g c = λ owed connection left.
     cut_at_once g.W.Wire.tells g.C.Sink.takes (capture_of c.args.self.now.config) g.met.W.Wire.joined g.met.C.Sink.joined (capture_joined c.args.self.now.config)
     (g.met.C.Sink.nothing c.args.sink.now) (g.met.W.Wire.nothing c.args.wire.now)
-    (refl, inr (input_value c.args.input.now, owed, c.now-second.result, refl, refl, c.now-second.ensures.told))
+    (refl, input_value c.args.input.now, owed, c.now-second.result, refl, refl, c.now-second.ensures.told)
 
 pub returns-then-is_err-clause-err : goal.returns-then-is_err-clause-err
 returns-then-is_err-clause-err g c =

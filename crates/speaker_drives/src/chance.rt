@@ -2,22 +2,19 @@
 //! thing after another shows as many records and comes to the same state as `drive`; and what each
 //! drive shows is judged alike by the plain tracker and by the compact one: yes, with the core's
 //! state and routes among the ends.
-#![tactic(auto)]
 
-mod judging;
 mod moves;
 mod walk;
 
+use crate::judging::{capture_of, end_text, is_judged};
 use bgp_judge::End;
 use bgp_machine::Fsm;
 use bgp_open::{Config, ConfigParts, Families};
-use bgp_prefix::{Address, Session};
+use bgp_prefix::{Address, RouteRefresh, Session};
 use bgp_speaker::{Core, Run, drive};
-use judging::{capture_of, end_text, is_judged};
 use rand_pcg::Pcg32;
 use std::alloc::Global;
 use std::io;
-use std::process::ExitCode;
 use walk::walk;
 
 /// How many drives there are.
@@ -36,7 +33,7 @@ const PARTS: ConfigParts = ConfigParts {
     session: Session {
         peer: Address::V4(0xc000_0202),
         local: Address::V4(0xc000_0201),
-        refresh: false,
+        refresh: RouteRefresh::NotOffered,
         extended: false,
     },
 };
@@ -53,17 +50,6 @@ struct Counts {
     records: usize,
     established: u32,
     routes: u32,
-}
-
-fn main(rt: HostRuntime) -> ExitCode {
-    match drive_all(&rt) {
-        Ok(true) => ExitCode::SUCCESS,
-        Ok(false) => ExitCode::FAILURE,
-        Err(error) => {
-            let _ = eprintln!(rt; "{error}");
-            ExitCode::FAILURE
-        }
-    }
 }
 
 /// The settings of a drive: each number has others.
@@ -137,7 +123,7 @@ fn is_next_so(
 }
 
 /// Prints each drive that is not so, and then what they showed. Answers whether all are so.
-fn drive_all<R: Print + AllocGlobal>(rt: &R) -> io::Result<bool> {
+pub(crate) fn drive_by_chance<R: Print + AllocGlobal>(rt: &R) -> io::Result<bool> {
     let mut random = Pcg32::new(42, 54);
     let mut counts = Counts {
         records: 0,
@@ -156,7 +142,7 @@ fn drive_all<R: Print + AllocGlobal>(rt: &R) -> io::Result<bool> {
         established,
         routes,
     } = counts;
-    println!(rt; "{DRIVES} drives: {records} records")?;
+    println!(rt; "{DRIVES} drives by chance: {records} records")?;
     println!(rt; "{established} end in Established, {routes} with routes")?;
     Ok(all)
 }

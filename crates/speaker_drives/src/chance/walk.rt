@@ -1,7 +1,7 @@
 //! Drives by chance: what a core is told next depends on its state. Messages may come in two
 //! pieces, of which the second may be lost, and seconds go back at times.
 
-use crate::moves::{Told, moves_of};
+use super::moves::{Told, moves_of};
 use bgp_machine::Fsm;
 use bgp_prefix::{Address, Prefix, Seconds};
 use bgp_speaker::{Core, Input};
