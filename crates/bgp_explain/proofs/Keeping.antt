@@ -8,6 +8,7 @@ use Rattle.bgp_judge.specs.Verdict.{HasVerdict, No}
 use Rattle.bgp_judge.specs.declared.verdict.Verdict.TheVariants as verdicts
 use Rattle.bgp_judge.proofs.CaptureSoFar.{one_longer}
 use Rattle.bgp_reason.specs.declared.told.Told.{Told}
+use Rattle.bgp_reason.specs.Asked.{AreAsked}
 use Rattle.bgp_reason.specs.Possible.{ArePossible}
 use Rattle.bgp_reason.specs.Told.{ToldOneMore, last_from, last_message, told, told_with}
 use Rattle.bgp_explain.specs.declared.so_far.Stop.{Stop}
@@ -77,6 +78,8 @@ module _ {X : Type 0} (stands : Config → List ShownRecord → Type 0) (config 
     impossible = at.impossible;
     tells = at.tells;
     possible = at.possible;
+    asked = at.asked;
+    timely = at.timely;
   }
 
   -- until then all of it is so
@@ -127,6 +130,8 @@ module _ {X : Type 0} (config : Config) (records : List ShownRecord) (p : Progre
       unjudged = subst (λ (v : List ShownRecord). AreUnjudged v unjudged) (sym before_it) are;
       last_message = at.tells.last_message ∙ ap last_message (sym before_it);
       possible = subst (λ (v : List ShownRecord). ArePossible config v i.possible) (sym before_it) at.possible;
+      asked = subst (λ (v : List ShownRecord). AreAsked config v i.possible) (sym before_it) at.asked;
+      timely = at.timely;
     },
     (
       subst (λ (v : List ShownRecord). IsImpossible config v i.impossible) (sym before_it) at.impossible,

@@ -33,6 +33,6 @@ same_lacks config link possible (Received second octets) v is = ap lacked_of is
 same_lacks config link possible (Sent second octets) v is = same_sent config link possible second octets v is
 same_lacks config link possible (Changed second old new) v is = ap lacked_of is
 
-pub same_line : {X : Type 0} (number : ℕ) (asked : AskedUpdate X) → last_update_line number asked ≡ update_line number (asking_of asked)
+pub same_line : {X : Type 0} (number : ℕ) (packet : Option ℕ) (asked : AskedUpdate X) → last_update_line number packet asked ≡ update_line number packet (asking_of asked)
 unfolding last_update_line update_line
-same_line number asked = refl
+same_line number packet asked = refl

@@ -4,7 +4,12 @@ pub mod OffersKept
 pub mod Keeping
 pub mod Reading
 pub mod Standing
+pub mod LastReceived
+pub mod EntryRecords
 pub mod Telling
 pub mod LackedText
 pub mod Naming
 pub mod NoRoom
+pub mod OnePossible
+pub mod OneReason
+pub mod OneText

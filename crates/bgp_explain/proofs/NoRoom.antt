@@ -8,6 +8,7 @@ use Rattle.bgp_text.specs.Capture.{refused_line}
 use Rattle.bgp_tool.specs.Answer.{answer_status, answer_text}
 use Rattle.bgp_explain.specs.declared.explained.Reason.{Reason}
 use Rattle.bgp_explain.specs.declared.explained.Totals.{Totals}
+use Rattle.bgp_explain.specs.Packets.{no_packets}
 use Rattle.bgp_explain.specs.Text.{IsMoreBy, IsMoreOf}
 
 module _ {X : Type 0} (answer : Result (Verdict X) CaptureFault) (fault : CaptureFault) (n : ℕ) (is : answer ≡ Err fault) (memory : fault ≡ record { kind = Memory; offset = n }) where
@@ -17,7 +18,7 @@ module _ {X : Type 0} (answer : Result (Verdict X) CaptureFault) (fault : Captur
   pub fault_text : (config : Config) (why : Option (Reason X)) (totals : Totals) (text more : List ℕ) → why ≡ None → IsMoreOf config answer why totals more → text ≡ answer_text answer ++ more
       → text ≡ refused_line Memory n
   fault_text config why totals text more none tell whole =
-      let by : IsMoreBy config why more = subst (λ (a : Result (Verdict X) CaptureFault). IsMoreOf config a why totals more) is tell in
-      let empty : more ≡ [] = subst (λ (w : Option (Reason X)). IsMoreBy config w more) none by in
+      let by : IsMoreBy config no_packets why more = subst (λ (a : Result (Verdict X) CaptureFault). IsMoreOf config a why totals more) is tell in
+      let empty : more ≡ [] = subst (λ (w : Option (Reason X)). IsMoreBy config no_packets w more) none by in
       whole ∙ ap (λ (a : Result (Verdict X) CaptureFault). answer_text a ++ more) is ∙ ap (λ (f : CaptureFault). refused_line f.kind f.offset ++ more) memory
       ∙ ap (λ (m : List ℕ). refused_line Memory n ++ m) empty ∙ append-nil (refused_line Memory n)

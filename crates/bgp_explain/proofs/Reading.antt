@@ -1,5 +1,5 @@
 -- How a capture is read to its end, and what its records are.
-use Rattle.std.proofs.Common.{◌≡◌, ◌∙◌, ◌+◌, ◌++◌, ℕ, Bool, List, [], Option, None, Some, Result, Ok, Err, refl, sym, ap, subst, inr, append-nil, length, length-append}
+use Rattle.std.proofs.Common.{◌≡◌, ◌∙◌, ◌+◌, ◌++◌, ℕ, Bool, List, [], Option, None, Some, Result, Ok, Err, refl, sym, ap, subst, inl, inr, append-nil, length, length-append}
 use Rattle.bgp_prefix.specs.Shown.{ShownRecord}
 use Rattle.bgp_open.specs.declared.config.Config.{Config}
 use Rattle.mrt.specs.declared.fault.CaptureFault.{CaptureFault}
@@ -7,15 +7,19 @@ use Rattle.mrt.specs.declared.fault.FaultKind.TheVariants as kinds
 use Rattle.mrt.specs.declared.record.Endpoints.{Endpoints}
 use Rattle.mrt.specs.Capture.{ArePieces, first_other, joined, last_of, records_of}
 use Rattle.mrt.specs.Reader.{ReaderState, Ends}
+use Rattle.mrt.specs.Skipped.{skipped_in, both_skipped}
+use Rattle.mrt.specs.declared.skipped.SkippedRecords.{SkippedRecords}
+use Rattle.mrt.proofs.Counts.{chained_counts}
 use Rattle.mrt.proofs.Chains.{joined_chain, last_chain, other_chain, pieces_chain, records_chain}
 use Rattle.bgp_machine.specs.Run.{Begins}
 use Rattle.bgp_judge.specs.declared.verdict.Verdict.{Verdict}
 use Rattle.bgp_judge.specs.Judging.{IsRefusal, Judges, ReadsWith, fault_in}
 use Rattle.bgp_judge.specs.Verdict.{IsVerdict}
 use Rattle.bgp_judge.proofs.CaptureEnds.{judged_so}
-use Rattle.bgp_judge.proofs.CaptureSoFar.{SoFar, spelled}
+use Rattle.bgp_judge.proofs.CaptureSoFar.{SoFar}
 use Rattle.bgp_explain.specs.declared.explained.Reason.{Reason}
 use Rattle.bgp_explain.specs.declared.explained.Totals.{Totals}
+use Rattle.bgp_explain.specs.declared.skipped.Skipped.{Skipped}
 use Rattle.bgp_explain.specs.Explaining.{ExplainsBy, IsExplained, ReadsAll}
 use Rattle.bgp_explain.specs.Reason.{AreSummed, HasReason}
 
@@ -27,7 +31,7 @@ module _ {S : Type 0} (gives : S → S → List ℕ → Type 0) (has_ended : S �
   pub reads_all : (now next : S) (state after : ReaderState) (records : List ShownRecord) (Holds : List ShownRecord → Type 0)
       → SoFar gives has_ended gives_joined count counted config source may_lack now state records → Holds records
       → Ends gives has_ended config.parts.session now next state after
-      → ReadsWith gives config.parts.session source next after None (λ given. ReadsAll given has_ended config source next may_lack Holds after.place)
+      → ReadsWith gives config.parts.session source next after None (λ given. ReadsAll given has_ended config source next may_lack Holds after)
   reads_all now next state after records Holds so_far holds ends =
       let pieces = so_far.pieces ++ ends.skipped in
       let chain = joined_chain so_far.pieces ends.skipped in
@@ -39,6 +43,9 @@ module _ {S : Type 0} (gives : S → S → List ℕ → Type 0) (has_ended : S �
       let other : after.other ≡ first_other None pieces =
       ap (λ (s : ReaderState). s.other) ends.stands ∙ ap (λ (o : Option Endpoints). first_other o ends.skipped) so_far.other
       ∙ sym (other_chain None so_far.pieces ends.skipped) in
+      let skipped : after.skipped ≡ skipped_in pieces =
+      ap (λ (s : ReaderState). s.skipped) ends.stands ∙ ap (λ (k : SkippedRecords). both_skipped k (skipped_in ends.skipped)) so_far.skipped
+      ∙ chained_counts so_far.pieces ends.skipped in
       let gave : gives source next (joined pieces) =
       subst (λ (o : List ℕ). gives source next o) (sym chain) (gives_joined source now next (joined so_far.pieces) (joined ends.skipped) so_far.gave ends.exactly) in
       let many : length (joined pieces) ≡ length (joined so_far.pieces) + length (joined ends.skipped) =
@@ -51,7 +58,7 @@ module _ {S : Type 0} (gives : S → S → List ℕ → Type 0) (has_ended : S �
         record {
           pieces = pieces;
           rest = [];
-          knows = (last, other);
+          knows = (last, other, skipped);
           gave = subst (λ (o : List ℕ). gives source next o) (sym (append-nil (joined pieces))) gave;
           each = each;
           holds = record {
@@ -60,6 +67,7 @@ module _ {S : Type 0} (gives : S → S → List ℕ → Type 0) (has_ended : S �
             ended = ends.ended;
             each = each;
             place = place;
+            knows = (last, other, skipped);
             holds = subst Holds (sym shown) holds;
           };
         },
@@ -68,9 +76,9 @@ module _ {S : Type 0} (gives : S → S → List ℕ → Type 0) (has_ended : S �
 
 module _ {S : Type 0} (gives : S → S → List ℕ → Type 0) (has_ended : S → Bool) (config : Config) (source new : S)
     (may_lack : Config → List ShownRecord → ShownRecord → Type 0) where
-  module _ (Holds : List ShownRecord → Type 0) (last : ℕ) (reads : ReadsAll gives has_ended config source new may_lack Holds last) where
+  module _ (Holds : List ShownRecord → Type 0) (reader : ReaderState) (reads : ReadsAll gives has_ended config source new may_lack Holds reader) where
     -- all was read, and there is no memory
-    pub unlisted : (fault : CaptureFault) → fault ≡ record { kind = kinds.Memory; offset = last } → Begins config (records_of reads.pieces)
+    pub unlisted : (fault : CaptureFault) → fault ≡ record { kind = kinds.Memory; offset = reader.place } → Begins config (records_of reads.pieces)
         → IsRefusal gives has_ended config source new may_lack fault
     unlisted fault is begins = inr (inr (record {
       pieces = reads.pieces;
@@ -84,16 +92,23 @@ module _ {S : Type 0} (gives : S → S → List ℕ → Type 0) (has_ended : S �
 
     -- or all is explained
     pub explained : {X Y : Type 0} (answer : Verdict X) (why : Option (Reason Y)) (totals : Totals) → IsVerdict config (records_of reads.pieces) answer
-        → HasReason config (records_of reads.pieces) answer why → AreSummed (records_of reads.pieces) answer totals.tally totals.seen → totals.octets ≡ last
+        → HasReason config (records_of reads.pieces) answer why → AreSummed (records_of reads.pieces) answer totals.tally totals.seen → totals.octets ≡ reader.place
+        → totals.skipped ≡ record { counts = reader.skipped; first_other = reader.other }
         → IsExplained gives has_ended config source new may_lack answer why totals
-    explained answer why totals is has sums place = record {
+    explained answer why totals is has sums place skips = record {
+      skips = skips ∙ ap (λ (k : SkippedRecords). let s : Skipped = record { counts = k; first_other = reader.other } in s) reads.knows.2
+          ∙ ap (λ (o : Option Endpoints). let s : Skipped = record { counts = skipped_in reads.pieces; first_other = o } in s) reads.knows.1;
       count = place ∙ reads.place;
       summed = sums;
       octets = joined reads.pieces;
       records = records_of reads.pieces;
       gave = reads.gave;
       ended = reads.ended;
-      spells = spelled config reads.pieces reads.each;
+      spells = record {
+        pieces = reads.pieces;
+        text = record { whole = sym (append-nil (joined reads.pieces)); each = reads.each; last = inl (refl, refl); stops = tt };
+        shown = refl;
+      };
       verdict = is;
       reason = has;
     }

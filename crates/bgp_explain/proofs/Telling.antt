@@ -39,33 +39,38 @@ use Rattle.bgp_explain.specs.Kept.{shown_by}
 use Rattle.bgp_explain.specs.Opened.{fault_told}
 use Rattle.bgp_explain.specs.Reason.{AreSummed, HasReason, IsNext, IsReasonAt}
 use Rattle.bgp_explain.specs.Text.{CanBePut, CanBePutOf, IsExplainedText, IsImpossibleLine, IsMoreBy, IsMoreOf, IsSaidOf, IsWhy}
+use Rattle.bgp_explain.specs.Packets.{no_packets}
+use Rattle.bgp_explain.specs.Skipped.{skipped_of}
 use Rattle.bgp_explain.specs.Tally.{tally_of, yes_lines}
+use Rattle.bgp_explain.specs.declared.skipped.Skipped.{Skipped}
 use Rattle.bgp_explain.specs.declared.tally.Tally.{Tally}
 use Rattle.bgp_tool.specs.declared.seen.Seen.{Seen}
 
-module _ {X : Type 0} (config : Config) where
+module _ {X : Type 0} (config : Config) (packets : ℕ → Option ℕ) where
   same_why : (records : List ShownRecord) (reason : Reason X) (next : Option (ℕ × ShownRecord)) (text : List ℕ) → IsReasonAt config records reason
-      → IsWhy config reason.told reason.link reason.unjudged reason.last_message.items reason.possible next text
-      → IsWhy config (told records) (sending_link config records) reason.unjudged (last_message records) reason.possible next text
+      → IsWhy config packets reason.told reason.link reason.unjudged reason.last_message.items reason.possible next text
+      → IsWhy config packets (told records) (sending_link config records) reason.unjudged (last_message records) reason.possible next text
   same_why records reason next text at why =
-      subst (λ (t : Told). IsWhy config t (sending_link config records) reason.unjudged (last_message records) reason.possible next text) at.told
-      (subst (λ (l : Option Link). IsWhy config reason.told l reason.unjudged (last_message records) reason.possible next text) at.link
-      (subst (λ (o : List ℕ). IsWhy config reason.told reason.link reason.unjudged o reason.possible next text) at.last_message why))
+      subst (λ (t : Told). IsWhy config packets t (sending_link config records) reason.unjudged (last_message records) reason.possible next text) at.told
+      (subst (λ (l : Option Link). IsWhy config packets reason.told l reason.unjudged (last_message records) reason.possible next text) at.link
+      (subst (λ (o : List ℕ). IsWhy config packets reason.told reason.link reason.unjudged o reason.possible next text) at.last_message why))
 
   tells_why : (records : List ShownRecord) (reason : Reason X) (next : Option (ℕ × ShownRecord)) (text : List ℕ) → IsReasonAt config records reason
-      → IsWhy config reason.told reason.link reason.unjudged reason.last_message.items reason.possible next text → TellsWhy config records next text
+      → IsWhy config packets reason.told reason.link reason.unjudged reason.last_message.items reason.possible next text → TellsWhy config packets records next text
   tells_why records reason next text at why = record {
     possible = reason.possible;
     are = at.possible;
+    asked = at.asked;
+    timely = at.timely;
     unjudged = reason.unjudged;
     are_unjudged = at.unjudged;
     why = same_why records reason next text at why;
   }
 
   tells_not : (before records : List ShownRecord) (reason : Reason X) (o : Option (Impossible X)) (first rest : List ℕ)
-      → IsNext config before o records → IsImpossibleLine config.parts.session o first → IsReasonAt config before reason
-      → IsWhy config reason.told reason.link reason.unjudged reason.last_message.items reason.possible (next_in o) rest
-      → TellsWhyNot config before records (first ++ rest)
+      → IsNext config before o records → IsImpossibleLine config.parts.session packets o first → IsReasonAt config before reason
+      → IsWhy config packets reason.told reason.link reason.unjudged reason.last_message.items reason.possible (next_in o) rest
+      → TellsWhyNot config packets before records (first ++ rest)
   tells_not before records reason None first rest next line at why = absurd next
   tells_not before records reason (Some i) first rest next line at why = record {
     shown = shown_by i.«record»;
@@ -74,51 +79,53 @@ module _ {X : Type 0} (config : Config) where
     is_line = line.1;
     rest = rest;
     why = tells_why before reason (Some (length before + 1, shown_by i.«record»)) rest at
-        (subst (λ (n : ℕ). IsWhy config reason.told reason.link reason.unjudged reason.last_message.items reason.possible (Some (n, shown_by i.«record»)) rest) next.0.number why);
-    whole = ap (λ (f : List ℕ). f ++ rest) (line.2 ∙ ap (λ (n : ℕ). record_line n line.0) next.0.number);
+        (subst (λ (n : ℕ). IsWhy config packets reason.told reason.link reason.unjudged reason.last_message.items reason.possible (Some (n, shown_by i.«record»)) rest) next.0.number why);
+    whole = ap (λ (f : List ℕ). f ++ rest) (line.2 ∙ ap (λ (n : ℕ). record_line n (packets n) line.0) next.0.number);
   }
 
   -- what stands after a no
-  more_of_no : (Y : Type 0) (records : List ShownRecord) (count : ℕ) (why : Option (Reason X)) (more : List ℕ) → HasReason {X = Y} config records (No count) why
-      → IsMoreBy config why more → TellsWhyNot config (take count records) (take (count + 1) records) more
+  pub more_of_no : (Y : Type 0) (records : List ShownRecord) (count : ℕ) (why : Option (Reason X)) (more : List ℕ) → HasReason {X = Y} config records (No count) why
+      → IsMoreBy config packets why more → TellsWhyNot config packets (take count records) (take (count + 1) records) more
   more_of_no Y records count None more has is = absurd has
   more_of_no Y records count (Some reason) more has is =
-      subst (λ (t : List ℕ). TellsWhyNot config (take count records) (take (count + 1) records) t) (sym is.whole)
+      subst (λ (t : List ℕ). TellsWhyNot config packets (take count records) (take (count + 1) records) t) (sym is.whole)
       (tells_not (take count records) (take (count + 1) records) reason reason.impossible is.first is.rest has.1 is.impossible has.0 is.why)
 
   -- and after an unfinished
-  more_of_unfinished : (Y : Type 0) (records : List ShownRecord) (why : Option (Reason X)) (more : List ℕ) → HasReason {X = Y} config records Unfinished why
-      → IsMoreBy config why more → TellsWhy config records None more
+  pub more_of_unfinished : (Y : Type 0) (records : List ShownRecord) (why : Option (Reason X)) (more : List ℕ) → HasReason {X = Y} config records Unfinished why
+      → IsMoreBy config packets why more → TellsWhy config packets records None more
   more_of_unfinished Y records None more has is = absurd has
   more_of_unfinished Y records (Some reason) more has is =
-      let none : is.first ≡ [] = subst (λ (o : Option (Impossible X)). IsImpossibleLine config.parts.session o is.first) has.1 is.impossible in
-      let why = subst (λ (o : Option (Impossible X)). IsWhy config reason.told reason.link reason.unjudged reason.last_message.items reason.possible (next_in o) is.rest) has.1 is.why in
+      let none : is.first ≡ [] = subst (λ (o : Option (Impossible X)). IsImpossibleLine config.parts.session packets o is.first) has.1 is.impossible in
+      let why = subst (λ (o : Option (Impossible X)). IsWhy config packets reason.told reason.link reason.unjudged reason.last_message.items reason.possible (next_in o) is.rest) has.1 is.why in
       let whole = is.whole ∙ ap (λ (f : List ℕ). f ++ is.rest) none in
-      subst (λ (t : List ℕ). TellsWhy config records None t) (sym whole) (tells_why records reason None is.rest has.0 why)
+      subst (λ (t : List ℕ). TellsWhy config packets records None t) (sym whole) (tells_why records reason None is.rest has.0 why)
 
-says : {X Y : Type 0} (config : Config) (records : List ShownRecord) (verdict : Verdict X) (why : Option (Reason Y)) (totals : Totals) (more text : List ℕ)
-    → IsVerdict config records verdict → HasReason config records verdict why → AreSummed records verdict totals.tally totals.seen
+says : {X Y : Type 0} (config : Config) (records : List ShownRecord) (skipped : Skipped) (verdict : Verdict X) (why : Option (Reason Y)) (totals : Totals) (more text : List ℕ)
+    → IsVerdict config records verdict → HasReason config records verdict why → AreSummed records verdict totals.tally totals.seen → totals.skipped ≡ skipped
     → IsMoreOf config (Ok verdict) why totals more → text ≡ verdict_text verdict ++ more
-    → SaysExplained config records text (verdict_status verdict)
-says config records (Yes ends) why totals more text is has sums tells whole = record {
+    → SaysExplained config records skipped text (verdict_status verdict)
+says config records skipped (Yes ends) why totals more text is has sums skips tells whole = record {
   first = verdict_text (Yes ends);
   more = more;
   says = inl record { ends = map end_value ends.items; some = is.0; lists = is.1; prints = refl; tells = refl };
-  explains = tells ∙ ap (λ (t : Tally). yes_lines t totals.seen.left_idle) sums.0 ∙ ap (λ (v : Seen). yes_lines (tally_of records) v.left_idle) sums.1;
+  explains = tells ∙ ap (λ (t : Tally). yes_lines t (Some totals.skipped) totals.seen.left_idle) sums.0
+      ∙ ap (λ (v : Seen). yes_lines (tally_of records) (Some totals.skipped) v.left_idle) sums.1
+      ∙ ap (λ (k : Skipped). yes_lines (tally_of records) (Some k) (seen_in records).left_idle) skips;
   whole = whole;
 }
-says {X} config records (No count) why totals more text is has sums tells whole = record {
+says {X} config records skipped (No count) why totals more text is has sums skips tells whole = record {
   first = verdict_text {X = X} (No count);
   more = more;
   says = inr (inl record { count = count; within = is.0; before = is.1; behind = is.2; prints = refl; tells = refl });
-  explains = more_of_no config X records count why more has tells;
+  explains = more_of_no config no_packets X records count why more has tells;
   whole = whole;
 }
-says {X} config records Unfinished why totals more text is has sums tells whole = record {
+says {X} config records skipped Unfinished why totals more text is has sums skips tells whole = record {
   first = verdict_text {X = X} Unfinished;
   more = more;
   says = inr (inr record { begins = is.0; none = is.1; prints = refl; tells = refl });
-  explains = more_of_unfinished config X records why more has tells;
+  explains = more_of_unfinished config no_packets X records why more has tells;
   whole = whole;
 }
 
@@ -140,11 +147,12 @@ module _ {R : Type 0} (gives : R → R → List ℕ → Type 0) (has_ended : R �
     gave = is.gave;
     ended = is.ended;
     spells = is.spells;
-    says = subst (λ (n : ℕ). SaysExplained config is.records text n) (sym same) (says config is.records verdict why totals more text is.verdict is.reason is.summed tell whole);
+    says = subst (λ (n : ℕ). SaysExplained config is.records (skipped_of is.spells.pieces) text n) (sym same)
+        (says config is.records (skipped_of is.spells.pieces) verdict why totals more text is.verdict is.reason is.summed is.skips tell whole);
     counted = same_count counted;
   }
   tells_it (Err fault) why totals more text code same is counted tell whole =
-      let none : more ≡ [] = subst (λ (w : Option (Reason _)). IsMoreBy config w more) is.1 tell in inr (inl record {
+      let none : more ≡ [] = subst (λ (w : Option (Reason _)). IsMoreBy config no_packets w more) is.1 tell in inr (inl record {
         fault = fault;
         why = is.0;
         prints = whole ∙ ap (λ (m : List ℕ). refused_line fault.kind fault.offset ++ m) none ∙ append-nil (refused_line fault.kind fault.offset);
@@ -235,6 +243,7 @@ module _ {F R : Type 0} (view : F → R) (has_ended : R → Bool) (config : Conf
   viewed (Ok verdict) why totals is = record {
     count = is.count;
     summed = is.summed;
+    skips = is.skips;
     octets = is.octets;
     records = is.records;
     gave = is.gave;
@@ -380,6 +389,7 @@ module _ {S : Type 0} (has_ended : S → Bool) (config : Config) (source new : S
   explains_given (Ok verdict) why totals is = record {
     count = is.count;
     summed = is.summed;
+    skips = is.skips;
     octets = is.octets;
     records = is.records;
     gave = given is.octets is.gave;

@@ -1,63 +1,74 @@
 -- What explaining a capture reads, writes and answers.
-use Rattle.std.specs.Prelude.{◌≡◌, ◌+◌, ◌++◌, ◌⊎◌, ℕ, Bool, List, [], ◌∷◌, Option, None, Some}
-use Rattle.std.specs.Prelude.{IsTrue, length, take}
+use Rattle.std.specs.Prelude.{◌≡◌, ◌<◌, ◌+◌, ◌^◌, ◌++◌, ◌⊎◌, ℕ, Bool, List, [], ◌∷◌, Option, None}
+use Rattle.std.specs.Prelude.{Some, IfSome, IsTrue, length, take}
 use Rattle.std.proofs.Common.{inl, inr}
 use Rattle.bgp_prefix.specs.Shown.{ShownRecord}
 use Rattle.bgp_open.specs.declared.config.Config.{Config}
 use Rattle.mrt.specs.Capture.{Spells}
 use Rattle.mrt.specs.declared.fault.FaultKind.TheVariants.{Memory}
 use Rattle.bgp_reason.specs.declared.kinds.Possible.{Possible}
+use Rattle.bgp_reason.specs.Asked.{AreAsked}
 use Rattle.bgp_reason.specs.Possible.{ArePossible}
 use Rattle.bgp_reason.specs.Sending.{sending_link}
 use Rattle.bgp_reason.specs.Told.{told, last_message}
 use Rattle.bgp_reason_text.specs.Record.{record_line}
-use Rattle.bgp_text.specs.Capture.{IsRecordLine, refused_line}
+use Rattle.bgp_text.specs.Capture.{IsRecordText, refused_line}
 use Rattle.bgp_tool.specs.Answer.{IsWritten}
 use Rattle.bgp_tool.specs.Judging.{SaysVerdict, TellsFault}
 use Rattle.bgp_tool.specs.Seen.{seen_in}
 use Rattle.bgp_check.specs.declared.unjudged.Unjudged.{Unjudged}
 use Rattle.bgp_explain.specs.Offers.{AreUnjudged}
+use Rattle.bgp_explain.specs.Packets.{no_packets}
+use Rattle.bgp_explain.specs.declared.skipped.Skipped.{Skipped}
+use Rattle.bgp_explain.specs.Skipped.{skipped_of}
 use Rattle.bgp_explain.specs.Tally.{tally_of, yes_lines}
 use Rattle.bgp_explain.specs.Text.{IsWhy}
 
--- The lines on what records tell, and what may follow them: all of it, and nothing else. Where the
--- next record is impossible, it is given with its number.
-pub record TellsWhy (config : Config) (records : List ShownRecord)
+-- The lines on what records tell, and what may follow them: all of it, and nothing else, no kind
+-- without a record of it either. Where the next record is impossible, it is given with its number.
+-- The packets that show the records are those of a recording, where there are any.
+pub record TellsWhy (config : Config) (packets : ℕ → Option ℕ) (records : List ShownRecord)
     (next : Option (ℕ × ShownRecord)) (text : List ℕ) : Type 0 where
   pub possible : Possible
   pub are : ArePossible config records possible
+  pub asked : AreAsked config records possible
+  pub timely : IfSome possible.hold_timer_expired (λ from. from < 2 ^ 32)
   pub unjudged : Unjudged
   pub are_unjudged : AreUnjudged records unjudged
-  pub why : IsWhy config (told records) (sending_link config records) unjudged
+  pub why : IsWhy config packets (told records) (sending_link config records) unjudged
       (last_message records) possible next text
 
 -- the line of the record after these, and then the lines on those before it
-pub record TellsWhyNot (config : Config) (before records : List ShownRecord) (text : List ℕ)
-    : Type 0 where
+pub record TellsWhyNot (config : Config) (packets : ℕ → Option ℕ)
+    (before records : List ShownRecord) (text : List ℕ) : Type 0 where
   pub shown : ShownRecord
   pub next : records ≡ before ++ shown ∷ []
   pub line : List ℕ
-  pub is_line : IsRecordLine config.parts.session shown line
+  pub is_line : IsRecordText config.parts.session shown line
   pub rest : List ℕ
-  pub why : TellsWhy config before (Some (length before + 1, shown)) rest
-  pub whole : text ≡ record_line (length before + 1) line ++ rest
+  pub why : TellsWhy config packets before (Some (length before + 1, shown)) rest
+  pub whole : text
+      ≡ record_line (length before + 1) (packets (length before + 1)) line ++ rest
 
 -- What is told after a verdict: of a no why the next record is impossible, of an unfinished what
--- may follow, and after a yes what its records are.
-module _ (config : Config) (records : List ShownRecord) (first : List ℕ) (status : ℕ) where
+-- may follow, and after a yes what its records are, and what was skipped.
+module _ (config : Config) (records : List ShownRecord) (skipped : Skipped) (first : List ℕ)
+    (status : ℕ) where
   abbrev pub SaysMore : SaysVerdict config records first status → List ℕ → Type 0
-  SaysMore (inl says) more = more ≡ yes_lines (tally_of records) (seen_in records).left_idle
+  SaysMore (inl says) more =
+      more ≡ yes_lines (tally_of records) (Some skipped) (seen_in records).left_idle
   SaysMore (inr (inl denies)) more =
-      TellsWhyNot config (take denies.count records) (take (denies.count + 1) records) more
-  SaysMore (inr (inr unfinished)) more = TellsWhy config records None more
+      TellsWhyNot config no_packets (take denies.count records)
+      (take (denies.count + 1) records) more
+  SaysMore (inr (inr unfinished)) more = TellsWhy config no_packets records None more
 
 -- the text of the verdict, and after it why it is so
-pub record SaysExplained (config : Config) (records : List ShownRecord) (text : List ℕ)
-    (status : ℕ) : Type 0 where
+pub record SaysExplained (config : Config) (records : List ShownRecord) (skipped : Skipped)
+    (text : List ℕ) (status : ℕ) : Type 0 where
   pub first : List ℕ
   pub more : List ℕ
   pub says : SaysVerdict config records first status
-  pub explains : SaysMore config records first status says more
+  pub explains : SaysMore config records skipped first status says more
   pub whole : text ≡ first ++ more
 
 -- the source was read to its end, its octets spell records, and this explains the verdict on them
@@ -69,7 +80,7 @@ pub record TellsExplained {R : Type 0} (gives : R → R → List ℕ → Type 0)
   pub gave : gives source source' octets
   pub ended : IsTrue (has_ended source')
   pub spells : Spells config.parts.session octets records
-  pub says : SaysExplained config records text status
+  pub says : SaysExplained config records (skipped_of spells.pieces) text status
   pub counted : failures source' ≡ failures source
 
 -- The source was read to its end, and its octets spell records; but memory was refused for the
@@ -100,13 +111,24 @@ pub record ExplainsCapture {R W : Type 0} (gives : R → R → List ℕ → Type
       ⊎ TellsNoRoom gives has_ended source_failures config source source' text code
   pub wrote : IsWritten takes failures text code sink sink' status
 
--- ---- the law
+-- ---- the laws
 
 -- what is explained begins with what is judged
 abbrev pub ExplainedAsJudged : Type 0
 ExplainedAsJudged =
-    (config : Config) (octets : List ℕ) (records also : List ShownRecord) (text other : List ℕ)
-    (status code : ℕ)
-    → Spells config.parts.session octets records → SaysExplained config records text status
+    (config : Config) (octets : List ℕ) (records also : List ShownRecord) (skipped : Skipped)
+    (text other : List ℕ) (status code : ℕ)
+    → Spells config.parts.session octets records → SaysExplained config records skipped text status
     → Spells config.parts.session octets also → SaysVerdict config also other code
     → (status ≡ code) × ((more : List ℕ) × (text ≡ other ++ more))
+
+-- What explains the verdict on a capture is one text: two that explain it are equal.
+abbrev pub HasOneText : Type 0
+HasOneText =
+    (config : Config) (octets : List ℕ) (records also : List ShownRecord) (text other : List ℕ)
+    (status code : ℕ)
+    → (spells : Spells config.parts.session octets records)
+    → SaysExplained config records (skipped_of spells.pieces) text status
+    → (spelled : Spells config.parts.session octets also)
+    → SaysExplained config also (skipped_of spelled.pieces) other code
+    → (text ≡ other) × (status ≡ code)

@@ -6,6 +6,8 @@ use Rattle.bgp_prefix.specs.Shown.{ShownRecord, Received}
 use Rattle.bgp_open.specs.declared.config.Config.{Config}
 use Rattle.bgp_machine.specs.Run.{Begins}
 use Rattle.mrt.specs.Capture.{Piece, ArePieces, Spells, joined, records_of}
+use Rattle.mrt.specs.Reader.{ReaderState}
+use Rattle.mrt.specs.ReadBy.{Knows}
 use Rattle.mrt.specs.declared.fault.CaptureFault.{CaptureFault}
 use Rattle.bgp_judge.specs.declared.verdict.Verdict.{Verdict}
 use Rattle.bgp_judge.specs.Judging.{IsRefusal}
@@ -14,6 +16,7 @@ use Rattle.bgp_explain.specs.declared.explained.Explained.{Explained}
 use Rattle.bgp_explain.specs.declared.explained.Reason.{Reason}
 use Rattle.bgp_explain.specs.declared.explained.Totals.{Totals}
 use Rattle.bgp_explain.specs.Reason.{AreSummed, HasReason}
+use Rattle.bgp_explain.specs.Skipped.{skipped_of}
 
 -- a message that is received
 abbrev pub HoldsReceived : ShownRecord → Type 0
@@ -44,6 +47,7 @@ module _ {S : Type 0} (gives : S → S → List ℕ → Type 0) (has_ended : S �
     pub reason : HasReason config records answer why
     pub count : totals.octets ≡ length octets
     pub summed : AreSummed records answer totals.tally totals.seen
+    pub skips : totals.skipped ≡ skipped_of spells.pieces
 
   abbrev pub ExplainsBy : {X Y : Type 0} → Result (Verdict X) CaptureFault → Option (Reason Y)
       → Totals → Type 0
@@ -54,16 +58,17 @@ module _ {S : Type 0} (gives : S → S → List ℕ → Type 0) (has_ended : S �
   abbrev pub Explains : {X : Type 0} → Explained X → Type 0
   Explains explained = ExplainsBy explained.answer explained.reason explained.totals
 
-  -- A capture was read to its end, and this holds of its records; or as far as a fault.
-  pub record ReadsAll (Holds : List ShownRecord → Type 0) (last : ℕ) : Type 0 where
+  -- A capture was read to its end by a reader, and this holds of its records; or as far as a fault.
+  pub record ReadsAll (Holds : List ShownRecord → Type 0) (reader : ReaderState) : Type 0 where
     pub pieces : List Piece
     pub gave : gives old new (joined pieces)
     pub ended : IsTrue (has_ended new)
     pub each : ArePieces config.parts.session None pieces
-    pub place : last ≡ length (joined pieces)
+    pub place : reader.place ≡ length (joined pieces)
+    pub knows : Knows reader pieces
     pub holds : Holds (records_of pieces)
 
-  abbrev pub Follows : {X : Type 0} → (List ShownRecord → Type 0) → ℕ
+  abbrev pub Follows : {X : Type 0} → (List ShownRecord → Type 0) → ReaderState
       → Result X CaptureFault → Type 0
-  Follows Holds last (Ok done) = ReadsAll Holds last
-  Follows Holds last (Err fault) = IsRefusal gives has_ended config old new may_lack fault
+  Follows Holds reader (Ok done) = ReadsAll Holds reader
+  Follows Holds reader (Err fault) = IsRefusal gives has_ended config old new may_lack fault

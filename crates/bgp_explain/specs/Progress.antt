@@ -1,8 +1,9 @@
 -- What is kept of a session's records while they are judged, one after another.
-use Rattle.std.specs.Prelude.{◌≡◌, ◌++◌, List, ◌∷◌, Option, None, Some, length}
+use Rattle.std.specs.Prelude.{◌≡◌, ◌<◌, ◌^◌, ◌++◌, List, ◌∷◌, Option, None, Some, IfSome, length}
 use Rattle.bgp_prefix.specs.Shown.{ShownRecord}
 use Rattle.bgp_open.specs.declared.config.Config.{Config}
 use Rattle.bgp_machine.specs.Run.{Begins}
+use Rattle.bgp_reason.specs.Asked.{AreAsked}
 use Rattle.bgp_reason.specs.Possible.{ArePossible}
 use Rattle.bgp_reason.specs.Told.{told, last_message}
 use Rattle.bgp_explain.specs.declared.so_far.Progress.{Progress}
@@ -34,6 +35,8 @@ pub record StopsAt {X : Type 0} (config : Config) (records : List ShownRecord)
   pub impossible : IsImpossible config before stop.impossible
   pub tells : IsToldOf config before progress
   pub possible : ArePossible config before stop.possible
+  pub asked : AreAsked config before stop.possible
+  pub timely : IfSome stop.possible.hold_timer_expired (λ from. from < 2 ^ 32)
 
 -- How far the judging has come with these records, whose tracker stands for records by `stands`:
 -- for all of them, and they begin a run; or it stopped at the first impossible one.

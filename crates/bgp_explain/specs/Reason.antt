@@ -1,12 +1,13 @@
 -- Why a verdict on a session's records is a no or unfinished.
-use Rattle.std.specs.Prelude.{◌≡◌, ◌+◌, ◌++◌, ℕ, List, [], ◌∷◌, Option, None, Some}
-use Rattle.std.specs.Prelude.{length, take}
+use Rattle.std.specs.Prelude.{◌≡◌, ◌<◌, ◌+◌, ◌^◌, ◌++◌, ℕ, List, [], ◌∷◌, Option, None, Some}
+use Rattle.std.specs.Prelude.{IfSome, length, take}
 use Rattle.bgp_prefix.specs.Shown.{ShownRecord}
 use Rattle.bgp_open.specs.declared.config.Config.{Config}
 use Rattle.bgp_machine.specs.Run.{Begins}
 use Rattle.mrt.specs.Written.{IsAllowed}
 use Rattle.bgp_judge.specs.declared.verdict.Verdict.{Verdict}
 use Rattle.bgp_judge.specs.declared.verdict.Verdict.TheVariants.{Yes, No, Unfinished}
+use Rattle.bgp_reason.specs.Asked.{AreAsked}
 use Rattle.bgp_reason.specs.Possible.{ArePossible}
 use Rattle.bgp_reason.specs.Sending.{sending_link}
 use Rattle.bgp_reason.specs.Told.{told, last_message}
@@ -19,7 +20,9 @@ use Rattle.bgp_explain.specs.Kept.{shown_by}
 use Rattle.bgp_explain.specs.Offers.{AreUnjudged}
 use Rattle.bgp_explain.specs.Tally.{tally_of}
 
--- It is the reason at the end of these records: what they tell, and what may follow them.
+-- It is the reason at the end of these records: what they tell, and what may follow them. Each kind
+-- is told by itself, also one of which no record is, as an UPDATE where there is no link; and
+-- seconds have 32 bits.
 pub record IsReasonAt {X : Type 0} (config : Config) (records : List ShownRecord)
     (reason : Reason X) : Type 0 where
   pub told : reason.told ≡ told records
@@ -27,6 +30,8 @@ pub record IsReasonAt {X : Type 0} (config : Config) (records : List ShownRecord
   pub unjudged : AreUnjudged records reason.unjudged
   pub last_message : reason.last_message.items ≡ last_message records
   pub possible : ArePossible config records reason.possible
+  pub asked : AreAsked config records reason.possible
+  pub timely : IfSome reason.possible.hold_timer_expired (λ from. from < 2 ^ 32)
 
 -- A record with which those before it begin no run, and which a capture of the session can hold, is
 -- kept with its number.

@@ -1,11 +1,13 @@
 -- How many records of a session there are, kind by kind, and their lines after a yes.
-use Rattle.std.specs.Prelude.{◌+◌, ◌++◌, ℕ, Bool, List, [], ◌∷◌, if◌then◌else◌, codes}
+use Rattle.std.specs.Prelude.{◌+◌, ◌++◌, ℕ, Bool, List, [], ◌∷◌, Option, if◌then◌else◌, codes}
 use Rattle.std.specs.Fmt.{decimal}
 use Rattle.bgp_prefix.specs.Shown.{ShownRecord, Received, Sent, Changed}
 use Rattle.bgp_machine.specs.declared.fsm.Fsm.{Fsm}
 use Rattle.bgp_machine.specs.declared.fsm.Fsm.TheVariants.{Idle}
 use Rattle.bgp_judge.specs.Told.{Told, fresh_told, told_next}
+use Rattle.bgp_explain.specs.declared.skipped.Skipped.{Skipped}
 use Rattle.bgp_explain.specs.declared.tally.Tally.{Tally}
+use Rattle.bgp_explain.specs.Skipped.{skipped_lines}
 
 abbrev pub no_tally : Tally
 no_tally = record { received = 0; sent = 0; changes = 0; ignored = 0 }
@@ -47,5 +49,6 @@ abbrev pub idle_note : Bool → List ℕ
 idle_note left_idle =
     if left_idle then [] else codes "note no record leaves Idle: nothing was judged\n"
 
-abbrev pub yes_lines : Tally → Bool → List ℕ
-yes_lines t left_idle = records_line t ++ (ignored_line t ++ idle_note left_idle)
+abbrev pub yes_lines : Tally → Option Skipped → Bool → List ℕ
+yes_lines t skipped left_idle =
+    records_line t ++ (ignored_line t ++ (skipped_lines skipped ++ idle_note left_idle))

@@ -19,7 +19,7 @@ use Rattle.bgp_reason_text.specs.NotWhole.{IsWhyNotSent, not_whole_line}
 use Rattle.bgp_reason_text.specs.Notes.{AreEndNotes, AreNotes, notes_text, with_offers}
 use Rattle.bgp_reason_text.specs.Record.{record_line, state_line}
 use Rattle.bgp_check.specs.declared.unjudged.Unjudged.{Unjudged}
-use Rattle.bgp_text.specs.Capture.{IsRecordLine, refused_line}
+use Rattle.bgp_text.specs.Capture.{IsRecordText, refused_line}
 use Rattle.bgp_tool.specs.Answer.{answer_status, answer_text}
 use Rattle.bgp_explain.specs.declared.explained.Explained.{Explained}
 use Rattle.bgp_explain.specs.declared.explained.Impossible.{Impossible}
@@ -29,28 +29,33 @@ use Rattle.bgp_explain.specs.declared.texts.Received.{Received}
 use Rattle.bgp_explain.specs.Details.{AreLacksOf, IsAskedBy, next_in}
 use Rattle.bgp_explain.specs.Kept.{shown_by}
 use Rattle.bgp_explain.specs.Lacked.{Lacked, following_lines}
+use Rattle.bgp_explain.specs.Packets.{no_packets}
 use Rattle.bgp_explain.specs.Tally.{yes_lines}
 use Rattle.bgp_explain.specs.Updates.{Asking, update_line}
 
 -- the message that was received last, by what the records tell, and what its octets ask for
-abbrev pub IsReceivedBy : Config → Told → List ℕ → Option ℕ → Option Received → Type 0
-IsReceivedBy config told octets None None = Unit {0}
-IsReceivedBy config told octets None (Some received) = ⊥
-IsReceivedBy config told octets (Some number) None = ⊥
-IsReceivedBy config told octets (Some number) (Some received) =
-    (received.number ≡ number) × (received.asked.state ≡ told.state)
+abbrev pub IsReceivedBy : Config → (ℕ → Option ℕ) → Told → List ℕ → Option ℕ → Option Received
+    → Type 0
+IsReceivedBy config packets told octets None None = Unit {0}
+IsReceivedBy config packets told octets None (Some received) = ⊥
+IsReceivedBy config packets told octets (Some number) None = ⊥
+IsReceivedBy config packets told octets (Some number) (Some received) =
+    (received.number ≡ number) × (received.packet ≡ packets number)
+    × (received.asked.state ≡ told.state)
     × (19 ≤ length octets → Asks config octets received.asked.message)
 
-abbrev pub IsReceived : Config → Told → List ℕ → Option Received → Type 0
-IsReceived config told octets received =
-    IsReceivedBy config told octets told.last_received received
+abbrev pub IsReceived : Config → (ℕ → Option ℕ) → Told → List ℕ → Option Received → Type 0
+IsReceived config packets told octets received =
+    IsReceivedBy config packets told octets told.last_received received
 
 -- its line, where one was received since Idle was told: of an UPDATE in Established it has all that
 -- may become of it
 abbrev pub received_text : Option Received → Option Asking → List ℕ
 received_text None asking = []
-received_text (Some received) None = last_received_line received.number received.asked
-received_text (Some received) (Some asking) = update_line received.number asking
+received_text (Some received) None =
+    last_received_line received.number received.packet received.asked
+received_text (Some received) (Some asking) =
+    update_line received.number received.packet asking
 
 -- ---- why the next record is impossible, or what may follow where there is none
 
@@ -81,15 +86,16 @@ why_text told received asking unwhole possible lacked notes =
     state_line told ++ (received_text received asking ++ (not_whole_line unwhole
     ++ (following_lines possible lacked ++ notes_text notes)))
 
-pub record IsWhy (config : Config) (told : Told) (link : Option Link) (unjudged : Unjudged)
-    (octets : List ℕ) (possible : Possible) (next : Option (ℕ × ShownRecord)) (text : List ℕ)
-    : Type 0 where
+-- The packets that show the records are those of a recording, where there are any.
+pub record IsWhy (config : Config) (packets : ℕ → Option ℕ) (told : Told) (link : Option Link)
+    (unjudged : Unjudged) (octets : List ℕ) (possible : Possible)
+    (next : Option (ℕ × ShownRecord)) (text : List ℕ) : Type 0 where
   pub received : Option Received
   pub asking : Option Asking
   pub unwhole : Option NotWhole
   pub lacked : Lacked
   pub notes : Notes
-  pub is_received : IsReceived config told octets received
+  pub is_received : IsReceived config packets told octets received
   pub is_asked : IsAskedBy config told link octets asking
   pub is_unwhole : IsUnwholeOf link next unwhole
   pub are_lacks : AreLacksOf config link possible next lacked
@@ -99,33 +105,35 @@ pub record IsWhy (config : Config) (told : Told) (link : Option Link) (unjudged 
 -- ---- of a reason
 
 -- the line of the first impossible record, where there is one
-abbrev pub IsImpossibleLine : {X : Type 0} → Session → Option (Impossible X) → List ℕ → Type 0
-IsImpossibleLine session None text = text ≡ []
-IsImpossibleLine session (Some impossible) text =
-    (line : List ℕ) × IsRecordLine session (shown_by impossible.«record») line
-    × (text ≡ record_line impossible.number line)
+abbrev pub IsImpossibleLine : {X : Type 0} → Session → (ℕ → Option ℕ) → Option (Impossible X)
+    → List ℕ → Type 0
+IsImpossibleLine session packets None text = text ≡ []
+IsImpossibleLine session packets (Some impossible) text =
+    (line : List ℕ) × IsRecordText session (shown_by impossible.«record») line
+    × (text ≡ record_line impossible.number (packets impossible.number) line)
 
-pub record IsReasonText {X : Type 0} (config : Config) (reason : Reason X) (text : List ℕ)
-    : Type 0 where
+pub record IsReasonText {X : Type 0} (config : Config) (packets : ℕ → Option ℕ)
+    (reason : Reason X) (text : List ℕ) : Type 0 where
   pub first : List ℕ
   pub rest : List ℕ
-  pub impossible : IsImpossibleLine config.parts.session reason.impossible first
-  pub why : IsWhy config reason.told reason.link reason.unjudged reason.last_message.items
-      reason.possible (next_in reason.impossible) rest
+  pub impossible : IsImpossibleLine config.parts.session packets reason.impossible first
+  pub why : IsWhy config packets reason.told reason.link reason.unjudged
+      reason.last_message.items reason.possible (next_in reason.impossible) rest
   pub whole : text ≡ first ++ rest
 
 -- ---- of what is explained
 
-abbrev pub IsMoreBy : {X : Type 0} → Config → Option (Reason X) → List ℕ → Type 0
-IsMoreBy config None more = more ≡ []
-IsMoreBy config (Some reason) more = IsReasonText config reason more
+abbrev pub IsMoreBy : {X : Type 0} → Config → (ℕ → Option ℕ) → Option (Reason X) → List ℕ
+    → Type 0
+IsMoreBy config packets None more = more ≡ []
+IsMoreBy config packets (Some reason) more = IsReasonText config packets reason more
 
 -- after a yes what its records are, and else the reason, where there is one
 abbrev pub IsMoreOf : {X Y : Type 0} → Config → Result (Verdict X) CaptureFault → Option (Reason Y)
     → Totals → List ℕ → Type 0
 IsMoreOf config (Ok (Yes ends)) reason totals more =
-    more ≡ yes_lines totals.tally totals.seen.left_idle
-IsMoreOf config answer reason totals more = IsMoreBy config reason more
+    more ≡ yes_lines totals.tally (Some totals.skipped) totals.seen.left_idle
+IsMoreOf config answer reason totals more = IsMoreBy config no_packets reason more
 
 -- the verdict's own text, and then what comes after it
 pub record IsExplainedText {X : Type 0} (config : Config) (explained : Explained X)

@@ -10,6 +10,7 @@ use Rattle.bgp_parts.specs.UpdateParts.{Part, AreUpdateParts, shown_part}
 use Rattle.bgp_reason_text.specs.declared.applying.Applying.{Applying}
 use Rattle.bgp_reason_text.specs.declared.applying.AskedUpdate.{AskedUpdate}
 use Rattle.bgp_reason_text.specs.Applying.{IsApplying, MayBeApplied, outcomes_text, why_text}
+use Rattle.bgp_reason_text.specs.Words.{line_end}
 
 -- how it may be applied, by which subcodes the session may be reset, and what keeps it from being
 -- clean
@@ -32,8 +33,9 @@ pub record Asks (link : Link) (octets : List ℕ) (asking : Asking) : Type 0 whe
   pub refused : (n : ℕ) → HasSubcode asking.refused n ↔ IsOutcome link octets (Reset n)
   pub parts : AreUpdateParts link octets asking.parts
 
--- its line, with the number of its record
-unfoldable pub update_line : ℕ → Asking → List ℕ
-update_line number asking =
+-- its line, with the number of its record, and the packet
+unfoldable pub update_line : ℕ → Option ℕ → Asking → List ℕ
+update_line number packet asking =
     codes "last received record " ++ (decimal number ++ (codes " update"
-    ++ ((outcomes_text asking.applied asking.refused ++ why_text asking.parts) ++ codes "\n")))
+    ++ ((outcomes_text asking.applied asking.refused ++ why_text asking.parts)
+    ++ line_end packet)))

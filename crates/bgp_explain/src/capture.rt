@@ -9,6 +9,7 @@ ghost use Rattle.bgp_explain.specs.Explaining.{Explains, Follows, MayLack};
 ghost use Rattle.bgp_explain.specs.Progress.{IsAt};
 
 use crate::explained::{Explained, Totals};
+use crate::skipped::Skipped;
 use crate::so_far::Progress;
 use crate::tally::Tally;
 use bgp_judge::Tracker;
@@ -39,6 +40,7 @@ pub(crate) fn refused<A: Allocator>(fault: CaptureFault) -> Explained<A>
             octets: 0,
             tally: Tally::nothing(),
             seen: Seen::nothing(),
+            skipped: Skipped::nothing(),
         },
     }
 }
@@ -62,7 +64,7 @@ fn follow<A: Allocator + Copy, T: Tracker<A>, S: Source>(
         (λ gives. Follows gives S.has_ended config.now source.old source.new
         (MayLack T.may_lack)
         (λ records. IsAt (T.stands_for tracker.new) config.now records progress.new)
-        reader.new.place result) }
+        reader.new result) }
     ensures failures { S.failures source.new ≡ S.failures source.old + failures_of result }
 {
     loop {
@@ -118,6 +120,7 @@ pub fn explain_with<A: Allocator + Copy, T: Tracker<A>, S: Source>(
         octets: reader.place(),
         tally: progress.tally,
         seen: progress.seen,
+        skipped: Skipped::by(reader),
     };
     match progress.conclude(alloc, &tracker, config) {
         Ok((verdict, reason)) => Explained {

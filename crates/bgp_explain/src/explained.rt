@@ -1,6 +1,7 @@
 //! What is answered of a capture that is explained.
 
 use crate::kept::KeptRecord;
+use crate::skipped::Skipped;
 use crate::tally::Tally;
 use bgp_check::Unjudged;
 use bgp_judge::Verdict;
@@ -48,6 +49,8 @@ pub struct Totals {
     pub tally: Tally,
     /// What these show of what the local system did.
     pub seen: Seen,
+    /// What it holds beside the records of the session.
+    pub skipped: Skipped,
 }
 
 /// What judging a capture answers, and why.

@@ -79,7 +79,8 @@ pub(crate) fn write_explained<W: Sink, A: Allocator + Copy>(
 ///   routes, is noted of the first OPEN that was sent and of the one that settles the link; the
 ///   other conditions stand in `specs/Notes` of bgp_reason_text.
 /// * after an unfinished the same, of what may follow all records.
-/// * after a yes how many records there are, and of which kinds.
+/// * after a yes how many records there are, and of which kinds; and how many were skipped, since
+///   they are of another session, with the addresses of the first of these, or of another kind.
 ///
 /// After a refusal it writes nothing more. Where the sink failed, a beginning of that text is
 /// written, and the status is 5. Where memory was refused for what an UPDATE lacks or asks

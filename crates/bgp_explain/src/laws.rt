@@ -1,9 +1,15 @@
 //! Laws of what is explained, each on a function that does nothing.
 
+ghost use Rattle.bgp_explain.specs.Capture.{HasOneText};
+ghost use Rattle.bgp_explain.specs.LastReceived.{LastReceivedIsTold};
 ghost use Rattle.bgp_explain.specs.Laws.{CouldHaveStood, NamesWhatLacks};
 
+use bgp_judge::records_have_just_one_verdict;
 use bgp_parts::{clean_lacks_nothing, own_open_lacks_nothing, possible_lacks_nothing};
-use bgp_reason::each_no_has_a_reason;
+use bgp_reason::{each_no_has_a_reason, records_tell_one_by_one};
+use bgp_tool::each_capture_has_one_verdict;
+use bgp_update::subcodes_are_sets;
+use mrt::each_record_is_allowed;
 
 /// Of a no it is told which records could have stood in the place of the first impossible one: each
 /// of those that are told, and no other. The impossible one is none of them, and there is one.
@@ -21,4 +27,24 @@ pub fn a_no_names_what_lacks()
     own_open_lacks_nothing();
     possible_lacks_nothing();
     clean_lacks_nothing();
+}
+
+/// The record that is told as the message received last is the last one that was received since
+/// Idle was told, and its octets are those of which it is told what they ask for. Where none is told
+/// as such, none was received since then.
+pub fn the_last_message_is_told()
+    ensures { LastReceivedIsTold }
+{
+    records_tell_one_by_one();
+}
+
+/// What explains the verdict on a capture is one text, with one exit status. So it is the same with
+/// every tracker, and each line of it is determined by the configuration and the records.
+pub fn each_verdict_is_explained_in_one_way()
+    ensures { HasOneText }
+{
+    each_capture_has_one_verdict();
+    each_record_is_allowed();
+    records_have_just_one_verdict();
+    subcodes_are_sets();
 }

@@ -1,7 +1,7 @@
 //! A session's records are judged one after another, and what they tell is kept.
 
 ghost use Rattle.std.specs.Prelude.{◌↔◌, ◌≢◌, ◌≡◌, ◌<◌, ◌≤◌, ◌+◌, ◌++◌, ◌∷◌, [], ℕ, List, Option};
-ghost use Rattle.std.specs.Prelude.{IsTrue, IfOk, OnErr};
+ghost use Rattle.std.specs.Prelude.{◌^◌, IsTrue, IfOk, IfSome, OnErr};
 ghost use Rattle.bgp_prefix.specs.Shown.{ShownRecord};
 ghost use Rattle.bgp_judge.specs.Verdict.{IsVerdict};
 ghost use Rattle.bgp_open.specs.declared.config.Config.{Config as TheConfig};
@@ -20,7 +20,7 @@ use crate::so_far::{Progress, Stop};
 use crate::tally::Tally;
 use bgp_judge::{End, Tracker, Verdict};
 use bgp_open::Config;
-use bgp_reason::{Told, possible, records_tell_one_by_one};
+use bgp_reason::{Possible, Told, possible, records_tell_one_by_one};
 use bgp_tool::Seen;
 use mrt::Record;
 use std::alloc::{AllocError, Allocator};
@@ -30,6 +30,15 @@ fn is_some<A: Allocator>(ends: &[End<A>]) -> bool
     ensures { IsTrue result ↔ (ends.now ≢ []) }
 {
     !ends.is_empty()
+}
+
+/// No effect: it says that the second from which Hold Timer Expired may be sent has 32 bits.
+fn expires_in_time(possible: &Possible)
+    ensures { IfSome possible.now.hold_timer_expired (λ from. from < 2 ^ 32) }
+{
+    if let Some(from) = possible.hold_timer_expired {
+        let _from = from;
+    }
 }
 
 /// Keeps the message in place of the one before, where one was received.
@@ -86,8 +95,8 @@ impl<A: Allocator + Copy> Progress<A> {
         keep_message(&mut self.last_message, shown)
     }
 
-    /// Lets the tracker take one record more, if none of them is impossible. Of the first impossible
-    /// one it is kept what could have stood in its place.
+    /// Lets the tracker take one record more, if none of them is impossible. Of the first that is,
+    /// it is kept what could have stood in its place.
     pub(crate) fn advance<T: Tracker<A>>(
         &mut self,
         alloc: A,
@@ -117,6 +126,7 @@ impl<A: Allocator + Copy> Progress<A> {
             records_tell_one_by_one();
             let last = self.last_message.as_slice();
             let possible = possible(alloc, tracker, config, self.told.state, last)?;
+            expires_in_time(&possible);
             let impossible = Impossible {
                 number: self.count + 1,
                 record: KeptRecord::copy_of(alloc, shown)?,
@@ -178,6 +188,7 @@ impl<A: Allocator + Copy> Progress<A> {
         }
         records_tell_one_by_one();
         let possible = possible(alloc, tracker, config, told.state, last_message.as_slice())?;
+        expires_in_time(&possible);
         let reason = Reason {
             told,
             link,

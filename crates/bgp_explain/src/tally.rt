@@ -6,6 +6,7 @@ ghost use Rattle.bgp_text.specs.Lines.{Writes};
 ghost use Rattle.bgp_explain.specs.Tally.{idle_note, ignored_line, ignored_with, no_tally};
 ghost use Rattle.bgp_explain.specs.Tally.{records_line, tally_with, yes_lines};
 
+use crate::skipped::{Skipped, put_skipped};
 use bgp_machine::Fsm;
 use bgp_text::Lines;
 use mrt::{Record, Sink};
@@ -109,11 +110,17 @@ fn idle_note(left_idle: bool) -> &'static [u8]
     }
 }
 
-/// Puts the lines after a yes.
-pub(crate) fn put_yes_lines<W: Sink>(lines: &mut Lines<'_, W>, tally: &Tally, left_idle: bool)
-    ensures { Writes lines.old lines.new (yes_lines tally.now left_idle) }
+/// Puts the lines after a yes: of a capture with what it holds besides.
+pub(crate) fn put_yes_lines<W: Sink>(
+    lines: &mut Lines<'_, W>,
+    tally: &Tally,
+    skipped: Option<Skipped>,
+    left_idle: bool,
+)
+    ensures { Writes lines.old lines.new (yes_lines tally.now skipped left_idle) }
 {
     put_records(lines, tally);
     put_ignored(lines, tally);
+    put_skipped(lines, skipped);
     lines.put(idle_note(left_idle));
 }

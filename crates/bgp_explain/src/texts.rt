@@ -6,6 +6,7 @@ ghost use Rattle.bgp_tool.specs.Answer.{answer_status};
 ghost use Rattle.bgp_tool.specs.Status.{code_of};
 ghost use Rattle.bgp_explain.specs.Details.{AreDetails, AreDetailsOf, asking_in, next_in};
 ghost use Rattle.bgp_explain.specs.Lacked.{following_lines, lacked_of};
+ghost use Rattle.bgp_explain.specs.Packets.{packets_of};
 ghost use Rattle.bgp_explain.specs.Text.{AreNotesOf, AreNotesOn, CanBePut, CanBePutOf};
 ghost use Rattle.bgp_explain.specs.Text.{IsExplainedText, IsMoreBy, IsMoreOf, IsReasonText};
 ghost use Rattle.bgp_explain.specs.Text.{IsReceived, IsUnwholeOf, received_text, why_text};
@@ -13,6 +14,7 @@ ghost use Rattle.bgp_explain.specs.Updates.{asking_of, update_line};
 
 use crate::details::Details;
 use crate::explained::{Explained, Impossible, Reason, Totals};
+use crate::packets::packet_of;
 use crate::tally::put_yes_lines;
 use bgp_check::Unjudged;
 use bgp_judge::Verdict;
@@ -22,6 +24,7 @@ use bgp_reason_text::{
     Asked, AskedUpdate, Lacks, NotWhole, Notes, put_last_received, put_last_update, put_not_whole,
     put_notes, put_possible_but, put_record_line, put_state,
 };
+use bgp_recording::Entry;
 use bgp_text::Lines;
 use bgp_tool::{Status, put_answer};
 use mrt::Sink;
@@ -32,17 +35,25 @@ use std::alloc::Allocator;
 pub(crate) struct Received {
     /// The number of its record.
     pub(crate) number: u64,
+    /// The packet by which it came, in a recording.
+    pub(crate) packet: Option<u64>,
     pub(crate) asked: Asked,
 }
 
 /// The message that was received last since Idle was told, if one was, and what it asks for.
-fn received_of<A: Allocator>(config: &Config, reason: &Reason<A>) -> Option<Received>
-    ensures { IsReceived config.now reason.now.told reason.now.last_message.items result }
+fn received_of<A: Allocator>(
+    config: &Config,
+    entries: &[Entry<'_>],
+    reason: &Reason<A>,
+) -> Option<Received>
+    ensures { IsReceived config.now (packets_of entries.now) reason.now.told
+        reason.now.last_message.items result }
 {
     match reason.told.last_received {
         None => None,
         Some(number) => Some(Received {
             number,
+            packet: packet_of(entries, number),
             asked: Asked::of(config, reason.told.state, reason.last_message.as_slice()),
         }),
     }
@@ -93,11 +104,12 @@ fn notes_of<A: Allocator + Copy>(config: &Config, reason: &Reason<A>) -> Notes
 fn put_update<W: Sink, A: Allocator>(
     lines: &mut Lines<'_, W>,
     number: u64,
+    packet: Option<u64>,
     update: &AskedUpdate<'_, A>,
 )
-    ensures { Writes lines.old lines.new (update_line number (asking_of update.now)) }
+    ensures { Writes lines.old lines.new (update_line number packet (asking_of update.now)) }
 {
-    put_last_update(lines, number, update);
+    put_last_update(lines, number, packet, update);
 }
 
 /// The line of the message that was received last, if one was.
@@ -108,12 +120,19 @@ fn put_received<W: Sink, A: Allocator>(
 )
     ensures { Writes lines.old lines.new (received_text received (asking_in update.now)) }
 {
-    let Some(Received { number, asked }) = received else {
+    let Some(
+        Received {
+            number,
+            packet,
+            asked,
+        },
+    ) = received
+    else {
         return;
     };
     match update {
-        None => put_last_received(lines, number, &asked),
-        Some(update) => put_update(lines, number, update),
+        None => put_last_received(lines, number, packet, &asked),
+        Some(update) => put_update(lines, number, packet, update),
     }
 }
 
@@ -152,22 +171,33 @@ fn put_why<W: Sink, A: Allocator>(
 /// impossible record, if there is one; the state that the records before tell; the message that was
 /// received last; a line for each kind of record that could have stood in its place, or may follow,
 /// with what the impossible one lacks of it; and notes.
+///
+/// Where the records are made of a recording, these are its entries, and the lines on the record
+/// and on the message have their packets; of a capture there are none.
 pub fn put_reason<W: Sink, A: Allocator + Copy>(
     lines: &mut Lines<'_, W>,
     config: &Config,
+    entries: &[Entry<'_>],
     reason: &Reason<A>,
     details: &Details<'_, A>,
 )
     requires can { CanBePut config.now.parts.session reason.now.impossible }
     requires details { AreDetails config.now reason.now details.now }
-    ensures { (text : List ℕ) × IsReasonText config.now reason.now text
+    ensures { (text : List ℕ) × IsReasonText config.now (packets_of entries.now) reason.now text
         × Writes lines.old lines.new text }
 {
     if let Some(impossible) = &reason.impossible {
         let shown = impossible.record.as_record();
-        put_record_line(lines, impossible.number, &config.parts.session, &shown);
+        let packet = packet_of(entries, impossible.number);
+        put_record_line(
+            lines,
+            impossible.number,
+            packet,
+            &config.parts.session,
+            &shown,
+        );
     }
-    let received = received_of(config, reason);
+    let received = received_of(config, entries, reason);
     let unwhole = unwhole_of(reason);
     let notes = notes_of(config, reason);
     put_why(
@@ -182,22 +212,23 @@ pub fn put_reason<W: Sink, A: Allocator + Copy>(
 }
 
 /// Puts a reason, where there is one.
-fn put_any_reason<W: Sink, A: Allocator + Copy>(
+pub(crate) fn put_any_reason<W: Sink, A: Allocator + Copy>(
     lines: &mut Lines<'_, W>,
     config: &Config,
+    entries: &[Entry<'_>],
     reason: &Option<Reason<A>>,
     details: &Option<Details<'_, A>>,
 )
     requires can { CanBePutOf config.now.parts.session reason.now }
     requires details { AreDetailsOf config.now reason.now details.now }
-    ensures { (more : List ℕ) × IsMoreBy config.now reason.now more
+    ensures { (more : List ℕ) × IsMoreBy config.now (packets_of entries.now) reason.now more
         × Writes lines.old lines.new more }
 {
     match reason {
         None => {}
         Some(reason) => match details {
             None => {}
-            Some(details) => put_reason(lines, config, reason, details),
+            Some(details) => put_reason(lines, config, entries, reason, details),
         },
     }
 }
@@ -217,12 +248,19 @@ fn put_more<W: Sink, A: Allocator + Copy>(
 {
     match &explained.answer {
         Ok(Verdict::Yes(_)) => {
-            let Totals { tally, seen, .. } = &explained.totals;
-            put_yes_lines(lines, tally, seen.left_idle);
+            let Totals {
+                tally,
+                seen,
+                skipped,
+                ..
+            } = &explained.totals;
+            put_yes_lines(lines, tally, Some(*skipped), seen.left_idle);
         }
-        Ok(Verdict::No(_)) => put_any_reason(lines, config, &explained.reason, details),
-        Ok(Verdict::Unfinished) => put_any_reason(lines, config, &explained.reason, details),
-        Err(_) => put_any_reason(lines, config, &explained.reason, details),
+        Ok(Verdict::No(_)) => put_any_reason(lines, config, &[], &explained.reason, details),
+        Ok(Verdict::Unfinished) => {
+            put_any_reason(lines, config, &[], &explained.reason, details);
+        }
+        Err(_) => put_any_reason(lines, config, &[], &explained.reason, details),
     }
 }
 

@@ -6,7 +6,7 @@ use bgp_compact::CompactTracker;
 use bgp_explain::{explain_capture, explain_opened};
 use bgp_judge::{PlainTracker, Tracker};
 use bgp_open::{Config, ConfigParts, Families};
-use bgp_prefix::{Address, Session};
+use bgp_prefix::{Address, RouteRefresh, Session};
 use bgp_tool::Note;
 use mrt::{FromWrite, MemSink, MemSource, Record, Sink, SinkUpset, is_writable, write_record};
 use rows::{ROWS, Row, YES};
@@ -27,7 +27,7 @@ const PARTS_A: ConfigParts = ConfigParts {
     session: Session {
         peer: Address::V4(0xc000_0202),
         local: Address::V4(0xc000_0201),
-        refresh: true,
+        refresh: RouteRefresh::Refused,
         extended: false,
     },
 };

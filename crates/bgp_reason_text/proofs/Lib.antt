@@ -6,3 +6,4 @@ mod Announced
 mod WholeMessage
 mod Alternatives
 mod Applied
+pub mod ToldLines

@@ -19,6 +19,7 @@ use Rattle.bgp_reason_text.specs.declared.applying.Applying.{Applying}
 use Rattle.bgp_reason_text.specs.declared.applying.AskedUpdate.{AskedUpdate}
 use Rattle.bgp_reason_text.specs.Errors.{update_errors_text}
 use Rattle.bgp_reason_text.specs.Items.{has_update_error}
+use Rattle.bgp_reason_text.specs.Words.{line_end}
 
 -- it may be applied, with just these families disabled then
 abbrev pub MayBeApplied : Link → List ℕ → Families → Type 0
@@ -110,8 +111,8 @@ abbrev pub asked_update_text : {X : Type 0} → AskedUpdate X → List ℕ
 asked_update_text asked =
     outcomes_text asked.applied asked.refused ++ why_text (map shown_part asked.parts.items)
 
--- the line: the record's number, and what its UPDATE asks for
-unfoldable pub last_update_line : {X : Type 0} → ℕ → AskedUpdate X → List ℕ
-last_update_line number asked =
+-- the line: the record's number, and what its UPDATE asks for; and the packet
+unfoldable pub last_update_line : {X : Type 0} → ℕ → Option ℕ → AskedUpdate X → List ℕ
+last_update_line number packet asked =
     codes "last received record " ++ (decimal number ++ (codes " update"
-    ++ (asked_update_text asked ++ codes "\n")))
+    ++ (asked_update_text asked ++ line_end packet)))

@@ -1,5 +1,5 @@
 -- What the message that was received last asks for, and its line.
-use Rattle.std.specs.Prelude.{◌++◌, ◌⊎◌, ℕ, Bool, List, [], if◌then◌else◌, codes}
+use Rattle.std.specs.Prelude.{◌++◌, ◌⊎◌, ℕ, Bool, List, [], Option, if◌then◌else◌, codes}
 use Rattle.std.specs.Fmt.{decimal}
 use Rattle.bgp_open.specs.declared.config.Config.{Config}
 use Rattle.bgp_open.specs.declared.link.Link.{Link}
@@ -17,7 +17,7 @@ use Rattle.bgp_reason_text.specs.declared.asked.Asked.{Asked}
 use Rattle.bgp_reason_text.specs.Errors.{header_errors_text, open_errors_text}
 use Rattle.bgp_reason_text.specs.Refusal.{AreReasons}
 use Rattle.bgp_reason_text.specs.Reasons.{reasons_text}
-use Rattle.bgp_reason_text.specs.Words.{state_text}
+use Rattle.bgp_reason_text.specs.Words.{line_end, state_text}
 
 -- the octets of a message are this, as the session machine's rows tell messages apart
 abbrev pub Asks : Config → List ℕ → Received → Type 0
@@ -82,8 +82,8 @@ asked_text state Update = update_text state
 asked_text state Keepalive = keepalive_text state
 asked_text state Notification = codes ": ends the session"
 
--- the line: the record's number, the message's first word, and what it asks for
-unfoldable pub last_received_line : ℕ → Asked → List ℕ
-last_received_line number asked =
+-- the line: the record's number, the message's first word, and what it asks for; and the packet
+unfoldable pub last_received_line : ℕ → Option ℕ → Asked → List ℕ
+last_received_line number packet asked =
     codes "last received record " ++ (decimal number ++ (codes " " ++ (message_word asked.message
-    ++ (asked_text asked.state asked.message ++ codes "\n"))))
+    ++ (asked_text asked.state asked.message ++ line_end packet))))

@@ -11,3 +11,4 @@ pub mod Lacks
 pub mod Possible
 pub mod Applying
 pub mod NotWhole
+pub mod Lines

@@ -2,11 +2,12 @@
 use Rattle.std.specs.Prelude.{◌++◌, ℕ, List, [], Option, None, Some, codes}
 use Rattle.std.specs.Fmt.{decimal}
 use Rattle.bgp_reason.specs.declared.told.Told.{Told}
-use Rattle.bgp_reason_text.specs.Words.{state_text}
+use Rattle.bgp_reason_text.specs.Words.{line_end, state_text}
 
--- a record's number and its line
-unfoldable pub record_line : ℕ → List ℕ → List ℕ
-record_line number line = codes "record " ++ (decimal number ++ (codes " " ++ line))
+-- a record's number and what its line says, and the packet
+unfoldable pub record_line : ℕ → Option ℕ → List ℕ → List ℕ
+record_line number packet text =
+    codes "record " ++ (decimal number ++ (codes " " ++ (text ++ line_end packet)))
 
 -- the record that told it, where one did
 abbrev pub by_text : Option ℕ → List ℕ

@@ -11,7 +11,7 @@ ghost use Rattle.bgp_reason_text.specs.Applying.{refused_piece, why_text, withdr
 
 use crate::errors::put_update_errors;
 use crate::items::has_update_error;
-use crate::texts::{has_some, put_if};
+use crate::texts::{has_some, put_if, put_line_end};
 use bgp_open::{Families, Link};
 use bgp_parts::{UpdatePart, is_withdrawal, update_parts};
 use bgp_parts_text::{families_text, put_update_parts};
@@ -176,18 +176,20 @@ fn put_outcomes<W: Sink>(lines: &mut Lines<'_, W>, applied: Option<Applying>, re
 
 /// Puts `last received record N update ASKED`: the number of the record that holds the UPDATE, and
 /// what it asks for in Established: `to be applied`, or `to be applied as a withdrawal`, each `with
-/// v6 disabled` or not, or `to be refused by 3/S`, all that is allowed; and then why, part by part.
+/// v6 disabled` or not, or `to be refused by 3/S`, all that is allowed; and then why, part by part;
+/// and in a recording by which packet it came.
 pub fn put_last_update<W: Sink, A: Allocator>(
     lines: &mut Lines<'_, W>,
     number: u64,
+    packet: Option<u64>,
     asked: &AskedUpdate<'_, A>,
 )
-    ensures { Writes lines.old lines.new (last_update_line number asked.now) }
+    ensures { Writes lines.old lines.new (last_update_line number packet asked.now) }
 {
     lines.put(b"last received record ");
     lines.put_decimal(number);
     lines.put(b" update");
     put_outcomes(lines, asked.applied, asked.refused);
     put_why(lines, asked.parts.as_slice());
-    lines.put(b"\n");
+    put_line_end(lines, packet);
 }

@@ -11,7 +11,7 @@ ghost use Rattle.bgp_reason_text.specs.declared.asked.Received.TheVariants.{Inva
 use crate::errors::{put_header_errors, put_open_errors};
 use crate::reasons::put_reasons;
 use crate::refusal::{OpenReasons, open_reasons};
-use crate::texts::state_text;
+use crate::texts::{put_line_end, state_text};
 use bgp_machine::{Fsm, Heard, hear};
 use bgp_open::{Config, Link, OpenSubcodes};
 use bgp_parts_text::families_text;
@@ -187,14 +187,20 @@ fn put_asked<W: Sink>(lines: &mut Lines<'_, W>, state: Fsm, message: &Received)
 }
 
 /// Puts `last received record N KIND ASKED`: the number of the record that holds the message, the
-/// first word of the message's line, and what it asks for.
-pub fn put_last_received<W: Sink>(lines: &mut Lines<'_, W>, number: u64, asked: &Asked)
-    ensures { Writes lines.old lines.new (last_received_line number asked.now) }
+/// first word of the message's line, and what it asks for; and in a recording by which packet it
+/// came.
+pub fn put_last_received<W: Sink>(
+    lines: &mut Lines<'_, W>,
+    number: u64,
+    packet: Option<u64>,
+    asked: &Asked,
+)
+    ensures { Writes lines.old lines.new (last_received_line number packet asked.now) }
 {
     lines.put(b"last received record ");
     lines.put_decimal(number);
     lines.put(b" ");
     lines.put(message_word(&asked.message));
     put_asked(lines, asked.state, &asked.message);
-    lines.put(b"\n");
+    put_line_end(lines, packet);
 }

@@ -3,32 +3,34 @@
 ghost use Rattle.std.specs.Prelude.{◌≡◌, ℕ, List, Option};
 ghost use Rattle.mrt.specs.Reader.{shown_of};
 ghost use Rattle.mrt.specs.Written.{IsAllowed};
-ghost use Rattle.bgp_text.specs.Capture.{IsRecordLine};
+ghost use Rattle.bgp_text.specs.Capture.{IsRecordText};
 ghost use Rattle.bgp_text.specs.Lines.{Writes};
 ghost use Rattle.bgp_reason_text.specs.Record.{record_line, state_line, by_text};
 
-use crate::texts::state_text;
+use crate::texts::{put_line_end, state_text};
 use bgp_prefix::Session;
 use bgp_reason::Told;
-use bgp_text::{Lines, put_record};
+use bgp_text::{Lines, put_record_text};
 use mrt::{Record, Sink};
 
 /// Puts `record N LINE`: a record that a capture of the session may have, with its number, which
-/// counts from 1, and its line of `decode --mrt`.
+/// counts from 1, and its line of `decode --mrt`; and in a recording the packet that shows it.
 pub fn put_record_line<W: Sink>(
     lines: &mut Lines<'_, W>,
     number: u64,
+    packet: Option<u64>,
     session: &Session,
     shown: &Record<'_>,
 )
     requires { (last : Option ℕ) × IsAllowed session.now last (shown_of shown.now) }
-    ensures { (line : List ℕ) × IsRecordLine session.now (shown_of shown.now) line
-        × Writes lines.old lines.new (record_line number line) }
+    ensures { (text : List ℕ) × IsRecordText session.now (shown_of shown.now) text
+        × Writes lines.old lines.new (record_line number packet text) }
 {
     lines.put(b"record ");
     lines.put_decimal(number);
     lines.put(b" ");
-    put_record(lines, session, shown);
+    put_record_text(lines, session, shown);
+    put_line_end(lines, packet);
 }
 
 /// The record that told a state, where one did.

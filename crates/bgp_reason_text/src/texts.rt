@@ -2,7 +2,7 @@
 
 ghost use Rattle.std.specs.Prelude.{◌≡◌, ◌||◌};
 ghost use Rattle.bgp_text.specs.Lines.{Writes};
-ghost use Rattle.bgp_reason_text.specs.Words.{state_text, text_if};
+ghost use Rattle.bgp_reason_text.specs.Words.{line_end, packet_text, state_text, text_if};
 
 use bgp_machine::Fsm;
 use bgp_open::Families;
@@ -35,6 +35,24 @@ pub(crate) fn put_if<W: Sink>(lines: &mut Lines<'_, W>, is_so: bool, piece: &str
     ensures { Writes lines.old lines.new (text_if is_so piece.now) }
 {
     lines.put(text_if(is_so, piece).as_bytes());
+}
+
+/// Puts the packet that shows a record, where it is of a recording.
+fn put_packet<W: Sink>(lines: &mut Lines<'_, W>, packet: Option<u64>)
+    ensures { Writes lines.old lines.new (packet_text packet) }
+{
+    if let Some(packet) = packet {
+        lines.put(b", packet ");
+        lines.put_decimal(packet);
+    }
+}
+
+/// Puts the end of a line on a record, with the packet that shows it, where it is of a recording.
+pub(crate) fn put_line_end<W: Sink>(lines: &mut Lines<'_, W>, packet: Option<u64>)
+    ensures { Writes lines.old lines.new (line_end packet) }
+{
+    put_packet(lines, packet);
+    lines.put(b"\n");
 }
 
 /// Whether there is a family.

@@ -2,9 +2,8 @@
 //! them, which was written from the same specification apart from ours: a table, a block of lines a
 //! case. Both trackers explain each.
 //!
-//! After a yes that program says besides how many records it skipped, which isn't printed here. Of
-//! its 300 cases five aren't in the table: four in which large communities are an attribute without
-//! a name, and one whose HoldTimer expires after the last second of 32 bits.
+//! Of that program's 300 cases five aren't in the table: four in which large communities are an
+//! attribute without a name, and one whose HoldTimer expires after the last second of 32 bits.
 #![tactic(auto)]
 
 use bgp_compact::CompactTracker;
@@ -87,10 +86,8 @@ fn read_case(alloc: Global, block: &str) -> io::Result<Case> {
             "octets" => capture = octets_of(alloc, rest)?,
             "status" => status = rest.parse::<u8>().ok(),
             ">" => {
-                if !rest.starts_with("skipped ") {
-                    text.push_str(rest)?;
-                    text.push_str("\n")?;
-                }
+                text.push_str(rest)?;
+                text.push_str("\n")?;
             }
             _ => return Err(malformed()),
         }

@@ -317,6 +317,8 @@ yes
 end Established disabled -
 records 8: 2 received, 2 sent, 4 changes
 ignored in Idle 0
+skipped 0 of other sessions
+skipped 0 of other kinds
 ",
     status: 0,
 };
@@ -332,6 +334,8 @@ end Established disabled -
 route 10.0.0.0/8 via 192.0.2.2 path 65002 origin 0
 records 9: 3 received, 2 sent, 4 changes
 ignored in Idle 0
+skipped 0 of other sessions
+skipped 0 of other kinds
 ",
         status: 0,
     },
@@ -344,6 +348,8 @@ yes
 end Idle disabled -
 records 1: 1 received, 0 sent, 0 changes
 ignored in Idle 1
+skipped 0 of other sessions
+skipped 0 of other kinds
 note no record leaves Idle: nothing was judged
 ",
         status: 0,
@@ -589,6 +595,8 @@ yes
 end Established disabled -
 records 8: 2 received, 2 sent, 4 changes
 ignored in Idle 0
+skipped 0 of other sessions
+skipped 0 of other kinds
 ",
         status: 0,
     },

@@ -90,7 +90,7 @@ fn is_put(alloc: Global, link: &Link, octets: &[u8], text: &str) -> Result<bool,
     let asked = AskedUpdate::of(alloc, link, octets)?;
     let mut sink = MemSink::new(alloc);
     let mut lines = Lines::new(&mut sink);
-    put_last_update(&mut lines, 9, &asked);
+    put_last_update(&mut lines, 9, None, &asked);
     let is_whole = lines.hand_over().is_ok();
     Ok(is_whole && lines.into_sink().octets() == text.as_bytes())
 }

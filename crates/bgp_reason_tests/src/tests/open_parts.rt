@@ -3,7 +3,7 @@
 use super::*;
 use bgp_open::{Config, ConfigParts, Families, OpenFault, is_own_open};
 use bgp_parts::{Differing, OpenDifferences, OwnOpenParts, own_open_parts};
-use bgp_prefix::{Address, Session};
+use bgp_prefix::{Address, RouteRefresh, Session};
 use bgp_wire::vectors::{KEEPALIVE, OPEN_A};
 
 const BOTH: Families = Families { v4: true, v6: true };
@@ -16,7 +16,7 @@ const V6: Families = Families {
 const SESSION_A: Session = Session {
     peer: Address::V4(0xc000_0202),
     local: Address::V4(0xc000_0201),
-    refresh: true,
+    refresh: RouteRefresh::Refused,
     extended: false,
 };
 

@@ -2,7 +2,7 @@
 
 use bgp_machine::Fsm;
 use bgp_open::{Config, ConfigParts, Families};
-use bgp_prefix::{Address, Session};
+use bgp_prefix::{Address, RouteRefresh, Session};
 use bgp_reason_text::{Asked, put_last_received};
 use bgp_text::Lines;
 use mrt::MemSink;
@@ -141,7 +141,7 @@ pub(crate) fn config(peer_as: u32) -> Option<Config> {
         session: Session {
             peer: Address::V4(0xc000_0202),
             local: Address::V4(0xc000_0201),
-            refresh: true,
+            refresh: RouteRefresh::Refused,
             extended: false,
         },
     })
@@ -155,7 +155,7 @@ fn is_put(alloc: Global, row: &Row) -> bool {
     let asked = Asked::of(&config, row.state, row.octets);
     let mut sink = MemSink::new(alloc);
     let mut lines = Lines::new(&mut sink);
-    put_last_received(&mut lines, 4, &asked);
+    put_last_received(&mut lines, 4, None, &asked);
     let is_whole = lines.hand_over().is_ok();
     is_whole && lines.into_sink().octets() == row.text.as_bytes()
 }

@@ -4,7 +4,7 @@ use super::*;
 use bgp_attr::{Attr, AttrType};
 use bgp_open::{Config, ConfigParts, Families, Link, negotiate, read_open};
 use bgp_parts::{AttributeFault, UpdatePart, is_withdrawal, update_parts};
-use bgp_prefix::{Address, Family, Session};
+use bgp_prefix::{Address, Family, RouteRefresh, Session};
 use bgp_update::is_clean;
 use bgp_wire::vectors::{
     ANNOUNCES_10, ANNOUNCES_2001_DB8, KEEPALIVE, MED_TWICE, MP_REACH_FOR_IPV4, MP_REACH_TRANSITIVE,
@@ -629,7 +629,7 @@ fn link_of(settled: Settled) -> Option<Link> {
         session: Session {
             peer: Address::V4(0xc000_0202),
             local: Address::V4(0xc000_0201),
-            refresh: false,
+            refresh: RouteRefresh::NotOffered,
             extended: false,
         },
     };

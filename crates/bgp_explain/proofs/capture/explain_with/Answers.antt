@@ -45,16 +45,16 @@ returns-in-Err-clause-explained g c =
 
 pub returns-in-Ok-conclude-clause-explained : goal.returns-in-Ok-conclude-clause-explained
 returns-in-Ok-conclude-clause-explained g c =
-    judged_so _ (λ given. IsExplained given g.S.Source.has_ended c.args.config.now c.args.source.now c.follow.new.source (MayLack g.T.Tracker.may_lack) c.in-Ok-conclude.verdict c.in-Ok-conclude.reason (record { octets = c.place.result; tally = c.follow.new.progress.tally; seen = c.follow.new.progress.seen }))
+    judged_so _ (λ given. IsExplained given g.S.Source.has_ended c.args.config.now c.args.source.now c.follow.new.source (MayLack g.T.Tracker.may_lack) c.in-Ok-conclude.verdict c.in-Ok-conclude.reason (record { octets = c.place.result; tally = c.follow.new.progress.tally; seen = c.follow.new.progress.seen; skipped = c.by.result }))
     None None (λ pieces rest ends. ends) c.in-Ok-follow.ensures.follows
     (λ all. let (is, has, sums) = c.in-Ok-conclude.ensures.is (records_of all.pieces) all.holds in
     explained _ g.S.Source.has_ended c.args.config.now c.args.source.now c.follow.new.source (MayLack g.T.Tracker.may_lack)
     (λ (records : List ShownRecord). IsAt (g.T.Tracker.stands_for c.follow.new.tracker) c.args.config.now records c.follow.new.progress) _ all
-    c.in-Ok-conclude.verdict c.in-Ok-conclude.reason (record { octets = c.place.result; tally = c.follow.new.progress.tally; seen = c.follow.new.progress.seen }) is has sums c.place.ensures)
+    c.in-Ok-conclude.verdict c.in-Ok-conclude.reason (record { octets = c.place.result; tally = c.follow.new.progress.tally; seen = c.follow.new.progress.seen; skipped = c.by.result }) is has sums c.place.ensures c.by.ensures)
 
 pub returns-in-Ok-conclude-clause-judged : goal.returns-in-Ok-conclude-clause-judged
 returns-in-Ok-conclude-clause-judged g c =
-    read_as_judged g.S.Source.gives g.S.Source.has_ended c.args.config.now c.args.source.now c.follow.new.source (MayLack g.T.Tracker.may_lack) c.follow.new.reader (Ok c.in-Ok-conclude.verdict) c.in-Ok-conclude.reason (record { octets = c.place.result; tally = c.follow.new.progress.tally; seen = c.follow.new.progress.seen }) (returns-in-Ok-conclude-clause-explained g c)
+    read_as_judged g.S.Source.gives g.S.Source.has_ended c.args.config.now c.args.source.now c.follow.new.source (MayLack g.T.Tracker.may_lack) c.follow.new.reader (Ok c.in-Ok-conclude.verdict) c.in-Ok-conclude.reason (record { octets = c.place.result; tally = c.follow.new.progress.tally; seen = c.follow.new.progress.seen; skipped = c.by.result }) (returns-in-Ok-conclude-clause-explained g c)
 
 pub returns-clause-explained : goal.returns-clause-explained
 returns-clause-explained g c =

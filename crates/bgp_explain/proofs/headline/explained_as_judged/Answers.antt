@@ -2,6 +2,6 @@ use Rattle.std.proofs.Common.{◌∙◌, ℕ, List, ◌++◌, ap}
 use Rattle.bgp_explain.proofs.headline.explained_as_judged.Goals as goal
 
 pub returns : goal.returns
-returns c config octets records also text other status code spells is spelled said =
+returns c config octets records also skipped text other status code spells is spelled said =
     let (same, equal) = c.each_capture_has_one_verdict.ensures.one config octets records also is.first other status code spells is.says spelled said in
     (equal, (is.more, is.whole ∙ ap (λ (t : List ℕ). t ++ is.more) same))

@@ -7,4 +7,4 @@ unfolding last_received_line
 returns g c =
     let law : Joins g.W.Sink = record { joined = g.met.W.Sink.joined } in
     let word = rw c.message_word.ensures at c.put-3.ensures in
-    and_then law c.put.ensures (and_then law c.put_decimal.ensures (and_then law c.put-2.ensures (and_then law word (and_then law c.put_asked.ensures c.put-4.ensures))))
+    and_then law c.put.ensures (and_then law c.put_decimal.ensures (and_then law c.put-2.ensures (and_then law word (and_then law c.put_asked.ensures c.put_line_end.ensures))))

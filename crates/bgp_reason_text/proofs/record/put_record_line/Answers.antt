@@ -6,5 +6,5 @@ pub returns : goal.returns
 unfolding record_line
 returns g c =
     let law : Joins g.W.Sink = record { joined = g.met.W.Sink.joined } in
-    let (line, is, wrote) = c.put_record.ensures in
-    (line, is, and_then law c.put.ensures (and_then law c.put_decimal.ensures (and_then law c.put-2.ensures wrote)))
+    let (text, is, wrote) = c.put_record_text.ensures in
+    (text, is, and_then law c.put.ensures (and_then law c.put_decimal.ensures (and_then law c.put-2.ensures (and_then law wrote c.put_line_end.ensures))))

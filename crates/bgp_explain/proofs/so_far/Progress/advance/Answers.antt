@@ -33,6 +33,8 @@ returns-in_ok-copy_of-clause-next g c = λ records at.
       };
       tells = record { count = so.2.count; told = so.2.told; sending = so.2.sending; tally = so.2.tally; seen = so.2.seen; last_message = so.2.last_message };
       possible = c.in_ok-possible.ensures.exact records kept state (c.as_slice-last.ensures.value ∙ so.2.last_message);
+      asked = c.in_ok-possible.ensures.each records kept state (c.as_slice-last.ensures.value ∙ so.2.last_message);
+      timely = c.expires_in_time.ensures;
     }
 
 pub returns-in_err-copy_of-clause-memory : goal.returns-in_err-copy_of-clause-memory

@@ -35,6 +35,9 @@ returns-clause-is g c = λ records at.
           last_message = so.2.last_message;
           possible = c.in_ok-possible.ensures.exact records so.0 (ap (λ t. t.state) so.2.told ∙ c.records_tell_one_by_one.ensures.state records)
               (c.as_slice-2.ensures.value ∙ so.2.last_message);
+          asked = c.in_ok-possible.ensures.each records so.0 (ap (λ t. t.state) so.2.told ∙ c.records_tell_one_by_one.ensures.state records)
+              (c.as_slice-2.ensures.value ∙ so.2.last_message);
+          timely = c.expires_in_time.ensures;
         },
         refl,
       ),

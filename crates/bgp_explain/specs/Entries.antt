@@ -1,0 +1,41 @@
+-- What explaining the records of a recording's entries answers, and what is told of it after the
+-- verdict.
+use Rattle.std.specs.Prelude.{◌≡◌, ◌+◌, ℕ, List, None, take}
+use Rattle.bgp_prefix.specs.Shown.{ShownRecord}
+use Rattle.bgp_prefix.specs.declared.session.Session.{Session}
+use Rattle.mrt.specs.Reader.{shown_of}
+use Rattle.mrt.specs.Written.{IsAllowed}
+use Rattle.bgp_open.specs.declared.config.Config.{Config}
+use Rattle.bgp_judge.specs.Verdict.{IsVerdict, VerdictValue, Yes, No, Unfinished}
+use Rattle.bgp_recording.specs.Captured.{records_of}
+use Rattle.bgp_recording.specs.declared.entry.Entry.{Entry}
+use Rattle.bgp_tool.specs.Seen.{seen_in}
+use Rattle.bgp_explain.specs.declared.entries.ExplainedEntries.{ExplainedEntries}
+use Rattle.bgp_explain.specs.Capture.{TellsWhy, TellsWhyNot}
+use Rattle.bgp_explain.specs.Packets.{packets_of}
+use Rattle.bgp_explain.specs.Reason.{AreSummed, HasReason}
+use Rattle.bgp_explain.specs.Tally.{tally_of, yes_lines}
+
+-- a capture of the session may have its record
+abbrev pub CanBeShown : Session → Entry → Type 0
+CanBeShown session entry = IsAllowed session None (shown_of entry.«record»)
+
+-- the verdict on the records of these entries, and its reason
+pub record AreExplained {X : Type 0} (config : Config) (entries : List Entry)
+    (explained : ExplainedEntries X) : Type 0 where
+  pub verdict : IsVerdict config (records_of entries) explained.verdict
+  pub reason : HasReason config (records_of entries) explained.verdict explained.reason
+  pub summed : AreSummed (records_of entries) explained.verdict explained.tally explained.seen
+
+-- What is told after the verdict: of a no why the next record is impossible, of an unfinished what
+-- may follow, and after a yes what the records are.
+module _ (config : Config) (entries : List Entry) where
+  abbrev pub SaysOfEntries : VerdictValue → List ℕ → Type 0
+  SaysOfEntries (Yes ends) more =
+      more ≡ yes_lines (tally_of (records_of entries)) None
+      (seen_in (records_of entries)).left_idle
+  SaysOfEntries (No count) more =
+      TellsWhyNot config (packets_of entries) (take count (records_of entries))
+      (take (count + 1) (records_of entries)) more
+  SaysOfEntries Unfinished more =
+      TellsWhy config (packets_of entries) (records_of entries) None more

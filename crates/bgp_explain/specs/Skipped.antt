@@ -1,0 +1,38 @@
+-- What a capture holds beside the records of a session, and the lines on it after a yes.
+use Rattle.std.specs.Prelude.{◌++◌, ℕ, List, [], Option, None, Some, codes}
+use Rattle.std.specs.Fmt.{decimal}
+use Rattle.bgp_prefix.specs.Text.{address_text}
+use Rattle.mrt.specs.Capture.{Piece, first_other}
+use Rattle.mrt.specs.Skipped.{skipped_in}
+use Rattle.mrt.specs.declared.record.Endpoints.{Endpoints}
+use Rattle.bgp_explain.specs.declared.skipped.Skipped.{Skipped}
+
+-- what is skipped of the pieces of a capture
+abbrev pub skipped_of : List Piece → Skipped
+skipped_of pieces = record {
+  counts = skipped_in pieces;
+  first_other = first_other None pieces;
+}
+
+-- ---- the lines
+
+-- the addresses of the first record of another session
+abbrev pub first_text : Option Endpoints → List ℕ
+first_text None = []
+first_text (Some ends) =
+    codes ", first --peer " ++ (address_text ends.peer ++ (codes " --local "
+    ++ address_text ends.local))
+
+unfoldable pub sessions_line : Skipped → List ℕ
+sessions_line skipped =
+    codes "skipped " ++ (decimal skipped.counts.other_sessions ++ (codes " of other sessions"
+    ++ (first_text skipped.first_other ++ codes "\n")))
+
+unfoldable pub kinds_line : Skipped → List ℕ
+kinds_line skipped =
+    codes "skipped " ++ (decimal skipped.counts.other_kinds ++ codes " of other kinds\n")
+
+-- of the records that are made of a recording there are none
+abbrev pub skipped_lines : Option Skipped → List ℕ
+skipped_lines None = []
+skipped_lines (Some skipped) = sessions_line skipped ++ kinds_line skipped

@@ -1,0 +1,98 @@
+-- What is told of one connection, by what was made of it and what was put of that.
+use Rattle.std.proofs.Common.{◌≡◌, ◌∙◌, ◌++◌, ℕ, List, [], Option, Some, IsTrue, refl, sym, ap, subst, append-nil, length, reverse, inl, inr}
+use Rattle.std.specs.List.{AllByRecursion}
+use Rattle.packets.specs.Packet.{Recorded}
+use Rattle.streams.specs.Connections.{numbered}
+use Rattle.streams.specs.Passed.{Segment}
+use Rattle.mrt.specs.declared.sink.Sink as sinks
+use Rattle.bgp_prefix.specs.RouteRefresh.{is_offered}
+use Rattle.bgp_open.specs.declared.config.Config.{Config}
+use Rattle.bgp_text.specs.Lines.{Writes}
+use Rattle.bgp_text.specs.declared.lines.Lines.{Lines}
+use Rattle.bgp_recording.specs.Captured.{IsNoRefresh, records_of}
+use Rattle.bgp_recording.specs.declared.making.Recording.{Recording}
+use Rattle.bgp_import.specs.Making.{TellsOne, IsTurnedDown}
+use Rattle.bgp_import.specs.Refreshes.{IsRefreshIn}
+use Rattle.bgp_import.specs.Refusals.{refusal_line}
+use Rattle.bgp_import.specs.declared.importing.Import.{Import}
+use Rattle.bgp_import.specs.declared.refusal.Refusal.{Refusal}
+use Rattle.bgp_recording_tool.specs.declared.remark.Remark.{Remark}
+use Rattle.bgp_recording_tool.specs.Judging.{Puts}
+use Rattle.bgp_recording_tool.specs.Remarks.{AddsTold, IsHelp, notes_of, remarks_on}
+use Rattle.bgp_recording_tool.specs.Told.{refused_status}
+use Rattle.bgp_recording_tool.proofs.Judgings.{is_made}
+use Rattle.bgp_recording_explain.specs.Connections.{IsToldAs}
+use Rattle.bgp_recording_explain.specs.Putting.{PutsExplained, PutsNothing}
+use Rattle.bgp_recording_explain.specs.Told.{Explained, Refused}
+
+module _ {T : Type 0} {sink : sinks.Ghosts T} (config : Config) (wanted : Import) (packets : List Recorded) (segments : List Segment) (number named : Option ℕ)
+    (a b : Lines T sink) (old new : List Remark) (status : ℕ) where
+  -- it was explained
+  pub was_explained : {Z : Type 0} (made : Recording Z) → TellsOne wanted number packets segments made
+      → (IsTrue (is_offered wanted.selection.session.refresh) → AllByRecursion IsNoRefresh (records_of made.entries.items))
+      → PutsExplained config named made.entries.items (notes_of made) a b old new status
+      → Puts a b old new status (IsToldAs config wanted packets segments number named)
+  was_explained made tells without puts = record {
+    text = _;
+    own = remarks_on named made.entries.items (notes_of made) puts.verdict;
+    wrote = puts.wrote;
+    added = puts.added;
+    holds = record {
+      told = Explained puts.verdict puts.more;
+      is_told = record {
+        judged = record {
+          connection = tells.connection;
+          entries = made.entries.items;
+          notes = notes_of made;
+          chosen = tells.answered;
+          made = is_made wanted number packets segments made tells;
+          without = without;
+          is = puts.is;
+          remarked = refl;
+        };
+        explains = puts.explains;
+      };
+      prints = refl;
+      tells = puts.tells;
+    };
+  }
+
+  -- or it is refused, and what helps was added
+  pub was_turned_down : (refusal : Refusal) → IsTurnedDown number packets segments refusal → Writes a b (refusal_line refusal) → status ≡ refused_status refusal
+      → AddsTold old new (IsHelp named refusal) → Puts a b old new status (IsToldAs config wanted packets segments number named)
+  was_turned_down refusal down wrote tells adds = record {
+    text = refusal_line refusal;
+    own = adds.own;
+    wrote = wrote;
+    added = adds.added;
+    holds = record { told = Refused refusal; is_told = record { why = inl down; helps = adds.is_told }; prints = refl; tells = tells };
+  }
+
+  -- or it has a ROUTE-REFRESH
+  pub was_refreshed : {Z : Type 0} (refusal : Refusal) (made : Recording Z) → TellsOne wanted number packets segments made
+      → IsTrue (is_offered wanted.selection.session.refresh) → IsRefreshIn made.entries.items made.received_rest made.sent_rest (Some refusal)
+      → Writes a b (refusal_line refusal) → status ≡ refused_status refusal → AddsTold old new (IsHelp named refusal)
+      → Puts a b old new status (IsToldAs config wanted packets segments number named)
+  was_refreshed refusal made tells may is wrote told adds = record {
+    text = refusal_line refusal;
+    own = adds.own;
+    wrote = wrote;
+    added = adds.added;
+    holds = record {
+      told = Refused refusal;
+      is_told = record {
+        why = inr (record {
+          connection = tells.connection;
+          entries = made.entries.items;
+          notes = notes_of made;
+          chosen = tells.answered;
+          made = is_made wanted number packets segments made tells;
+          may = may;
+          is = is;
+        });
+        helps = adds.is_told;
+      };
+      prints = refl;
+      tells = told;
+    };
+  }

@@ -1,0 +1,54 @@
+use Rattle.std.proofs.Common.{◌∙◌, ◌+◌, ℕ, sym, ap, subst, inl, inr}
+use Rattle.mrt.specs.FromWrite.{writer_state}
+use Rattle.bgp_tool.specs.declared.opened.Outcome.{Outcome}
+use Rattle.bgp_explain.specs.Explaining.{MayLack}
+use Rattle.bgp_explain.specs.Opened.{ExplainsOpened}
+use Rattle.bgp_recording_tool.specs.Files.{peeked_remaining}
+use Rattle.bgp_recording_tool.proofs.Outcomes.{same_outcome}
+use Rattle.bgp_recording_explain.proofs.files.explain_file.Goals as goal
+
+-- a capture
+pub returns-then-not-is_recording-clause-explained : goal.returns-then-not-is_recording-clause-explained
+returns-then-not-is_recording-clause-explained g c =
+    let outcome = c.without_remarks-then-not-is_recording in
+    rw c.in-Ok.is
+    (record {
+      peeked = c.new-peeked.result;
+      is_peeked = c.new-peeked.ensures;
+      is = inr (
+        sym c.if-not-is_recording.ensures,
+        subst
+            (λ (o : Outcome). ExplainsOpened (peeked_remaining g.R.Read.remaining) g.W.Write.contents c.args.config.now (MayLack g.T.Tracker.may_lack) c.args.file c.new-peeked.result
+            (writer_state c.args.sink.now) (writer_state c.explain_opened-outcome.new.sink) o)
+            (same_outcome c.explain_opened-outcome.result outcome.result.status outcome.result.note outcome.ensures.status outcome.ensures.note)
+            c.explain_opened-outcome.ensures.explained,
+        outcome.ensures.uncut,
+        outcome.ensures.remarks,
+      );
+    })
+
+-- a recording
+pub returns-clause-explained : goal.returns-clause-explained
+returns-clause-explained g c =
+    let note = c.recording_note-note.ensures in
+    let before = c.failures-failures.ensures in
+    rw c.in-Ok.is
+    (record {
+      peeked = c.new-peeked.result;
+      is_peeked = c.new-peeked.ensures;
+      is = inl (
+        sym c.if-not-is_recording.ensures,
+        record {
+          begun = c.new-source.result;
+          read = c.explain_recording-judged.new.source;
+          fresh = c.new-source.ensures;
+          is_read = c.explain_recording-judged.ensures;
+          told = record {
+            writer = λ more. note.writer (more ∙ ap (λ (n : ℕ). n + 1) (sym before));
+            quiet = λ same status. note.quiet (same ∙ sym before) status;
+            memory = λ same status. note.memory (same ∙ sym before) status;
+            reader = λ same status. note.reader (same ∙ sym before) status;
+          };
+        },
+      );
+    })

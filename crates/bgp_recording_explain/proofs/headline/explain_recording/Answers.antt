@@ -1,0 +1,40 @@
+use Rattle.std.proofs.Common.{◌≡◌, ◌∙◌, ◌++◌, List, None, refl, sym, ap, subst, inr, rules}
+use Rattle.bgp_tool.specs.Status.{code_of}
+use Rattle.bgp_text.proofs.Pieces.{Joins, and_nothing}
+use Rattle.bgp_text.proofs.Fresh.{IsFresh}
+use Rattle.bgp_tool.proofs.CaptureJudged.{is_written}
+use Rattle.bgp_import.specs.declared.importing.Import.{Import}
+use Rattle.bgp_recording_explain.specs.Explaining.{TellsRecording}
+use Rattle.bgp_recording_tool.specs.Options.{IsMisfit}
+use Rattle.bgp_recording_tool.specs.declared.remark.Remark.{Remark}
+use Rattle.bgp_recording_tool.proofs.Texts.{told_as}
+use Rattle.bgp_recording_explain.proofs.headline.explain_recording.Goals as goal
+
+pub returns : goal.returns
+returns g c =
+    let law : Joins g.W.Sink = record { joined = g.met.W.Sink.joined } in
+    let fresh : IsFresh c.new-lines.result = record { empty = c.new-lines.ensures.empty; calm = c.new-lines.ensures.fresh } in
+    let puts = c.explain_source-status.ensures in
+    let wrote = and_nothing law puts.wrote c.hand_over-status.ensures.writes in
+    let same = wrote.same_sink ∙ c.new-lines.ensures.same in
+    let meant = c.import_of-import.ensures in
+    let own : puts.own ≡ c.explain_source-status.new.remarks.items =
+    sym (puts.added ∙ ap (λ (o : List Remark). o ++ puts.own) c.new-remarks.ensures.items) in
+    inr (
+      subst (λ (w : Import). IsMisfit w None) meant c.in_default.ensures,
+      record {
+        text = puts.text;
+        code = code_of c.explain_source-status.result.0;
+        told = subst
+            (λ (w : Import). TellsRecording g.R.Source.gives g.R.Source.has_ended g.R.Source.failures c.args.config.now w c.args.source.now
+            c.explain_source-status.new.source c.explain_source-status.result.1 puts.text (code_of c.explain_source-status.result.0) c.explain_source-status.new.remarks.items)
+            meant
+            (subst
+            (λ (o : List Remark). TellsRecording g.R.Source.gives g.R.Source.has_ended g.R.Source.failures c.args.config.now c.import_of-import.result
+            c.args.source.now c.explain_source-status.new.source c.explain_source-status.result.1 puts.text (code_of c.explain_source-status.result.0) o)
+            own puts.holds);
+        written = rw c.code.ensures
+            (is_written c.new-lines.result c.hand_over-status.new.lines c.args.sink.now _ fresh c.new-lines.ensures.now (search rules)
+            _ _ _ wrote c.hand_over-status.ensures.none (told_as _ _ _ _ c.hand_over-status.ensures.told refl));
+      },
+    )

@@ -1,0 +1,131 @@
+//! What is told of one of a recording's connections: the verdict on its records, and why it is so.
+
+ghost use Rattle.std.specs.Prelude.{◌≡◌, ◌++◌, ℕ, List, length, reverse};
+ghost use Rattle.std.specs.Prelude.{MatchResult};
+ghost use Rattle.std.specs.List.{AllByRecursion};
+ghost use Rattle.packets.specs.Packet.{Recorded};
+ghost use Rattle.streams.specs.Passed.{Segment};
+ghost use Rattle.bgp_text.specs.Lines.{Writes};
+ghost use Rattle.bgp_judge.specs.Verdict.{verdict_value};
+ghost use Rattle.bgp_tool.specs.Status.{code_of};
+ghost use Rattle.bgp_import.specs.Gathers.{HoldsSession};
+ghost use Rattle.bgp_import.specs.Making.{HoldsTaken};
+ghost use Rattle.bgp_import.specs.Refusals.{refusal_line};
+ghost use Rattle.bgp_import.specs.Selecting.{AreTaken};
+ghost use Rattle.bgp_recording_tool.specs.Judging.{Puts};
+ghost use Rattle.bgp_recording_tool.specs.Options.{IsOneFamily};
+ghost use Rattle.bgp_recording_tool.specs.Remarks.{AddsTold, IsHelp, notes_of};
+ghost use Rattle.bgp_recording_tool.specs.Told.{refused_status, value_status, value_text};
+ghost use Rattle.bgp_explain.specs.Details.{AreDetailsOf};
+ghost use Rattle.bgp_explain.specs.Entries.{AreExplained, CanBeShown, SaysOfEntries};
+ghost use Rattle.bgp_recording_explain.specs.Connections.{IsToldAs};
+ghost use Rattle.bgp_recording_explain.specs.Putting.{PutsExplained, PutsNothing};
+
+use bgp_explain::{Details, ExplainedEntries, explain_entries, put_explained_entries};
+use bgp_import::{Gathered, Import, Refusal, put_refusal, records_of};
+use bgp_judge::Tracker;
+use bgp_open::Config;
+use bgp_recording::{Entry, Recording};
+use bgp_recording_tool::{
+    Remark, add_help, add_remarks_on, refused_refresh, status_of, verdict_status,
+};
+use bgp_text::Lines;
+use bgp_tool::{Status, put_verdict};
+use mrt::Sink;
+use std::alloc::{AllocError, Allocator};
+
+/// Puts the verdict on the records of these entries, and then what explains it, and answers its
+/// exit status.
+fn put_explained<A: Allocator + Copy, W: Sink>(
+    lines: &mut Lines<'_, W>,
+    config: &Config,
+    entries: &[Entry<'_>],
+    explained: &ExplainedEntries<A>,
+    details: &Option<Details<'_, A>>,
+) -> Status
+    requires explained { AreExplained config.now entries.now explained.now }
+    requires details { AreDetailsOf config.now explained.now.reason details.now }
+    ensures writes { (more : List ℕ)
+        × SaysOfEntries config.now entries.now (verdict_value explained.now.verdict) more
+        × Writes lines.old lines.new
+        (value_text (verdict_value explained.now.verdict) ++ more) }
+    ensures status { code_of result ≡ value_status (verdict_value explained.now.verdict) }
+{
+    put_verdict(lines, &explained.verdict);
+    put_explained_entries(lines, config, entries, explained, details);
+    verdict_status(&explained.verdict)
+}
+
+/// Explains the records of a connection, adds what there is to tell of it, with this number where
+/// several are told of, and answers the exit status. Where memory is refused nothing is put or
+/// added.
+fn explain_made<A: Allocator + Copy, T: Tracker<A>, W: Sink>(
+    alloc: A,
+    config: &Config,
+    named: Option<usize>,
+    made: &Recording<'_, A>,
+    lines: &mut Lines<'_, W>,
+    remarks: &mut Vec<Remark, A>,
+) -> Result<Status, AllocError>
+    requires { AllByRecursion (CanBeShown config.now.parts.session) made.now.entries.items }
+    ensures { MatchResult result
+        (λ status. PutsExplained config.now named made.now.entries.items (notes_of made.now)
+        lines.old lines.new remarks.old.items remarks.new.items (code_of status))
+        (λ error. PutsNothing lines.old lines.new remarks.old.items remarks.new.items) }
+{
+    let entries = made.entries.as_slice();
+    let explained = explain_entries::<A, T>(alloc, config, entries)?;
+    let details = explained.details(alloc, config)?;
+    add_remarks_on(remarks, named, made, &explained.verdict)?;
+    Ok(put_explained(lines, config, entries, &explained, &details))
+}
+
+/// Puts the line of a refusal, adds what helps, and answers its exit status.
+pub(crate) fn put_refused<A: Allocator + Copy, W: Sink>(
+    lines: &mut Lines<'_, W>,
+    remarks: &mut Vec<Remark, A>,
+    named: Option<usize>,
+    refusal: Refusal,
+) -> Status
+    ensures writes { Writes lines.old lines.new (refusal_line refusal) }
+    ensures helps { AddsTold remarks.old.items remarks.new.items (IsHelp named refusal) }
+    ensures status { code_of result ≡ refused_status refusal }
+{
+    put_refusal(lines, refusal);
+    add_help(remarks, named, refusal);
+    status_of(refusal)
+}
+
+/// Explains the connection of this number, or the only one, puts what is told of it, adds what
+/// there is to tell besides, with a number where several are told of, and answers the exit status.
+pub(crate) fn explain_connection<A: Allocator + Copy, T: Tracker<A>, W: Sink>(
+    alloc: A,
+    config: &Config,
+    import: &Import,
+    gathered: &Gathered<A>,
+    number: Option<usize>,
+    named: Option<usize>,
+    lines: &mut Lines<'_, W>,
+    remarks: &mut Vec<Remark, A>,
+) -> Status
+    requires session { import.now.selection.session ≡ config.now.parts.session }
+    requires family { IsOneFamily import.now.selection.session }
+    requires holds { HoldsTaken import.now.selection gathered.now }
+    ensures { (packets : List Recorded) (segments : List Segment)
+        → AreTaken import.now.selection 0 packets segments
+        → HoldsSession (reverse segments) (length packets) gathered.now
+        → Puts lines.old lines.new remarks.old.items remarks.new.items (code_of result)
+        (IsToldAs config.now import.now packets segments number named) }
+{
+    let made = match records_of(alloc, import, gathered, number) {
+        Ok(made) => made,
+        Err(refusal) => return put_refused(lines, remarks, named, refusal),
+    };
+    if let Some(refusal) = refused_refresh(&import.selection.session, &made) {
+        return put_refused(lines, remarks, named, refusal);
+    }
+    match explain_made::<A, T, W>(alloc, config, named, &made, lines, remarks) {
+        Ok(status) => status,
+        Err(AllocError) => put_refused(lines, remarks, named, gathered.no_memory()),
+    }
+}
