@@ -3,7 +3,9 @@
 tcpdump writes them, of one session between 192.0.2.1 (port 179, AS 65001) and 192.0.2.2 (AS 65002).
 
     recordings.py updates COUNT     the peer announces so many prefixes, in an UPDATE each
-    recordings.py octets COUNT      the same, until the recording has so many octets
+    recordings.py extended COUNT    the same, and both OPENs offer extended messages
+    recordings.py octets COUNT      as `updates`, until the recording has so many octets
+    recordings.py lost COUNT        the same, and the first packet of UPDATEs isn't in it
     recordings.py others COUNT      one UPDATE, after so many octets of other hosts' packets
 
 It is written to standard output."""
@@ -23,9 +25,11 @@ def message(kind, body=b''):
     return b'\xff' * 16 + struct.pack('>HB', 19 + len(body), kind) + body
 
 
-def open_message(number, identifier):
-    """An OPEN of both families and of a four-octet AS number."""
+def open_message(number, identifier, extended):
+    """An OPEN of both families and of a four-octet AS number, and of extended messages or not."""
     capabilities = bytes.fromhex('0104000100010104000200014104') + struct.pack('>I', number)
+    if extended:
+        capabilities += bytes.fromhex('0600')
     parameters = struct.pack('>BB', 2, len(capabilities)) + capabilities
     body = struct.pack('>BHH', 4, number, 90) + identifier + bytes([len(parameters)]) + parameters
     return message(1, body)
@@ -57,24 +61,25 @@ class Session:
         self.sends(PEER, SYN)
         self.sends(LOCAL, SYN | ACK)
 
-    def sends(self, source, flags, octets=b''):
+    def sends(self, source, flags, octets=b'', lost=False):
         target = PEER if source is LOCAL else LOCAL
         acknowledged = self.next[target] if flags & ACK else 0
         made = packet(self.second, source, target, (PORTS[source], PORTS[target]),
                       self.next[source], acknowledged, flags, octets)
         self.next[source] += len(octets) + (1 if flags & (SYN | FIN) else 0)
-        self.count += len(made)
-        write(made)
+        if not lost:
+            self.count += len(made)
+            write(made)
 
-    def begins(self):
-        self.sends(PEER, ACK, open_message(65002, PEER))
-        self.sends(LOCAL, ACK, open_message(65001, LOCAL) + message(4))
+    def begins(self, extended):
+        self.sends(PEER, ACK, open_message(65002, PEER, extended))
+        self.sends(LOCAL, ACK, open_message(65001, LOCAL, extended) + message(4))
         self.sends(PEER, ACK, message(4))
 
-    def hears(self, octets):
-        """Octets of the peer, acknowledged with every second segment."""
+    def hears(self, octets, lost=False):
+        """Octets of the peer, acknowledged with every second segment. The first may be lost."""
         for index, at in enumerate(range(0, len(octets), ROOM)):
-            self.sends(PEER, ACK, octets[at:at + ROOM])
+            self.sends(PEER, ACK, octets[at:at + ROOM], lost and index == 0)
             if index % 2:
                 self.sends(LOCAL, ACK)
         self.sends(LOCAL, ACK)
@@ -98,13 +103,15 @@ def main(kind, count):
         others(count)
         count = 1
     session = Session()
-    session.begins()
+    session.begins(kind == 'extended')
     index = 0
-    while (index if kind != 'octets' else session.count) < count:
+    by_octets = kind in ('octets', 'lost')
+    while (session.count if by_octets else index) < count:
         # Some 10,000 octets at a time, a second after those before.
-        several = range(index, index + 200 if kind == 'octets' else min(index + 200, count))
+        several = range(index, index + 200 if by_octets else min(index + 200, count))
         session.second += 1
-        session.hears(b''.join(update(at % 65536 * 4 + at // 65536) for at in several))
+        session.hears(b''.join(update(at % 65536 * 4 + at // 65536) for at in several),
+                      kind == 'lost' and index == 0)
         index += len(several)
 
 

@@ -3,8 +3,9 @@
 # other hosts, and one of a session's UPDATEs. What `bgp judge` of a recording with 100,000 UPDATEs
 # costs, beside `bgp judge` of the capture that `bgp import` makes of it, and that import; and the
 # memory of the three. What `bgp check` of it costs, which judges both ends, beside `bgp judge` of
-# either. And how much memory judging needs behind 10 MB and behind 200 MB of packets
-# between other hosts.
+# either, and of one whose OPENs offer extended messages, which it frames twice. How much memory
+# judging needs behind 10 MB and behind 200 MB of packets between other hosts; and how much where a
+# packet near the front is lost of 100 MB of UPDATEs, and what is answered.
 # bench/recordings.py makes the recordings.
 # Wants bash, coreutils, python3 and the program that `rt run` built in crates/bgp/out/bgp. Prints
 # figures; it is no test. Words: the program, if it is another one, and how many octets the long
@@ -98,6 +99,11 @@ of_peer=$(least "$bgp" "${peers[@]}" "$work/updates")
 echo "check of it, both ends: $checking ms, judge of the end that receives them: $of_recording ms," \
     "of the one that sends them: $of_peer ms, check to judge:" \
     "$((checking * 100 / of_recording))/100"
+recording extended extended 100000
+checking=$(least "$bgp" check "$work/extended")
+of_extended=$(least "$bgp" "${judge[@]}" --extended "$work/extended")
+echo "check of one whose OPENs offer extended messages, both ends: $checking ms, judge of the end" \
+    "that receives them: $of_extended ms, check to judge: $((checking * 100 / of_extended))/100"
 in_recording=$(whole "$bgp" "${judge[@]}" "$work/updates")
 in_capture=$(whole "$bgp" "${judge[@]}" "$work/made")
 in_import=$(whole "$bgp" import "${ends[@]}" "$work/updates" "$work/again")
@@ -107,3 +113,10 @@ echo "its $(stat -c %s "$work/updates") octets, peak memory of judging them: $in
 recording few others 10000000
 echo "peak memory of judging: $(peak few) KiB at $(stat -c %s "$work/few") octets," \
     "$(peak others) KiB at $(stat -c %s "$work/others") octets"
+
+recording lost lost $((size / 2))
+read -r refusal < <("$bgp" "${judge[@]}" "$work/lost" 2> "$work/notes")
+took=$(least "$bgp" "${judge[@]}" "$work/lost")
+in_lost=$(whole "$bgp" "${judge[@]}" "$work/lost")
+echo "$(stat -c %s "$work/lost") octets of UPDATEs, one packet lost: $refusal; $took ms, peak" \
+    "memory $in_lost KiB, $((in_lost * 102400 / $(stat -c %s "$work/lost")))/100 of an octet each"

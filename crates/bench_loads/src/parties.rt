@@ -3,7 +3,7 @@
 
 use crate::broken;
 use bgp_open::{Config, ConfigParts, Families, Link, negotiate, read_open};
-use bgp_prefix::{Address, Session};
+use bgp_prefix::{Address, RouteRefresh, Session};
 use bgp_wire::vectors::{OPEN_A, OPEN_B};
 use std::io;
 
@@ -23,7 +23,7 @@ pub(crate) const PEER_ADDRESS: u32 = 0xc000_0202;
 pub(crate) const SESSION: Session = Session {
     peer: Address::V4(PEER_ADDRESS),
     local: Address::V4(LOCAL_ADDRESS),
-    refresh: false,
+    refresh: RouteRefresh::NotOffered,
     extended: false,
 };
 

@@ -1,6 +1,7 @@
 //! Files and standard streams as readers and writers of `bgp_tool`'s calls.
 
 use bgp_compact::CompactTracker;
+use bgp_import::CutShort;
 use bgp_open::Config;
 use bgp_prefix::Session;
 use bgp_recording_tool::{FileOutcome, RecordingOptions, decode_file, judge_file};
@@ -135,6 +136,7 @@ pub fn tell<R: Eprint>(rt: &R, outcome: &Outcome<'_>) -> u8 {
 /// Tells what there is to tell of the end of a command over a capture or a recording, and answers
 /// its exit status.
 fn tell_all<R: Eprint>(rt: &R, outcome: &FileOutcome<'_, Global>) -> u8 {
+    tell_cut_short(rt, outcome.cut_short);
     for remark in &outcome.remarks {
         let _ = eprintln!(rt; "bgp: {remark}");
     }
@@ -142,6 +144,13 @@ fn tell_all<R: Eprint>(rt: &R, outcome: &FileOutcome<'_, Global>) -> u8 {
         tell_note(rt, &note);
     }
     outcome.status
+}
+
+/// Tells that a recording was cut short, where it was.
+pub fn tell_cut_short<R: Eprint>(rt: &R, cut_short: Option<CutShort>) {
+    if let Some(cut_short) = cut_short {
+        let _ = eprintln!(rt; "bgp: {cut_short}");
+    }
 }
 
 /// Tells one sentence.

@@ -4,6 +4,7 @@
 
 mod devices;
 mod explaining;
+mod made_file;
 mod recordings;
 mod speaker;
 

@@ -1,32 +1,28 @@
 //! `bgp import`, `bgp list` and `bgp check`: files as the sources and sinks of their calls.
 
-ghost use Rattle.std.specs.Prelude.{◌≡◌, ◌<◌};
-ghost use Rattle.std.specs.List.{AllByRecursion};
+ghost use Rattle.std.specs.Prelude.{◌≡◌};
 ghost use Rattle.bgp_prefix.specs.Address.{family_of};
-ghost use Rattle.mrt.specs.FromWrite.{writer_state};
-ghost use Rattle.bgp_import.specs.Captures.{CanBeWritten};
 
-use crate::devices::{buffered, open, tell, tell_note};
+use crate::devices::{buffered, open, tell, tell_cut_short, tell_note};
+use crate::made_file::MadeFile;
 use bgp_check_tool::{CheckOptions, check_recording};
 use bgp_compact::CompactTracker;
-use bgp_import::{
-    Cause, Import, Refusal, Stopped, gather, list_recording, notes_on, records_of, write_capture,
-};
+use bgp_import::{Cause, Import, Imported, Refusal, Stopped, import_recording, list_recording};
 use bgp_prefix::Session;
-use bgp_recording::Recording;
 use bgp_recording_tool::{RecordingOptions, import_of};
 use bgp_tool::{ErrorWords, Note, Status, unopened, unwritten};
 use mrt::{FromRead, FromWrite, Sink};
 use std::alloc::Global;
+use std::io;
 use std::io::{Read, Write};
 use std::rt::Files;
-use std::{fs, io};
 
 /// The number of the refusal of a file that is no recording.
 const NO_RECORDING: u8 = 1;
 
 /// Runs `import` on a recording, or on standard input for `-`, and answers the exit status. The
-/// capture's file is made, or emptied, once the recording is accepted; `-` is standard output.
+/// capture's file is made, or emptied, at the first octet that is written, so where the recording is
+/// refused it is as it was; `-` is standard output. One name for both is none of a capture.
 pub fn import<R: Files + Input + Print + Eprint + AllocGlobal>(
     rt: &R,
     session: &Session,
@@ -36,6 +32,10 @@ pub fn import<R: Files + Input + Print + Eprint + AllocGlobal>(
 ) -> u8
     requires families { family_of session.now.peer ≡ family_of session.now.local }
 {
+    if file == out && file != "-" {
+        let _ = eprintln!(rt; "bgp: {file:?} is FILE and OUT: give the capture another name");
+        return Status::Usage.code();
+    }
     let import = import_of(session, recording);
     if file == "-" {
         import_from(rt, &import, file, Ok(rt.reader()), out)
@@ -85,10 +85,11 @@ fn check_from<R: Print + Eprint + AllocGlobal, F: Read + Drop>(
         &mut sink,
     );
     if sink.failures() > 0 {
-        tell_unwritten(rt, &sink, None);
+        tell_unwritten(rt, &sink);
         return checked.status;
     }
     if let Some(refusal) = checked.refusal {
+        tell_help(rt, refusal);
         tell_cause(rt, file, &source, refusal);
         if refusal.number() == NO_RECORDING {
             let _ = eprintln!(rt;
@@ -117,46 +118,40 @@ fn import_from<R: Files + Print + Eprint + AllocGlobal, F: Read + Drop>(
         Ok(reader) => FromRead::new(reader),
         Err(error) => return tell_unopened(rt, file, &error),
     };
-    let gathered = match gather(rt.alloc(), &import.selection, &mut source) {
-        Ok(gathered) => gathered,
-        Err(refusal) => return tell_refused(rt, file, &source, refusal),
-    };
-    let made = match records_of(rt.alloc(), import, &gathered, import.connection) {
-        Ok(made) => made,
-        Err(refusal) => return tell_refused(rt, file, &source, refusal),
-    };
     if out == "-" {
         let mut sink = FromWrite::new(io::writer(rt));
-        return write_to(rt, &import.selection.session, &made, &mut sink, None);
-    }
-    match fs::create(rt, out) {
-        Ok(opened) => {
-            let mut sink = FromWrite::new(opened);
-            write_to(rt, &import.selection.session, &made, &mut sink, Some(out))
+        let imported = import_recording(rt.alloc(), import, &mut source, &mut sink);
+        if imported.ended == Err(Stopped::Unwritten) {
+            tell_unwritten(rt, &sink);
         }
-        Err(error) => tell_unopened(rt, out, &error),
+        return tell_imported(rt, file, &source, &imported);
     }
+    let mut sink = FromWrite::new(MadeFile::new(rt, out));
+    let imported = import_recording(rt.alloc(), import, &mut source, &mut sink);
+    if imported.ended == Err(Stopped::Unwritten) {
+        tell_unmade(rt, out, sink);
+    }
+    tell_imported(rt, file, &source, &imported)
 }
 
-/// Writes the capture, to a file of this name or to standard output, and tells what it hasn't.
-fn write_to<R: Eprint, W: Write>(
+/// Tells what there is to tell of an import, and answers its exit status.
+fn tell_imported<R: Eprint, F: Read>(
     rt: &R,
-    session: &Session,
-    made: &Recording<'_, Global>,
-    sink: &mut FromWrite<W>,
-    out: Option<&str>,
-) -> u8
-    requires failures { (writer_state sink.old).failures < u64.MAX }
-    requires writable { AllByRecursion (CanBeWritten session.now) made.now.entries.items }
-{
-    if write_capture(sink, session, made.entries.as_slice()).is_err() {
-        tell_unwritten(rt, sink, out);
-        return Status::Device.code();
+    file: &str,
+    source: &FromRead<F>,
+    imported: &Imported,
+) -> u8 {
+    tell_cut_short(rt, imported.cut_short);
+    match imported.ended {
+        Ok(notes) => {
+            for note in notes.in_order().into_iter().flatten() {
+                let _ = eprintln!(rt; "bgp: {note}");
+            }
+            Status::Done.code()
+        }
+        Err(Stopped::Refused(refusal)) => tell_refused(rt, file, source, refusal),
+        Err(Stopped::Unwritten) => Status::Device.code(),
     }
-    for note in notes_on(made).in_order().into_iter().flatten() {
-        let _ = eprintln!(rt; "bgp: {note}");
-    }
-    Status::Done.code()
 }
 
 /// Lists the connections of the recording that a file's reader gives.
@@ -171,22 +166,34 @@ fn list_from<R: Print + Eprint + AllocGlobal, F: Read + Drop>(
         Err(error) => return tell_unopened(rt, file, &error),
     };
     let mut sink = FromWrite::new(io::writer(rt));
-    match list_recording(rt.alloc(), port, &mut source, &mut sink) {
-        Ok(listed) => {
-            if let Some(nothing) = listed.nothing() {
-                let _ = eprintln!(rt; "bgp: {nothing}");
-            }
-            Status::Done.code()
+    let Ok(listed) = list_recording(rt.alloc(), port, &mut source, &mut sink) else {
+        tell_unwritten(rt, &sink);
+        return Status::Device.code();
+    };
+    tell_cut_short(rt, listed.cut_short);
+    for refusal in &listed.refusals {
+        tell_help(rt, *refusal);
+    }
+    if let Some(nothing) = listed.nothing() {
+        let _ = eprintln!(rt; "bgp: {nothing}");
+        for not_looked_into in listed.wrapped.in_order().into_iter().flatten() {
+            let _ = eprintln!(rt; "bgp: {not_looked_into}");
         }
-        Err(Stopped::Refused(refusal)) => tell_cause(rt, file, &source, refusal),
-        Err(Stopped::Unwritten) => {
-            tell_unwritten(rt, &sink, None);
-            Status::Device.code()
-        }
+    }
+    match listed.refusal {
+        Some(refusal) => tell_cause(rt, file, &source, refusal),
+        None => Status::Done.code(),
     }
 }
 
-/// Tells that a recording is refused, and answers the exit status.
+/// Tells what helps against a refusal, if anything does.
+fn tell_help<R: Eprint>(rt: &R, refusal: Refusal) {
+    if let Some(help) = refusal.help() {
+        let _ = eprintln!(rt; "bgp: {help}");
+    }
+}
+
+/// Tells that a recording is refused, and what helps, and answers the exit status.
 fn tell_refused<R: Eprint, F: Read>(
     rt: &R,
     file: &str,
@@ -194,6 +201,7 @@ fn tell_refused<R: Eprint, F: Read>(
     refusal: Refusal,
 ) -> u8 {
     let _ = eprintln!(rt; "bgp: {refusal}");
+    tell_help(rt, refusal);
     tell_cause(rt, file, source, refusal)
 }
 
@@ -225,20 +233,23 @@ fn tell_unopened<R: Eprint>(rt: &R, file: &str, error: &io::Error) -> u8 {
     tell(rt, &unopened(file, error.kind()))
 }
 
-/// Tells that a file of this name, or standard output, can't be written. A closed pipe isn't told.
-fn tell_unwritten<R: Eprint, W: Write>(rt: &R, sink: &FromWrite<W>, out: Option<&str>) {
-    match out {
-        Some(file) => {
-            if let Some(error) = sink.last_error() {
-                let octet = sink.taken();
-                let words = ErrorWords(error);
-                let _ = eprintln!(rt; "bgp: {file:?}: write failed at octet {octet}: {words}");
-            }
-        }
-        None => {
-            if let Some(note) = unwritten(sink) {
-                tell_note(rt, &note);
-            }
-        }
+/// Tells that standard output can't be written. A closed pipe isn't told.
+fn tell_unwritten<R: Eprint, W: Write>(rt: &R, sink: &FromWrite<W>) {
+    if let Some(note) = unwritten(sink) {
+        tell_note(rt, &note);
+    }
+}
+
+/// Tells that a file of this name can't be made, or be written further.
+fn tell_unmade<R: Files + Eprint>(rt: &R, name: &str, sink: FromWrite<MadeFile<'_, '_, R>>) {
+    let Some(error) = sink.last_error() else {
+        return;
+    };
+    let octet = sink.taken();
+    if sink.into_inner().is_made() {
+        let words = ErrorWords(error);
+        let _ = eprintln!(rt; "bgp: {name:?}: write failed at octet {octet}: {words}");
+    } else {
+        tell(rt, &unopened(name, error));
     }
 }

@@ -29,7 +29,7 @@ fn is_judged<A: Allocator + Copy, T: Tracker<A>>(
     records: &[Record<'_>],
     expected: &[Expected<'_>],
 ) -> Option<bool> {
-    match judge_records::<A, T>(alloc, &router_a(false)?, records) {
+    match judge_records::<A, T>(alloc, &router_a()?, records) {
         Ok(Verdict::Yes(ends)) => are_ends(ends.as_slice(), expected).then_some(true),
         Ok(_) => None,
         Err(_) => Some(false),

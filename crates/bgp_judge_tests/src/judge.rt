@@ -1,15 +1,14 @@
-//! The verdict on sessions of two routers, A and B: each table of records, as a capture, with the
-//! answer that was written down by hand. Records of messages are by the names of
-//! `bgp_wire::vectors`.
+//! Captures of a session of two routers, A and B, with little memory, and what a reader tells of
+//! them. Messages have the names of `bgp_wire::vectors`. (The verdicts on sessions are compared by
+//! the program `real_captures`.)
 
 mod captures;
 pub(crate) mod memory;
-mod sessions;
 
-use bgp_judge::{End, PlainTracker, Verdict, judge, judge_records};
+use bgp_judge::{End, PlainTracker, Verdict, judge};
 use bgp_machine::Fsm;
 use bgp_open::{Config, ConfigParts, Families};
-use bgp_prefix::{Address, Session, read_prefix};
+use bgp_prefix::{Address, RouteRefresh, Session, read_prefix};
 use mrt::{FaultKind, MemSink, MemSource, Record, Sink, is_writable, write_record};
 use std::alloc::{AllocError, Allocator, Global};
 
@@ -27,7 +26,7 @@ const PARTS_A: ConfigParts = ConfigParts {
     session: Session {
         peer: Address::V4(0xc000_0202),
         local: Address::V4(0xc000_0201),
-        refresh: true,
+        refresh: RouteRefresh::Refused,
         extended: false,
     },
 };
@@ -44,12 +43,9 @@ pub(crate) const V6: Families = Families {
     v6: true,
 };
 
-/// Router A, which may delay its OPEN or not.
-pub(crate) fn router_a(delay_open: bool) -> Option<Config> {
-    Config::new(ConfigParts {
-        delay_open,
-        ..PARTS_A
-    })
+/// Router A.
+pub(crate) fn router_a() -> Option<Config> {
+    Config::new(PARTS_A)
 }
 
 /// An end: the state, the disabled families and the prefixes of its routes.
@@ -80,24 +76,6 @@ pub(crate) fn are_ends<A: Allocator>(ends: &[End<A>], expected: &[Expected<'_>])
     true
 }
 
-/// What is expected of a session.
-#[derive(Clone, Copy)]
-enum Answer {
-    Yes(&'static [Expected<'static>]),
-    No(u64),
-    Unfinished,
-}
-
-/// Whether the verdict is that.
-fn is<A: Allocator>(verdict: &Verdict<A>, answer: &Answer) -> bool {
-    match (verdict, answer) {
-        (Verdict::Yes(ends), Answer::Yes(expected)) => are_ends(ends.as_slice(), expected),
-        (Verdict::No(count), Answer::No(expected)) => count == expected,
-        (Verdict::Unfinished, Answer::Unfinished) => true,
-        _ => false,
-    }
-}
-
 /// Whether the record is written.
 fn is_put(sink: &mut MemSink, config: &Config, record: &Record<'_>) -> bool {
     let session = &config.parts.session;
@@ -115,22 +93,4 @@ fn capture_of(alloc: Global, config: &Config, records: &[Record<'_>]) -> Option<
         }
     }
     Some(sink.into_octets())
-}
-
-/// How a capture is judged: the answer, or the kind of its fault and the octet.
-type Told = Result<Answer, (FaultKind, u64)>;
-
-/// Whether the plain tracker judges a capture so.
-fn is_told<A: Allocator + Copy>(alloc: A, config: &Config, capture: Vec<u8>, told: &Told) -> bool {
-    let mut source = MemSource::new(capture);
-    match judge::<A, PlainTracker<A>, _>(alloc, config, &mut source) {
-        Ok(verdict) => match told {
-            Ok(answer) => is(&verdict, answer),
-            Err(_) => false,
-        },
-        Err(fault) => match told {
-            Ok(_) => false,
-            Err((kind, offset)) => fault.kind == *kind && fault.offset == *offset,
-        },
-    }
 }

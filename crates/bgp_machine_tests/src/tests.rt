@@ -14,7 +14,7 @@ mod updates;
 
 use bgp_machine::{After, Head, HoldTimer, Routes, Step, Wants};
 use bgp_open::{Config, ConfigParts, Families, Link, negotiate, read_open};
-use bgp_prefix::{Address, Session};
+use bgp_prefix::{Address, RouteRefresh, Session};
 use bgp_wire::vectors::OPEN_B;
 use std::process::Abort;
 use std::test::Fail;
@@ -33,7 +33,7 @@ const PARTS_A: ConfigParts = ConfigParts {
     session: Session {
         peer: Address::V4(0xc000_0202),
         local: Address::V4(0xc000_0201),
-        refresh: true,
+        refresh: RouteRefresh::Refused,
         extended: false,
     },
 };

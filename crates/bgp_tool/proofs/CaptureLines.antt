@@ -1,5 +1,5 @@
 -- The records of a capture, read one after another, and their lines.
-use Rattle.std.proofs.Common.{◌≡◌, ◌∙◌, ℕ, Bool, false, ◌+◌, ◌<◌, List, [], ◌∷◌, ◌++◌, length, refl, sym, ap, subst, arith, inl, inr, append_assoc, append-nil, length-append, Option, None, Result, Ok, Err}
+use Rattle.std.proofs.Common.{◌≡◌, ◌∙◌, ℕ, Bool, false, ◌+◌, ◌-◌, ◌^◌, ◌<◌, List, [], ◌∷◌, ◌++◌, length, refl, sym, ap, subst, arith, inl, inr, append_assoc, append-nil, length-append, Option, None, Result, Ok, Err}
 use Rattle.bgp_prefix.specs.Shown.{ShownRecord}
 use Rattle.bgp_prefix.specs.declared.session.Session.{Session}
 use Rattle.mrt.specs.declared.record.Record.{Record}
@@ -10,6 +10,9 @@ use Rattle.mrt.specs.Reading.{IsRefused}
 use Rattle.mrt.specs.Reader.{ReaderState, fresh_reader, Answers, Ends, Fails, IsAnswer, NextBy, IsNext}
 use Rattle.mrt.specs.ReadBy.{Knows}
 use Rattle.mrt.specs.Written.{IsAllowed}
+use Rattle.mrt.specs.Skipped.{skipped_in, both_skipped}
+use Rattle.mrt.specs.declared.skipped.SkippedRecords.{SkippedRecords}
+use Rattle.mrt.proofs.Counts.{chained_counts}
 use Rattle.mrt.proofs.Advancing.{joined_more}
 use Rattle.mrt.proofs.AllowedRecord.{each_allowed}
 use Rattle.mrt.proofs.Chains.{joined_chain, records_chain, last_chain, other_chain, pieces_chain, one_record, last_piece, no_pieces_there}
@@ -27,6 +30,9 @@ no_length : (xs : List ℕ) → length xs ≡ 0 → xs ≡ []
 no_length [] none = refl
 no_length (x ∷ xs) none = absurd (omega arith)
 
+less_by : (a b n : ℕ) → b ≡ a + n → 0 < n → b < 2 ^ 63 → 2 ^ 63 - b < 2 ^ 63 - a
+less_by a b n e some below = omega (arith, e, some, below)
+
 module _ {R : Type 0} (gives : R → R → List ℕ → Type 0) (has_ended : R → Bool)
     (gives_joined : (a b c : R) (xs ys : List ℕ) → gives a b xs → gives b c ys → gives a c (xs ++ ys))
     (count : R → ℕ) (counted : (a b : R) (xs : List ℕ) → gives a b xs → count b ≡ count a + length xs)
@@ -39,6 +45,7 @@ module _ {R : Type 0} (gives : R → R → List ℕ → Type 0) (has_ended : R �
     pub passed : state.passed ≡ length (joined pieces)
     pub last : state.last ≡ last_of None pieces
     pub other : state.other ≡ first_other None pieces
+    pub skipped : state.skipped ≡ skipped_in pieces
     pub calm : state.fault ≡ None
     pub going : state.is_ended ≡ false
     pub are_lines : AreRecordLines session (records_of pieces) text
@@ -51,6 +58,7 @@ module _ {R : Type 0} (gives : R → R → List ℕ → Type 0) (has_ended : R �
     passed = ap (λ (s : ReaderState). s.passed) fresh;
     last = ap (λ (s : ReaderState). s.last) fresh;
     other = ap (λ (s : ReaderState). s.other) fresh;
+    skipped = ap (λ (s : ReaderState). s.skipped) fresh;
     calm = ap (λ (s : ReaderState). s.fault) fresh;
     going = ap (λ (s : ReaderState). s.is_ended) fresh;
     are_lines = refl;
@@ -80,6 +88,13 @@ module _ {R : Type 0} (gives : R → R → List ℕ → Type 0) (has_ended : R �
       let long = piece.0.whole.header in
       let many = ap length (joined_more answer.skipped (Shown answer.octets)) ∙ length-append (joined answer.skipped) answer.octets in omega arith
 
+  -- less is left that the source may give
+  pub less_left : (now next : R) (state after : ReaderState) (shown : ShownRecord) → Answers gives has_ended session now next state after shown
+      → count next < 2 ^ 63 → 2 ^ 63 - count next < 2 ^ 63 - count now
+  less_left now next state after shown answer below =
+      less_by (count now) (count next) (length (joined (answer.skipped ++ Shown answer.octets ∷ [])))
+      (counted now next (joined (answer.skipped ++ Shown answer.octets ∷ [])) answer.exactly) (takes_some now next state after shown answer) below
+
   behind : (now next : R) (state : ReaderState) (text : List ℕ) (so_far : SoFar now state text) (more : List Piece) → ArePieces session state.last more
       → ArePieces session None (so_far.pieces ++ more)
   behind now next state text so_far more are =
@@ -94,6 +109,11 @@ module _ {R : Type 0} (gives : R → R → List ℕ → Type 0) (has_ended : R �
       → first_other state.other more ≡ first_other None (so_far.pieces ++ more)
   other_behind now state text so_far more =
       ap (λ (o : Option Endpoints). first_other o more) so_far.other ∙ sym (other_chain None so_far.pieces more)
+
+  skipped_behind : (now : R) (state : ReaderState) (text : List ℕ) (so_far : SoFar now state text) (more : List Piece)
+      → both_skipped state.skipped (skipped_in more) ≡ skipped_in (so_far.pieces ++ more)
+  skipped_behind now state text so_far more =
+      ap (λ (k : SkippedRecords). both_skipped k (skipped_in more)) so_far.skipped ∙ chained_counts so_far.pieces more
 
   given_behind : (now next : R) (state : ReaderState) (text : List ℕ) (so_far : SoFar now state text) (more : List Piece) → gives now next (joined more)
       → gives source next (joined (so_far.pieces ++ more))
@@ -119,6 +139,7 @@ module _ {R : Type 0} (gives : R → R → List ℕ → Type 0) (has_ended : R �
         passed = ap (λ (s : ReaderState). s.passed) answer.stands ∙ count_behind now state text so_far more;
         last = ap (λ (s : ReaderState). s.last) answer.stands ∙ last_behind now state text so_far more;
         other = ap (λ (s : ReaderState). s.other) answer.stands ∙ other_behind now state text so_far more;
+        skipped = ap (λ (s : ReaderState). s.skipped) answer.stands ∙ skipped_behind now state text so_far more;
         calm = ap (λ (s : ReaderState). s.fault) answer.stands ∙ so_far.calm;
         going = ap (λ (s : ReaderState). s.is_ended) answer.stands ∙ so_far.going;
         are_lines = subst (λ (r : List ShownRecord). AreRecordLines session r (text ++ line)) (sym records)
@@ -150,6 +171,7 @@ module _ {R : Type 0} (gives : R → R → List ℕ → Type 0) (has_ended : R �
     knows = (
       ap (λ (s : ReaderState). s.last) ends.stands ∙ last_behind now state text so_far ends.skipped,
       ap (λ (s : ReaderState). s.other) ends.stands ∙ other_behind now state text so_far ends.skipped,
+      ap (λ (s : ReaderState). s.skipped) ends.stands ∙ skipped_behind now state text so_far ends.skipped,
     );
     gave = subst (λ (o : List ℕ). gives source next o) (sym (append-nil (joined (so_far.pieces ++ ends.skipped)))) (given_behind now next state text so_far ends.skipped ends.exactly);
     each = behind now next state text so_far ends.skipped ends.pieces;
@@ -183,6 +205,7 @@ module _ {R : Type 0} (gives : R → R → List ℕ → Type 0) (has_ended : R �
     knows = (
       ap (λ (s : ReaderState). s.last) fails.stands ∙ last_behind now state text so_far fails.skipped,
       ap (λ (s : ReaderState). s.other) fails.stands ∙ other_behind now state text so_far fails.skipped,
+      ap (λ (s : ReaderState). s.skipped) fails.stands ∙ skipped_behind now state text so_far fails.skipped,
     );
     gave = subst (λ (o : List ℕ). gives source next o)
         (sym (append_assoc (joined so_far.pieces) (joined fails.skipped) fails.rest) ∙ ap (λ (o : List ℕ). o ++ fails.rest) (sym (joined_chain so_far.pieces fails.skipped)))

@@ -3,6 +3,7 @@
 use Rattle.std.specs.Prelude.{◌≡◌, ◌++◌, ◌⊎◌, ◌+◌, ◌*◌, ◌^◌, ℕ, Bool, true, false, List, Option}
 use Rattle.std.specs.Prelude.{codes, max}
 use Rattle.bgp_prefix.specs.Shown.{ShownRecord}
+use Rattle.bgp_prefix.specs.declared.session.RouteRefresh.TheVariants as refreshes
 use Rattle.bgp_prefix.specs.declared.address.Address.TheVariants.{V4}
 use Rattle.bgp_machine.specs.State.{fsm_of}
 use Rattle.bgp_machine.specs.declared.fsm.Fsm.TheVariants.{Established}
@@ -43,7 +44,7 @@ pub record IsEnd (parts : ConfigParts) (own_as own other_as other : ℕ) : Type 
   pub large_hold : parts.large_hold ≡ 240
   pub peer : parts.session.peer ≡ V4 other
   pub local : parts.session.local ≡ V4 own
-  pub refresh : parts.session.refresh ≡ false
+  pub refresh : parts.session.refresh ≡ refreshes.NotOffered
   pub extended : parts.session.extended ≡ false
 
 -- From one state of an end to another its core was told some inputs, one after another, and what

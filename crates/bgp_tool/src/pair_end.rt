@@ -10,7 +10,7 @@ ghost use Rattle.bgp_tool.specs.Pairing.{right_address, right_next_hop6};
 
 use bgp_machine::Fsm;
 use bgp_open::{Config, ConfigParts, Families};
-use bgp_prefix::{Address, Prefix, Seconds, Session};
+use bgp_prefix::{Address, Prefix, RouteRefresh, Seconds, Session};
 use bgp_speaker::{Core, Input};
 use bgp_talk::{again, each_record_is_short, write_records};
 use mrt::FromWrite;
@@ -89,7 +89,7 @@ fn config_of(local_as: u32, local: u32, peer_as: u32, peer: u32) -> Config
         session: Session {
             peer: Address::V4(peer),
             local: Address::V4(local),
-            refresh: false,
+            refresh: RouteRefresh::NotOffered,
             extended: false,
         },
     };

@@ -20,14 +20,14 @@ mod writing;
 use bgp_open::{
     Config, ConfigParts, Families, OpenSubcodes, is_own_open, negotiate, open_faults, read_open,
 };
-use bgp_prefix::{Address, Session};
+use bgp_prefix::{Address, RouteRefresh, Session};
 use std::process::Abort;
 
 /// The session of router A: 192.0.2.1 with 192.0.2.2.
 const SESSION_A: Session = Session {
     peer: Address::V4(0xc000_0202),
     local: Address::V4(0xc000_0201),
-    refresh: true,
+    refresh: RouteRefresh::Refused,
     extended: false,
 };
 
@@ -58,7 +58,7 @@ const PARTS_B: ConfigParts = ConfigParts {
     session: Session {
         peer: Address::V4(0xc000_0201),
         local: Address::V4(0xc000_0202),
-        refresh: true,
+        refresh: RouteRefresh::Refused,
         extended: false,
     },
 };

@@ -10,7 +10,7 @@ use bgp_open::{Config, ConfigParts, Families, Link, negotiate, read_open};
 use bgp_path::{
     AsPath, Items, LargeCommunity, NextHop, Origin, Path, PathParts, Segment, SegmentKind,
 };
-use bgp_prefix::{Address, Family, Prefix, Session, read_prefix};
+use bgp_prefix::{Address, Family, Prefix, RouteRefresh, Session, read_prefix};
 use bgp_update_writer::{Update, UpdateFault, write_update};
 use bgp_wire::vectors::OPEN_B;
 use std::alloc::{AllocError, Global};
@@ -30,7 +30,7 @@ const PARTS_A: ConfigParts = ConfigParts {
     session: Session {
         peer: Address::V4(0xc000_0202),
         local: Address::V4(0xc000_0201),
-        refresh: false,
+        refresh: RouteRefresh::NotOffered,
         extended: false,
     },
 };

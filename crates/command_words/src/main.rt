@@ -205,7 +205,7 @@ fn parts_text(alloc: Global, parts: &ConfigParts) -> Result<String, AllocError> 
     let (id, Families { v4, v6 }) = (Address::V4(local_id), families);
     let own = format!(in alloc; "local-as {local_as} peer-as {peer_as} local-id {id}")?;
     let ends = format!(in alloc; "local {local} peer {peer} hold {hold} v4 {v4} v6 {v6}")?;
-    let extended = extended_text(extended);
+    let (extended, refresh) = (extended_text(extended), refresh.is_offered());
     let rest = format!(in alloc; "as4 {as4} delay-open {delay_open} refresh {refresh}{extended}")?;
     format!(in alloc; "{own} {ends} {rest} large-hold {large_hold}")
 }

@@ -31,7 +31,7 @@ fn records_of(alloc: Global, capture: &[u8]) -> Result<Vec<&[u8]>, AllocError> {
 }
 
 /// A number below this one, which isn't 0.
-fn below(random: &mut Pcg32, count: usize) -> usize {
+pub(crate) fn below(random: &mut Pcg32, count: usize) -> usize {
     let word = random.next_word() as usize;
     word.checked_rem(count).unwrap_or(0)
 }

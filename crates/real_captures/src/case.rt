@@ -1,6 +1,6 @@
 //! A capture and its answer, told by a block of lines.
 
-use bgp_prefix::{Address, Session, read_address};
+use bgp_prefix::{Address, RouteRefresh, Session, read_address};
 use hex::FromHexError;
 use std::alloc::{AllocError, Global};
 use std::io;
@@ -28,32 +28,53 @@ pub(crate) fn read_case(alloc: Global, block: &str) -> io::Result<Case> {
         session: Session {
             peer: Address::V4(0),
             local: Address::V4(0),
-            refresh: false,
+            refresh: RouteRefresh::NotOffered,
             extended: false,
         },
         pieces: Vec::new(alloc),
         status: 0,
     };
     for line in block.split('\n') {
-        let (word, rest) = line.split_once(' ').unwrap_or((line, ""));
-        match word {
-            "case" => {}
-            "args" => {
-                case.session.peer = address_behind(rest, "--peer")?;
-                case.session.local = address_behind(rest, "--local")?;
-                case.session.extended = rest.split(' ').any(|word| word == "--extended");
-            }
-            "refresh" => case.session.refresh = true,
-            "octets" => case.pieces.push(Piece {
-                octets: octets_of(alloc, rest)?,
-                text: String::new(alloc),
-            })?,
-            ">" => push_line(&mut case.pieces, rest)?,
-            "status" => case.status = rest.parse::<u8>().map_err(|_| malformed())?,
-            _ => return Err(malformed()),
-        }
+        take_line(alloc, &mut case, line)?;
     }
     Ok(case)
+}
+
+/// Takes what a line tells of a case.
+fn take_line(alloc: Global, case: &mut Case, line: &str) -> io::Result<()> {
+    let (word, rest) = line.split_once(' ').unwrap_or((line, ""));
+    match word {
+        "case" => Ok(()),
+        "args" => take_words(&mut case.session, rest),
+        "refresh" => {
+            case.session.refresh = RouteRefresh::Refused;
+            Ok(())
+        }
+        "octets" => push_piece(alloc, &mut case.pieces, rest),
+        ">" => push_line(&mut case.pieces, rest),
+        "status" => {
+            case.status = rest.parse::<u8>().map_err(|_| malformed())?;
+            Ok(())
+        }
+        _ => Err(malformed()),
+    }
+}
+
+/// Takes what the words of the command tell of a session.
+fn take_words(session: &mut Session, words: &str) -> io::Result<()> {
+    session.peer = address_behind(words, "--peer")?;
+    session.local = address_behind(words, "--local")?;
+    session.extended = words.split(' ').any(|word| word == "--extended");
+    Ok(())
+}
+
+/// Appends a piece, for which nothing is printed yet.
+fn push_piece(alloc: Global, pieces: &mut Vec<Piece>, digits: &str) -> io::Result<()> {
+    let octets = octets_of(alloc, digits)?;
+    Ok(pieces.push(Piece {
+        octets,
+        text: String::new(alloc),
+    })?)
 }
 
 /// Appends a line to what is printed for the last piece.

@@ -11,7 +11,7 @@ use std::{fs, io};
 
 /// The captures that lie in `judge/`, and the status of each. Beside each are its words, one a line
 /// with `{}` in the place of the capture, and its text.
-const EXAMPLES: [(&str, u8); 13] = [
+static EXAMPLES: [(&str, u8); 13] = [
     ("as-trans.b.mrt", 0),
     ("bird-frr.a.up.mrt", 0),
     ("clean-session.mrt", 0),
@@ -85,8 +85,8 @@ fn is_so<R: Files + AllocGlobal>(rt: &R, name: &str, status: u8) -> io::Result<b
 /// Prints each example that is not so, and then how many there were. Answers whether all are so.
 pub(crate) fn compare_examples<R: Files + Print + AllocGlobal>(rt: &R) -> io::Result<bool> {
     let mut all = true;
-    for (name, status) in EXAMPLES {
-        if !is_so(rt, name, status)? {
+    for (name, status) in &EXAMPLES {
+        if !is_so(rt, name, *status)? {
             println!(rt; "judge/{name} is not so")?;
             all = false;
         }

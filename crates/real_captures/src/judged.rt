@@ -4,9 +4,8 @@ use crate::altered::altered;
 use crate::case::{malformed, octets_of};
 use bgp_compact::CompactTracker;
 use bgp_judge::{PlainTracker, Tracker};
-use bgp_open::{Config, ConfigParts, Families};
-use bgp_prefix::{Address, Session, read_address};
-use bgp_tool::judge_capture;
+use bgp_open::Config;
+use bgp_tool::{Command, command_line, judge_capture};
 use mrt::{MemSink, MemSource, SinkUpset, SourceUpset};
 use rand_pcg::Pcg32;
 use std::alloc::{AllocError, Global};
@@ -16,94 +15,80 @@ use std::{fs, io};
 
 /// A capture, how it is judged, and what is printed and answered.
 #[derive(Drop)]
-struct Judged {
-    config: Config,
-    capture: Vec<u8>,
-    text: String,
-    status: u8,
+pub(crate) struct Judged {
+    pub(crate) config: Config,
+    pub(crate) capture: Vec<u8>,
+    pub(crate) text: String,
+    pub(crate) status: u8,
 }
 
-/// The word behind an option.
-fn word_behind<'a>(words: &'a str, option: &str) -> Option<&'a str> {
-    words.split(' ').skip_while(|word| *word != option).nth(1)
-}
-
-/// Whether a flag is there.
-fn has_flag(words: &str, flag: &str) -> bool {
-    words.split(' ').any(|word| word == flag)
-}
-
-/// The number behind an option, or the one that stands where it isn't given.
-fn number_behind(words: &str, option: &str, default: u32) -> Option<u32> {
-    match word_behind(words, option) {
-        Some(word) => word.parse::<u32>().ok(),
-        None => Some(default),
+/// The configuration that the words of a command line name, after the program's own and before a
+/// file.
+fn config_of(alloc: Global, words: &str) -> io::Result<Config> {
+    let mut line = Vec::new(alloc);
+    line.push("bgp")?;
+    for word in words.split(' ') {
+        line.push(word)?;
+    }
+    line.push("FILE")?;
+    match command_line(alloc, line.as_slice()) {
+        Ok(Command::Judge { config, .. }) => Ok(config),
+        _ => Err(malformed()),
     }
 }
 
-/// The address behind an option.
-fn address_behind(words: &str, option: &str) -> Option<Address> {
-    read_address(word_behind(words, option)?)
+/// Appends a line to what is printed.
+fn push_line(text: &mut String, line: &str) -> Result<(), AllocError> {
+    text.push_str(line)?;
+    text.push_str("\n")
 }
 
-/// The families that are offered.
-fn families_of(words: &str) -> Option<Families> {
-    let (v4, v6) = match word_behind(words, "--families") {
-        None | Some("v4") => (true, false),
-        Some("v6") => (false, true),
-        Some("both") => (true, true),
-        Some(_) => return None,
-    };
-    Some(Families { v4, v6 })
+/// What the lines of a block have told so far.
+#[derive(Drop)]
+struct Parts {
+    config: Option<Config>,
+    capture: Vec<u8>,
+    text: String,
+    status: Option<u8>,
 }
 
-/// The configuration that the words of `judge` name.
-fn config_of(words: &str) -> Option<Config> {
-    let Address::V4(local_id) = address_behind(words, "--local-id")? else {
-        return None;
-    };
-    Config::new(ConfigParts {
-        local_as: number_behind(words, "--local-as", 0)?,
-        peer_as: number_behind(words, "--peer-as", 0)?,
-        local_id,
-        hold: u16::try_from(number_behind(words, "--hold", 90)?).ok()?,
-        families: families_of(words)?,
-        as4: !has_flag(words, "--as2"),
-        delay_open: has_flag(words, "--delay-open"),
-        large_hold: number_behind(words, "--large-hold", 240)?,
-        session: Session {
-            peer: address_behind(words, "--peer")?,
-            local: address_behind(words, "--local")?,
-            refresh: !has_flag(words, "--no-refresh"),
-            extended: has_flag(words, "--extended"),
-        },
-    })
+/// Takes what a line tells.
+fn take_line<R: Files + AllocGlobal>(rt: &R, parts: &mut Parts, line: &str) -> io::Result<()> {
+    let (word, rest) = line.split_once(' ').unwrap_or((line, ""));
+    match word {
+        "case" => {}
+        "args" => parts.config = Some(config_of(rt.alloc(), rest)?),
+        "octets" => {
+            let octets = octets_of(rt.alloc(), rest)?;
+            parts.capture.extend_from_slice(octets.as_slice())?;
+        }
+        "capture" => parts.capture = fs::read(rt, rest)?,
+        "status" => parts.status = rest.parse::<u8>().ok(),
+        ">" => push_line(&mut parts.text, rest)?,
+        _ => return Err(malformed()),
+    }
+    Ok(())
 }
 
 /// Reads a block of lines: `args` and the words of the command; `octets` and a piece of the
 /// capture, or `capture` and the name of a file; `status` and a number; `>` and a line that is
 /// printed. A line of `case` says what the block teaches.
-fn read_judged<R: Files + AllocGlobal>(rt: &R, block: &str) -> io::Result<Judged> {
-    let alloc = rt.alloc();
-    let mut config = None;
-    let mut capture = Vec::new(alloc);
-    let mut text = String::new(alloc);
-    let mut status = None;
+pub(crate) fn read_judged<R: Files + AllocGlobal>(rt: &R, block: &str) -> io::Result<Judged> {
+    let mut parts = Parts {
+        config: None,
+        capture: Vec::new(rt.alloc()),
+        text: String::new(rt.alloc()),
+        status: None,
+    };
     for line in block.split('\n') {
-        let (word, rest) = line.split_once(' ').unwrap_or((line, ""));
-        match word {
-            "case" => {}
-            "args" => config = config_of(rest),
-            "octets" => capture.extend_from_slice(octets_of(alloc, rest)?.as_slice())?,
-            "capture" => capture = fs::read(rt, rest)?,
-            "status" => status = rest.parse::<u8>().ok(),
-            ">" => {
-                text.push_str(rest)?;
-                text.push_str("\n")?;
-            }
-            _ => return Err(malformed()),
-        }
+        take_line(rt, &mut parts, line)?;
     }
+    let Parts {
+        config,
+        capture,
+        text,
+        status,
+    } = parts;
     match (config, status) {
         (Some(config), Some(status)) => Ok(Judged {
             config,
@@ -183,45 +168,52 @@ fn is_so<T: Tracker<Global>>(alloc: Global, case: &Judged) -> Result<bool, Alloc
     )
 }
 
-/// Whether a case is so with both trackers.
-fn is_so_with_both(alloc: Global, case: &Judged) -> Result<bool, AllocError> {
-    Ok(is_so::<PlainTracker<Global>>(alloc, case)? && is_so::<CompactTracker<Global>>(alloc, case)?)
+/// Whether a case is so with both trackers, also from a source that fails behind it, and into a
+/// sink that fails.
+pub(crate) fn is_judged_by_both<R: Files + AllocGlobal>(rt: &R, block: &str) -> io::Result<bool> {
+    let case = read_judged(rt, block)?;
+    Ok(
+        is_so::<PlainTracker<Global>>(rt.alloc(), &case)?
+            && is_so::<CompactTracker<Global>>(rt.alloc(), &case)?,
+    )
 }
 
-/// Prints each case of a table that is not so, and then how many there were. Answers whether all
-/// are so. Both trackers judge each, also from a source that fails behind it, and into a sink that
-/// fails.
-pub(crate) fn compare_judged<R: Files + Print + AllocGlobal>(
-    rt: &R,
-    name: &str,
-) -> io::Result<bool> {
-    let table = fs::read_to_string(rt, name)?;
-    let mut cases = 0u64;
-    let mut all = true;
-    for block in table.split("\n\n") {
-        if block.trim_end().is_empty() {
-            continue;
-        }
-        cases = cases.saturating_add(1);
-        let case = read_judged(rt, block.trim_end())?;
-        if !is_so_with_both(rt.alloc(), &case)? {
-            println!(rt; "{name}: case {cases} is not so:\n{block}")?;
-            all = false;
-        }
-    }
-    println!(rt; "{name}: {cases} cases")?;
-    Ok(all)
-}
-
-/// Whether both trackers answer a capture alike.
-fn is_alike(alloc: Global, case: &Judged) -> Result<bool, AllocError> {
+/// What both trackers write and answer for a capture, where they answer alike.
+pub(crate) fn common_answer(
+    alloc: Global,
+    case: &Judged,
+) -> Result<Option<(Vec<u8>, u8)>, AllocError> {
     let (plain, status) = answer_to::<PlainTracker<Global>>(alloc, case, Failing::Nothing)?;
     let (compact, other) = answer_to::<CompactTracker<Global>>(alloc, case, Failing::Nothing)?;
-    Ok(plain.as_slice() == compact.as_slice() && status == other)
+    let is_alike = plain.as_slice() == compact.as_slice() && status == other;
+    Ok(is_alike.then_some((plain, status)))
 }
 
-/// Alters each capture of a table twice, and prints each that the trackers don't answer alike, and
-/// then how many there were. Answers whether all are so. The changes are the same in each run.
+/// Alters a case's capture. Answers whether both trackers answer it alike.
+fn is_altered_alike(
+    alloc: Global,
+    case: &mut Judged,
+    random: &mut Pcg32,
+) -> Result<bool, AllocError> {
+    case.capture = altered(alloc, case.capture.as_slice(), random)?;
+    Ok(common_answer(alloc, case)?.is_some())
+}
+
+/// Alters the capture of a case twice. Answers whether both trackers answer each alike.
+fn are_altered_alike<R: Files + AllocGlobal>(
+    rt: &R,
+    block: &str,
+    random: &mut Pcg32,
+) -> io::Result<bool> {
+    let mut case = read_judged(rt, block)?;
+    let is_first = is_altered_alike(rt.alloc(), &mut case, random)?;
+    let is_second = is_altered_alike(rt.alloc(), &mut case, random)?;
+    Ok(is_first && is_second)
+}
+
+/// Alters each capture of a table twice, and prints each case for which the trackers don't answer
+/// alike, and then how many captures there were. Answers whether all are so. The changes are the
+/// same in each run.
 pub(crate) fn compare_altered<R: Files + Print + AllocGlobal>(
     rt: &R,
     name: &str,
@@ -231,17 +223,14 @@ pub(crate) fn compare_altered<R: Files + Print + AllocGlobal>(
     let mut captures = 0u64;
     let mut all = true;
     for block in table.split("\n\n") {
-        if block.trim_end().is_empty() {
+        let block = block.trim_end();
+        if block.is_empty() {
             continue;
         }
-        let mut case = read_judged(rt, block.trim_end())?;
-        for _ in 0..2 {
-            captures = captures.saturating_add(1);
-            case.capture = altered(rt.alloc(), case.capture.as_slice(), &mut random)?;
-            if !is_alike(rt.alloc(), &case)? {
-                println!(rt; "{name}: altered capture {captures} isn't judged alike")?;
-                all = false;
-            }
+        captures = captures.saturating_add(2);
+        if !are_altered_alike(rt, block, &mut random)? {
+            println!(rt; "{name}: altered to {captures}, it isn't judged alike:\n{block}")?;
+            all = false;
         }
     }
     println!(rt; "{name}: {captures} altered captures")?;

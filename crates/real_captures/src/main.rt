@@ -1,4 +1,5 @@
-//! Decodes and judges captures whose answers are known from elsewhere.
+//! Decodes and judges captures, streams, UPDATEs and addresses whose answers are known from
+//! elsewhere.
 //!
 //! Decoded are those of real routers' sessions, whose text is this program's; and four tables of
 //! captures, whose lines and statuses it compares. `cases.txt` was answered by another program, and
@@ -12,28 +13,42 @@
 //! routers' sessions; `sessions.txt` was worked out by hand from RFC 4271, one session for each
 //! thing that it teaches, and `cuts.txt` is two records cut to each length. And each capture of
 //! `judged.txt` is altered twice: there both trackers answer alike. And the examples of `bgp judge`
-//! are, by both trackers, from the words of the command line on.
+//! are, by both trackers, from the words of the command line on; and a thousand sessions by chance.
+//!
+//! Then the streams of real routers are decoded, whose UPDATEs are clean; and the outcomes of
+//! UPDATEs and the texts of addresses are compared with tables that other programs made, and those
+//! of UPDATEs with one that was worked out by hand (docs/UPDATE-ERRORS.md), too.
 #![tactic(auto)]
 
+mod addresses;
 mod altered;
 mod case;
+mod chance;
 mod examples;
 mod judged;
+mod messages;
+mod moves;
 mod recordings;
 mod runs;
+mod sessions;
+mod streams;
+mod table;
+mod updates;
+mod walk;
 
-use case::read_case;
+use addresses::compare_addresses;
+use chance::judge_sessions;
 use examples::compare_examples;
-use judged::{compare_altered, compare_judged};
-use recordings::{CAPTURES, print_capture};
-use runs::{Answer, is_whole, stops_anywhere};
-use std::alloc::Global;
+use judged::compare_altered;
+use recordings::print_captures;
+use std::io;
 use std::process::ExitCode;
 use std::rt::Files;
-use std::{fs, io};
+use streams::print_streams;
+use table::compare_tables;
 
 fn main(rt: HostRuntime) -> ExitCode {
-    match decode_all(&rt) {
+    match run(&rt) {
         Ok(true) => ExitCode::SUCCESS,
         Ok(false) => ExitCode::FAILURE,
         Err(error) => {
@@ -43,59 +58,14 @@ fn main(rt: HostRuntime) -> ExitCode {
     }
 }
 
-/// Decodes all. Answers whether all cases are so.
-fn decode_all<R: Files + Print + AllocGlobal>(rt: &R) -> io::Result<bool> {
-    for name in CAPTURES {
-        print_capture(rt, name)?;
-    }
-    let cases = compare(rt, "cases.txt", false)?;
-    let rules = compare(rt, "rules.txt", true)?;
-    let cases_extended = compare(rt, "cases-extended.txt", false)?;
-    let cases_large = compare(rt, "cases-large.txt", false)?;
-    let judged = compare_judged(rt, "judged.txt")?;
-    let judged_extended = compare_judged(rt, "judged-extended.txt")?;
-    let judged_large = compare_judged(rt, "judged-large.txt")?;
-    let sessions = compare_judged(rt, "sessions.txt")?;
-    let cuts = compare_judged(rt, "cuts.txt")?;
-    let recordings = compare_judged(rt, "recordings.txt")?;
+/// Goes through all. Answers whether all is as it is known.
+fn run<R: Files + Print + AllocGlobal>(rt: &R) -> io::Result<bool> {
+    print_captures(rt)?;
+    let tables = compare_tables(rt)?;
     let altered = compare_altered(rt, "judged.txt")?;
     let examples = compare_examples(rt)?;
-    let decoded = cases && rules && cases_extended && cases_large;
-    let all_judged = judged && judged_extended && judged_large && sessions && cuts && recordings;
-    Ok(decoded && all_judged && altered && examples)
-}
-
-/// Prints each case of a table that is not so, and then how many there were. Answers whether all
-/// are so. Where `stops` says it, each case is also read by a source that fails at each of its
-/// octets in turn, and by one that ends there.
-fn compare<R: Files + Print + AllocGlobal>(rt: &R, name: &str, stops: bool) -> io::Result<bool> {
-    let table = fs::read_to_string(rt, name)?;
-    let mut cases = 0u64;
-    let mut all = true;
-    for block in table.split("\n\n") {
-        if block.trim_end().is_empty() {
-            continue;
-        }
-        cases = cases.saturating_add(1);
-        if !is_so(rt.alloc(), block.trim_end(), stops)? {
-            println!(rt; "{name}: case {cases} is not so:\n{block}")?;
-            all = false;
-        }
-    }
-    println!(rt; "{name}: {cases} cases")?;
-    Ok(all)
-}
-
-/// Whether a case is so.
-fn is_so(alloc: Global, block: &str, stops: bool) -> io::Result<bool> {
-    let case = read_case(alloc, block)?;
-    let Answer { given, .. } = match is_whole(alloc, &case)? {
-        Some(answer) => answer,
-        None => return Ok(false),
-    };
-    if stops {
-        Ok(stops_anywhere(alloc, &case, given)?)
-    } else {
-        Ok(true)
-    }
+    let streams = print_streams(rt)?;
+    let addresses = compare_addresses(rt)?;
+    let sessions = judge_sessions(rt)?;
+    Ok(tables && altered && examples && streams && addresses && sessions)
 }

@@ -1,6 +1,6 @@
 //! The captures of real routers' sessions that lie in the folder where the program runs.
 
-use bgp_prefix::{Address, Session};
+use bgp_prefix::{Address, RouteRefresh, Session};
 use bgp_tool::decode_capture;
 use mrt::{FromRead, FromWrite, Reader};
 use std::io::BufReader;
@@ -8,7 +8,7 @@ use std::rt::Files;
 use std::{fs, io};
 
 /// The captures by session and end; `examples/README.md` tells what the sessions are.
-pub(crate) const CAPTURES: [&str; 39] = [
+static CAPTURES: [&str; 39] = [
     "as-trans.a.mrt",
     "as-trans.a.native-openbgpd-in.mrt",
     "as-trans.a.native-openbgpd-out.mrt",
@@ -62,13 +62,21 @@ fn session_of(name: &str) -> Session {
     Session {
         peer,
         local,
-        refresh: false,
+        refresh: RouteRefresh::NotOffered,
         extended: false,
     }
 }
 
+/// Prints all captures.
+pub(crate) fn print_captures<R: Files + Print + AllocGlobal>(rt: &R) -> io::Result<()> {
+    for name in &CAPTURES {
+        print_capture(rt, name)?;
+    }
+    Ok(())
+}
+
 /// Prints a capture's name, its text, and the status that decoding it answers.
-pub(crate) fn print_capture<R: Files + Print + AllocGlobal>(rt: &R, name: &str) -> io::Result<()> {
+fn print_capture<R: Files + Print + AllocGlobal>(rt: &R, name: &str) -> io::Result<()> {
     println!(rt; "{name}")?;
     let mut source = FromRead::new(BufReader::new(rt.alloc(), fs::open(rt, name)?)?);
     let mut sink = FromWrite::new(io::writer(rt));

@@ -1,9 +1,10 @@
 //! A case is decoded from sources that give it whole or octet by octet, fail or end early.
 
-use crate::case::Case;
+use crate::case::{Case, read_case};
 use bgp_tool::decode_capture;
 use mrt::{MemSink, MemSource, Reader, SourceUpset};
 use std::alloc::{AllocError, Global};
+use std::io;
 use std::num::NonZeroUsize;
 
 /// The longest capture that is read by sources that stop early, since one is read for each octet.
@@ -11,10 +12,21 @@ const MOST_STOPS: usize = 1000;
 
 /// What decoding wrote and answered, and how many octets it was given.
 #[derive(Drop)]
-pub(crate) struct Answer {
+struct Answer {
     text: Vec<u8>,
     status: u8,
-    pub(crate) given: usize,
+    given: usize,
+}
+
+/// Whether a case is decoded as it says. Where `stops` says it, it is also read by a source that
+/// fails at each of its octets in turn, and by one that ends there.
+pub(crate) fn is_decoded(alloc: Global, block: &str, stops: bool) -> io::Result<bool> {
+    let case = read_case(alloc, block)?;
+    match is_whole(alloc, &case)? {
+        Some(answer) if stops => Ok(stops_anywhere(alloc, &case, answer.given)?),
+        Some(_) => Ok(true),
+        None => Ok(false),
+    }
 }
 
 /// Decodes a case from a source that gives at most so many octets a call and is upset at one call.
@@ -45,7 +57,7 @@ fn decode(
 
 /// Decodes a case from a source that gives all at once and from one that gives octet by octet.
 /// Answers what the second did, if both answers are right.
-pub(crate) fn is_whole(alloc: Global, case: &Case) -> Result<Option<Answer>, AllocError> {
+fn is_whole(alloc: Global, case: &Case) -> Result<Option<Answer>, AllocError> {
     let mut text = String::new(alloc);
     for piece in case.pieces.as_slice() {
         text.push_str(piece.text.as_str())?;
@@ -64,7 +76,7 @@ fn is_answer(answer: &Answer, text: &str, status: u8) -> bool {
 
 /// Whether a case is answered right by sources that fail or end at each octet in turn, of so many
 /// that are asked for, and that fail behind them.
-pub(crate) fn stops_anywhere(alloc: Global, case: &Case, given: usize) -> Result<bool, AllocError> {
+fn stops_anywhere(alloc: Global, case: &Case, given: usize) -> Result<bool, AllocError> {
     if given > MOST_STOPS {
         return Ok(true);
     }

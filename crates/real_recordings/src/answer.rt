@@ -6,9 +6,9 @@ ghost use Rattle.mrt.specs.MemSource.{source_state};
 use crate::case::{Case, malformed};
 use crate::words::{config_of, import_of, options_of, port_of, session_of};
 use bgp_compact::CompactTracker;
-use bgp_import::{Cause, Stopped, import_recording, list_recording};
+use bgp_import::{Cause, Refusal, Stopped, import_recording, list_recording};
 use bgp_judge::{PlainTracker, Tracker};
-use bgp_recording_tool::{decode_recording, judge_recording};
+use bgp_recording_tool::{Judged, decode_recording, judge_recording};
 use mrt::{MemSink, MemSource};
 use std::alloc::{AllocError, Global};
 use std::fmt::Write;
@@ -44,14 +44,19 @@ pub(crate) fn answer_to(alloc: Global, case: &Case<'_>, most: NonZeroUsize) -> i
     }
 }
 
-/// The exit status of a command that doesn't end well.
-pub(crate) fn status_of(stopped: Stopped) -> u8 {
+/// The exit status of a recording that is refused.
+fn refused_status(refusal: Refusal) -> u8 {
+    match refusal.cause() {
+        Cause::Recording => 3,
+        Cause::Memory => 4,
+        Cause::Device => 5,
+    }
+}
+
+/// The exit status of an import that doesn't end well.
+fn status_of(stopped: Stopped) -> u8 {
     match stopped {
-        Stopped::Refused(refusal) => match refusal.cause() {
-            Cause::Recording => 3,
-            Cause::Memory => 4,
-            Cause::Device => 5,
-        },
+        Stopped::Refused(refusal) => refused_status(refusal),
         Stopped::Unwritten => 5,
     }
 }
@@ -73,12 +78,13 @@ fn import(alloc: Global, words: &str, source: &mut MemSource) -> io::Result<Stri
     };
     let mut sink = MemSink::new(alloc);
     let mut text = String::new(alloc);
-    match import_recording(alloc, &import, source, &mut sink) {
+    let imported = import_recording(alloc, &import, source, &mut sink);
+    match imported.ended {
         Ok(notes) => {
             add(&mut text, "status 0")?;
-            for note in notes.in_order().into_iter().flatten() {
-                add(&mut text, "\nnote ")?;
-                add(&mut text, note)?;
+            add_note(&mut text, imported.cut_short)?;
+            for note in notes.in_order() {
+                add_note(&mut text, note)?;
             }
             add(&mut text, "\ncapture ")?;
         }
@@ -89,10 +95,25 @@ fn import(alloc: Global, words: &str, source: &mut MemSource) -> io::Result<Stri
                 add(&mut text, "\nrefusal ")?;
                 add(&mut text, refusal)?;
             }
+            add_note(&mut text, imported.cut_short)?;
+            if let Stopped::Refused(refusal) = stopped {
+                add_note(&mut text, refusal.help())?;
+            }
         }
     }
     add_hex(alloc, &mut text, sink.octets())?;
     Ok(text)
+}
+
+/// Appends a line with what is told on standard error, if anything is.
+fn add_note<T: std::fmt::Display + Drop>(text: &mut String, note: Option<T>) -> io::Result<()> {
+    match note {
+        Some(note) => {
+            add(text, "\nnote ")?;
+            add(text, note)
+        }
+        None => Ok(()),
+    }
 }
 
 /// Appends octets in hexadecimal.
@@ -110,24 +131,40 @@ fn list(alloc: Global, words: &str, source: &mut MemSource) -> io::Result<String
         return Err(malformed());
     };
     let mut sink = MemSink::new(alloc);
-    match list_recording(alloc, port, source, &mut sink) {
-        Ok(listed) => {
-            let mut text = printed(alloc, 0, sink.into_octets())?;
-            if let Some(nothing) = listed.nothing() {
-                add(&mut text, "\nnote ")?;
-                add(&mut text, nothing)?;
-            }
-            Ok(text)
-        }
-        Err(stopped) => printed(alloc, status_of(stopped), sink.into_octets()),
-    }
-}
-
-/// The status, and the lines that were printed.
-fn printed(alloc: Global, status: u8, octets: Vec<u8>) -> io::Result<String> {
+    let Ok(listed) = list_recording(alloc, port, source, &mut sink) else {
+        return Err(malformed());
+    };
     let mut text = String::new(alloc);
     add(&mut text, "status ")?;
-    add(&mut text, status)?;
+    add(&mut text, listed.refusal.map_or(0, refused_status))?;
+    add_note(&mut text, listed.cut_short)?;
+    for refusal in &listed.refusals {
+        add_note(&mut text, refusal.help())?;
+    }
+    let nothing = listed.nothing();
+    add_note(&mut text, nothing)?;
+    if nothing.is_some() {
+        for not_looked_into in listed.wrapped.in_order() {
+            add_note(&mut text, not_looked_into)?;
+        }
+    }
+    add_lines(text, sink.into_octets())
+}
+
+/// The status, what is told on standard error, and the lines that were printed.
+fn told(alloc: Global, judged: &Judged<Global>, octets: Vec<u8>) -> io::Result<String> {
+    let mut text = String::new(alloc);
+    add(&mut text, "status ")?;
+    add(&mut text, judged.status)?;
+    add_note(&mut text, judged.cut_short)?;
+    for remark in &judged.remarks {
+        add_note(&mut text, Some(*remark))?;
+    }
+    add_lines(text, octets)
+}
+
+/// The text with the lines that were printed.
+fn add_lines(mut text: String, octets: Vec<u8>) -> io::Result<String> {
     let Ok(lines) = String::from_utf8(octets) else {
         return Err(malformed());
     };
@@ -153,7 +190,7 @@ fn judge<T: Tracker<Global>>(
     let judged = judge_recording::<Global, T, MemSource, MemSink>(
         alloc, &config, &options, source, &mut sink,
     );
-    printed(alloc, judged.status, sink.into_octets())
+    told(alloc, &judged, sink.into_octets())
 }
 
 /// What `bgp decode --mrt` answers.
@@ -165,5 +202,5 @@ fn decode(alloc: Global, words: &str, source: &mut MemSource) -> io::Result<Stri
     };
     let mut sink = MemSink::new(alloc);
     let decoded = decode_recording(alloc, &session, &options, source, &mut sink);
-    printed(alloc, decoded.status, sink.into_octets())
+    told(alloc, &decoded, sink.into_octets())
 }

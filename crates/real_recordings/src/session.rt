@@ -6,7 +6,7 @@ use bgp_compact::CompactTracker;
 use bgp_import::list_recording;
 use bgp_judge::{PlainTracker, Tracker};
 use bgp_open::Config;
-use bgp_recording_tool::{RecordingOptions, Remark, judge_recording};
+use bgp_recording_tool::{Judged, RecordingOptions, judge_recording};
 use mrt::{MemSink, MemSource};
 use std::alloc::Global;
 use std::rt::Files;
@@ -44,19 +44,21 @@ struct Known {
 #[derive(Drop)]
 struct Answer {
     text: Vec<u8>,
-    /// What is told of the made captures, one sentence a line.
+    /// What is told on standard error, one sentence a line.
     notes: String,
     status: u8,
 }
 
-/// What is told of the made captures, among these remarks.
-fn notes_in(alloc: Global, remarks: &[Remark]) -> io::Result<String> {
+/// What is told on standard error.
+fn notes_on(alloc: Global, judged: &Judged<Global>) -> io::Result<String> {
     let mut notes = String::new(alloc);
-    for remark in remarks {
-        if let Remark::Made(note) = remark {
-            let line = format!(in alloc; "bgp: {note}\n")?;
-            notes.push_str(line.as_str())?;
-        }
+    if let Some(cut_short) = judged.cut_short {
+        let line = format!(in alloc; "bgp: {cut_short}\n")?;
+        notes.push_str(line.as_str())?;
+    }
+    for remark in &judged.remarks {
+        let line = format!(in alloc; "bgp: {remark}\n")?;
+        notes.push_str(line.as_str())?;
     }
     Ok(notes)
 }
@@ -73,7 +75,7 @@ fn answer_to<T: Tracker<Global>>(alloc: Global, known: &Known) -> io::Result<Ans
         &mut sink,
     );
     Ok(Answer {
-        notes: notes_in(alloc, judged.remarks.as_slice())?,
+        notes: notes_on(alloc, &judged)?,
         status: judged.status,
         text: sink.into_octets(),
     })
@@ -156,7 +158,8 @@ fn compare_list<R: Files + Print + AllocGlobal>(rt: &R, name: &str) -> io::Resul
     let mut source = MemSource::new(fs::read(rt, path.as_str())?);
     let mut sink = MemSink::new(alloc);
     let listed = list_recording(alloc, 179, &mut source, &mut sink);
-    if listed.is_ok() && sink.octets() == known.as_bytes() {
+    let is_whole = listed.is_ok_and(|listed| listed.refusal.is_none());
+    if is_whole && sink.octets() == known.as_bytes() {
         return Ok(true);
     }
     let text = std::str::from_utf8(sink.octets()).unwrap_or("?");

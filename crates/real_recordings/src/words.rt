@@ -5,7 +5,7 @@ ghost use Rattle.bgp_prefix.specs.Address.{family_of};
 
 use bgp_import::Import;
 use bgp_open::{Config, ConfigParts, Families};
-use bgp_prefix::{Address, Session, read_address};
+use bgp_prefix::{Address, RouteRefresh, Session, read_address};
 use bgp_recording_tool::RecordingOptions;
 
 /// The word after an option.
@@ -49,7 +49,7 @@ pub(crate) fn session_of(words: &str) -> Option<Session> {
     Some(Session {
         peer: address_after(words, "--peer")?,
         local: address_after(words, "--local")?,
-        refresh: !has_flag(words, "--no-refresh"),
+        refresh: RouteRefresh::with_offer(!has_flag(words, "--no-refresh")),
         extended: has_flag(words, "--extended"),
     })
 }

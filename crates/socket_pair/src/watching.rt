@@ -1,6 +1,6 @@
 //! Captures that are shown while they are written.
 
-use bgp_prefix::{Address, Session};
+use bgp_prefix::{Address, RouteRefresh, Session};
 use bgp_watch::Watched;
 use mrt::{MemSink, SinkUpset, write_all};
 use std::num::NonZeroUsize;
@@ -63,7 +63,7 @@ fn session_of(local: Address, peer: Address) -> Session {
     Session {
         peer,
         local,
-        refresh: false,
+        refresh: RouteRefresh::NotOffered,
         extended: false,
     }
 }

@@ -5,7 +5,7 @@ ghost use Rattle.bgp_talk.specs.declared.wire.Connection.TheVariants.{NotAsked};
 
 use crate::{accepted, listen};
 use bgp_open::{Config, ConfigParts, Families};
-use bgp_prefix::{Address, Session};
+use bgp_prefix::{Address, RouteRefresh, Session};
 use bgp_talk::SocketWire;
 use bgp_tool::speak_session;
 use bgp_wire::vectors::{ADMINISTRATIVE_SHUTDOWN, OPEN_A};
@@ -29,7 +29,7 @@ const PARTS_A: ConfigParts = ConfigParts {
     session: Session {
         peer: Address::V4(0xc000_0202),
         local: Address::V4(0xc000_0201),
-        refresh: false,
+        refresh: RouteRefresh::NotOffered,
         extended: false,
     },
 };

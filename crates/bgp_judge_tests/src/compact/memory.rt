@@ -8,7 +8,7 @@ use mrt::Record::{Change, In};
 
 /// A tracker of router A.
 fn started<A: Allocator + Copy, T: Tracker<A>>(alloc: A) -> Option<T> {
-    T::start(alloc, &router_a(false)?).ok()
+    T::start(alloc, &router_a()?).ok()
 }
 
 /// Whether a tracker takes each of the records.
@@ -215,7 +215,7 @@ fn withdraws(high: u8, low: u8) -> [u8; 27] {
 /// routes.
 fn opens<'a>(heap: &'a LocalHeap, tracker: &mut CompactTracker<&'a LocalHeap>) -> bool {
     let mut holds_nothing = heap.used() == 0;
-    for shown in &TWO_ENDS[..8] {
+    for shown in TWO_ENDS.iter().take(8) {
         holds_nothing = holds_nothing && tracker.take(shown) == Ok(true) && heap.used() == 0;
     }
     holds_nothing

@@ -1,7 +1,6 @@
 //! Memory: enough of it, and growths that are refused. (What a tracker does then is asked in
 //! `compact`.)
 
-use super::sessions::is_verdict;
 use super::*;
 use bgp_judge::{OpenedSteps, judge_with, openings};
 use bgp_machine::{Head, HoldTimer};
@@ -31,6 +30,14 @@ pub(crate) static ENDS: [Expected<'static>; 2] = [
     (Fsm::Established, V6, &["10.0.0.0/8"]),
 ];
 
+/// Whether a verdict is yes, with these ends.
+fn is_yes<A: Allocator>(verdict: &Verdict<A>) -> bool {
+    match verdict {
+        Verdict::Yes(ends) => are_ends(ends.as_slice(), &ENDS),
+        _ => false,
+    }
+}
+
 /// The session before its last record.
 fn up(config: &Config) -> Option<Head> {
     let open = read_open(&OPEN_B).ok()?;
@@ -53,7 +60,7 @@ fn staying<A: Allocator>(opened: &OpenedSteps<A>) -> usize {
 /// Whether memory for the steps that the last UPDATE opens is given: `None` where two of them
 /// don't stay in Established.
 fn opens_two<A: Allocator + Copy>(alloc: A) -> Option<bool> {
-    let config = router_a(false)?;
+    let config = router_a()?;
     let up = up(&config)?;
     let opened: Result<OpenedSteps<A>, _> = openings(alloc, &config, up, &TWO_ENDS[9]);
     match opened {
@@ -62,31 +69,30 @@ fn opens_two<A: Allocator + Copy>(alloc: A) -> Option<bool> {
     }
 }
 
-/// Whether a capture of the session is judged so, with a reader that is lent.
+/// Whether a capture is judged so, with a reader that is lent.
 fn is_told_with(alloc: Global, config: &Config, capture: Vec<u8>) -> bool {
     let mut source = MemSource::new(capture);
     let mut reader = Reader::new(alloc);
     match judge_with::<_, PlainTracker, _>(&mut reader, alloc, config, &mut source) {
-        Ok(verdict) => is(&verdict, &Answer::Yes(&ENDS)),
+        Ok(verdict) => is_yes(&verdict),
         Err(_) => false,
     }
 }
 
-/// Whether each function answers the ends of the session.
-fn are_all_right(alloc: Global) -> bool {
-    let Some(config) = router_a(false) else {
+/// Whether a capture of the session is judged so, with a reader that is lent.
+fn is_capture_told(alloc: Global) -> bool {
+    let Some(config) = router_a() else {
         return false;
     };
-    let are_told = match capture_of(alloc, &config, &TWO_ENDS) {
+    match capture_of(alloc, &config, &TWO_ENDS) {
         Some(capture) => is_told_with(alloc, &config, capture),
         None => false,
-    };
-    are_told && is_verdict(alloc, false, &TWO_ENDS, &Answer::Yes(&ENDS))
+    }
 }
 
 #[test]
 fn ample_memory(rt: HostRuntime) {
-    assert!(rt; opens_two(rt.alloc()) == Some(true) && are_all_right(rt.alloc()));
+    assert!(rt; opens_two(rt.alloc()) == Some(true) && is_capture_told(rt.alloc()));
 }
 
 /// Whether memory for the steps is given by a heap of this size: `None` where they are wrong.
@@ -122,7 +128,7 @@ enum Outcome {
 fn outcome_of<A: Allocator + Copy>(alloc: A, config: &Config, capture: Vec<u8>) -> Outcome {
     let mut source = MemSource::new(capture);
     match judge::<A, PlainTracker<A>, _>(alloc, config, &mut source) {
-        Ok(verdict) if is(&verdict, &Answer::Yes(&ENDS)) => Outcome::Verdict,
+        Ok(verdict) if is_yes(&verdict) => Outcome::Verdict,
         Err(fault) if fault.kind == FaultKind::Memory => Outcome::Refused(fault.offset),
         _ => Outcome::Wrong,
     }
@@ -130,7 +136,7 @@ fn outcome_of<A: Allocator + Copy>(alloc: A, config: &Config, capture: Vec<u8>) 
 
 /// The same with a heap of this size: `None` where there is no memory for it.
 fn outcome_with(alloc: Global, size: usize) -> Option<Outcome> {
-    let config = router_a(false)?;
+    let config = router_a()?;
     let heap = LocalHeap::new(alloc, size).ok()?;
     let capture = capture_of(alloc, &config, &TWO_ENDS)?;
     Some(outcome_of(&heap, &config, capture))
@@ -138,7 +144,7 @@ fn outcome_with(alloc: Global, size: usize) -> Option<Outcome> {
 
 /// Whether a record of the session begins there, or the capture ends.
 fn is_a_place(alloc: Global, offset: u64) -> bool {
-    let Some(config) = router_a(false) else {
+    let Some(config) = router_a() else {
         return false;
     };
     let mut sink = MemSink::new(alloc);

@@ -4,7 +4,7 @@ use super::*;
 use Deed::*;
 use Named::Texts;
 use bgp_open::{Config, ConfigParts, Link, negotiate, read_open};
-use bgp_prefix::Session;
+use bgp_prefix::{RouteRefresh, Session};
 use bgp_update::read_update;
 use bgp_wire::vectors::OPEN_B;
 
@@ -284,7 +284,7 @@ const PARTS_A: ConfigParts = ConfigParts {
     session: Session {
         peer: Address::V4(0xc000_0202),
         local: Address::V4(0xc000_0201),
-        refresh: true,
+        refresh: RouteRefresh::Refused,
         extended: false,
     },
 };

@@ -2,7 +2,7 @@
 //! by the program `real_captures`.
 
 use super::*;
-use bgp_prefix::{Address, Session};
+use bgp_prefix::{Address, RouteRefresh, Session};
 use mrt::{Endpoints, Reader};
 
 /// The address of the peer.
@@ -14,7 +14,7 @@ const LOCAL: Address = Address::V4(0xc000_0201);
 pub(super) const SESSION: Session = Session {
     peer: PEER,
     local: LOCAL,
-    refresh: false,
+    refresh: RouteRefresh::NotOffered,
     extended: false,
 };
 
@@ -121,7 +121,7 @@ fn refused_memory_is_told_and_ample_memory_is_not(rt: HostRuntime) -> Result<(),
 pub(super) const EXCHANGED: Session = Session {
     peer: LOCAL,
     local: PEER,
-    refresh: false,
+    refresh: RouteRefresh::NotOffered,
     extended: false,
 };
 

@@ -5,7 +5,7 @@ use super::*;
 use bgp_compact::CompactTracker;
 use bgp_judge::PlainTracker;
 use bgp_open::{Config, ConfigParts, Families};
-use bgp_prefix::{Address, Session};
+use bgp_prefix::{Address, RouteRefresh, Session};
 use bgp_wire::vectors::{MP_REACH_TRANSITIVE, OPEN_A};
 use mrt::Record::{self, Change, In, Out};
 use mrt::{Sink, is_writable, write_record};
@@ -33,7 +33,7 @@ pub(super) const PARTS_A: ConfigParts = ConfigParts {
     session: Session {
         peer: Address::V4(0xc000_0202),
         local: Address::V4(0xc000_0201),
-        refresh: true,
+        refresh: RouteRefresh::Refused,
         extended: false,
     },
 };

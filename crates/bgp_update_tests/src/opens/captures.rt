@@ -278,7 +278,7 @@ const WIDE: Settled = Settled {
 
 /// The session of router A where route refresh isn't agreed on.
 const WITHOUT_REFRESH: Session = Session {
-    refresh: false,
+    refresh: RouteRefresh::NotOffered,
     ..SESSION_A
 };
 
@@ -386,7 +386,7 @@ static OPENINGS: [Opening; 6] = [
                 session: Session {
                     peer: IPV6_B,
                     local: IPV6_A,
-                    refresh: false,
+                    refresh: RouteRefresh::NotOffered,
                     extended: false,
                 },
                 ..PARTS_A
@@ -400,7 +400,7 @@ static OPENINGS: [Opening; 6] = [
                 session: Session {
                     peer: IPV6_A,
                     local: IPV6_B,
-                    refresh: false,
+                    refresh: RouteRefresh::NotOffered,
                     extended: false,
                 },
                 ..PARTS_B

@@ -2,7 +2,7 @@ use Rattle.std.proofs.Common.{◌++◌, ℕ, List, [], refl, sym, ap, subst, app
 use Rattle.mrt.specs.Capture.{joined}
 use Rattle.mrt.specs.Reader.{ReaderState}
 use Rattle.bgp_text.proofs.Pieces.{Joins, nothing_yet, and_then}
-use Rattle.bgp_tool.proofs.CaptureLines.{nothing_read, answer_of, allowed_answer, answered, stops_at_end, stops_at_fault}
+use Rattle.bgp_tool.proofs.CaptureLines.{nothing_read, answer_of, allowed_answer, answered, less_left, stops_at_end, stops_at_fault}
 use Rattle.bgp_tool.proofs.captures.put_records.Goals as goal
 
 pub loop-shown-init : goal.loop-shown-init
@@ -25,6 +25,14 @@ put_record-requires g c =
     c.loop-shown.reader c.next_record.follows.lender-at-none c.next_record.result so.calm so.going c.next_record.follows.holds-at-none.0 in
     let is = rw (c.in-Ok-Some.is, c.in-Ok-Some.field-0-is) at answer in
     allowed_answer g.R.Source.gives g.R.Source.has_ended g.met.R.Source.joined g.R.Source.given_count g.met.R.Source.counted c.args.session.now c.args.source.now _ _ _ _ _ is
+
+pub loop-shown-smaller : goal.loop-shown-smaller
+loop-shown-smaller g c =
+    let (text, so, wrote) = c.loop-shown.invariant.so_far in
+    let answer = answer_of g.R.Source.gives g.R.Source.has_ended g.met.R.Source.joined g.R.Source.given_count g.met.R.Source.counted c.args.session.now c.args.source.now c.loop-shown.source c.next_record.new.source
+    c.loop-shown.reader c.next_record.follows.lender-at-none c.next_record.result so.calm so.going c.next_record.follows.holds-at-none.0 in
+    let is = rw (c.in-Ok-Some.is, c.in-Ok-Some.field-0-is) at answer in
+    less_left g.R.Source.gives g.R.Source.has_ended g.met.R.Source.joined g.R.Source.given_count g.met.R.Source.counted c.args.session.now c.args.source.now _ _ _ _ _ is (g.met.R.Source.below c.next_record.new.source)
 
 pub loop-shown-preserved : goal.loop-shown-preserved
 loop-shown-preserved g c =
@@ -91,7 +99,7 @@ returns-then-has_failed-clause-puts g c =
     let done = answered g.R.Source.gives g.R.Source.has_ended g.met.R.Source.joined g.R.Source.given_count g.met.R.Source.counted c.args.session.now c.args.source.now _ _ _ _ text line _ so is is_line in record {
       pieces = done.pieces;
       rest = [];
-      knows = (done.last, done.other);
+      knows = (done.last, done.other, done.skipped);
       text = text ++ line;
       gave = subst (λ (o : List ℕ). g.R.Source.gives c.args.source.now c.next_record.new.source o) (sym (append-nil (joined done.pieces))) done.gave;
       each = done.each;

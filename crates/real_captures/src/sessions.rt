@@ -1,7 +1,7 @@
-//! The UPDATEs of the sessions: whether each is one that a speaker may send on its link.
+//! The UPDATEs of the streams: whether each is one that a speaker may send on its link.
 
 use bgp_open::{Config, ConfigParts, Families, Link, negotiate, read_open};
-use bgp_prefix::{Address, Session};
+use bgp_prefix::{Address, RouteRefresh, Session};
 use bgp_update::is_clean;
 use bgp_wire::{Frames, Limit, MessageType, Next};
 use std::alloc::Global;
@@ -77,7 +77,7 @@ fn config_of(local_as: u32, peer_as: u32, as4: bool) -> Option<Config> {
         session: Session {
             peer: Address::V4(0xc000_0202),
             local: Address::V4(0xc000_0201),
-            refresh: false,
+            refresh: RouteRefresh::NotOffered,
             extended: false,
         },
     })
@@ -94,7 +94,8 @@ fn count_updates<R: Files + AllocGlobal>(
     name: &str,
     config: &Config,
 ) -> io::Result<(u64, u64)> {
-    let octets = fs::read(rt, name)?;
+    let path = format!(in rt.alloc(); "streams/{name}")?;
+    let octets = fs::read(rt, path.as_str())?;
     count_among(rt.alloc(), &octets, config)
 }
 

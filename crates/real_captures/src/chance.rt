@@ -1,22 +1,14 @@
 //! A thousand sessions by chance, the same in each run, judged by the plain tracker and by the
 //! compact one: both print the same text and answer the same status.
-#![tactic(auto)]
 
-mod messages;
-mod moves;
-mod walk;
-
-use bgp_compact::CompactTracker;
-use bgp_judge::{PlainTracker, Tracker};
+use crate::judged::{Judged, common_answer};
+use crate::walk::random_session;
 use bgp_open::{Config, ConfigParts, Families};
-use bgp_prefix::{Address, Session};
-use bgp_tool::judge_capture;
-use mrt::{MemSink, MemSource, Record, Sink, is_writable, write_record};
+use bgp_prefix::{Address, RouteRefresh, Session};
+use mrt::{MemSink, Record, Sink, is_writable, write_record};
 use rand_pcg::Pcg32;
-use std::alloc::{AllocError, Global};
+use std::alloc::Global;
 use std::io;
-use std::process::ExitCode;
-use walk::random_session;
 
 /// How many sessions there are.
 const SESSIONS: usize = 1000;
@@ -36,7 +28,7 @@ const PARTS: ConfigParts = ConfigParts {
     session: Session {
         peer: Address::V4(0xc000_0202),
         local: Address::V4(0xc000_0201),
-        refresh: true,
+        refresh: RouteRefresh::Refused,
         extended: false,
     },
 };
@@ -52,17 +44,6 @@ struct Counts {
     routes: u64,
     /// And how many have several ends.
     several: u64,
-}
-
-fn main(rt: HostRuntime) -> ExitCode {
-    match judge_all(&rt) {
-        Ok(true) => ExitCode::SUCCESS,
-        Ok(false) => ExitCode::FAILURE,
-        Err(error) => {
-            let _ = eprintln!(rt; "{error}");
-            ExitCode::FAILURE
-        }
-    }
 }
 
 /// Writes a record.
@@ -89,23 +70,6 @@ fn capture_of(alloc: Global, records: &[Record<'_>]) -> io::Result<Vec<u8>> {
 fn next_capture(alloc: Global, random: &mut Pcg32) -> io::Result<Vec<u8>> {
     let records = random_session(alloc, random)?;
     capture_of(alloc, &records)
-}
-
-/// What judging a capture with a tracker wrote and answered.
-fn answer_to<T: Tracker<Global>>(
-    alloc: Global,
-    config: &Config,
-    capture: &[u8],
-) -> Result<(Vec<u8>, u8), AllocError> {
-    let mut source = MemSource::new(Vec::from_slice(alloc, capture)?);
-    let mut sink = MemSink::new(alloc);
-    let status = judge_capture::<Global, T, MemSource, MemSink>(
-        alloc,
-        config,
-        &mut source,
-        &mut sink,
-    );
-    Ok((sink.into_octets(), status))
 }
 
 /// How many lines begin so.
@@ -136,30 +100,6 @@ fn tally(counts: &mut Counts, text: &[u8], status: u8) {
     }
 }
 
-/// Whether judging a capture with a tracker writes and answers this.
-fn answers<T: Tracker<Global>>(
-    alloc: Global,
-    config: &Config,
-    capture: &[u8],
-    text: &[u8],
-    status: u8,
-) -> Result<bool, AllocError> {
-    let (written, answer) = answer_to::<T>(alloc, config, capture)?;
-    Ok(written.as_slice() == text && answer == status)
-}
-
-/// Judges a capture, and counts its verdict. Answers whether both trackers answer alike.
-fn is_alike(
-    alloc: Global,
-    config: &Config,
-    capture: &[u8],
-    counts: &mut Counts,
-) -> Result<bool, AllocError> {
-    let (plain, status) = answer_to::<PlainTracker<Global>>(alloc, config, capture)?;
-    tally(counts, &plain, status);
-    answers::<CompactTracker<Global>>(alloc, config, capture, &plain, status)
-}
-
 /// Judges the next session, and counts its verdict. Answers whether both trackers answer alike.
 fn is_next_alike(
     alloc: Global,
@@ -173,13 +113,22 @@ fn is_next_alike(
     }) else {
         return Ok(false);
     };
-    let capture = next_capture(alloc, random)?;
-    Ok(is_alike(alloc, &config, &capture, counts)?)
+    let case = Judged {
+        config,
+        capture: next_capture(alloc, random)?,
+        text: String::new(alloc),
+        status: 0,
+    };
+    let Some((text, status)) = common_answer(alloc, &case)? else {
+        return Ok(false);
+    };
+    tally(counts, &text, status);
+    Ok(true)
 }
 
 /// Judges all, and prints each that the trackers don't answer alike, and then how many had which
 /// verdict. Answers whether all are so.
-fn judge_all<R: Print + AllocGlobal>(rt: &R) -> io::Result<bool> {
+pub(crate) fn judge_sessions<R: Print + AllocGlobal>(rt: &R) -> io::Result<bool> {
     let mut random = Pcg32::new(42, 54);
     let mut counts = Counts {
         yes: 0,

@@ -1,22 +1,20 @@
-//! Compares the outcomes of UPDATEs with what another program told of them, which was written from
-//! the same specification apart from ours, in two tables, a block of lines a case.
+//! The outcomes of UPDATEs against what another program told of them, which was written from the
+//! same specification apart from ours, in two tables, and against what was worked out by hand from
+//! the standards in another, a block of lines a case.
 //!
-//! `link` and `octets` are given; told are the families that an Apply disables (`apply`), what it
-//! removes and puts (`remove`, `put`), the subcodes of a reset (`reset`), and whether the UPDATE is
-//! clean (`clean`).
-#![tactic(auto)]
+//! A line of `case` says what a block teaches. `link` and `octets` are given; told are the families
+//! that an Apply disables (`apply`), what it removes and puts (`remove`, `put`), the subcodes of a
+//! reset (`reset`), and whether the UPDATE is clean (`clean`).
 
+use crate::case::octets_of;
 use bgp_open::{Config, ConfigParts, Families, Link, negotiate, read_open};
 use bgp_path::Path;
-use bgp_prefix::{Address, Prefix, Session};
+use bgp_prefix::{Address, Prefix, RouteRefresh, Session};
 use bgp_text::write_route;
-use bgp_update::{Changes, Outcomes, is_clean, read_update};
-use hex::FromHexError;
+use bgp_update::{Changes, Outcomes, Subcodes, is_clean, read_update};
 use mrt::MemSink;
 use std::alloc::{AllocError, Global};
-use std::process::ExitCode;
-use std::rt::Files;
-use std::{fs, io};
+use std::io;
 
 /// The peer's OPEN where both families are used, and where none or one of ours is.
 const OPEN: [u8; 49] = [
@@ -37,54 +35,9 @@ const OPEN: [u8; 49] = [
 /// Where the OPEN names AFI 2, which is 3 in one that offers no IPv6.
 const SECOND_AFI: usize = 40;
 
-fn main(rt: HostRuntime) -> ExitCode {
-    match compare_all(&rt) {
-        Ok(true) => ExitCode::SUCCESS,
-        Ok(false) => ExitCode::FAILURE,
-        Err(error) => {
-            let _ = eprintln!(rt; "{error}");
-            ExitCode::FAILURE
-        }
-    }
-}
-
-/// The tables: UPDATEs of all kinds, and more of them with large communities.
-const TABLES: [&str; 2] = ["updates.txt", "updates-large.txt"];
-
-/// Goes through the tables. Answers whether all their cases are so.
-fn compare_all<R: Files + Print + AllocGlobal>(rt: &R) -> io::Result<bool> {
-    let mut all = true;
-    for name in TABLES {
-        all = compare(rt, name)? && all;
-    }
-    Ok(all)
-}
-
-/// Prints each case of a table that is not so, and then how many there were. Answers whether all
-/// are so.
-fn compare<R: Files + Print + AllocGlobal>(rt: &R, name: &str) -> io::Result<bool> {
-    let table = fs::read_to_string(rt, name)?;
-    let mut cases = 0u64;
-    let mut all = true;
-    for block in table.split("\n\n") {
-        if block.is_empty() {
-            continue;
-        }
-        cases = cases.saturating_add(1);
-        let is_so = is_so(rt.alloc(), block)?;
-        if !is_so {
-            println!(rt; "{name}: case {cases} is not so:\n{block}")?;
-            all = false;
-        }
-    }
-    println!(rt; "{name}: {cases} cases")?;
-    Ok(all)
-}
-
 /// Whether a case is so.
-fn is_so(alloc: Global, block: &str) -> io::Result<bool> {
-    let block = block.trim_end();
-    let Some((link, rest)) = block.split_once('\n') else {
+pub(crate) fn is_outcome(alloc: Global, block: &str) -> io::Result<bool> {
+    let Some((link, rest)) = given_in(block).split_once('\n') else {
         return Ok(false);
     };
     let (digits, told) = rest.split_once('\n').unwrap_or((rest, ""));
@@ -100,16 +53,36 @@ fn is_so(alloc: Global, block: &str) -> io::Result<bool> {
     } else {
         "clean no"
     })?;
-    Ok(text.as_str() == told)
+    Ok(is_ordered(&outcomes) && text.as_str() == told)
 }
 
-/// The octets that hexadecimal digits spell.
-fn octets_of(alloc: Global, digits: &str) -> io::Result<Vec<u8>> {
-    match hex::decode(alloc, digits) {
-        Ok(octets) => Ok(octets),
-        Err(FromHexError::OutOfMemory) => Err(io::Error::from(AllocError)),
-        Err(_) => Err(io::Error::from(io::ErrorKind::InvalidData)),
+/// The lines after that which says what a block teaches, if one does.
+fn given_in(block: &str) -> &str {
+    match block.split_once('\n') {
+        Some((first, rest)) if first.starts_with("case ") => rest,
+        _ => block,
     }
+}
+
+/// The first of all subcodes that is in a set.
+fn first_in(set: Subcodes) -> Option<u8> {
+    for subcode in 0..=255u8 {
+        if set.contains(subcode) {
+            return Some(subcode);
+        }
+    }
+    None
+}
+
+/// Whether the least subcode is the first of the set, and no family is disabled where nothing is
+/// applied.
+fn is_ordered(outcomes: &Outcomes<Global>) -> bool {
+    let (certain, optional) = (outcomes.certain, outcomes.optional);
+    let are_kept = !certain.v4 && !certain.v6 && !optional.v4 && !optional.v6;
+    let reset = outcomes.reset;
+    reset.least() == first_in(reset)
+        && reset.is_empty() == reset.least().is_none()
+        && (outcomes.changes.is_some() || are_kept)
 }
 
 /// The link that a line tells: the octets of an AS number, the peer and the families in use.
@@ -135,7 +108,7 @@ fn link_of(line: &str) -> Option<Link> {
         session: Session {
             peer: Address::V4(0xc000_0202),
             local: Address::V4(0xc000_0201),
-            refresh: false,
+            refresh: RouteRefresh::NotOffered,
             extended: false,
         },
     };
@@ -155,7 +128,7 @@ fn push_outcomes(alloc: Global, text: &mut String, outcomes: &Outcomes<Global>) 
     }
     if !outcomes.reset.is_empty() {
         text.push_str("reset")?;
-        for subcode in 1..12u8 {
+        for subcode in 0..=255u8 {
             if outcomes.reset.contains(subcode) {
                 text.push_str(format!(in alloc; " {subcode}")?.as_str())?;
             }
@@ -165,18 +138,20 @@ fn push_outcomes(alloc: Global, text: &mut String, outcomes: &Outcomes<Global>) 
     Ok(())
 }
 
+/// The sets of families, and how each is told.
+static SETS: [(bool, bool, &str); 4] = [
+    (false, false, "-"),
+    (true, false, "v4"),
+    (false, true, "v6"),
+    (true, true, "v4,v6"),
+];
+
 /// Appends a line for each set of families that an Apply disables: the certain ones, and of the
 /// optional ones any.
 fn push_disabled(text: &mut String, outcomes: &Outcomes<Global>) -> Result<(), AllocError> {
-    let sets = [
-        (false, false, "-"),
-        (true, false, "v4"),
-        (false, true, "v6"),
-        (true, true, "v4,v6"),
-    ];
-    for (v4, v6, name) in sets {
+    for (v4, v6, name) in &SETS {
         let (certain, optional) = (outcomes.certain, outcomes.optional);
-        if may_be(v4, certain.v4, optional.v4) && may_be(v6, certain.v6, optional.v6) {
+        if may_be(*v4, certain.v4, optional.v4) && may_be(*v6, certain.v6, optional.v6) {
             text.push_str("apply disabled ")?;
             text.push_str(name)?;
             text.push_str("\n")?;

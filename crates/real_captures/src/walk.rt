@@ -1,5 +1,6 @@
 //! Sessions by chance: one move after another, and sometimes a record is then lost or late.
 
+use crate::altered::below;
 use crate::moves::{Move, moves_of};
 use bgp_machine::Fsm;
 use bgp_prefix::Seconds;
@@ -7,12 +8,6 @@ use mrt::Record;
 use rand_core::utils::NextWord;
 use rand_pcg::Pcg32;
 use std::alloc::{AllocError, Global};
-
-/// A number below this one, which isn't 0.
-fn below(random: &mut Pcg32, count: usize) -> usize {
-    let word = random.next_word() as usize;
-    word.checked_rem(count).unwrap_or(0)
-}
 
 /// A move from a state, which one time in sixteen isn't of the usual ones.
 fn move_from(random: &mut Pcg32, fsm: Fsm) -> Option<Move> {

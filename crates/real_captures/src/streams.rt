@@ -1,14 +1,9 @@
-//! Decodes the streams of real routers that lie in the folder where it runs, one after another, and
-//! tells of each whether its UPDATEs are clean.
-#![tactic(auto)]
+//! The streams of real routers that lie in `streams/`.
 
-mod sessions;
-
-use bgp_tool::{Status, decode_raw};
+use crate::sessions::print_sessions;
+use bgp_tool::decode_raw;
 use bgp_wire::Limit;
 use mrt::{FromRead, FromWrite};
-use sessions::print_sessions;
-use std::process::ExitCode;
 use std::rt::Files;
 use std::{fs, io};
 
@@ -30,23 +25,12 @@ static STREAMS: [&str; 14] = [
     "transport6.b-to-a.bgp",
 ];
 
-fn main(rt: HostRuntime) -> ExitCode {
-    match run(&rt) {
-        Ok(true) => ExitCode::SUCCESS,
-        Ok(false) => ExitCode::FAILURE,
-        Err(error) => {
-            let _ = eprintln!(rt; "{error}");
-            ExitCode::from(Status::Device.code())
-        }
-    }
-}
-
 /// The streams of a session in which both sides offer extended messages (RFC 8654): each has an
 /// UPDATE of more than 4096 octets, so it is decoded with them and without.
 static EXTENDED: [&str; 2] = ["extmsg.a-to-b.bgp", "extmsg.b-to-a.bgp"];
 
-/// Decodes all streams. Answers whether all UPDATEs are clean.
-fn run<R: Files + Print + AllocGlobal>(rt: &R) -> io::Result<bool> {
+/// Decodes all streams, one after another. Answers whether all their UPDATEs are clean.
+pub(crate) fn print_streams<R: Files + Print + AllocGlobal>(rt: &R) -> io::Result<bool> {
     for name in &STREAMS {
         print_stream(rt, Limit::Plain, name)?;
     }
@@ -65,7 +49,8 @@ fn print_stream<R: Files + Print + AllocGlobal>(
     name: &str,
 ) -> io::Result<()> {
     println!(rt; "{name}")?;
-    let mut source = FromRead::new(fs::open(rt, name)?);
+    let path = format!(in rt.alloc(); "streams/{name}")?;
+    let mut source = FromRead::new(fs::open(rt, path.as_str())?);
     let mut sink = FromWrite::new(io::writer(rt));
     let status = decode_raw(limit, rt.alloc(), &mut source, &mut sink);
     println!(rt; "status {status}")

@@ -1,27 +1,14 @@
-//! Compares the texts of IPv6 addresses (RFC 5952) with a table that another program made:
-//! `data/table.txt` says which.
-#![tactic(auto)]
+//! The texts of IPv6 addresses (RFC 5952) against a table that another program made:
+//! `data/addresses.txt` says which.
 
 use bgp_prefix::{Address, read_address};
 use std::alloc::Global;
-use std::process::ExitCode;
 use std::rt::Files;
 use std::{fs, io};
 
-fn main(rt: HostRuntime) -> ExitCode {
-    match compare(&rt) {
-        Ok(true) => ExitCode::SUCCESS,
-        Ok(false) => ExitCode::FAILURE,
-        Err(error) => {
-            let _ = eprintln!(rt; "{error}");
-            ExitCode::FAILURE
-        }
-    }
-}
-
 /// Prints each line of the table that is not so, and then how many are. Answers whether all are.
-fn compare<R: Files + Print + AllocGlobal>(rt: &R) -> io::Result<bool> {
-    let table = fs::read_to_string(rt, "table.txt")?;
+pub(crate) fn compare_addresses<R: Files + Print + AllocGlobal>(rt: &R) -> io::Result<bool> {
+    let table = fs::read_to_string(rt, "addresses.txt")?;
     let mut same = 0u64;
     let mut others = 0u64;
     for line in table.lines() {

@@ -1,0 +1,49 @@
+//! A file that is made at its first write.
+
+use std::io::Write;
+use std::rt::Files;
+use std::{fs, io};
+
+/// A file that is made, or emptied, at its first write: where nothing is written it stays as it
+/// was.
+#[derive(Drop)]
+pub struct MadeFile<'r, 'n, R: Files> {
+    rt: &'r R,
+    name: &'n str,
+    file: Option<R::File>,
+}
+
+impl<'r, 'n, R: Files> MadeFile<'r, 'n, R> {
+    /// The file of this name, which isn't made yet.
+    pub fn new(rt: &'r R, name: &'n str) -> MadeFile<'r, 'n, R> {
+        MadeFile {
+            rt,
+            name,
+            file: None,
+        }
+    }
+
+    /// Whether it was made.
+    pub fn is_made(&self) -> bool {
+        self.file.is_some()
+    }
+}
+
+impl<R: Files> Write for MadeFile<'_, '_, R> {
+    fn write(&mut self, octets: &[u8]) -> io::Result<usize> {
+        if let Some(file) = &mut self.file {
+            return file.write(octets);
+        }
+        let mut file = fs::create(self.rt, self.name)?;
+        let written = file.write(octets);
+        self.file = Some(file);
+        written
+    }
+
+    fn flush(&mut self) -> io::Result<()> {
+        match &mut self.file {
+            Some(file) => file.flush(),
+            None => Ok(()),
+        }
+    }
+}
