@@ -9,7 +9,7 @@ use std::test::Fail;
 type Begins = Result<(Address, u8, usize), PrefixFault>;
 
 /// Octets, and what they begin with.
-const READ: [(Family, &[u8], Begins); 11] = [
+static READ: [(Family, &[u8], Begins); 11] = [
     (
         Family::V4,
         &[
@@ -78,7 +78,7 @@ const WRITTEN: [u8; 21] = [
 ];
 
 /// An address of each, its length, and where it ends there.
-const THREE: [(Address, u8, usize); 3] = [
+static THREE: [(Address, u8, usize); 3] = [
     (Address::V4(0x0aff_ffff), 9, 3),
     (Address::V4(0), 0, 4),
     (Address::V6(u128::MAX), 128, 21),

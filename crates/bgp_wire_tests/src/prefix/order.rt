@@ -5,7 +5,7 @@ use std::cmp::Ordering;
 use std::hash::{DefaultHasher, Hash, Hasher};
 
 /// Addresses with a length, and the lowest address of their prefix.
-const MASKED: [(Address, u8, Address, Family); 3] = [
+static MASKED: [(Address, u8, Address, Family); 3] = [
     (
         Address::V4(0x0a01_0203),
         8,
@@ -48,7 +48,7 @@ fn a_prefix_is_masked_and_has_no_more_bits_than_an_address(rt: HostRuntime) {
 }
 
 /// Prefixes, each before the next.
-const ORDERED: [(Address, u8); 11] = [
+static ORDERED: [(Address, u8); 11] = [
     (Address::V4(0), 0),
     (Address::V4(0), 1),
     (Address::V4(0x0a00_0000), 8),

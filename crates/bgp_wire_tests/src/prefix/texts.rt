@@ -1,7 +1,7 @@
 //! Texts of addresses, prefixes and faults.
 
 use bgp_prefix::*;
-use std::alloc::{AllocError, Global};
+use std::alloc::Global;
 
 #[test]
 fn faults_have_their_numbers_and_texts(rt: HostRuntime) {
@@ -33,7 +33,7 @@ fn tells(alloc: Global, fault: PrefixFault, number: u8, text: &str) -> bool {
 }
 
 /// Addresses, and how they print.
-const PRINTED: [(Address, &str); 16] = [
+static PRINTED: [(Address, &str); 16] = [
     (Address::V4(0), "0.0.0.0"),
     (Address::V4(0xc000_0202), "192.0.2.2"),
     (Address::V4(0xcb00_7109), "203.0.113.9"),
@@ -104,7 +104,7 @@ fn addresses_print_as_the_standards_write_them(rt: HostRuntime) {
 }
 
 /// Texts in any of the forms of an IPv6 address, and its number.
-const FORMS: [(&str, u128); 16] = [
+static FORMS: [(&str, u128); 16] = [
     ("::", 0),
     ("2001:DB8::1", 0x2001_0db8_0000_0000_0000_0000_0000_0001),
     ("1:2:3:4:5:6:7::", 0x0001_0002_0003_0004_0005_0006_0007_0000),
@@ -163,7 +163,7 @@ fn ipv6_addresses_are_read_in_any_of_their_forms(rt: HostRuntime) {
 }
 
 /// How addresses print, and other texts of them.
-const PRINTED_FORMS: [(&str, &[&str]); 9] = [
+static PRINTED_FORMS: [(&str, &[&str]); 9] = [
     // RFC 5952, 2.1: leading zeros.
     (
         "2001:db8:aaaa:bbbb:cccc:dddd:eeee:1",
@@ -226,7 +226,7 @@ fn all_forms_of_an_address_print_as_one(rt: HostRuntime) {
 }
 
 /// Texts of no address.
-const NO_ADDRESS: [&str; 29] = [
+static NO_ADDRESS: [&str; 29] = [
     "",
     "1",
     // IPv4: four decimals from 0 to 255 without leading zeros.
@@ -269,7 +269,7 @@ fn what_is_no_address_is_not_read(rt: HostRuntime) {
 }
 
 /// Texts of prefixes, how the prefix prints, an address of it, and how many bits it has.
-const PREFIXES: [(&str, &str, Address, u8); 11] = [
+static PREFIXES: [(&str, &str, Address, u8); 11] = [
     ("10.1.2.3/8", "10.0.0.0/8", Address::V4(0x0a00_0000), 8),
     ("0.0.0.0/0", "0.0.0.0/0", Address::V4(0), 0),
     ("192.0.2.1/32", "192.0.2.1/32", Address::V4(0xc000_0201), 32),
@@ -315,7 +315,7 @@ const PREFIXES: [(&str, &str, Address, u8); 11] = [
 ];
 
 /// Texts of no prefix.
-const NO_PREFIX: [&str; 19] = [
+static NO_PREFIX: [&str; 19] = [
     "",
     "/",
     "/8",
@@ -345,50 +345,69 @@ fn prefix_prints(alloc: Global, prefix: Prefix, text: &str) -> bool {
     }
 }
 
+/// Whether these are texts of this prefix, which prints as the second.
+fn are_texts(alloc: Global, text: &str, printed: &str, prefix: Option<Prefix>) -> bool {
+    match prefix {
+        Some(prefix) => {
+            read_prefix(text) == Some(prefix)
+                && read_prefix(printed) == Some(prefix)
+                && prefix_prints(alloc, prefix, printed)
+        }
+        None => false,
+    }
+}
+
 #[test]
 fn prefix_texts_are_an_address_and_a_length(rt: HostRuntime) {
     for (text, printed, address, length) in &PREFIXES {
-        let is_read = match Prefix::new(*address, *length) {
-            Some(prefix) => {
-                read_prefix(text) == Some(prefix)
-                    && read_prefix(printed) == Some(prefix)
-                    && prefix_prints(rt.alloc(), prefix, printed)
-            }
-            None => false,
-        };
-        assert!(rt; is_read, "{text}");
+        let prefix = Prefix::new(*address, *length);
+        assert!(rt; are_texts(rt.alloc(), text, printed, prefix), "{text}");
     }
     for text in &NO_PREFIX {
         assert!(rt; read_prefix(text).is_none(), "{text}");
     }
 }
 
-/// Whether a prefix of zeros is written in the fewest octets, its length first, and prints as its
-/// address and its length.
-fn is_written(alloc: Global, zeros: Address, text: &str, length: u8) -> Result<bool, AllocError> {
-    let Some(prefix) = Prefix::new(zeros, length) else {
-        return Ok(false);
-    };
+/// Whether a prefix of this length is written in the fewest octets, its length first.
+fn is_written(alloc: Global, prefix: Prefix, length: u8) -> bool {
     let mut out = Vec::new(alloc);
-    prefix.write(&mut out)?;
     let count = 1 + usize::from(length).div_ceil(8);
-    let wanted = format!(in alloc; "{text}/{length}")?;
-    Ok(
-        out.len() == count
-            && prefix.octet_len() == count
-            && out.first() == Some(&length)
-            && prefix_prints(alloc, prefix, wanted.as_str()),
-    )
+    prefix.write(&mut out).is_ok()
+        && out.len() == count
+        && prefix.octet_len() == count
+        && out.first() == Some(&length)
+}
+
+/// Whether a prefix of zeros prints as its address and its length.
+fn is_printed(alloc: Global, prefix: Prefix, zeros: &str, length: u8) -> bool {
+    match format!(in alloc; "{zeros}/{length}") {
+        Ok(text) => prefix_prints(alloc, prefix, text.as_str()),
+        Err(_) => false,
+    }
+}
+
+/// Whether there is a prefix of these zeros, and is written and printed so.
+fn is_of_zeros(alloc: Global, zeros: Address, text: &str, length: u8) -> bool {
+    match Prefix::new(zeros, length) {
+        Some(prefix) => {
+            is_written(alloc, prefix, length) && is_printed(alloc, prefix, text, length)
+        }
+        None => false,
+    }
 }
 
 #[test]
 fn prefixes_of_every_length_are_written_and_printed(rt: HostRuntime) {
     for length in 0..=32 {
-        let is_written = is_written(rt.alloc(), Address::V4(0), "0.0.0.0", length);
-        assert!(rt; is_written == Ok(true), "0.0.0.0/{length}");
+        assert!(rt;
+            is_of_zeros(rt.alloc(), Address::V4(0), "0.0.0.0", length),
+            "0.0.0.0/{length}"
+        );
     }
     for length in 0..=128 {
-        let is_written = is_written(rt.alloc(), Address::V6(0), "::", length);
-        assert!(rt; is_written == Ok(true), "::/{length}");
+        assert!(rt;
+            is_of_zeros(rt.alloc(), Address::V6(0), "::", length),
+            "::/{length}"
+        );
     }
 }
