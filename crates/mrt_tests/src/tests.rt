@@ -173,7 +173,7 @@ fn a_vector_takes_all_that_is_written(rt: HostRuntime) {
 }
 
 /// What a writer does in its second call, and the error that is told.
-const WRITER_FAULTS: [(WriterFault, ErrorKind); 3] = [
+static WRITER_FAULTS: [(WriterFault, ErrorKind); 3] = [
     (WriterFault::Error(ErrorKind::Other), ErrorKind::Other),
     (
         WriterFault::Error(ErrorKind::Interrupted),

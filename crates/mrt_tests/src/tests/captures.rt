@@ -24,6 +24,14 @@ pub(crate) const CHANGE: [u8; 36] = [
     0x00, 0x01, 0x00, 0x02, // states
 ];
 
+/// All of it but its last octet.
+const CUT: [u8; 35] = [
+    0x00, 0x00, 0x00, 0x64, 0x00, 0x10, 0x00, 0x05, 0x00, 0x00, 0x00, 0x18, // header
+    0x00, 0x00, 0xfd, 0xea, 0x00, 0x00, 0xfd, 0xe9, 0x00, 0x00, 0x00, 0x01, // numbers
+    0xc0, 0x00, 0x02, 0x02, 0xc0, 0x00, 0x02, 0x01, // addresses
+    0x00, 0x01, 0x00, // states, cut short
+];
+
 /// The same at second 99.
 const EARLIER: [u8; 36] = [
     0x00, 0x00, 0x00, 0x63, 0x00, 0x10, 0x00, 0x05, 0x00, 0x00, 0x00, 0x18, // header
@@ -123,39 +131,44 @@ fn is_read(alloc: Global, source: MemSource, changes: usize, fault: Option<Captu
     }
 }
 
+/// The records of a capture, how many changes are read, and then the fault and its octet, or the
+/// end.
+type Row = ([&'static [u8]; 2], usize, Option<(FaultKind, u64)>);
+
+static ROWS: [Row; 8] = [
+    ([&CHANGE, &[]], 1, None),
+    ([&CUT, &[]], 0, Some((FaultKind::Truncated, 0))),
+    ([&CHANGE, &EARLIER], 1, Some((FaultKind::TimeBack, 36))),
+    ([&TOO_LONG, &[]], 0, Some((FaultKind::TooLong, 0))),
+    ([&OTHER, &[]], 0, None),
+    ([&CHANGE, &GREATEST], 1, Some((FaultKind::TooLong, 36))),
+    ([&GREATEST, &RECEIVED], 0, Some((FaultKind::TooLong, 0))),
+    (
+        [&OTHER_GREATEST, &CHANGE],
+        0,
+        Some((FaultKind::Truncated, 0)),
+    ),
+];
+
+/// The fault, if there is one.
+fn fault_of(told: Option<(FaultKind, u64)>) -> Option<CaptureFault> {
+    match told {
+        Some((kind, offset)) => Some(CaptureFault { kind, offset }),
+        None => None,
+    }
+}
+
 /// Whether a capture of these records is read so.
-fn is_capture_read(alloc: Global, (records, changes, fault): &Row<'_>) -> bool {
+fn is_capture_read(alloc: Global, (records, changes, told): &Row) -> bool {
     match capture_of(alloc, records) {
-        Ok(capture) => is_read(alloc, MemSource::new(capture), *changes, *fault),
+        Ok(capture) => is_read(alloc, MemSource::new(capture), *changes, fault_of(*told)),
         Err(_) => false,
     }
 }
 
-/// The records of a capture, how many changes are read, and then the fault, or the end.
-type Row<'a> = ([&'a [u8]; 2], usize, Option<CaptureFault>);
-
-/// A fault of this kind at this octet.
-fn fault(kind: FaultKind, offset: u64) -> Option<CaptureFault> {
-    Some(CaptureFault { kind, offset })
-}
-
 #[test]
 fn a_capture_is_read_to_its_end_or_its_first_fault(rt: HostRuntime) {
-    let rows: [Row<'_>; 8] = [
-        ([&CHANGE, &[]], 1, None),
-        ([&CHANGE[..35], &[]], 0, fault(FaultKind::Truncated, 0)),
-        ([&CHANGE, &EARLIER], 1, fault(FaultKind::TimeBack, 36)),
-        ([&TOO_LONG, &[]], 0, fault(FaultKind::TooLong, 0)),
-        ([&OTHER, &[]], 0, None),
-        ([&CHANGE, &GREATEST], 1, fault(FaultKind::TooLong, 36)),
-        ([&GREATEST, &RECEIVED], 0, fault(FaultKind::TooLong, 0)),
-        (
-            [&OTHER_GREATEST, &CHANGE],
-            0,
-            fault(FaultKind::Truncated, 0),
-        ),
-    ];
-    for (count, row) in rows.iter().enumerate() {
+    for (count, row) in ROWS.iter().enumerate() {
         assert!(rt; is_capture_read(rt.alloc(), row), "{count}");
     }
 }
@@ -224,7 +237,7 @@ fn the_first_other_session_is_kept(rt: HostRuntime) {
 /// which the fault is told.
 type FailingRow = ([&'static [u8]; 2], u64, usize, u64);
 
-const FAILING_READS: [FailingRow; 8] = [
+static FAILING_READS: [FailingRow; 8] = [
     ([&CHANGE, &CHANGE], 0, 0, 0),
     ([&CHANGE, &CHANGE], 35, 0, 0),
     ([&CHANGE, &CHANGE], 36, 1, 36),
@@ -243,7 +256,8 @@ fn is_failure_told(alloc: Global, (records, call, changes, offset): &FailingRow)
     let source = MemSource::new(capture)
         .in_pieces_of(NonZeroUsize::MIN)
         .upset_at(*call, SourceUpset::Fail);
-    is_read(alloc, source, *changes, fault(FaultKind::Device, *offset))
+    let told = fault_of(Some((FaultKind::Device, *offset)));
+    is_read(alloc, source, *changes, told)
 }
 
 #[test]
