@@ -6,6 +6,7 @@ use bgp_open::{ConfigParts, Families};
 use bgp_prefix::{Address, Session};
 use bgp_tool::{Command, Speaking, Start, command_line, words_status};
 use bgp_words::RecordingOptions;
+use clap::Error;
 use std::alloc::{AllocError, Global};
 use std::process::ExitCode;
 use std::rt::Files;
@@ -53,90 +54,132 @@ struct Answer {
 
 /// What the words of a row's first line are. Two quotation marks stand for an empty word.
 fn answer_to(alloc: Global, block: &str) -> io::Result<Answer> {
-    let line = match block.split_once('\n') {
-        Some((line, _)) => line,
-        None => block,
-    };
+    let (line, _) = block.split_once('\n').unwrap_or((block, ""));
     let mut words = Vec::new(alloc);
     for word in line.split(' ').skip(1) {
         words.push(if word == "\"\"" { "" } else { word })?;
     }
-    let mut told = String::new(alloc);
-    let kind = match command_line(alloc, words.as_slice()) {
-        Ok(Command::Decode { extended, file }) => {
-            let extended = extended_text(extended);
-            format!(in alloc; "decode{extended} {file:?}")?
-        }
-        Ok(
-            Command::Capture {
-                session,
-                recording,
-                file,
-            },
-        ) => {
-            let Session { peer, local, .. } = session;
-            let extended = extended_text(session.extended);
-            let told = unusual_text(alloc, &recording)?;
-            format!(in alloc; "capture peer {peer} local {local}{extended}{told} file {file:?}")?
-        }
-        Ok(
-            Command::Judge {
-                config,
-                recording,
-                explain,
-                file,
-            },
-        ) => {
-            let parts = parts_text(alloc, &config.parts)?;
-            let told = unusual_text(alloc, &recording)?;
-            let explain = if explain { " explain" } else { "" };
-            format!(in alloc; "judge {parts}{told}{explain} file {file:?}")?
-        }
-        Ok(
-            Command::Import {
-                session,
-                recording,
-                file,
-                out,
-            },
-        ) => {
-            let Session { peer, local, .. } = session;
-            let extended = extended_text(session.extended);
-            let told = recording_text(alloc, &recording)?;
-            let ends = format!(in alloc; "local {local} peer {peer}{extended}")?;
-            format!(in alloc; "import {ends} {told} file {file:?} out {out:?}")?
-        }
-        Ok(Command::List { port, file }) => format!(in alloc; "list port {port} file {file:?}")?,
-        Ok(
-            Command::Check {
-                port,
-                within,
-                routes,
-                file,
-            },
-        ) => {
-            let routes = if routes { " routes" } else { "" };
-            format!(in alloc; "check port {port} within {within}{routes} file {file:?}")?
-        }
-        Ok(
-            Command::Speak {
-                config,
-                speaking,
-                file,
-            },
-        ) => {
-            let parts = parts_text(alloc, &config.parts)?;
-            let own = speaking_text(alloc, &speaking)?;
-            format!(in alloc; "speak {parts} {own} file {file:?}")?
-        }
-        Ok(Command::Pair { file }) => format!(in alloc; "pair {file:?}")?,
-        Err(error) => {
-            told = format!(in alloc; "{error}")?;
-            let code = words_status(&error).code();
-            format!(in alloc; "status {code}")?
-        }
-    };
+    match command_line(alloc, words.as_slice()) {
+        Ok(command) => Ok(Answer {
+            kind: command_text(alloc, &command)?,
+            told: String::new(alloc),
+        }),
+        Err(error) => Ok(refused(alloc, &error)?),
+    }
+}
+
+/// What is told of words that are no command.
+fn refused(alloc: Global, error: &Error) -> Result<Answer, AllocError> {
+    let code = words_status(error).code();
+    let kind = format!(in alloc; "status {code}")?;
+    let told = format!(in alloc; "{error}")?;
     Ok(Answer { kind, told })
+}
+
+/// A command, each part after its name.
+fn command_text(alloc: Global, command: &Command<'_>) -> Result<String, AllocError> {
+    match command {
+        Command::Decode { extended, file } => {
+            let extended = extended_text(*extended);
+            format!(in alloc; "decode{extended} {file:?}")
+        }
+        Command::Capture {
+            session,
+            recording,
+            file,
+        } => capture_text(alloc, session, recording, file),
+        Command::Judge {
+            config,
+            recording,
+            explain,
+            file,
+        } => judge_text(alloc, &config.parts, recording, *explain, file),
+        Command::Import {
+            session,
+            recording,
+            file,
+            out,
+        } => import_text(alloc, session, recording, file, out),
+        Command::List { port, file } => format!(in alloc; "list port {port} file {file:?}"),
+        Command::Check {
+            port,
+            within,
+            routes,
+            file,
+        } => check_text(alloc, *port, *within, *routes, file),
+        Command::Speak {
+            config,
+            speaking,
+            file,
+        } => speak_text(alloc, &config.parts, speaking, file),
+        Command::Pair { file } => format!(in alloc; "pair {file:?}"),
+    }
+}
+
+/// What `decode --mrt` is told.
+fn capture_text(
+    alloc: Global,
+    session: &Session,
+    recording: &RecordingOptions,
+    file: &str,
+) -> Result<String, AllocError> {
+    let Session { peer, local, .. } = *session;
+    let extended = extended_text(session.extended);
+    let told = unusual_text(alloc, recording)?;
+    format!(in alloc; "capture peer {peer} local {local}{extended}{told} file {file:?}")
+}
+
+/// What `judge` is told.
+fn judge_text(
+    alloc: Global,
+    parts: &ConfigParts,
+    recording: &RecordingOptions,
+    explain: bool,
+    file: &str,
+) -> Result<String, AllocError> {
+    let parts = parts_text(alloc, parts)?;
+    let told = unusual_text(alloc, recording)?;
+    let explain = if explain { " explain" } else { "" };
+    format!(in alloc; "judge {parts}{told}{explain} file {file:?}")
+}
+
+/// What `import` is told.
+fn import_text(
+    alloc: Global,
+    session: &Session,
+    recording: &RecordingOptions,
+    file: &str,
+    out: &str,
+) -> Result<String, AllocError> {
+    let Session { peer, local, .. } = *session;
+    let extended = extended_text(session.extended);
+    let told = recording_text(alloc, recording)?;
+    let ends = format!(in alloc; "local {local} peer {peer}{extended}")?;
+    format!(in alloc; "import {ends} {told} file {file:?} out {out:?}")
+}
+
+/// What `check` is told.
+fn check_text(
+    alloc: Global,
+    port: u16,
+    within: u16,
+    routes: bool,
+    file: &str,
+) -> Result<String, AllocError> {
+    let routes = if routes { " routes" } else { "" };
+    format!(in alloc; "check port {port} within {within}{routes} file {file:?}")
+}
+
+/// What `speak` is told.
+fn speak_text(
+    alloc: Global,
+    parts: &ConfigParts,
+    speaking: &Speaking,
+    file: &str,
+) -> Result<String, AllocError> {
+    let parts = parts_text(alloc, parts)?;
+    let own = speaking_text(alloc, speaking)?;
+    format!(in alloc; "speak {parts} {own} file {file:?}")
 }
 
 /// The word that says that extended messages are offered, after a blank.
