@@ -3,9 +3,10 @@
 # in instructions, which are the same in each run, and in processor time. The captures are those of
 # `bench_loads session`: a peer's table and then further records. In the first the session goes on,
 # which is a yes. In the second a change from Idle to Connect stands at the end, which is a no; in
-# the third it stands alone after a session that is opened.
+# the third it stands alone after a session that is opened. Then the same of a recording, a yes, and
+# a no at its second record.
 #
-# Wants bash, coreutils, valgrind, and the programs that `rt run` built in crates/bgp/out/bgp and
+# Wants bash, coreutils, python3, valgrind, and the programs that `rt run` built in crates/bgp/out/bgp and
 # crates/bench_loads/out/bench_loads. Prints figures; it is no test. Words: those programs, if they
 # are others, how many prefixes the table has, and how many records come after it.
 set -euo pipefail
@@ -83,3 +84,7 @@ cost "$prefixes prefixes and $further further records" yes "$work/yes"
 cost "the same, and an impossible record" no "$work/no"
 { "$maker" session 0 0; impossible; } > "$work/opened"
 cost "a session that is opened, and an impossible record" no "$work/opened"
+"$here/recordings.py" updates "$further" > "$work/recording"
+cost "a recording of $further UPDATEs" yes "$work/recording"
+judge+=(--hold 180)
+cost "the same, and another Hold Time configured" no "$work/recording"

@@ -135,7 +135,7 @@ pub fn tell<R: Eprint>(rt: &R, outcome: &Outcome<'_>) -> u8 {
 
 /// Tells what there is to tell of the end of a command over a capture or a recording, and answers
 /// its exit status.
-fn tell_all<R: Eprint>(rt: &R, outcome: &FileOutcome<'_, Global>) -> u8 {
+pub fn tell_all<R: Eprint>(rt: &R, outcome: &FileOutcome<'_, Global>) -> u8 {
     tell_cut_short(rt, outcome.cut_short);
     for remark in &outcome.remarks {
         let _ = eprintln!(rt; "bgp: {remark}");

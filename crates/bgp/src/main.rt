@@ -51,7 +51,7 @@ fn run<R: Files + Net + Clock + Env + Input + Print + Eprint + AllocGlobal, E: P
             },
         ) => {
             if explain {
-                explaining::explain(rt, &config, file)
+                explaining::explain(rt, &config, &recording, file)
             } else {
                 devices::judge(rt, &config, &recording, file)
             }
