@@ -1,11 +1,12 @@
 //! Both ends of a session over a real loopback connection, with real files: what `bgp pair` prints
 //! and answers, and what is told where its captures can't be made. Then what is shown of these
 //! captures while they are written, as `bgp speak` does, and what a pair prints whose ends hear
-//! noise.
+//! noise. And a wire over such a connection, call by call.
 #![tactic(auto)]
 
 mod noise;
 mod watching;
+mod wire;
 
 use bgp_compact::CompactTracker;
 use bgp_tool::pair_session;
@@ -15,7 +16,7 @@ use std::alloc::Global;
 use std::io;
 use std::net::Net;
 use std::process::ExitCode;
-use std::rt::Files;
+use std::rt::{Clock, Files};
 
 fn main(rt: HostRuntime) -> ExitCode {
     match run(&rt) {
@@ -25,12 +26,13 @@ fn main(rt: HostRuntime) -> ExitCode {
 }
 
 /// Two pairs: one whose captures can be made, and one whose folder isn't there. Then what is shown
-/// of the captures of the first, and a pair whose ends hear noise.
-fn run<R: Net + Files + Print + AllocGlobal>(rt: &R) -> io::Result<()> {
+/// of the captures of the first, a pair whose ends hear noise, and a wire.
+fn run<R: Net + Files + Clock + Print + AllocGlobal>(rt: &R) -> io::Result<()> {
     pair(rt, "pair.mrt")?;
     pair(rt, "no_folder/pair.mrt")?;
     watching::show(rt, "pair.mrt", "pair.mrt.right")?;
-    pair_over(rt, &Noisy { files: rt }, "noise.mrt")
+    pair_over(rt, &Noisy { files: rt }, "noise.mrt")?;
+    wire::show(rt)
 }
 
 /// Prints what a pair prints, its exit status, and what is told of it.

@@ -3,7 +3,7 @@
 ghost use Rattle.std.specs.Prelude.{◌≡◌, ◌<◌, ◌≤◌, ◌+◌, length};
 ghost use Rattle.bgp_talk.specs.declared.wire.Connection.TheVariants.{Stands};
 
-use crate::{accepted, listen, loopback};
+use super::{accepted, listen, loopback};
 use bgp_talk::{ReadAnswer, SocketWire, Wire};
 use std::io;
 use std::io::{ErrorKind, Read, Write};

@@ -1,25 +1,16 @@
 //! A wire over a real loopback connection: what each of its calls answers, what a speaker does over
 //! it whose peer says nothing, and over a port where nobody listens.
-#![tactic(auto)]
 
 mod calls;
 mod talks;
 
 use std::io;
 use std::net::{Ipv4Addr, Net, OpenListener, OpenStream, SocketAddr, SocketAddrV4, TcpListener};
-use std::process::ExitCode;
 use std::rt::Clock;
 use std::time::Duration;
 
-fn main(rt: HostRuntime) -> ExitCode {
-    match run(&rt) {
-        Ok(()) => ExitCode::SUCCESS,
-        Err(_) => ExitCode::FAILURE,
-    }
-}
-
 /// Prints what comes of all calls and talks.
-fn run<R: Net + Clock + Print + AllocGlobal>(rt: &R) -> io::Result<()> {
+pub(crate) fn show<R: Net + Clock + Print + AllocGlobal>(rt: &R) -> io::Result<()> {
     calls::show(rt)?;
     talks::show(rt)
 }

@@ -3,7 +3,7 @@
 ghost use Rattle.std.specs.Prelude.{◌≡◌};
 ghost use Rattle.bgp_talk.specs.declared.wire.Connection.TheVariants.{NotAsked};
 
-use crate::{accepted, listen};
+use super::{accepted, listen};
 use bgp_open::{Config, ConfigParts, Families};
 use bgp_prefix::{Address, RouteRefresh, Session};
 use bgp_talk::SocketWire;
