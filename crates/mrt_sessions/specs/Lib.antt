@@ -1,0 +1,9 @@
+pub mod Held
+pub mod File
+pub mod Located
+pub mod Front
+pub mod Sessions
+pub mod Gathering
+pub mod Reading
+pub mod Counts
+pub mod SessionLaws

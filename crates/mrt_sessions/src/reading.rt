@@ -1,0 +1,133 @@
+//! The records of one session of a file.
+
+ghost use Rattle.std.specs.Prelude.{◌≡◌, ◌≤◌, All, IfErr, IfOk, drop, length, map};
+ghost use Rattle.bgp_prefix.specs.Shown.{second_of};
+ghost use Rattle.mrt.specs.Capture as capture;
+ghost use Rattle.mrt.specs.Found.{header_value, shown_as};
+ghost use Rattle.mrt.specs.Layout.{form_of};
+ghost use Rattle.mrt.specs.Reader.{shown_of};
+ghost use Rattle.mrt.specs.Rules.{OfSession, Refused};
+ghost use Rattle.mrt_sessions.specs.File.{addresses_of};
+ghost use Rattle.mrt_sessions.specs.Located.{located};
+ghost use Rattle.mrt_sessions.specs.Reading.{IsJudgedHere, IsReading, may_be_extended};
+
+use crate::addresses::Addresses;
+use crate::lengths::ExtendedMessages;
+use crate::named::NamedRecord;
+use bgp_prefix::{RouteRefresh, Seconds, Session};
+use mrt::{
+    CaptureFault, FaultKind, Form, Found, Judged, Record, RecordHeader, Shows, form_of, judge,
+};
+use std::alloc::{AllocError, Allocator, Global};
+
+/// The records of a session, up to the first that is refused.
+#[derive(Drop)]
+pub struct SessionRecords<'a, A: Allocator = Global> {
+    /// The records, in their order.
+    pub records: Vec<Record<'a>, A>,
+    /// Why the next one is refused, if one is, and its offset in the file.
+    pub fault: Option<CaptureFault>,
+}
+
+/// Whether a record with this header has a message that may be an extended one (RFC 8654).
+fn may_be_extended(header: &RecordHeader, extended: ExtendedMessages) -> bool
+    ensures { result ≡ may_be_extended extended
+        (form_of (header_value header.now).subtype) }
+{
+    match form_of(header.subtype) {
+        Some(Form::Received) => extended.received,
+        Some(Form::Sent) => extended.sent,
+        Some(Form::Change | Form::AddPath) | None => false,
+    }
+}
+
+/// The record that was found, with this body.
+fn record_of(found: Found, body: &[u8]) -> Record<'_>
+    requires { found.content_at ≤ length body.now }
+    ensures { shown_of result
+        ≡ shown_as found.second found.shows (drop found.content_at body.entry.now) }
+{
+    let content = body.split_at(found.content_at).1;
+    match found.shows {
+        Shows::Received => Record::In(found.second, content),
+        Shows::Sent => Record::Out(found.second, content),
+        Shows::Changed(old, new) => Record::Change(found.second, old, new),
+    }
+}
+
+/// What a record of the session shows, behind one of the second `last`, or why it is refused.
+fn read_record<'a>(
+    addresses: Addresses,
+    extended: ExtendedMessages,
+    last: Option<Seconds>,
+    named: &NamedRecord<'a>,
+) -> Result<Record<'a>, FaultKind>
+    requires { addresses_of named.now.octets.now ≡ addresses }
+    ensures ok { IfOk result (λ shown.
+        IsJudgedHere addresses extended last named.now.octets.now OfSession
+        × (shown_of shown ≡ capture.shown_of named.now.octets.now)) }
+    ensures err { IfErr result (λ kind.
+        IsJudgedHere addresses extended last named.now.octets.now (Refused kind)) }
+{
+    let header = named.header();
+    let body = named.body();
+    let session = Session {
+        peer: addresses.peer,
+        local: addresses.local,
+        refresh: RouteRefresh::NotOffered,
+        extended: may_be_extended(&header, extended),
+    };
+    match judge(&header, body, &session, last) {
+        Judged::OfSession(found) => Ok(record_of(found, body)),
+        Judged::Refused(kind) => Err(kind),
+        Judged::Skipped(_) => unreachable!(),
+    }
+}
+
+/// The second of a record.
+fn second_of(shown: &Record<'_>) -> Seconds
+    ensures { result ≡ second_of (shown_of shown.now) }
+{
+    match *shown {
+        Record::In(second, _) | Record::Out(second, _) | Record::Change(second, _, _) => second,
+    }
+}
+
+/// Reads the records of the session between these addresses, which are all that a file has of it,
+/// in their order. ROUTE-REFRESH messages (RFC 2918) are records as others.
+///
+/// `AllocError` is answered where there was no memory for the list.
+pub fn read_session<'a, A: Allocator + Copy>(
+    alloc: A,
+    addresses: Addresses,
+    extended: ExtendedMessages,
+    records: &[NamedRecord<'a>],
+) -> Result<SessionRecords<'a, A>, AllocError>
+    requires { All (λ r. addresses_of r.octets.now ≡ addresses) records.now }
+    ensures { IfOk result (λ read. IsReading addresses extended (map located records.now)
+        (map shown_of read.records.items) read.fault) }
+{
+    let mut shown = Vec::new(alloc);
+    let mut last = None;
+    for named in records {
+        match read_record(addresses, extended, last, named) {
+            Ok(next) => {
+                last = Some(second_of(&next));
+                shown.push(next)?;
+            }
+            Err(kind) => {
+                return Ok(SessionRecords {
+                    records: shown,
+                    fault: Some(CaptureFault {
+                        kind,
+                        offset: named.offset,
+                    }),
+                });
+            }
+        }
+    }
+    Ok(SessionRecords {
+        records: shown,
+        fault: None,
+    })
+}
