@@ -1,4 +1,5 @@
-//! Tests of `bgp_explain`: captures with the texts that explain their verdicts.
+//! Tests of `bgp_explain`: what is told where a sink fails, and of the end of a file. The texts that
+//! explain verdicts are tables of `explained_cases`.
 //!
 //! They stand in a crate of their own, since a crate with tests is proved twice.
 #![tactic(auto)]

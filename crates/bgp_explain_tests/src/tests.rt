@@ -1,15 +1,13 @@
-//! Captures whose texts were worked out by hand, by both trackers.
-
-mod rows;
+//! What is told where a sink fails, and of the end of a file.
 
 use bgp_compact::CompactTracker;
 use bgp_explain::{explain_capture, explain_opened};
-use bgp_judge::{PlainTracker, Tracker};
 use bgp_open::{Config, ConfigParts, Families};
 use bgp_prefix::{Address, RouteRefresh, Session};
 use bgp_tool::Note;
-use mrt::{FromWrite, MemSink, MemSource, Record, Sink, SinkUpset, is_writable, write_record};
-use rows::{ROWS, Row, YES};
+use bgp_wire::vectors::OPEN_A;
+use mrt::Record::{self, Change, Out};
+use mrt::{FromWrite, MemSink, MemSource, Sink, SinkUpset, is_writable, write_record};
 use std::alloc::Global;
 use std::io;
 use std::io::ErrorKind;
@@ -32,6 +30,9 @@ const PARTS_A: ConfigParts = ConfigParts {
     },
 };
 
+/// A session in which an OPEN is sent.
+const OPENED: [Record<'static>; 3] = [Change(100, 1, 2), Out(100, &OPEN_A), Change(100, 2, 4)];
+
 /// Writes a record. Answers whether it could be.
 fn put(sink: &mut MemSink, record: &Record<'_>) -> bool {
     sink.failures() < u64::MAX
@@ -50,53 +51,9 @@ fn capture_of(alloc: Global, records: &[Record<'_>]) -> Option<Vec<u8>> {
     Some(sink.into_octets())
 }
 
-/// What explaining a capture writes and answers.
-fn explained<T: Tracker<Global>>(
-    alloc: Global,
-    config: &Config,
-    capture: Vec<u8>,
-) -> (Vec<u8>, u8) {
-    let mut source = MemSource::new(capture);
-    let mut sink = MemSink::new(alloc);
-    let status = explain_capture::<Global, T, _, _>(alloc, config, &mut source, &mut sink);
-    (sink.into_octets(), status)
-}
-
-/// Whether a row's capture is explained so.
-fn is_explained<T: Tracker<Global>>(alloc: Global, row: &Row) -> bool {
-    let config = Config::new(ConfigParts {
-        peer_as: row.peer_as,
-        hold: row.hold,
-        ..PARTS_A
-    });
-    match (config, capture_of(alloc, row.records)) {
-        (Some(config), Some(capture)) => {
-            let (text, status) = explained::<T>(alloc, &config, capture);
-            text.as_slice() == row.text.as_bytes() && status == row.status
-        }
-        _ => false,
-    }
-}
-
-#[test]
-fn a_verdict_is_explained(rt: HostRuntime) {
-    for row in &ROWS {
-        assert!(rt;
-            is_explained::<PlainTracker>(rt.alloc(), row),
-            "{}",
-            row.text
-        );
-        assert!(rt;
-            is_explained::<CompactTracker>(rt.alloc(), row),
-            "{}",
-            row.text
-        );
-    }
-}
-
 /// Whether a sink that fails at once is told by status 5.
 fn is_broken(alloc: Global) -> bool {
-    match (Config::new(PARTS_A), capture_of(alloc, ROWS[0].records)) {
+    match (Config::new(PARTS_A), capture_of(alloc, &OPENED)) {
         (Some(config), Some(capture)) => {
             let mut source = MemSource::new(capture);
             let mut sink = MemSink::new(alloc).upset_at(0, SinkUpset::Fail);
@@ -159,7 +116,7 @@ fn is_told_unopened(alloc: Global) -> bool {
 
 /// Whether nothing is told of a capture that is explained.
 fn is_quiet(alloc: Global) -> bool {
-    match capture_of(alloc, YES.records) {
+    match capture_of(alloc, &OPENED) {
         Some(capture) => note_of(alloc, "a.mrt", Ok(capture.as_slice())) == Some((None, 0)),
         None => false,
     }

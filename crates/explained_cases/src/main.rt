@@ -1,15 +1,22 @@
-//! Compares what `bgp judge --explain` prints of captures with what another program printed of
-//! them, which was written from the same specification apart from ours: a table, a block of lines a
-//! case. Both trackers explain each.
+//! Compares what `bgp judge --explain` prints of captures with two tables, a block of lines a case:
+//! what another program printed, which was written from the same specification apart from ours, and
+//! what was worked out by hand. Both trackers explain each.
 //!
-//! Of that program's 300 cases five aren't in the table: four in which large communities are an
-//! attribute without a name, and one whose HoldTimer expires after the last second of 32 bits.
+//! Of that program's 300 cases five are in the second table, with what differs: four in which large
+//! communities are an attribute without a name, and one that tells from when on HoldTimer expires
+//! where that is after the last second of 32 bits, so that no record is of it.
+//!
+//! Recordings of real sessions are explained as the captures that are made of them, but for the
+//! packets, by both trackers, too.
 #![tactic(auto)]
+
+mod recordings;
 
 use bgp_compact::CompactTracker;
 use bgp_explain::explain_capture;
 use bgp_judge::{PlainTracker, Tracker};
 use bgp_open::Config;
+use bgp_recording_tool::RecordingOptions;
 use bgp_tool::{Command, command_line};
 use hex::FromHexError;
 use mrt::{MemSink, MemSource};
@@ -18,11 +25,11 @@ use std::process::ExitCode;
 use std::rt::Files;
 use std::{fs, io};
 
-/// The table.
-const TABLE: &str = "explained.txt";
+/// The tables.
+const TABLES: [&str; 2] = ["explained.txt", "by-hand.txt"];
 
 fn main(rt: HostRuntime) -> ExitCode {
-    match compare(&rt) {
+    match compare_all(&rt) {
         Ok(true) => ExitCode::SUCCESS,
         Ok(false) => ExitCode::FAILURE,
         Err(error) => {
@@ -30,6 +37,16 @@ fn main(rt: HostRuntime) -> ExitCode {
             ExitCode::FAILURE
         }
     }
+}
+
+/// Prints what is not so, and how much was compared. Answers whether all is so.
+fn compare_all<R: Files + Print + AllocGlobal>(rt: &R) -> io::Result<bool> {
+    let mut all = true;
+    for table in TABLES {
+        all = compare(rt, table)? && all;
+    }
+    let sessions = recordings::compare_sessions(rt)?;
+    Ok(all && sessions)
 }
 
 /// A capture, how it is explained, and what is printed and answered.
@@ -41,7 +58,7 @@ struct Case {
     status: u8,
 }
 
-/// A fault of the table.
+/// A fault of what is read.
 fn malformed() -> io::Error {
     io::Error::from(io::ErrorKind::InvalidData)
 }
@@ -58,21 +75,28 @@ fn octets_of(alloc: Global, digits: &str) -> io::Result<Vec<u8>> {
     }
 }
 
-/// The configuration that the words of a command line name, after the program's own.
-fn config_of(alloc: Global, words: &str) -> io::Result<Config> {
+/// The configuration that the words of `judge` name, without the program's own and FILE, with this
+/// between two; and how a recording is read.
+fn line_of(alloc: Global, words: &str, between: char) -> io::Result<(Config, RecordingOptions)> {
     let mut line = Vec::new(alloc);
     line.push("bgp")?;
-    for word in words.split(' ') {
+    for word in words.split(between) {
         line.push(word)?;
     }
     line.push("FILE")?;
     match command_line(alloc, line.as_slice()) {
-        Ok(Command::Judge { config, .. }) => Ok(config),
+        Ok(
+            Command::Judge {
+                config,
+                recording,
+                ..
+            },
+        ) => Ok((config, recording)),
         _ => Err(malformed()),
     }
 }
 
-/// Reads a block of lines: `args` and the words of the command; `octets` and the capture; `status`
+/// Reads a block of lines: `case` and what it is about, in the second table; `args` and the words of the command; `octets` and the capture; `status`
 /// and a number; `>` and a line that is printed.
 fn read_case(alloc: Global, block: &str) -> io::Result<Case> {
     let mut config = None;
@@ -82,7 +106,8 @@ fn read_case(alloc: Global, block: &str) -> io::Result<Case> {
     for line in block.split('\n') {
         let (word, rest) = line.split_once(' ').unwrap_or((line, ""));
         match word {
-            "args" => config = Some(config_of(alloc, rest)?),
+            "case" => {}
+            "args" => config = Some(line_of(alloc, rest, ' ')?.0),
             "octets" => capture = octets_of(alloc, rest)?,
             "status" => status = rest.parse::<u8>().ok(),
             ">" => {
@@ -116,6 +141,20 @@ fn answer_to<T: Tracker<Global>>(alloc: Global, case: &Case) -> Result<(Vec<u8>,
     Ok((sink.into_octets(), status))
 }
 
+/// What explaining a capture writes and answers.
+fn explained_capture(alloc: Global, config: &Config, capture: Vec<u8>) -> io::Result<(String, u8)> {
+    let mut source = MemSource::new(capture);
+    let mut sink = MemSink::new(alloc);
+    let status = explain_capture::<Global, CompactTracker<Global>, MemSource, MemSink>(
+        alloc,
+        config,
+        &mut source,
+        &mut sink,
+    );
+    let text = String::from_utf8(sink.into_octets()).map_err(|_| malformed())?;
+    Ok((text, status))
+}
+
 /// Prints what a tracker wrote of a case, if it isn't the table's. Answers whether it is.
 fn is_so<R: Print + AllocGlobal, T: Tracker<Global>>(
     rt: &R,
@@ -134,9 +173,10 @@ fn is_so<R: Print + AllocGlobal, T: Tracker<Global>>(
     Ok(false)
 }
 
-/// Prints each case that is not so, and then how many there were. Answers whether all are so.
-fn compare<R: Files + Print + AllocGlobal>(rt: &R) -> io::Result<bool> {
-    let table = fs::read_to_string(rt, TABLE)?;
+/// Prints each case of a table that is not so, and then how many there were. Answers whether all
+/// are so.
+fn compare<R: Files + Print + AllocGlobal>(rt: &R, name: &str) -> io::Result<bool> {
+    let table = fs::read_to_string(rt, name)?;
     let mut count = 0u64;
     let mut all = true;
     for block in table.split("\n\n") {
@@ -150,6 +190,6 @@ fn compare<R: Files + Print + AllocGlobal>(rt: &R) -> io::Result<bool> {
         let compact = is_so::<R, CompactTracker<Global>>(rt, count, &case)?;
         all = all && plain && compact;
     }
-    println!(rt; "{count} captures are explained")?;
+    println!(rt; "{name}: {count} captures are explained")?;
     Ok(all)
 }
