@@ -6,7 +6,6 @@ use Rattle.mrt.specs.Reader.{shown_of}
 use Rattle.streams.specs.declared.connection.Connection.{Connection}
 use Rattle.streams.specs.declared.passed.Side.{Side}
 use Rattle.streams.specs.declared.passed.Side.TheVariants.{Local, Peer}
-use Rattle.bgp_wire.specs.declared.header.Limit.{Limit}
 use Rattle.bgp_wire.specs.declared.header.MessageType.{MessageType}
 use Rattle.bgp_recording.specs.Allowed.{Ended, Received, Sent, received_in, sent_in}
 use Rattle.bgp_recording.specs.Captured.{records_of}
@@ -15,7 +14,8 @@ use Rattle.bgp_recording.specs.Recorded.{IsRecorded}
 use Rattle.bgp_recording.specs.States.{state_number}
 use Rattle.bgp_recording.specs.Tells.{Event, Numbered, Passed, change, items_in, numbered_in, numbered_of}
 use Rattle.bgp_recording.specs.declared.entry.Entry.{Entry}
-use Rattle.bgp_recording.specs.declared.framing.Rest.{Rest}
+use Rattle.bgp_recording.specs.declared.framing.Framings.{Framings}
+use Rattle.bgp_recording.specs.declared.framing.Unshown.{Unshown}
 use Rattle.bgp_recording.specs.declared.state.State.{State}
 use Rattle.bgp_recording.specs.declared.state.State.TheVariants.{Active, Connect, Established, Idle, OpenConfirm, OpenSent}
 use Rattle.bgp_check.specs.Stretch.{AtMostTheLastLeaves, IsStretch, LeavesIdle}
@@ -104,9 +104,9 @@ same_records : (entries : List Entry) → map (λ (n : Numbered). n.shown) (map 
 same_records [] = refl
 same_records (e ∷ entries) = ap (λ (rest : List ShownRecord). shown_of e.record ∷ rest) (same_records entries)
 
-pub stretch_of : (limit : Limit) (within : ℕ) (connection : Connection) (entries : List Entry) (received_rest sent_rest : Rest)
-    → IsRecorded limit within connection entries received_rest sent_rest → IsStretch (records_of entries)
-stretch_of limit within connection entries received_rest sent_rest recorded =
+pub stretch_of : (framings : Framings) (within : ℕ) (connection : Connection) (entries : List Entry) (received_unshown sent_unshown : Unshown)
+    → IsRecorded framings within connection entries received_unshown sent_unshown → IsStretch (records_of entries)
+stretch_of framings within connection entries received_unshown sent_unshown recorded =
     let t = recorded.tells in
     let rest = numbered_in (opened_state connection.opened_by) false t.events in
     subst (λ (records : List ShownRecord). IsStretch records)

@@ -14,7 +14,7 @@ use Rattle.streams.specs.declared.fault.Fault.{Fault}
 use Rattle.streams.specs.declared.passed.Side.{Side}
 use Rattle.streams.specs.declared.passed.Side.TheVariants.{Local, Peer}
 use Rattle.bgp_recording.specs.declared.entry.Entry.{Entry}
-use Rattle.bgp_recording.specs.declared.framing.Rest.{Rest}
+use Rattle.bgp_recording.specs.declared.framing.Unshown.{Unshown}
 use Rattle.bgp_import.specs.ListText.{end_of, octets_text, opening_text, other_side, refused_text}
 use Rattle.bgp_import.specs.Refreshes.{IsRefreshIn}
 use Rattle.bgp_import.specs.declared.refusal.Refusal.{Refusal}
@@ -84,10 +84,10 @@ AreOne session opening = end_of Local session opening ≡ end_of Peer session op
 pub record HasRefresh (within : ℕ) (connection : Connection) (side : Side)
     (refusal : Option Refusal) : Type 0 where
   pub entries : List Entry
-  pub received_rest : Rest
-  pub sent_rest : Rest
-  pub made : IsMade within (seen_from side connection) entries received_rest sent_rest
-  pub is : IsRefreshIn entries received_rest sent_rest refusal
+  pub received_unshown : Unshown
+  pub sent_unshown : Unshown
+  pub made : IsMade within (seen_from side connection) entries received_unshown sent_unshown
+  pub is : IsRefreshIn entries received_unshown.rest sent_unshown.rest refusal
 
 -- as the end has it that opened the connection; where that has none, as the other end does
 abbrev pub IsFirstRefresh : ℕ → Connection → Side → Refusal → Type 0

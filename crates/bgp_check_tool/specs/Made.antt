@@ -10,7 +10,9 @@ use Rattle.streams.specs.declared.connection.Connection.{Connection}
 use Rattle.bgp_recording.specs.Captured.{records_of}
 use Rattle.bgp_recording.specs.Recorded.{IsRecordedInOrder}
 use Rattle.bgp_recording.specs.declared.entry.Entry.{Entry}
-use Rattle.bgp_recording.specs.declared.framing.Rest.{Rest}
+use Rattle.bgp_recording.specs.declared.framing.Framings.{Framings}
+use Rattle.bgp_recording.specs.declared.framing.Unshown.{Unshown}
+use Rattle.bgp_recording.specs.Pieces.{alike}
 use Rattle.bgp_check.specs.Opens.{HasHeardOpen, HasOwnOpen}
 
 -- there is an OPEN, and it offers extended messages (RFC 8654, 4)
@@ -27,14 +29,20 @@ pub record HasLimit (records : List ShownRecord) (limit : Limit) : Type 0 where
   pub has_heard : HasHeardOpen records heard
   pub is : limit ≡ limit_with (is_extended own || is_extended heard)
 
+-- both directions framed at this limit, and no ROUTE-REFRESH passed over
+abbrev pub framed_at : Limit → Framings
+framed_at limit = alike record { limit = limit; skips_refresh = false }
+
 -- These entries tell the connection in the made order, its messages as long as both OPENs allow:
 -- these are the ones in the records that are made at the plain limit.
 pub record IsMade (within : ℕ) (connection : Connection) (entries : List Entry)
-    (received_rest sent_rest : Rest) : Type 0 where
+    (received_unshown sent_unshown : Unshown) : Type 0 where
   pub plain : List Entry
-  pub plain_received : Rest
-  pub plain_sent : Rest
-  pub is_plain : IsRecordedInOrder Plain within connection plain plain_received plain_sent
+  pub plain_received : Unshown
+  pub plain_sent : Unshown
+  pub is_plain : IsRecordedInOrder (framed_at Plain) within connection plain plain_received
+      plain_sent
   pub limit : Limit
   pub is_limit : HasLimit (records_of plain) limit
-  pub recorded : IsRecordedInOrder limit within connection entries received_rest sent_rest
+  pub recorded : IsRecordedInOrder (framed_at limit) within connection entries received_unshown
+      sent_unshown

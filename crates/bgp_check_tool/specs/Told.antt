@@ -10,7 +10,7 @@ use Rattle.streams.specs.declared.passed.Side.{Side}
 use Rattle.bgp_judge.specs.Verdict.{No, Unfinished, VerdictValue, Yes}
 use Rattle.bgp_recording.specs.Captured.{records_of}
 use Rattle.bgp_recording.specs.declared.entry.Entry.{Entry}
-use Rattle.bgp_recording.specs.declared.framing.Rest.{Rest}
+use Rattle.bgp_recording.specs.declared.framing.Unshown.{Unshown}
 use Rattle.bgp_import.specs.Captures.{put_off}
 use Rattle.bgp_import.specs.ListText.{end_of}
 use Rattle.bgp_import.specs.Refreshes.{IsRefreshIn}
@@ -65,10 +65,10 @@ packet_of (JudgedAs number peer verdict) entries = packet_by verdict entries
 pub record IsEndTold (within : ℕ) (session : Session) (opening : Opening) (connection : Connection)
     (side : Side) (told : EndTold) : Type 0 where
   pub entries : List Entry
-  pub received_rest : Rest
-  pub sent_rest : Rest
-  pub made : IsMade within (seen_from side connection) entries received_rest sent_rest
-  pub calm : IsRefreshIn entries received_rest sent_rest None
+  pub received_unshown : Unshown
+  pub sent_unshown : Unshown
+  pub made : IsMade within (seen_from side connection) entries received_unshown sent_unshown
+  pub calm : IsRefreshIn entries received_unshown.rest sent_unshown.rest None
   pub is_end : told.end ≡ end_of side session opening
   pub answers : IsAnswerTo (session_from side session) (records_of entries) told.answer
   pub is_packet : told.packet ≡ packet_of told.answer entries

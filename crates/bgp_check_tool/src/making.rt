@@ -5,11 +5,11 @@ ghost use Rattle.bgp_open.specs.OpenFault.{IsWellFormed};
 ghost use Rattle.mrt.specs.Reader.{shown_of};
 ghost use Rattle.bgp_recording.specs.Captured.{records_of};
 ghost use Rattle.bgp_recording.specs.Gathered.{IsClocked, IsCovered};
-ghost use Rattle.bgp_check_tool.specs.Made.{HasLimit, IsMade, is_extended};
+ghost use Rattle.bgp_check_tool.specs.Made.{HasLimit, IsMade, framed_at, is_extended};
 
 use bgp_check::{heard_open, offer_of, own_open};
 use bgp_open::read_open;
-use bgp_recording::{Entry, Recording, make_records};
+use bgp_recording::{Entry, Framing, Framings, Recording, make_records};
 use bgp_wire::Limit;
 use mrt::Record;
 use std::alloc::{AllocError, Allocator};
@@ -53,6 +53,16 @@ fn limit_of(records: &[Record<'_>]) -> Limit
     Limit::with_extended(mine || its)
 }
 
+/// Both directions framed at this limit, and no ROUTE-REFRESH passed over.
+fn framed_at(limit: Limit) -> Framings
+    ensures { result ≡ framed_at limit }
+{
+    Framings::alike(Framing {
+        limit,
+        skips_refresh: false,
+    })
+}
+
 /// The records that tell a connection, its messages as long as both OPENs allow.
 pub(crate) fn made_of<'a, A: Allocator + Copy>(
     alloc: A,
@@ -63,12 +73,12 @@ pub(crate) fn made_of<'a, A: Allocator + Copy>(
     requires sent { IsCovered connection.now.sent }
     // Where the packets' seconds don't fall, the records tell the connection.
     ensures { IfOk result (λ made. IsClocked connection.now → IsMade within connection.now
-        made.entries.items made.received_rest made.sent_rest) }
+        made.entries.items made.received made.sent) }
 {
-    let plain = make_records(alloc, connection, Limit::Plain, within)?;
+    let plain = make_records(alloc, connection, framed_at(Limit::Plain), within)?;
     let records = records_of(alloc, plain.entries.as_slice())?;
     match limit_of(&records) {
         Limit::Plain => Ok(plain),
-        Limit::Extended => make_records(alloc, connection, Limit::Extended, within),
+        Limit::Extended => make_records(alloc, connection, framed_at(Limit::Extended), within),
     }
 }

@@ -1,5 +1,5 @@
 -- What is made of a recording is one thing.
-use Rattle.std.proofs.Common.{◌≡◌, ◌∙◌, ◌<◌, ◌≤◌, ◌+◌, ◌-◌, ◌++◌, ℕ, suc, List, [], ◌∷◌, Option, None, Some, Result, Ok, length, map, reverse, get_or, refl, sym, ap, subst, arith, inl, inr}
+use Rattle.std.proofs.Common.{◌≡◌, ◌∙◌, ◌<◌, ◌≤◌, ◌+◌, ◌-◌, ◌++◌, ℕ, suc, Bool, List, [], ◌∷◌, Option, None, Some, Result, Ok, length, map, reverse, get_or, refl, sym, ap, subst, arith, inl, inr}
 use Rattle.std.proofs.lemmas.Bool.{cases_lt, lt-ltb, le-ltb}
 use Rattle.std.proofs.lemmas.Option.{slice_get-get_or}
 use Rattle.std.specs.List.{slice_get}
@@ -22,16 +22,21 @@ use Rattle.streams.specs.declared.gathered.Giver.{Giver}
 use Rattle.streams.specs.declared.fault.Fault.{Fault}
 use Rattle.streams.specs.declared.passed.Side.{Side}
 use Rattle.streams.specs.declared.passed.Side.TheVariants.{Local, Peer}
-use Rattle.bgp_wire.specs.Header.{limit_with}
 use Rattle.bgp_recording.specs.Recorded.{IsRecordedInOrder}
 use Rattle.bgp_recording.specs.Once.{AreSame, TellTheSame, ConnectionsAreRecordedOnce}
 use Rattle.bgp_recording.specs.Tells.{Numbered, numbered_of}
 use Rattle.bgp_recording.specs.declared.entry.Entry.{Entry}
-use Rattle.bgp_recording.specs.declared.framing.Rest.{Rest}
+use Rattle.bgp_recording.specs.declared.framing.Framings.{Framings}
+use Rattle.bgp_recording.specs.declared.framing.Unshown.{Unshown}
+use Rattle.bgp_recording.specs.Pieces.{alike, framings_of, skips_with}
+use Rattle.bgp_prefix.specs.declared.session.RouteRefresh.{RouteRefresh}
+use Rattle.bgp_prefix.specs.declared.session.RouteRefresh.TheVariants.{NotOffered, Refused, PassedOver}
+use Rattle.bgp_prefix.specs.declared.session.Session.{Session}
+use Rattle.bgp_wire.specs.Header.{limit_with}
 use Rattle.bgp_import.proofs.InOrder.{in_order}
 use Rattle.bgp_import.proofs.Telling.{is_clocked}
 use Rattle.bgp_import.specs.Captures.{put_off, counted, made_by, shown_by}
-use Rattle.bgp_import.specs.Once.{RecordingsAreMadeOnce, calm_selection}
+use Rattle.bgp_import.specs.Once.{RecordingsAreMadeOnce, calm_refresh, calm_session, calm_selection}
 use Rattle.bgp_import.specs.Selecting.{IsSentBy, IsPart, HasPart, AreTaken, part_by}
 use Rattle.bgp_import.specs.declared.note.Notes.{Notes}
 use Rattle.bgp_import.specs.declared.selection.Selection.{Selection}
@@ -189,14 +194,22 @@ unfolding off_by
 off_same made [] = refl
 off_same made (e ∷ later) = ap (λ (n : ℕ). counted made e.packet (shown_by e) + n) (off_same (made_by made e.packet (shown_by e)) later)
 
-abbrev notes_with : Rest → Rest → ℕ → Notes
+abbrev notes_with : Unshown → Unshown → ℕ → Notes
 notes_with received sent count = record { received = received; sent = sent; put_off = count }
 
 same_notes : (a b : Notes) → a.received ≡ b.received → a.sent ≡ b.sent → a.put_off ≡ b.put_off → a ≡ b
 same_notes a b e1 e2 e3 =
-    ap (λ (r : Rest). notes_with r a.sent a.put_off) e1 ∙ ap (λ (r : Rest). notes_with b.received r a.put_off) e2 ∙ ap (λ (n : ℕ). notes_with b.received b.sent n) e3
+    ap (λ (r : Unshown). notes_with r a.sent a.put_off) e1 ∙ ap (λ (r : Unshown). notes_with b.received r a.put_off) e2 ∙ ap (λ (n : ℕ). notes_with b.received b.sent n) e3
 
--- ---- whether the session may have a ROUTE-REFRESH plays no part
+-- ---- whether the session refuses a ROUTE-REFRESH plays no part
+
+skips_calmly : (refresh : RouteRefresh) → skips_with (calm_refresh refresh) ≡ skips_with refresh
+skips_calmly NotOffered = refl
+skips_calmly Refused = refl
+skips_calmly PassedOver = refl
+
+pub framed_calmly : (session : Session) → framings_of (calm_session session) ≡ framings_of session
+framed_calmly session = ap (λ (b : Bool). alike record { limit = limit_with session.extended; skips_refresh = b }) (skips_calmly session.refresh)
 
 calm_sender : (selection : Selection) (ends : Ends) (side : Option Side) → IsSentBy selection ends side → IsSentBy (calm_selection selection) ends side
 calm_sender selection ends None h = h
@@ -221,16 +234,17 @@ calm_taken selection before (packet ∷ later) segments (part, others, has, rest
 
 pub made_once : ConnectionsAreRecordedOnce → RecordingsAreMadeOnce
 made_once recorded one other number packets entries others notes told mean h k =
-    let calm = calm_selection one.selection in
     let taken = calm_taken one.selection 0 packets h.segments h.taken in
     let also = subst (λ (s : Selection). AreTaken s 0 packets k.segments) (sym mean.selection) (calm_taken other.selection 0 packets k.segments k.taken) in
-    let segments : k.segments ≡ h.segments = same_taken calm 0 packets k.segments h.segments also taken in
+    let segments : k.segments ≡ h.segments = same_taken (calm_selection one.selection) 0 packets k.segments h.segments also taken in
     let answered = subst (λ (s : List Segment). IsAnswered number (length packets) (numbered (reverse s)) k.connection) segments k.answered in
     let same = same_answer number (length packets) (numbered (reverse h.segments)) h.connection k.connection h.answered answered in
     let clocked = is_clocked (reverse h.segments) number (length packets) h.connection (in_order one.selection packets h.segments h.taken) h.answered in
-    let as_one : IsRecordedInOrder (limit_with one.selection.session.extended) one.within k.connection others told.received told.sent =
-    subst (λ (n : ℕ). IsRecordedInOrder (limit_with one.selection.session.extended) n k.connection others told.received told.sent) (sym mean.within)
-    (subst (λ (s : Selection). IsRecordedInOrder (limit_with s.session.extended) other.within k.connection others told.received told.sent) (sym mean.selection) k.made.recorded) in
+    let framed : framings_of other.selection.session ≡ framings_of one.selection.session =
+    sym (framed_calmly other.selection.session) ∙ ap (λ (s : Selection). framings_of s.session) (sym mean.selection) ∙ framed_calmly one.selection.session in
+    let as_one : IsRecordedInOrder (framings_of one.selection.session) one.within k.connection others told.received told.sent =
+    subst (λ (n : ℕ). IsRecordedInOrder (framings_of one.selection.session) n k.connection others told.received told.sent) (sym mean.within)
+    (subst (λ (f : Framings). IsRecordedInOrder f other.within k.connection others told.received told.sent) framed k.made.recorded) in
     let made = recorded _ _ h.connection k.connection entries others notes.received notes.sent told.received told.sent same clocked h.made.recorded as_one in (
       made.0,
       same_notes notes told made.1 made.2

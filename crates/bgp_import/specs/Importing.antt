@@ -1,6 +1,5 @@
 -- What is imported of a recording: the capture of one connection, or the first refusal.
 use Rattle.std.specs.Prelude.{◌≡◌, ◌⊎◌, ◌+◌, ◌++◌, ℕ, Bool, List, [], ◌∷◌, length, reverse}
-use Rattle.bgp_wire.specs.Header.{limit_with}
 use Rattle.packets.specs.Context.{Context, Start}
 use Rattle.packets.specs.Packet.{Recorded}
 use Rattle.packets.specs.Reader.{HasRead}
@@ -13,6 +12,7 @@ use Rattle.streams.specs.Choice.{IsAnswered, IsRefused}
 use Rattle.streams.specs.Connections.{numbered}
 use Rattle.streams.specs.Passed.{Segment}
 use Rattle.bgp_recording.specs.declared.entry.Entry.{Entry}
+use Rattle.bgp_recording.specs.Pieces.{framings_of}
 use Rattle.bgp_recording.specs.Recorded.{IsRecordedInOrder}
 use Rattle.bgp_import.specs.declared.importing.Import.{Import}
 use Rattle.bgp_import.specs.declared.note.Notes.{Notes}
@@ -35,11 +35,11 @@ pub record IsConnection (wanted : Import) (packets : List Recorded) (connection 
 
 -- These entries are made of a connection: their records tell its messages in an order that is
 -- allowed within the patience. And this is to be told of them. Messages are as long as the
--- session's may be (RFC 8654).
+-- session's may be (RFC 8654), and a ROUTE-REFRESH is passed over where the session says so.
 pub record IsMadeOf (wanted : Import) (connection : Connection) (entries : List Entry)
     (notes : Notes) : Type 0 where
-  pub recorded : IsRecordedInOrder (limit_with wanted.selection.session.extended) wanted.within
-      connection entries notes.received notes.sent
+  pub recorded : IsRecordedInOrder (framings_of wanted.selection.session) wanted.within connection
+      entries notes.received notes.sent
   pub counts : notes.put_off ≡ put_off 0 entries
 
 -- these octets are the capture of entries that are made of a connection

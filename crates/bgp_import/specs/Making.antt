@@ -1,13 +1,13 @@
 -- What is made of the connections that were gathered.
 use Rattle.std.specs.Prelude.{◌≡◌, ◌⊎◌, ℕ, List, length, reverse, Option, Result, Ok, Err}
 use Rattle.std.specs.List.{AllByRecursion}
-use Rattle.bgp_wire.specs.Header.{limit_with}
 use Rattle.mrt.specs.Sink.{TakesBeginning}
 use Rattle.packets.specs.Packet.{Recorded}
 use Rattle.streams.specs.Choice.{IsAnswered}
 use Rattle.streams.specs.Connections.{numbered}
 use Rattle.streams.specs.Passed.{Segment}
 use Rattle.streams.specs.declared.connection.Connection.{Connection}
+use Rattle.bgp_recording.specs.Pieces.{framings_of}
 use Rattle.bgp_recording.specs.Recorded.{IsRecordedInOrder}
 use Rattle.bgp_recording.specs.declared.making.Recording.{Recording}
 use Rattle.bgp_import.specs.Captures.{CanBeWritten}
@@ -36,8 +36,8 @@ pub record TellsOne {Z : Type 0} (wanted : Import) (number : Option ℕ) (packet
     (segments : List Segment) (made : Recording Z) : Type 0 where
   pub connection : Connection
   pub answered : IsAnswered number (length packets) (numbered (reverse segments)) connection
-  pub recorded : IsRecordedInOrder (limit_with wanted.selection.session.extended) wanted.within
-      connection made.entries.items made.received_rest made.sent_rest
+  pub recorded : IsRecordedInOrder (framings_of wanted.selection.session) wanted.within connection
+      made.entries.items made.received made.sent
   pub writable : AllByRecursion (CanBeWritten wanted.selection.session) made.entries.items
 
 -- the connection that is asked for can't be told, or there was no memory

@@ -5,7 +5,9 @@ use Rattle.streams.specs.Choice.{IsAnswered}
 use Rattle.streams.specs.Connections.{numbered}
 use Rattle.streams.specs.Passed.{Segment}
 use Rattle.streams.specs.declared.connection.Connection.{Connection}
+use Rattle.bgp_prefix.specs.declared.session.RouteRefresh.{RouteRefresh}
 use Rattle.bgp_prefix.specs.declared.session.RouteRefresh.TheVariants as refreshes
+use Rattle.bgp_prefix.specs.declared.session.Session.{Session}
 use Rattle.bgp_recording.specs.Tells.{numbered_of}
 use Rattle.bgp_recording.specs.declared.entry.Entry.{Entry}
 use Rattle.bgp_import.specs.Importing.{IsMadeOf}
@@ -23,12 +25,20 @@ pub record IsMadeOfPackets (wanted : Import) (number : Option ℕ) (packets : Li
   pub answered : IsAnswered number (length packets) (numbered (reverse segments)) connection
   pub made : IsMadeOf wanted connection entries notes
 
--- the session without ROUTE-REFRESH, which plays no part in what is made
-abbrev pub calm_selection : Selection → Selection
-calm_selection selection =
-    record selection { session = record selection.session { refresh = refreshes.NotOffered } }
+-- A session that refuses no ROUTE-REFRESH. Of the message only that it is passed over plays a part
+-- in what is made.
+abbrev pub calm_refresh : RouteRefresh → RouteRefresh
+calm_refresh refreshes.NotOffered = refreshes.NotOffered
+calm_refresh refreshes.Refused = refreshes.NotOffered
+calm_refresh refreshes.PassedOver = refreshes.PassedOver
 
--- two that mean the same session, ports and patience
+abbrev pub calm_session : Session → Session
+calm_session session = record session { refresh = calm_refresh session.refresh }
+
+abbrev pub calm_selection : Selection → Selection
+calm_selection selection = record selection { session = calm_session selection.session }
+
+-- two that mean the same session, ports and patience, and pass over the same
 pub record MeanTheSame (one other : Import) : Type 0 where
   pub selection : calm_selection one.selection ≡ calm_selection other.selection
   pub within : one.within ≡ other.within

@@ -31,7 +31,7 @@ IsRefreshPacket from (entry ∷ later) packet =
 -- the place of the first octet of the faulty header that ends a direction's messages
 abbrev pub place_of : Rest → ℕ
 place_of (Short count) = 0
-place_of (BehindFault place count) = place
+place_of (BehindFault place count is_refresh) = place
 
 abbrev pub refresh_at : Side → Rest → Option ℕ → Option Refusal
 refresh_at from rest None = None

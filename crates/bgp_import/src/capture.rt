@@ -140,13 +140,13 @@ fn count_put_off(entries: &[Entry<'_>]) -> usize
 
 /// What there is to tell of a capture that is made of a connection.
 pub fn notes_on<A: Allocator>(made: &Recording<'_, A>) -> Notes
-    ensures received { result.received ≡ made.now.received_rest }
-    ensures sent { result.sent ≡ made.now.sent_rest }
+    ensures received { result.received ≡ made.now.received }
+    ensures sent { result.sent ≡ made.now.sent }
     ensures put_off { result.put_off ≡ put_off 0 made.now.entries.items }
 {
     Notes {
-        received: made.received_rest,
-        sent: made.sent_rest,
+        received: made.received,
+        sent: made.sent,
         put_off: count_put_off(made.entries.as_slice()),
     }
 }

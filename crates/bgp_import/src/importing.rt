@@ -15,8 +15,7 @@ use crate::gathering::{Gathered, gather};
 use crate::note::Notes;
 use crate::refusal::Refusal;
 use crate::selection::Selection;
-use bgp_recording::{Recording, make_records};
-use bgp_wire::Limit;
+use bgp_recording::{Framings, Recording, make_records};
 use mrt::{Sink, Source};
 use std::alloc::{AllocError, Allocator};
 
@@ -73,8 +72,8 @@ pub fn records_of<'a, A: Allocator + Copy>(
         Ok(connection) => connection,
         Err(refusal) => return Err(refusal),
     };
-    let limit = Limit::with_extended(import.selection.session.extended);
-    match make_records(alloc, &connection, limit, import.within) {
+    let framings = Framings::of_session(&import.selection.session);
+    match make_records(alloc, &connection, framings, import.within) {
         Ok(made) => Ok(made),
         Err(AllocError) => Err(gathered.no_memory()),
     }
@@ -112,7 +111,8 @@ fn import_gathered<A: Allocator + Copy, W: Sink>(
 /// nothing is written; and where the sink fails, a beginning of the capture.
 ///
 /// Both addresses of the session have to be of one family, as those of a packet are. Messages are
-/// as long as the session's may be (RFC 8654).
+/// as long as the session's may be (RFC 8654), and a ROUTE-REFRESH (RFC 2918) is passed over where
+/// it says so.
 pub fn import_recording<A: Allocator + Copy, R: Source, W: Sink>(
     alloc: A,
     import: &Import,

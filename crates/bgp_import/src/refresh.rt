@@ -71,14 +71,14 @@ fn earlier(received: Option<Refusal>, sent: Option<Refusal>) -> Option<Refusal>
 /// Why a session that may have a ROUTE-REFRESH isn't judged by these records, if there is one: it
 /// is the last message of its direction, and of two the one that the lesser packet shows is named.
 pub fn refresh_in<A: Allocator>(made: &Recording<'_, A>) -> Option<Refusal>
-    ensures is { IsRefreshIn made.now.entries.items made.now.received_rest made.now.sent_rest
+    ensures is { IsRefreshIn made.now.entries.items made.now.received.rest made.now.sent.rest
         result }
     ensures none { IfNone result
         (AllByRecursion IsNoRefresh (records_of made.now.entries.items)) }
 {
     let entries = made.entries.as_slice();
     earlier(
-        refresh_of(entries, Side::Peer, made.received_rest),
-        refresh_of(entries, Side::Local, made.sent_rest),
+        refresh_of(entries, Side::Peer, made.received.rest),
+        refresh_of(entries, Side::Local, made.sent.rest),
     )
 }

@@ -5,6 +5,7 @@ pub mod UnderWay
 pub mod MadeOrders
 pub mod Seconds
 pub mod Gave
+pub mod Pieces
 pub mod Splitting
 pub mod Heard
 pub mod Recordings

@@ -1,16 +1,17 @@
 -- What a gathered connection tells goes by its clock.
 use Rattle.std.proofs.Common.{◌≡◌, ◌≤◌, ℕ, List, Option, IfSome, Some, None, ap, subst, sym, ◌∙◌, map}
 use Rattle.std.specs.List.{AllByRecursion}
-use Rattle.bgp_wire.specs.declared.header.Limit.{Limit}
 use Rattle.streams.specs.declared.connection.Connection.{Connection}
 use Rattle.streams.specs.declared.connection.End.{End}
 use Rattle.streams.specs.declared.connection.Run.{Run}
 use Rattle.streams.specs.declared.connection.Stream.{Stream}
 use Rattle.bgp_recording.specs.declared.entry.Entry.{Entry}
 use Rattle.bgp_recording.specs.declared.framing.Direction.TheVariants.{Received, Sent}
-use Rattle.bgp_recording.specs.declared.framing.Rest.{Rest}
+use Rattle.bgp_recording.specs.declared.framing.Framing.{Framing}
+use Rattle.bgp_recording.specs.declared.framing.Framings.{Framings}
+use Rattle.bgp_recording.specs.declared.framing.Unshown.{Unshown}
 use Rattle.bgp_recording.specs.declared.pending.Moment.{Moment}
-use Rattle.bgp_recording.specs.Framed.{AreFramed, HasKind, AreStamped}
+use Rattle.bgp_recording.specs.Framed.{AreSplit, EachAt, IsStamped}
 use Rattle.bgp_recording.specs.Recorded.{IsRecordedInOrder}
 use Rattle.bgp_recording.specs.Tells.{Tells, HasSecond, numbered_of}
 use Rattle.bgp_recording.specs.declared.message.Message.{Message}
@@ -27,17 +28,17 @@ end_weaker : (P Q : End → Type 0) (o : Option End) → ((e : End) → P e → 
 end_weaker P Q None f h = tt
 end_weaker P Q (Some e) f h = f e h
 
-is_told : (limit : Limit) (connection : Connection) (exchange : Exchange) (received_rest sent_rest : Rest) → exchange.packet ≡ connection.packet → exchange.second ≡ connection.second
-    → exchange.end ≡ connection.end → IsClocked connection → IsHeard limit connection.received exchange.received.now received_rest
-    → IsSaid limit connection.sent exchange.end exchange.sent.now sent_rest → IsTold exchange
-is_told limit connection exchange received_rest sent_rest packet second end h heard said =
+is_told : (framings : Framings) (connection : Connection) (exchange : Exchange) (received_unshown sent_unshown : Unshown) → exchange.packet ≡ connection.packet → exchange.second ≡ connection.second
+    → exchange.end ≡ connection.end → IsClocked connection → IsHeard framings.received connection.received exchange.received.now received_unshown
+    → IsSaid framings.sent connection.sent exchange.end exchange.sent.now sent_unshown → IsTold exchange
+is_told framings connection exchange received_unshown sent_unshown packet second end h heard said =
     let ends = subst (λ (o : Option End). IfSome o (λ e. GoesFrom h.clock connection.packet e.packet e.second)) (sym end) h.ends in
     let by : AllByRecursion (λ (m : Message). m.second ≡ h.clock m.packet) exchange.sent.now =
-    made_each (λ x. x.second ≡ h.clock x.packet) connection.sent.runs.now (own_end exchange.end) exchange.sent.now
+    made_each (λ x. x.second ≡ h.clock x.packet) connection.sent.runs.now (own_end exchange.end) said.pieces exchange.sent.now
     (all_weaker (λ run. GoesFrom h.clock connection.packet run.packet run.second) (λ run. run.second ≡ h.clock run.packet) (λ run k. k.0) connection.sent.runs.now h.sent)
     (own_end_is (λ x. x.second ≡ h.clock x.packet) exchange.end (end_weaker _ _ exchange.end (λ e k. k.0) ends)) said.made in
     let first : AllByRecursion (λ (m : Message). connection.packet ≤ m.packet) exchange.sent.now =
-    made_each (λ x. connection.packet ≤ x.packet) connection.sent.runs.now (own_end exchange.end) exchange.sent.now
+    made_each (λ x. connection.packet ≤ x.packet) connection.sent.runs.now (own_end exchange.end) said.pieces exchange.sent.now
     (all_weaker (λ run. GoesFrom h.clock connection.packet run.packet run.second) (λ run. connection.packet ≤ run.packet) (λ run k. k.1) connection.sent.runs.now h.sent)
     (own_end_is (λ x. connection.packet ≤ x.packet) exchange.end (end_weaker _ _ exchange.end (λ e k. k.1) ends)) said.made in
     record {
@@ -46,48 +47,51 @@ is_told limit connection exchange received_rest sent_rest packet second end h he
       first = subst (λ (n : ℕ). AllByRecursion (λ (m : Message). n ≤ m.packet) exchange.sent.now) (sym packet) first;
       go_by = record {
         clocked = h.rises;
-        received_by = came_by h.clock connection.packet connection.received.runs.now 0 exchange.received.now h.received heard.came;
+        received_by = came_by h.clock connection.packet connection.received.runs.now 0 heard.pieces exchange.received.now h.received heard.came;
         sent_by = by;
         end_by = end_weaker _ _ exchange.end (λ e k. k.0) ends;
-        received_rise = came_rise connection.received.runs.now 0 exchange.received.now heard.came;
-        sent_rise = made_rise connection.sent.runs.now (own_end exchange.end) 0 exchange.sent.now said.made;
-        sent_last = made_last connection.sent.runs.now exchange.end exchange.sent.now said.made;
+        received_rise = came_rise connection.received.runs.now 0 heard.pieces exchange.received.now heard.came;
+        sent_rise = made_rise connection.sent.runs.now (own_end exchange.end) 0 said.pieces exchange.sent.now said.made;
+        sent_last = made_last connection.sent.runs.now exchange.end said.pieces exchange.sent.now said.made;
       };
     }
 
-pub heard_by : (limit : Limit) (stream : Stream) (messages : List Message) (rest : Rest) (latest mine : List Run) → mine ≡ latest → AreLatest stream.runs.now latest
-    → AreFramed limit 0 stream.octets.now messages rest → AllByRecursion (HasKind limit) messages → AreStamped Received mine 0 messages → IsHeard limit stream messages rest
-heard_by limit stream messages rest latest mine same h framed kinds stamped = record {
-  framed = framed;
-  kinds = kinds;
-  came = stamped_came limit stream.runs.now latest 0 messages h kinds (subst (λ (rs : List Run). AreStamped Received rs 0 messages) same stamped);
+pub heard_by : (framing : Framing) (stream : Stream) (messages : List Message) (unshown : Unshown) (latest mine : List Run) → mine ≡ latest → AreLatest stream.runs.now latest
+    → AreSplit framing Received mine stream.octets.now messages unshown → IsHeard framing stream messages unshown
+heard_by framing stream messages unshown latest mine same h split = record {
+  pieces = split.pieces;
+  framed = split.framed;
+  kinds = split.kinds;
+  came = stamped_came framing stream.runs.now latest 0 split.pieces messages h split.kinds
+      (subst (λ (rs : List Run). EachAt (IsStamped Received rs) 0 split.pieces messages) same split.stamped);
 }
 
-pub said_by : (limit : Limit) (stream : Stream) (end : Option End) (own : Option Moment) (messages : List Message) (rest : Rest) (earliest mine : List Run) → own ≡ own_end end → mine ≡ earliest
-    → AreEarliest stream.runs.now own earliest → AreFramed limit 0 stream.octets.now messages rest → AllByRecursion (HasKind limit) messages → AreStamped Sent mine 0 messages
-    → IsSaid limit stream end messages rest
-said_by limit stream end own messages rest earliest mine is same h framed kinds stamped = record {
-  framed = framed;
-  kinds = kinds;
-  made = subst (λ (o : Option Moment). AreMade stream.runs.now o 0 messages) is
-      (stamped_made stream.runs.now earliest own 0 messages h (subst (λ (rs : List Run). AreStamped Sent rs 0 messages) same stamped));
+pub said_by : (framing : Framing) (stream : Stream) (end : Option End) (own : Option Moment) (messages : List Message) (unshown : Unshown) (earliest mine : List Run) → own ≡ own_end end
+    → mine ≡ earliest → AreEarliest stream.runs.now own earliest → AreSplit framing Sent mine stream.octets.now messages unshown → IsSaid framing stream end messages unshown
+said_by framing stream end own messages unshown earliest mine is same h split = record {
+  pieces = split.pieces;
+  framed = split.framed;
+  kinds = split.kinds;
+  made = subst (λ (o : Option Moment). AreMade stream.runs.now o 0 split.pieces messages) is
+      (stamped_made framing stream.runs.now earliest own 0 split.pieces messages h split.kinds
+      (subst (λ (rs : List Run). EachAt (IsStamped Sent rs) 0 split.pieces messages) same split.stamped));
 }
 
-pub is_told_by : (limit : Limit) (connection : Connection) (exchange : Exchange) (received sent : List Message) (received_rest sent_rest : Rest) → exchange.packet ≡ connection.packet
+pub is_told_by : (framings : Framings) (connection : Connection) (exchange : Exchange) (received sent : List Message) (received_unshown sent_unshown : Unshown) → exchange.packet ≡ connection.packet
     → exchange.second ≡ connection.second → exchange.end ≡ connection.end → exchange.received.now ≡ received → exchange.sent.now ≡ sent → IsClocked connection
-    → IsHeard limit connection.received received received_rest → IsSaid limit connection.sent connection.end sent sent_rest → IsTold exchange
-is_told_by limit connection exchange received sent received_rest sent_rest packet second end p q h heard said =
-    is_told limit connection exchange received_rest sent_rest packet second end h
-    (subst (λ (ms : List Message). IsHeard limit connection.received ms received_rest) (sym p) heard)
-    (subst (λ (ms : List Message). IsSaid limit connection.sent exchange.end ms sent_rest) (sym q)
-    (subst (λ (o : Option End). IsSaid limit connection.sent o sent sent_rest) (sym end) said))
+    → IsHeard framings.received connection.received received received_unshown → IsSaid framings.sent connection.sent connection.end sent sent_unshown → IsTold exchange
+is_told_by framings connection exchange received sent received_unshown sent_unshown packet second end p q h heard said =
+    is_told framings connection exchange received_unshown sent_unshown packet second end h
+    (subst (λ (ms : List Message). IsHeard framings.received connection.received ms received_unshown) (sym p) heard)
+    (subst (λ (ms : List Message). IsSaid framings.sent connection.sent exchange.end ms sent_unshown) (sym q)
+    (subst (λ (o : Option End). IsSaid framings.sent connection.sent o sent sent_unshown) (sym end) said))
 
-pub recorded_by : (limit : Limit) (within : ℕ) (connection : Connection) (entries : List Entry) (received_rest sent_rest : Rest) (received sent heard_now said_now : List Message)
-    → heard_now ≡ received → said_now ≡ sent → IsHeard limit connection.received received received_rest → IsSaid limit connection.sent connection.end sent sent_rest
+pub recorded_by : (framings : Framings) (within : ℕ) (connection : Connection) (entries : List Entry) (received_unshown sent_unshown : Unshown) (received sent heard_now said_now : List Message)
+    → heard_now ≡ received → said_now ≡ sent → IsHeard framings.received connection.received received received_unshown → IsSaid framings.sent connection.sent connection.end sent sent_unshown
     → Tells within connection.opened_by connection.packet connection.second heard_now said_now connection.end (map numbered_of entries) → AllByRecursion HasSecond entries
     → map numbered_of entries ≡ made_order within connection.opened_by connection.packet connection.second (values_of heard_now) (values_of said_now) connection.end
-    → IsRecordedInOrder limit within connection entries received_rest sent_rest
-recorded_by limit within connection entries received_rest sent_rest received sent heard_now said_now p q heard said tells seconds order = record {
+    → IsRecordedInOrder framings within connection entries received_unshown sent_unshown
+recorded_by framings within connection entries received_unshown sent_unshown received sent heard_now said_now p q heard said tells seconds order = record {
   told = record {
     received = received;
     sent = sent;

@@ -1,214 +1,209 @@
--- A stream split into messages, one after another.
-use Rattle.std.proofs.Common.{◌≡◌, ◌∙◌, ◌≤◌, ◌+◌, ◌-◌, ℕ, List, [], ◌∷◌, ◌++◌, drop, take, length, true, false, Option, None, Some, is_some, ap, subst, sym, refl, inl, inr, arith, append_assoc, append-nil}
-use Rattle.std.proofs.lemmas.List.{drop-drop, length-append, length-drop, length-take}
-use Rattle.std.proofs.lemmas.List.Elements.{All-nil, All-cons}
-use Rattle.std.proofs.lemmas.Bool.{false≢true}
+-- A stream split into pieces, one after another.
+use Rattle.std.proofs.Common.{◌≡◌, ◌∙◌, ◌≤◌, ◌+◌, ◌-◌, ℕ, Bool, List, [], ◌∷◌, ◌++◌, ◌↔◌, drop, take, length, Option, None, Some, IsTrue, ap, subst, sym, refl, inl, inr, arith, append_assoc, append-nil}
+use Rattle.std.proofs.lemmas.List.{length-append, length-drop, length-take}
 use Rattle.std.specs.List.{AllByRecursion}
 use Rattle.std.specs.Prelude.{MatchOption}
 use Rattle.bgp_wire.specs.declared.header.Limit.{Limit}
 use Rattle.bgp_wire.specs.declared.header.MessageType.{MessageType}
-use Rattle.bgp_wire.specs.Framing.{IsFrame, IsShort, IsFaulty, joined}
+use Rattle.bgp_wire.specs.Framing.{IsFrame}
 use Rattle.bgp_wire.specs.Header.{header_of, type_of, IsSound}
 use Rattle.bgp_wire.specs.Verdict.{type_code}
 use Rattle.bgp_wire.proofs.Front.{header_of-take}
+use Rattle.mrt.specs.Rules.{IsWholeRefresh}
 use Rattle.streams.specs.declared.connection.Run.{Run}
 use Rattle.bgp_recording.specs.declared.framing.Direction.{Direction}
-use Rattle.bgp_recording.specs.declared.framing.Direction.TheVariants.{Received, Sent}
-use Rattle.bgp_recording.specs.declared.pending.Moment.{Moment}
-use Rattle.bgp_recording.specs.declared.framing.Rest.{Rest}
+use Rattle.bgp_recording.specs.declared.framing.Framing.{Framing}
 use Rattle.bgp_recording.specs.declared.framing.Rest.TheVariants.{Short, BehindFault}
+use Rattle.bgp_recording.specs.declared.framing.Unshown.{Unshown}
 use Rattle.bgp_recording.specs.declared.givers.Cursor.{Cursor}
 use Rattle.bgp_recording.specs.declared.message.Message.{Message}
-use Rattle.bgp_recording.specs.Framed.{IsMessage, IsRest, AreFramed, HasKind, stamped_at, AreStamped}
-use Rattle.bgp_recording.specs.Givers.{giver, IsAt}
+use Rattle.bgp_recording.specs.Framed.{octets_of, AreFramed, AreSplit, Begins, EachAt, HasKind, IsStamped}
+use Rattle.bgp_recording.specs.Givers.{IsAt}
+use Rattle.bgp_recording.specs.Pieces.{Piece, Kept, PassedOver, stream_of, kept, passed_over, IsPiece, IsRefreshHeader, BeginsRefresh, IsShortOf, IsFaultyOf}
+use Rattle.bgp_recording.proofs.Lists.{all_append}
+use Rattle.bgp_recording.proofs.Pieces.{kept_on, kept_past, passed_on, passed_past, whole_on, reaches_on}
 
--- up to a place: whatever are the messages from there on, they are those of the stream behind these
-pub record IsSplit (limit : Limit) (direction : Direction) (givers : List Run) (octets : List ℕ) (place : ℕ) (cursor : Cursor) (messages : List Message) : Type 0 where
+-- up to a place, with so many passed over: whatever stands from there on is behind these
+pub record IsSplit (framing : Framing) (direction : Direction) (givers : List Run) (octets : List ℕ) (place passed : ℕ) (cursor : Cursor) (messages : List Message) : Type 0 where
   pub within : place ≤ length octets
+  pub few : passed ≤ place
   pub at : IsAt givers cursor
   pub base : cursor.base ≤ place
-  pub kinds : AllByRecursion (HasKind limit) messages
-  pub framed : (more : List Message) (rest : Rest) → AreFramed limit place (drop place octets) more rest → AreFramed limit 0 octets (messages ++ more) rest
-  pub stamped : (more : List Message) → AreStamped direction givers place more → AreStamped direction givers 0 (messages ++ more)
+  pub kinds : AllByRecursion (HasKind framing) messages
+  pub pieces : List Piece
+  pub whole : octets ≡ stream_of pieces ++ drop place octets
+  pub reaches : length (stream_of pieces) ≡ place
+  pub each : AllByRecursion (IsPiece framing) pieces
+  pub are_kept : octets_of messages ≡ kept pieces
+  pub count : passed ≡ passed_over pieces
+  pub stamped : (more : List Piece) (later : List Message) → EachAt (IsStamped direction givers) place more later → EachAt (IsStamped direction givers) 0 (pieces ++ more) (messages ++ later)
 
-pub begins_split : (limit : Limit) (direction : Direction) (givers : List Run) (octets : List ℕ) (cursor : Cursor) → IsAt givers cursor → cursor.base ≤ 0
-    → IsSplit limit direction givers octets 0 cursor []
-begins_split limit direction givers octets cursor at base =
-    record { within = omega arith; at = at; base = base; kinds = tt; framed = λ more rest h. h; stamped = λ more h. h }
-
-rest_on : (limit : Limit) (from : ℕ) (frames : List (List ℕ)) (left : List ℕ) (m : Message) (more : List Message) (rest : Rest)
-    → IsRest limit (from + length m.octets.now) frames left more rest → IsRest limit from (m.octets.now ∷ frames) left (m ∷ more) rest
-rest_on limit from frames left m more (Short count) h = (ap (λ (fs : List (List ℕ)). m.octets.now ∷ fs) h.0, h.1, h.2)
-rest_on limit from frames left m more (BehindFault place count) h = (
-  ap (λ (fs : List (List ℕ)). m.octets.now ∷ fs) h.0,
-  h.1 ∙ (let e = length-append m.octets.now (joined frames) in omega (arith, e)),
-  h.2,
-  h.3,
-)
-
-frame_on : (limit : Limit) (from : ℕ) (octets : List ℕ) (m : Message) (more : List Message) (rest : Rest) → IsFrame limit m.octets.now
-    → octets ≡ m.octets.now ++ drop (length m.octets.now) octets
-    → AreFramed limit (from + length m.octets.now) (drop (length m.octets.now) octets) more rest → AreFramed limit from octets (m ∷ more) rest
-frame_on limit from octets m more rest frame whole h = record {
-  frames = m.octets.now ∷ h.frames;
-  left = h.left;
-  framing = record {
-    whole = whole ∙ ap (λ (os : List ℕ). m.octets.now ++ os) h.framing.whole ∙ sym (append_assoc m.octets.now (joined h.frames) h.left);
-    each = All-cons (IsFrame limit) m.octets.now h.frames frame h.framing.each;
-    last = h.framing.last;
-  };
-  is = rest_on limit from h.frames h.left m more rest h.is;
-}
-
-kinds_push : (limit : Limit) (messages : List Message) (m : Message) → AllByRecursion (HasKind limit) messages → HasKind limit m → AllByRecursion (HasKind limit) (messages ++ m ∷ [])
-kinds_push limit [] m h k = (k, tt)
-kinds_push limit (x ∷ xs) m h k = (h.0, kinds_push limit xs m h.1 k)
-
-pub split_on : (limit : Limit) (direction : Direction) (givers : List Run) (octets : List ℕ) (place : ℕ) (cursor after : Cursor) (messages : List Message) (m : Message)
-    → IsSplit limit direction givers octets place cursor messages → IsFrame limit m.octets.now → HasKind limit m
-    → drop place octets ≡ m.octets.now ++ drop (length m.octets.now) (drop place octets)
-    → giver givers (stamped_at direction place (length m.octets.now)) ≡ Some record { packet = m.packet; second = m.second }
-    → IsAt givers after → after.base ≤ place + length m.octets.now → place + length m.octets.now ≤ length octets
-    → IsSplit limit direction givers octets (place + length m.octets.now) after (messages ++ m ∷ [])
-split_on limit direction givers octets place cursor after messages m h frame kind whole gave at base within = record {
-  within = within;
+pub begins_split : (framing : Framing) (direction : Direction) (givers : List Run) (octets : List ℕ) (cursor : Cursor) → IsAt givers cursor → cursor.base ≤ 0
+    → IsSplit framing direction givers octets 0 0 cursor []
+begins_split framing direction givers octets cursor at base = record {
+  within = omega arith;
+  few = omega arith;
   at = at;
   base = base;
-  kinds = kinds_push limit messages m h.kinds kind;
-  framed = λ more rest k.
-      subst (λ (ms : List Message). AreFramed limit 0 octets ms rest) (sym (append_assoc messages (m ∷ []) more))
-      (h.framed (m ∷ more) rest (frame_on limit place (drop place octets) m more rest frame whole
-      (subst (λ (os : List ℕ). AreFramed limit (place + length m.octets.now) os more rest) (sym (drop-drop (length m.octets.now) place octets)) k)));
-  stamped = λ more k.
-      subst (λ (ms : List Message). AreStamped direction givers 0 ms) (sym (append_assoc messages (m ∷ []) more)) (h.stamped (m ∷ more) (gave, k));
+  kinds = tt;
+  pieces = [];
+  whole = refl;
+  reaches = refl;
+  each = tt;
+  are_kept = refl;
+  count = refl;
+  stamped = λ more later h. h;
 }
 
--- all of it
-pub record IsAllSplit (limit : Limit) (direction : Direction) (givers : List Run) (octets : List ℕ) (messages : List Message) (rest : Rest) : Type 0 where
-  pub framed : AreFramed limit 0 octets messages rest
-  pub kinds : AllByRecursion (HasKind limit) messages
-  pub stamped : AreStamped direction givers 0 messages
+kinds_push : (framing : Framing) (messages : List Message) (m : Message) → AllByRecursion (HasKind framing) messages → HasKind framing m → AllByRecursion (HasKind framing) (messages ++ m ∷ [])
+kinds_push framing messages m h k = all_append (HasKind framing) messages (m ∷ []) h (k, tt)
 
-pub ends_short : (limit : Limit) (direction : Direction) (givers : List Run) (octets : List ℕ) (place : ℕ) (cursor : Cursor) (messages : List Message) (count : ℕ)
-    → IsSplit limit direction givers octets place cursor messages → IsShort limit (drop place octets) → count ≡ length (drop place octets)
-    → IsAllSplit limit direction givers octets messages (Short count)
-ends_short limit direction givers octets place cursor messages count h short is = record {
-  framed = subst (λ (ms : List Message). AreFramed limit 0 octets ms (Short count)) (append-nil messages)
-      (h.framed [] (Short count) record {
-        frames = [];
-        left = drop place octets;
-        framing = record { whole = refl; each = All-nil (IsFrame limit); last = inl short };
-        is = (refl, is, short);
-      });
-  kinds = h.kinds;
-  stamped = subst (λ (ms : List Message). AreStamped direction givers 0 ms) (append-nil messages) (h.stamped [] tt);
-}
-
-pub ends_faulty : (limit : Limit) (direction : Direction) (givers : List Run) (octets : List ℕ) (place : ℕ) (cursor : Cursor) (messages : List Message) (m : Message) (count : ℕ)
-    → IsSplit limit direction givers octets place cursor messages → IsFaulty limit (drop place octets) → m.octets.now ≡ header_of (drop place octets) → HasKind limit m
-    → giver givers (stamped_at direction place (length m.octets.now)) ≡ Some record { packet = m.packet; second = m.second }
-    → count ≡ length (drop 19 (drop place octets))
-    → IsAllSplit limit direction givers octets (messages ++ m ∷ []) (BehindFault place count)
-ends_faulty limit direction givers octets place cursor messages m count h faulty header kind gave is = record {
-  framed = h.framed (m ∷ []) (BehindFault place count) record {
-    frames = [];
-    left = drop place octets;
-    framing = record { whole = refl; each = All-nil (IsFrame limit); last = inr faulty };
-    is = (ap (λ (os : List ℕ). os ∷ []) header, omega arith, is, faulty);
-  };
-  kinds = kinds_push limit messages m h.kinds kind;
-  stamped = h.stamped (m ∷ []) (gave, tt);
-}
-
--- ---- by what the splitter has in hand
-
-stamped_le : (direction : Direction) (place count : ℕ) → stamped_at direction place count ≤ place + count
-stamped_le Received place count = omega arith
-stamped_le Sent place count = omega arith
+octets_on : (messages : List Message) (m : Message) → octets_of (messages ++ m ∷ []) ≡ octets_of messages ++ m.octets.now ∷ []
+octets_on [] m = refl
+octets_on (x ∷ xs) m = ap (λ (os : List (List ℕ)). x.octets.now ∷ os) (octets_on xs m)
 
 by_givers : (givers : List Run) (cursor after : Cursor) → IsAt givers cursor → IsAt cursor.runs.now after → IsAt givers after
 by_givers givers cursor after at h = subst (λ (rs : List Run). IsAt rs after) at.0 h
 
-gave_at : (direction : Direction) (givers : List Run) (place count stamped : ℕ) (cursor : Cursor) (moment : Moment) → IsAt givers cursor → stamped ≡ stamped_at direction place count
-    → giver cursor.runs.now stamped ≡ Some moment → giver givers (stamped_at direction place count) ≡ Some moment
-gave_at direction givers place count stamped cursor moment at is h =
-    subst (λ (n : ℕ). giver givers n ≡ Some moment) is (subst (λ (rs : List Run). giver rs stamped ≡ Some moment) at.0 h)
+stamped_by : (direction : Direction) (givers : List Run) (place : ℕ) (cursor : Cursor) (m : Message) → IsAt givers cursor → IsStamped direction cursor.runs.now place m
+    → IsStamped direction givers place m
+stamped_by direction givers place cursor m at h = subst (λ (rs : List Run). IsStamped direction rs place m) at.0 h
 
-frame_within : (octets left frame : List ℕ) (place : ℕ) → place ≤ length octets → left ≡ drop place octets → left ≡ frame ++ drop (length frame) left → place + length frame ≤ length octets
-frame_within octets left frame place within is whole =
+-- what stands at the front ends in the stream
+pub front_within : (octets left front : List ℕ) (place : ℕ) → place ≤ length octets → left ≡ drop place octets → Begins left front → place + length front ≤ length octets
+front_within octets left front place within is whole =
     let a = ap length is in
     let b = length-drop place octets in
     let c = ap length whole in
-    let d = length-append frame (drop (length frame) left) in
-    omega (arith, a, b, c, d)
+    let d = length-append front (drop (length front) left) in
+    omega (arith, a, b, c, d, within)
 
-split_frame : (limit : Limit) (direction : Direction) (givers : List Run) (octets left : List ℕ) (place stamped : ℕ) (cursor after : Cursor) (messages pushed : List Message) (m : Message)
-    → IsSplit limit direction givers octets place cursor messages → left ≡ drop place octets → IsFrame limit m.octets.now → HasKind limit m
-    → left ≡ m.octets.now ++ drop (length m.octets.now) left → stamped ≡ stamped_at direction place (length m.octets.now)
-    → giver cursor.runs.now stamped ≡ Some record { packet = m.packet; second = m.second } → IsAt cursor.runs.now after → after.base ≤ stamped → pushed ≡ messages ++ m ∷ []
-    → IsSplit limit direction givers octets (place + length m.octets.now) after pushed
-split_frame limit direction givers octets left place stamped cursor after messages pushed m h is frame kind whole at gave after_at base put =
-    subst (λ (ms : List Message). IsSplit limit direction givers octets (place + length m.octets.now) after ms) (sym put)
-    (split_on limit direction givers octets place cursor after messages m h frame kind
-    (subst (λ (os : List ℕ). os ≡ m.octets.now ++ drop (length m.octets.now) os) is whole)
-    (gave_at direction givers place (length m.octets.now) stamped cursor _ h.at at gave) (by_givers givers cursor after h.at after_at)
-    (let le = stamped_le direction place (length m.octets.now) in omega (arith, base, at, le)) (frame_within octets left m.octets.now place h.within is whole))
+begins_there : (octets left front : List ℕ) (place : ℕ) → left ≡ drop place octets → Begins left front → Begins (drop place octets) front
+begins_there octets left front place is whole = subst (λ (os : List ℕ). Begins os front) is whole
 
-faulty_header : (limit : Limit) (left header : List ℕ) → IsFaulty limit left → header ≡ header_of left → (length header ≡ 19) × IsFaulty limit header
-faulty_header limit left header h is =
+-- ---- a message
+
+pub frame_kind : (framing : Framing) (m : Message) (front : List ℕ) (kind : MessageType) → m.octets.now ≡ front → m.kind ≡ Some kind → IsFrame framing.limit front
+    → type_code kind ≡ type_of (header_of front) → HasKind framing m
+frame_kind framing m front kind same is frame code =
+    subst (λ (k : Option MessageType).
+    MatchOption k ((length m.octets.now ≡ 19) × IsFaultyOf framing m.octets.now) (λ t. IsFrame framing.limit m.octets.now × (type_code t ≡ type_of (header_of m.octets.now))))
+    (sym is)
+    (subst (λ (os : List ℕ). IsFrame framing.limit os) (sym same) frame, code ∙ ap (λ (os : List ℕ). type_of (header_of os)) (sym same))
+
+pub split_kept : (framing : Framing) (direction : Direction) (givers : List Run) (octets left front : List ℕ) (place passed : ℕ) (cursor after : Cursor) (messages pushed : List Message) (m : Message) (kind : MessageType)
+    → IsSplit framing direction givers octets place passed cursor messages → left ≡ drop place octets → IsFrame framing.limit front → type_code kind ≡ type_of (header_of front) → Begins left front
+    → m.octets.now ≡ front → m.kind ≡ Some kind → IsStamped direction cursor.runs.now place m
+    → IsAt cursor.runs.now after → after.base ≤ place + length front → pushed ≡ messages ++ m ∷ [] → IsSplit framing direction givers octets (place + length front) passed after pushed
+split_kept framing direction givers octets left front place passed cursor after messages pushed m kind h is frame code begins same of gave after_at base put =
+    let there = begins_there octets left front place is begins in
+    subst (λ (ms : List Message). IsSplit framing direction givers octets (place + length front) passed after ms) (sym put) (record {
+      within = front_within octets left front place h.within is begins;
+      few = omega (arith, h.few);
+      at = by_givers givers cursor after h.at after_at;
+      base = base;
+      kinds = kinds_push framing messages m h.kinds (frame_kind framing m front kind same of frame code);
+      pieces = h.pieces ++ Kept front ∷ [];
+      whole = whole_on octets h.pieces (Kept front) place h.whole there;
+      reaches = reaches_on h.pieces (Kept front) place h.reaches;
+      each = all_append (IsPiece framing) h.pieces (Kept front ∷ []) h.each (frame, tt);
+      are_kept = octets_on messages m ∙ ap (λ (fs : List (List ℕ)). fs ++ m.octets.now ∷ []) h.are_kept ∙ ap (λ (os : List ℕ). kept h.pieces ++ os ∷ []) same
+          ∙ sym (kept_on h.pieces front);
+      count = h.count ∙ sym (passed_on h.pieces front);
+      stamped = λ more later k.
+          let at_m : EachAt (IsStamped direction givers) (place + length m.octets.now) more later =
+          subst (λ (os : List ℕ). EachAt (IsStamped direction givers) (place + length os) more later) (sym same) k
+          in
+          subst (λ (ps : List Piece). EachAt (IsStamped direction givers) 0 ps ((messages ++ m ∷ []) ++ later)) (sym (append_assoc h.pieces (Kept front ∷ []) more))
+          (subst (λ (ms : List Message). EachAt (IsStamped direction givers) 0 (h.pieces ++ Kept front ∷ more) ms) (sym (append_assoc messages (m ∷ []) later))
+          (h.stamped (Kept front ∷ more) (m ∷ later) (stamped_by direction givers place cursor m h.at gave, at_m)));
+    })
+
+-- ---- what is passed over
+
+pub split_passed : (framing : Framing) (direction : Direction) (givers : List Run) (octets left front : List ℕ) (place passed : ℕ) (cursor : Cursor) (messages : List Message)
+    → IsSplit framing direction givers octets place passed cursor messages → left ≡ drop place octets → IsTrue framing.skips_refresh → IsWholeRefresh front → Begins left front
+    → IsSplit framing direction givers octets (place + length front) (passed + 1) cursor messages
+split_passed framing direction givers octets left front place passed cursor messages h is skips whole begins =
+    let there = begins_there octets left front place is begins in record {
+      within = front_within octets left front place h.within is begins;
+      few = omega (arith, h.few, whole.least);
+      at = h.at;
+      base = omega (arith, h.base);
+      kinds = h.kinds;
+      pieces = h.pieces ++ PassedOver front ∷ [];
+      whole = whole_on octets h.pieces (PassedOver front) place h.whole there;
+      reaches = reaches_on h.pieces (PassedOver front) place h.reaches;
+      each = all_append (IsPiece framing) h.pieces (PassedOver front ∷ []) h.each ((skips, whole), tt);
+      are_kept = h.are_kept ∙ sym (kept_past h.pieces front);
+      count = omega (arith, h.count, passed_past h.pieces front);
+      stamped = λ more later k.
+          subst (λ (ps : List Piece). EachAt (IsStamped direction givers) 0 ps (messages ++ later)) (sym (append_assoc h.pieces (PassedOver front ∷ []) more))
+          (h.stamped (PassedOver front ∷ more) later k);
+    }
+
+-- ---- the end
+
+pub split_short : (framing : Framing) (direction : Direction) (givers : List Run) (octets left : List ℕ) (place passed count : ℕ) (cursor : Cursor) (messages : List Message)
+    → IsSplit framing direction givers octets place passed cursor messages → left ≡ drop place octets → IsShortOf framing left → count ≡ length left
+    → AreSplit framing direction givers octets messages record { passed_over = passed; rest = Short count }
+split_short framing direction givers octets left place passed count cursor messages h is short counted = record {
+  pieces = h.pieces;
+  framed = record {
+    left = drop place octets;
+    whole = h.whole;
+    each = h.each;
+    passed = h.count;
+    is = (h.are_kept, counted ∙ ap length is, subst (λ (os : List ℕ). IsShortOf framing os) is short);
+  };
+  kinds = h.kinds;
+  stamped = subst (λ (ps : List Piece). EachAt (IsStamped direction givers) 0 ps messages) (append-nil h.pieces)
+      (subst (λ (ms : List Message). EachAt (IsStamped direction givers) 0 (h.pieces ++ []) ms) (append-nil messages) (h.stamped [] [] tt));
+}
+
+-- 19 octets, which are at fault as what they begin
+pub faulty_header : (framing : Framing) (left header : List ℕ) → IsFaultyOf framing left → header ≡ header_of left → (length header ≡ 19) × IsFaultyOf framing header
+faulty_header framing left header h is =
     let front : header_of header ≡ header_of left = ap (λ (os : List ℕ). header_of os) is ∙ header_of-take 19 left (omega arith) in
     let counted : length header ≡ length (take 19 left) = ap length is in
-    let short : length header ≡ 19 = omega (arith, counted, length-take 19 left, h.0) in
-    (short, (omega (arith, short), subst (λ (os : List ℕ). ¬ IsSound limit os) (sym front) h.1))
+    let short : length header ≡ 19 = omega (arith, counted, length-take 19 left, h.faulty.0) in (
+      short,
+      record {
+        faulty = (omega (arith, short), subst (λ (os : List ℕ). ¬ IsSound framing.limit os) (sym front) h.faulty.1);
+        stays = λ skips. subst (λ (os : List ℕ). ¬ IsRefreshHeader os) (sym front) (h.stays skips);
+      },
+    )
 
-split_faulty : (limit : Limit) (direction : Direction) (givers : List Run) (octets left : List ℕ) (place stamped count : ℕ) (cursor : Cursor) (messages pushed : List Message) (m : Message)
-    → IsSplit limit direction givers octets place cursor messages → left ≡ drop place octets → IsFaulty limit left → m.octets.now ≡ header_of left → HasKind limit m
-    → stamped ≡ stamped_at direction place 19
-    → giver cursor.runs.now stamped ≡ Some record { packet = m.packet; second = m.second } → count ≡ length left - 19 → pushed ≡ messages ++ m ∷ []
-    → IsAllSplit limit direction givers octets pushed (BehindFault place count)
-split_faulty limit direction givers octets left place stamped count cursor messages pushed m h is faulty header kind at gave counted put =
-    let taken = ap length header in
-    let long : 19 ≡ length m.octets.now = omega (arith, taken, length-take 19 left, faulty.0) in
-    subst (λ (ms : List Message). IsAllSplit limit direction givers octets ms (BehindFault place count)) (sym put)
-    (ends_faulty limit direction givers octets place cursor messages m count h (subst (λ (os : List ℕ). IsFaulty limit os) is faulty)
-    (header ∙ ap (λ (os : List ℕ). header_of os) is) kind
-    (gave_at direction givers place (length m.octets.now) stamped cursor _ h.at (at ∙ ap (λ n. stamped_at direction place n) long) gave)
-    (counted ∙ ap (λ (os : List ℕ). length os - 19) is ∙ sym (length-drop 19 (drop place octets))))
+faulty_kind : (framing : Framing) (m : Message) (left header : List ℕ) → m.octets.now ≡ header → m.kind ≡ None → IsFaultyOf framing left → header ≡ header_of left → HasKind framing m
+faulty_kind framing m left header same is faulty front =
+    let f = faulty_header framing left m.octets.now faulty (same ∙ front) in
+    subst (λ (k : Option MessageType).
+    MatchOption k ((length m.octets.now ≡ 19) × IsFaultyOf framing m.octets.now) (λ t. IsFrame framing.limit m.octets.now × (type_code t ≡ type_of (header_of m.octets.now))))
+    (sym is) (f.0, f.1)
 
-pub split_short : (limit : Limit) (direction : Direction) (givers : List Run) (octets left : List ℕ) (place count : ℕ) (cursor : Cursor) (messages : List Message)
-    → IsSplit limit direction givers octets place cursor messages → left ≡ drop place octets → IsShort limit left → count ≡ length left
-    → IsAllSplit limit direction givers octets messages (Short count)
-split_short limit direction givers octets left place count cursor messages h is short counted =
-    ends_short limit direction givers octets place cursor messages count h (subst (λ (os : List ℕ). IsShort limit os) is short) (counted ∙ ap length is)
-
--- ---- by what stands at the front
-
--- a type, so a message
-message_frame : (limit : Limit) (left front : List ℕ) (kind : Option MessageType) → is_some kind ≡ true → IsMessage limit left kind front
-    → IsFrame limit front × (MatchOption kind ((length front ≡ 19) × IsFaulty limit front) (λ k. IsFrame limit front × (type_code k ≡ type_of (header_of front)))) × (left ≡ front ++ drop (length front) left)
-message_frame limit left front None some is = absurd (false≢true some)
-message_frame limit left front (Some kind) some is = (is.0, (is.0, is.1), is.2)
-
--- none, so a header with a fault
-message_faulty : (limit : Limit) (left front : List ℕ) (kind : Option MessageType) → is_some kind ≡ false → IsMessage limit left kind front
-    → IsFaulty limit left × (front ≡ header_of left) × (MatchOption kind ((length front ≡ 19) × IsFaulty limit front) (λ k. IsFrame limit front × (type_code k ≡ type_of (header_of front))))
-message_faulty limit left front None none is = (is.0, is.1, faulty_header limit left front is.0 is.1)
-message_faulty limit left front (Some kind) none is = absurd (false≢true (sym none))
-
-pub split_message : (limit : Limit) (direction : Direction) (givers : List Run) (octets left : List ℕ) (place stamped : ℕ) (cursor after : Cursor) (messages pushed : List Message) (m : Message)
-    → IsSplit limit direction givers octets place cursor messages → left ≡ drop place octets → is_some m.kind ≡ true → IsMessage limit left m.kind m.octets.now
-    → stamped ≡ stamped_at direction place (length m.octets.now) → giver cursor.runs.now stamped ≡ Some record { packet = m.packet; second = m.second }
-    → IsAt cursor.runs.now after → after.base ≤ stamped → pushed ≡ messages ++ m ∷ [] → IsSplit limit direction givers octets (place + length m.octets.now) after pushed
-split_message limit direction givers octets left place stamped cursor after messages pushed m h is some front at gave after_at base put =
-    let f = message_frame limit left m.octets.now m.kind some front in
-    split_frame limit direction givers octets left place stamped cursor after messages pushed m h is f.0 f.1 f.2 at gave after_at base put
-
-pub split_fault : (limit : Limit) (direction : Direction) (givers : List Run) (octets left : List ℕ) (place stamped count : ℕ) (cursor : Cursor) (messages pushed : List Message) (m : Message)
-    → IsSplit limit direction givers octets place cursor messages → left ≡ drop place octets → is_some m.kind ≡ false → IsMessage limit left m.kind m.octets.now
-    → stamped ≡ stamped_at direction place (length m.octets.now) → giver cursor.runs.now stamped ≡ Some record { packet = m.packet; second = m.second }
-    → count ≡ length left - length m.octets.now → pushed ≡ messages ++ m ∷ [] → IsAllSplit limit direction givers octets pushed (BehindFault place count)
-split_fault limit direction givers octets left place stamped count cursor messages pushed m h is none front at gave counted put =
-    let f = message_faulty limit left m.octets.now m.kind none front in
-    let long : length m.octets.now ≡ 19 = (faulty_header limit left m.octets.now f.0 f.1).0 in
-    split_faulty limit direction givers octets left place stamped count cursor messages pushed m h is f.0 f.1 f.2 (at ∙ ap (λ n. stamped_at direction place n) long) gave
-    (counted ∙ ap (λ n. length left - n) long) put
+pub split_fault : (framing : Framing) (direction : Direction) (givers : List Run) (octets left header : List ℕ) (place passed count : ℕ) (is_refresh : Bool) (cursor : Cursor) (messages pushed : List Message)
+    (m : Message) → IsSplit framing direction givers octets place passed cursor messages → left ≡ drop place octets → IsFaultyOf framing left → header ≡ header_of left
+    → (IsTrue is_refresh ↔ BeginsRefresh left) → m.octets.now ≡ header → m.kind ≡ None → IsStamped direction cursor.runs.now place m → count ≡ length left - length header
+    → pushed ≡ messages ++ m ∷ [] → AreSplit framing direction givers octets pushed record { passed_over = passed; rest = BehindFault place count is_refresh }
+split_fault framing direction givers octets left header place passed count is_refresh cursor messages pushed m h is faulty front refresh same of gave counted put =
+    let long = (faulty_header framing left header faulty front).0 in
+    let there : header ≡ header_of (drop place octets) = front ∙ ap (λ (os : List ℕ). header_of os) is in
+    subst (λ (ms : List Message). AreSplit framing direction givers octets ms record { passed_over = passed; rest = BehindFault place count is_refresh }) (sym put) (record {
+      pieces = h.pieces;
+      framed = record {
+        left = drop place octets;
+        whole = h.whole;
+        each = h.each;
+        passed = h.count;
+        is = (
+          octets_on messages m ∙ ap (λ (fs : List (List ℕ)). fs ++ m.octets.now ∷ []) h.are_kept ∙ ap (λ (os : List ℕ). kept h.pieces ++ os ∷ []) (same ∙ there),
+          sym h.reaches,
+          counted ∙ ap (λ n. length left - n) long ∙ sym (length-drop 19 left) ∙ ap (λ (os : List ℕ). length (drop 19 os)) is,
+          subst (λ (os : List ℕ). IsFaultyOf framing os) is faulty,
+          subst (λ (os : List ℕ). IsTrue is_refresh ↔ BeginsRefresh os) is refresh,
+        );
+      };
+      kinds = kinds_push framing messages m h.kinds (faulty_kind framing m left header same of faulty front);
+      stamped = subst (λ (ps : List Piece). EachAt (IsStamped direction givers) 0 ps (messages ++ m ∷ [])) (append-nil h.pieces)
+          (h.stamped [] (m ∷ []) (stamped_by direction givers place cursor m h.at gave, refl));
+    })

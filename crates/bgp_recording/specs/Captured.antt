@@ -1,18 +1,18 @@
 -- The made records as a capture.
-use Rattle.std.specs.Prelude.{◌≡◌, ℕ, List, map, IsTrue}
+use Rattle.std.specs.Prelude.{◌≡◌, ℕ, List, map}
 use Rattle.std.specs.List.{AllByRecursion}
 use Rattle.bgp_prefix.specs.Address.{family_of, IsAddress}
 use Rattle.bgp_prefix.specs.Shown.{ShownRecord, Received, Sent, Changed}
-use Rattle.bgp_prefix.specs.RouteRefresh.{is_offered}
+use Rattle.bgp_prefix.specs.declared.session.RouteRefresh.TheVariants.{Refused}
 use Rattle.bgp_prefix.specs.declared.session.Session.{Session}
-use Rattle.bgp_wire.specs.Header.{limit_with}
 use Rattle.mrt.specs.Capture.{Spells}
 use Rattle.mrt.specs.Reader.{shown_of}
 use Rattle.mrt.specs.Rules.{IsRouteRefresh}
 use Rattle.mrt.specs.Written.{capture_octets}
 use Rattle.streams.specs.declared.connection.Connection.{Connection}
 use Rattle.bgp_recording.specs.declared.entry.Entry.{Entry}
-use Rattle.bgp_recording.specs.declared.framing.Rest.{Rest}
+use Rattle.bgp_recording.specs.declared.framing.Unshown.{Unshown}
+use Rattle.bgp_recording.specs.Pieces.{framings_of}
 use Rattle.bgp_recording.specs.Recorded.{IsRecorded}
 
 abbrev pub records_of : List Entry → List ShownRecord
@@ -30,15 +30,15 @@ pub record CanBeNamed (session : Session) : Type 0 where
   pub peer : IsAddress session.peer
   pub local : IsAddress session.local
 
--- The records that tell a connection, its messages framed at the session's limit, read back as just
--- these, by whatever AS numbers they are written; unless the session may have a ROUTE-REFRESH, and
--- there is one.
+-- The records that tell a connection, its messages framed by the session's rules, read back as just
+-- these, by whatever AS numbers they are written; unless the session refuses a ROUTE-REFRESH, and
+-- there is one. Where it passes over such messages, the reader has none to pass over.
 abbrev pub MadeRecordsAreRead : Type 0
 MadeRecordsAreRead =
     (session : Session) (peer_as local_as within : ℕ) (connection : Connection)
-    (entries : List Entry) (received_rest sent_rest : Rest) →
+    (entries : List Entry) (received sent : Unshown) →
     CanBeNamed session →
-    IsRecorded (limit_with session.extended) within connection entries received_rest sent_rest →
-    (IsTrue (is_offered session.refresh) → AllByRecursion IsNoRefresh (records_of entries)) →
+    IsRecorded (framings_of session) within connection entries received sent →
+    (session.refresh ≡ Refused → AllByRecursion IsNoRefresh (records_of entries)) →
     Spells session (capture_octets session peer_as local_as (records_of entries))
     (records_of entries)

@@ -1,72 +1,110 @@
--- The messages of a stream, each with its packet, and what is left after them (RFC 4271, 4.1).
-use Rattle.std.specs.Prelude.{◌≡◌, ◌+◌, ◌-◌, ◌++◌, ℕ, List, [], ◌∷◌, length, map, drop}
-use Rattle.std.specs.Prelude.{Option, None, Some, MatchOption}
-use Rattle.bgp_wire.specs.declared.header.Limit.{Limit}
+-- The messages of a stream, each with its packet, and what of it is none (RFC 4271, 4.1).
+use Rattle.std.specs.Prelude.{◌≡◌, ◌+◌, ◌-◌, ◌++◌, ◌↔◌, ℕ, List, [], ◌∷◌, length, map, drop}
+use Rattle.std.specs.Prelude.{Option, None, Some, MatchOption, IsTrue}
+use Rattle.std.specs.List.{AllByRecursion}
 use Rattle.bgp_wire.specs.declared.header.MessageType.{MessageType}
-use Rattle.bgp_wire.specs.Framing.{IsFraming, IsFrame, IsShort, IsFaulty, joined}
+use Rattle.bgp_wire.specs.Framing.{IsFrame}
 use Rattle.bgp_wire.specs.Header.{header_of, type_of}
 use Rattle.bgp_wire.specs.Verdict.{type_code}
+use Rattle.mrt.specs.Rules.{IsWholeRefresh}
 use Rattle.streams.specs.declared.connection.Run.{Run}
 use Rattle.bgp_recording.specs.declared.framing.Direction.{Direction}
 use Rattle.bgp_recording.specs.declared.framing.Direction.TheVariants.{Received, Sent}
+use Rattle.bgp_recording.specs.declared.framing.Framing.{Framing}
 use Rattle.bgp_recording.specs.declared.framing.Front.{Front}
+use Rattle.bgp_recording.specs.declared.framing.Front.TheVariants as fronts
 use Rattle.bgp_recording.specs.declared.framing.Rest.{Rest}
 use Rattle.bgp_recording.specs.declared.framing.Rest.TheVariants.{Short, BehindFault}
+use Rattle.bgp_recording.specs.declared.framing.Unshown.{Unshown}
 use Rattle.bgp_recording.specs.declared.message.Message.{Message}
+use Rattle.bgp_recording.specs.declared.pending.Moment.{Moment}
 use Rattle.bgp_recording.specs.Givers.{giver}
+use Rattle.bgp_recording.specs.Pieces.{Piece, Kept, PassedOver, IsPiece, kept, passed_over}
+use Rattle.bgp_recording.specs.Pieces.{stream_of, BeginsRefresh, IsShortOf, IsFaultyOf}
 
--- the message at the front of a stream, with its type, or the faulty header that stands there
-abbrev pub IsMessage : Limit → List ℕ → Option MessageType → List ℕ → Type 0
-IsMessage limit octets None front = IsFaulty limit octets × (front ≡ header_of octets)
-IsMessage limit octets (Some kind) front =
-    IsFrame limit front × (type_code kind ≡ type_of (header_of front))
-    × (octets ≡ front ++ drop (length front) octets)
+-- ---- what stands at the front of a stream
 
--- one of them, or less than a message
-abbrev pub IsFront : Limit → List ℕ → Option Front → Type 0
-IsFront limit octets None = IsShort limit octets
-IsFront limit octets (Some front) = IsMessage limit octets front.kind front.octets.now
+-- these octets, and then the others
+abbrev pub Begins : List ℕ → List ℕ → Type 0
+Begins octets front = octets ≡ front ++ drop (length front) octets
+
+-- a message with its type, a ROUTE-REFRESH that is passed over, a header with a fault; or less
+abbrev pub IsFront : Framing → List ℕ → Option Front → Type 0
+IsFront framing octets None = IsShortOf framing octets
+IsFront framing octets (Some (fronts.Message front kind)) =
+    IsFrame framing.limit front.now × (type_code kind ≡ type_of (header_of front.now))
+    × Begins octets front.now
+IsFront framing octets (Some (fronts.PassedOver front)) =
+    IsTrue framing.skips_refresh × IsWholeRefresh front.now × Begins octets front.now
+IsFront framing octets (Some (fronts.Fault header is_refresh)) =
+    IsFaultyOf framing octets × (header.now ≡ header_of octets)
+    × (IsTrue is_refresh ↔ BeginsRefresh octets)
+
+-- ---- the messages of a whole one
 
 -- the octets of each
 abbrev pub octets_of : List Message → List (List ℕ)
 octets_of messages = map (λ m. m.octets.now) messages
 
--- The messages are these frames, and the rest is short; or a header with a fault stands after
--- them, which is the last message, and its place is that of the first frame and their octets.
-abbrev pub IsRest : Limit → ℕ → List (List ℕ) → List ℕ → List Message → Rest → Type 0
-IsRest limit from frames left messages (Short count) =
-    (octets_of messages ≡ frames) × (count ≡ length left) × IsShort limit left
-IsRest limit from frames left messages (BehindFault place count) =
-    (octets_of messages ≡ frames ++ header_of left ∷ [])
-    × (place ≡ from + length (joined frames)) × (count ≡ length (drop 19 left))
-    × IsFaulty limit left
+-- The messages are those among the pieces, and the rest is short; or a header with a fault stands
+-- after the pieces, which is the last message.
+abbrev pub IsRest : Framing → List Piece → List ℕ → List Message → Rest → Type 0
+IsRest framing pieces left messages (Short count) =
+    (octets_of messages ≡ kept pieces) × (count ≡ length left) × IsShortOf framing left
+IsRest framing pieces left messages (BehindFault place count is_refresh) =
+    (octets_of messages ≡ kept pieces ++ header_of left ∷ [])
+    × (place ≡ length (stream_of pieces)) × (count ≡ length (drop 19 left))
+    × IsFaultyOf framing left × (IsTrue is_refresh ↔ BeginsRefresh left)
 
--- the messages of a stream from this place on, which has these octets, and what is left
+-- the messages of a stream that has these octets, and these pieces, and what of it is none
 pub record AreFramed
-    (limit : Limit) (from : ℕ) (octets : List ℕ) (messages : List Message) (rest : Rest)
-    : Type 0 where
-  pub frames : List (List ℕ)
+    (framing : Framing) (octets : List ℕ) (pieces : List Piece) (messages : List Message)
+    (unshown : Unshown) : Type 0 where
   pub left : List ℕ
-  pub framing : IsFraming limit octets frames left
-  pub is : IsRest limit from frames left messages rest
+  pub whole : octets ≡ stream_of pieces ++ left
+  pub each : AllByRecursion (IsPiece framing) pieces
+  pub passed : unshown.passed_over ≡ passed_over pieces
+  pub is : IsRest framing pieces left messages unshown.rest
 
 -- its type is what the header says, or none where it is a header with a fault
-abbrev pub HasKind : Limit → Message → Type 0
-HasKind limit message =
+abbrev pub HasKind : Framing → Message → Type 0
+HasKind framing message =
     MatchOption message.kind
-    ((length message.octets.now ≡ 19) × IsFaulty limit message.octets.now)
-    (λ kind. IsFrame limit message.octets.now
+    ((length message.octets.now ≡ 19) × IsFaultyOf framing message.octets.now)
+    (λ kind. IsFrame framing.limit message.octets.now
     × (type_code kind ≡ type_of (header_of message.octets.now)))
+
+-- ---- the packet of each
+
+-- This holds of each message and the place where it begins, if the first piece begins at this one.
+-- A message for which there is no piece is a header with a fault.
+abbrev pub EachAt : (ℕ → Message → Type 0) → ℕ → List Piece → List Message → Type 0
+EachAt Holds from [] [] = Unit {0}
+EachAt Holds from [] (m ∷ later) = Holds from m × (later ≡ [])
+EachAt Holds from (Kept octets ∷ pieces) [] = ⊥
+EachAt Holds from (Kept octets ∷ pieces) (m ∷ later) =
+    Holds from m × EachAt Holds (from + length m.octets.now) pieces later
+EachAt Holds from (PassedOver octets ∷ pieces) messages =
+    EachAt Holds (from + length octets) pieces messages
+
+abbrev pub moment_in : Message → Moment
+moment_in message = record { packet = message.packet; second = message.second }
 
 -- the place of the octet whose packet is that of a message: its last one, or its first
 abbrev pub stamped_at : Direction → ℕ → ℕ → ℕ
 stamped_at Received start count = start + count - 1
 stamped_at Sent start count = start
 
--- the messages of a stream from this place on have the packets that these runs tell
-abbrev pub AreStamped : Direction → List Run → ℕ → List Message → Type 0
-AreStamped direction runs from [] = Unit {0}
-AreStamped direction runs from (m ∷ later) =
-    (giver runs (stamped_at direction from (length m.octets.now))
-    ≡ Some record { packet = m.packet; second = m.second })
-    × AreStamped direction runs (from + length m.octets.now) later
+-- a message that begins at a place has the packet that these runs tell
+abbrev pub IsStamped : Direction → List Run → ℕ → Message → Type 0
+IsStamped direction runs from m =
+    giver runs (stamped_at direction from (length m.octets.now)) ≡ Some (moment_in m)
+
+-- a stream is split into these messages, each with its type and its packet
+pub record AreSplit
+    (framing : Framing) (direction : Direction) (runs : List Run) (octets : List ℕ)
+    (messages : List Message) (unshown : Unshown) : Type 0 where
+  pub pieces : List Piece
+  pub framed : AreFramed framing octets pieces messages unshown
+  pub kinds : AllByRecursion (HasKind framing) messages
+  pub stamped : EachAt (IsStamped direction runs) 0 pieces messages

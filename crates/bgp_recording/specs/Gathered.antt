@@ -1,16 +1,17 @@
 -- A connection as packets give it, and the messages in its streams.
-use Rattle.std.specs.Prelude.{◌≡◌, ◌≤◌, ◌+◌, ℕ, List, [], ◌∷◌, length, Option, IfSome}
+use Rattle.std.specs.Prelude.{◌≡◌, ◌≤◌, ◌+◌, ℕ, List, length, Option, IfSome}
 use Rattle.std.specs.List.{AllByRecursion}
-use Rattle.bgp_wire.specs.declared.header.Limit.{Limit}
 use Rattle.streams.specs.declared.connection.Connection.{Connection}
 use Rattle.streams.specs.declared.connection.End.{End}
 use Rattle.streams.specs.declared.connection.Run.{Run}
 use Rattle.streams.specs.declared.connection.Stream.{Stream}
-use Rattle.bgp_recording.specs.declared.framing.Rest.{Rest}
+use Rattle.bgp_recording.specs.declared.framing.Framing.{Framing}
+use Rattle.bgp_recording.specs.declared.framing.Unshown.{Unshown}
 use Rattle.bgp_recording.specs.declared.message.Message.{Message}
 use Rattle.bgp_recording.specs.declared.pending.Moment.{Moment}
-use Rattle.bgp_recording.specs.Framed.{AreFramed, HasKind}
+use Rattle.bgp_recording.specs.Framed.{AreFramed, EachAt, HasKind, moment_in}
 use Rattle.bgp_recording.specs.Givers.{given_by, IsNotEmpty, IsCame, IsMade, own_end}
+use Rattle.bgp_recording.specs.Pieces.{Piece}
 use Rattle.bgp_recording.specs.Told.{IsClock}
 
 -- a packet's second is that of the clock, and the packet isn't before this one
@@ -37,33 +38,31 @@ pub record IsClocked (connection : Connection) : Type 0 where
   pub ends : IfSome connection.end
       (λ end. GoesFrom clock connection.packet end.packet end.second)
 
-abbrev pub moment_in : Message → Moment
-moment_in message = record { packet = message.packet; second = message.second }
-
--- the messages from this place on have the packets by which they came, with all before them
-abbrev pub AreCame : List Run → ℕ → List Message → Type 0
-AreCame runs from [] = Unit {0}
-AreCame runs from (m ∷ later) =
-    IsCame runs (from + length m.octets.now) (moment_in m)
-    × AreCame runs (from + length m.octets.now) later
+-- The messages of these pieces, from this place on, have the packets by which they came, with all
+-- octets before them, also those that are passed over.
+abbrev pub AreCame : List Run → ℕ → List Piece → List Message → Type 0
+AreCame runs from pieces messages =
+    EachAt (λ place m. IsCame runs (place + length m.octets.now) (moment_in m)) from pieces messages
 
 -- those by which they are known to have been made
-abbrev pub AreMade : List Run → Option Moment → ℕ → List Message → Type 0
-AreMade runs end from [] = Unit {0}
-AreMade runs end from (m ∷ later) =
-    IsMade runs end from (moment_in m) × AreMade runs end (from + length m.octets.now) later
+abbrev pub AreMade : List Run → Option Moment → ℕ → List Piece → List Message → Type 0
+AreMade runs end from pieces messages =
+    EachAt (λ place m. IsMade runs end place (moment_in m)) from pieces messages
 
 -- what a stream tells that the local system received
 pub record IsHeard
-    (limit : Limit) (stream : Stream) (messages : List Message) (rest : Rest) : Type 0 where
-  pub framed : AreFramed limit 0 stream.octets.now messages rest
-  pub kinds : AllByRecursion (HasKind limit) messages
-  pub came : AreCame stream.runs.now 0 messages
+    (framing : Framing) (stream : Stream) (messages : List Message) (unshown : Unshown)
+    : Type 0 where
+  pub pieces : List Piece
+  pub framed : AreFramed framing stream.octets.now pieces messages unshown
+  pub kinds : AllByRecursion (HasKind framing) messages
+  pub came : AreCame stream.runs.now 0 pieces messages
 
 -- what a stream tells that the local system sent, with the end of the connection
 pub record IsSaid
-    (limit : Limit) (stream : Stream) (end : Option End) (messages : List Message) (rest : Rest)
-    : Type 0 where
-  pub framed : AreFramed limit 0 stream.octets.now messages rest
-  pub kinds : AllByRecursion (HasKind limit) messages
-  pub made : AreMade stream.runs.now (own_end end) 0 messages
+    (framing : Framing) (stream : Stream) (end : Option End) (messages : List Message)
+    (unshown : Unshown) : Type 0 where
+  pub pieces : List Piece
+  pub framed : AreFramed framing stream.octets.now pieces messages unshown
+  pub kinds : AllByRecursion (HasKind framing) messages
+  pub made : AreMade stream.runs.now (own_end end) 0 pieces messages

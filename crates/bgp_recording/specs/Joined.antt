@@ -1,12 +1,18 @@
 -- The messages of the made records as the streams that they stand in.
-use Rattle.std.specs.Prelude.{◌≡◌, ◌+◌, ◌++◌, ℕ, List, [], ◌∷◌, length}
+use Rattle.std.specs.Prelude.{◌≡◌, ◌+◌, ◌++◌, ℕ, List, [], ◌∷◌, length, IsTrue}
+use Rattle.std.specs.List.{AllByRecursion}
 use Rattle.bgp_prefix.specs.Shown.{ShownRecord, Received, Sent, Changed}
-use Rattle.bgp_wire.specs.declared.header.Limit.{Limit}
+use Rattle.bgp_wire.specs.Framing.{joined}
+use Rattle.mrt.specs.Rules.{IsWholeRefresh}
 use Rattle.streams.specs.declared.connection.Connection.{Connection}
 use Rattle.bgp_recording.specs.declared.entry.Entry.{Entry}
+use Rattle.bgp_recording.specs.declared.framing.Framing.{Framing}
+use Rattle.bgp_recording.specs.declared.framing.Framings.{Framings}
 use Rattle.bgp_recording.specs.declared.framing.Rest.{Rest}
 use Rattle.bgp_recording.specs.declared.framing.Rest.TheVariants.{Short, BehindFault}
+use Rattle.bgp_recording.specs.declared.framing.Unshown.{Unshown}
 use Rattle.bgp_recording.specs.Captured.{records_of}
+use Rattle.bgp_recording.specs.Pieces.{Piece, Kept, PassedOver, kept, passed_over, stream_of}
 use Rattle.bgp_recording.specs.Recorded.{IsRecorded}
 
 -- the octets of the received messages, one after another
@@ -23,24 +29,38 @@ sent_octets (Received second octets ∷ later) = sent_octets later
 sent_octets (Sent second octets ∷ later) = octets ++ sent_octets later
 sent_octets (Changed second old new ∷ later) = sent_octets later
 
--- so many octets are left, after a faulty header at the end of the messages if one is told
-abbrev pub IsLeft : List ℕ → Rest → List ℕ → Type 0
-IsLeft messages (Short count) left = count ≡ length left
-IsLeft messages (BehindFault place count) left =
-    (count ≡ length left) × (length messages ≡ place + 19)
+-- So many octets are left; after a faulty header at the end of the pieces, which is kept, if one is
+-- told.
+abbrev pub IsLeft : List Piece → Rest → List ℕ → Type 0
+IsLeft pieces (Short count) left = count ≡ length left
+IsLeft pieces (BehindFault place count is_refresh) left =
+    (count ≡ length left) × (length (stream_of pieces) ≡ place + 19)
 
--- the messages, and what is left after them, are the stream
-pub record IsWhole (stream messages : List ℕ) (rest : Rest) : Type 0 where
+-- what is passed over is a whole ROUTE-REFRESH, and nothing is where none is to be
+abbrev pub MayStand : Framing → Piece → Type 0
+MayStand framing (Kept octets) = Unit {0}
+MayStand framing (PassedOver octets) = IsTrue framing.skips_refresh × IsWholeRefresh octets
+
+-- Pieces, kept or passed over, and what is left after them, are the stream. Those that are kept are
+-- the messages, and as many as are told are passed over.
+pub record IsWhole (framing : Framing) (stream messages : List ℕ) (unshown : Unshown)
+    : Type 0 where
+  pub pieces : List Piece
   pub left : List ℕ
-  pub joined : stream ≡ messages ++ left
-  pub is : IsLeft messages rest left
+  pub whole : stream ≡ stream_of pieces ++ left
+  pub are_kept : messages ≡ joined (kept pieces)
+  pub each : AllByRecursion (MayStand framing) pieces
+  pub passed : unshown.passed_over ≡ passed_over pieces
+  pub is : IsLeft pieces unshown.rest left
 
 -- The received messages of records that tell a connection are what the peer sent, the sent ones
--- what the local system did: no octet of a stream is lost, but those that are told to be left.
+-- what the local system did: no octet of a stream is lost, but those that are told to be left, and
+-- the messages that are told to be passed over.
 abbrev pub MadeRecordsAreTheStreams : Type 0
 MadeRecordsAreTheStreams =
-    (limit : Limit) (within : ℕ) (connection : Connection) (entries : List Entry)
-    (received_rest sent_rest : Rest) →
-    IsRecorded limit within connection entries received_rest sent_rest →
-    IsWhole connection.received.octets.now (received_octets (records_of entries)) received_rest
-    × IsWhole connection.sent.octets.now (sent_octets (records_of entries)) sent_rest
+    (framings : Framings) (within : ℕ) (connection : Connection) (entries : List Entry)
+    (received sent : Unshown) →
+    IsRecorded framings within connection entries received sent →
+    IsWhole framings.received connection.received.octets.now
+    (received_octets (records_of entries)) received
+    × IsWhole framings.sent connection.sent.octets.now (sent_octets (records_of entries)) sent

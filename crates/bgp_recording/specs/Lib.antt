@@ -10,6 +10,7 @@ pub mod MadeOrder
 pub mod Told
 pub mod Leads
 pub mod Givers
+pub mod Pieces
 pub mod Framed
 pub mod Gathered
 pub mod Recorded

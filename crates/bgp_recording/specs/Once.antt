@@ -1,11 +1,11 @@
 -- What is made of a connection is one thing, whoever makes it.
 use Rattle.std.specs.Prelude.{◌≡◌, ℕ, List, map}
-use Rattle.bgp_wire.specs.declared.header.Limit.{Limit}
 use Rattle.streams.specs.Given.{giver_at}
 use Rattle.streams.specs.declared.connection.Connection.{Connection}
 use Rattle.streams.specs.declared.connection.Stream.{Stream}
 use Rattle.bgp_recording.specs.declared.entry.Entry.{Entry}
-use Rattle.bgp_recording.specs.declared.framing.Rest.{Rest}
+use Rattle.bgp_recording.specs.declared.framing.Framings.{Framings}
+use Rattle.bgp_recording.specs.declared.framing.Unshown.{Unshown}
 use Rattle.bgp_recording.specs.Gathered.{IsClocked}
 use Rattle.bgp_recording.specs.Recorded.{IsRecordedInOrder}
 use Rattle.bgp_recording.specs.Tells.{numbered_of}
@@ -24,14 +24,14 @@ pub record TellTheSame (one other : Connection) : Type 0 where
   pub sent : AreSame one.sent other.sent
   pub end : one.end ≡ other.end
 
--- Whatever is recorded of two such connections at one limit, within as many seconds, are the same
--- records, by the same packets, and the same is left.
+-- Whatever is recorded of two such connections by the same rules of framing, within as many seconds,
+-- are the same records, by the same packets, and the same is in none of them.
 abbrev pub ConnectionsAreRecordedOnce : Type 0
 ConnectionsAreRecordedOnce =
-    (limit : Limit) (within : ℕ) (one other : Connection) (entries others : List Entry)
-    (received_rest sent_rest other_received_rest other_sent_rest : Rest) →
+    (framings : Framings) (within : ℕ) (one other : Connection) (entries others : List Entry)
+    (received sent other_received other_sent : Unshown) →
     TellTheSame one other → IsClocked one →
-    IsRecordedInOrder limit within one entries received_rest sent_rest →
-    IsRecordedInOrder limit within other others other_received_rest other_sent_rest →
+    IsRecordedInOrder framings within one entries received sent →
+    IsRecordedInOrder framings within other others other_received other_sent →
     (map numbered_of entries ≡ map numbered_of others)
-    × (received_rest ≡ other_received_rest) × (sent_rest ≡ other_sent_rest)
+    × (received ≡ other_received) × (sent ≡ other_sent)

@@ -7,7 +7,7 @@
 //! system shows that it hadn't read them before.
 //!
 //! ```text
-//! let made = make_records(alloc, &connection, Limit::Plain, 10)?;
+//! let made = make_records(alloc, &connection, Framings::of_session(&session), 10)?;
 //! for entry in &made.entries {
 //!     println!(rt; "packet {}: {:?}", entry.packet, entry.record)?;
 //! }
@@ -28,7 +28,7 @@ mod state;
 mod waiting;
 
 pub use entry::Entry;
-pub use framing::Rest;
+pub use framing::{Framing, Framings, Rest, Unshown};
 pub use laws::{
     connections_are_recorded_once, made_records_are_read, made_records_are_the_streams,
 };

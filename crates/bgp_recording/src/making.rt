@@ -6,11 +6,10 @@ ghost use Rattle.bgp_recording.specs.Gathered.{IsCovered, IsClocked, IsHeard, Is
 ghost use Rattle.bgp_recording.specs.Recorded.{IsRecordedInOrder};
 
 use crate::entry::Entry;
-use crate::framing::{Direction, Framed, Rest, split_messages};
+use crate::framing::{Direction, Framed, Framing, Framings, Unshown, split_messages};
 use crate::givers::{earliest, latest};
 use crate::ordering::{Exchange, made_entries};
 use crate::pending::Moment;
-use bgp_wire::Limit;
 use std::alloc::{AllocError, Allocator, Global};
 use streams::{Connection, End, Side, Stream};
 
@@ -19,10 +18,10 @@ use streams::{Connection, End, Side, Stream};
 pub struct Recording<'a, A: Allocator = Global> {
     /// The records, in the made order.
     pub entries: Vec<Entry<'a>, A>,
-    /// What is left of the octets that the local system received.
-    pub received_rest: Rest,
-    /// What is left of those that it sent.
-    pub sent_rest: Rest,
+    /// What of the octets that the local system received is in none of them.
+    pub received: Unshown,
+    /// What of those that it sent.
+    pub sent: Unshown,
 }
 
 /// The end, where it is the local system's own.
@@ -42,51 +41,52 @@ fn own_end(end: Option<End>) -> Option<Moment>
 /// The messages that the local system received, each with the packet by which it came.
 fn received_messages<'a, A: Allocator + Copy>(
     alloc: A,
-    limit: Limit,
+    framing: Framing,
     stream: &Stream<'a>,
 ) -> Result<Framed<'a, A>, AllocError>
     requires { IsCovered stream.now }
-    ensures { IfOk result (λ framed. IsHeard limit stream.now framed.messages.items framed.rest) }
+    ensures { IfOk result (λ framed.
+        IsHeard framing stream.now framed.messages.items framed.unshown) }
 {
     let givers = latest(alloc, stream.runs)?;
-    let framed = split_messages(alloc, limit, stream.octets, &givers, Direction::Received)?;
+    let framed = split_messages(alloc, framing, stream.octets, &givers, Direction::Received)?;
     Ok(framed)
 }
 
 /// Those that it sent, each with the packet by which it is known to have been made.
 fn sent_messages<'a, A: Allocator + Copy>(
     alloc: A,
-    limit: Limit,
+    framing: Framing,
     stream: &Stream<'a>,
     end: Option<End>,
 ) -> Result<Framed<'a, A>, AllocError>
     requires { IsCovered stream.now }
     ensures { IfOk result (λ framed.
-        IsSaid limit stream.now end framed.messages.items framed.rest) }
+        IsSaid framing stream.now end framed.messages.items framed.unshown) }
 {
     let givers = earliest(alloc, stream.runs, own_end(end))?;
-    let framed = split_messages(alloc, limit, stream.octets, &givers, Direction::Sent)?;
+    let framed = split_messages(alloc, framing, stream.octets, &givers, Direction::Sent)?;
     Ok(framed)
 }
 
-/// The records that tell a connection whose packets' seconds don't fall, its messages framed at
-/// this limit. The order is allowed where a received message is handled within so many seconds
-/// after it came. The session begins in Idle, and the changes of state are those to which the order
-/// leads.
+/// The records that tell a connection whose packets' seconds don't fall, the messages of either
+/// direction framed by its rules. The order is allowed where a received message is handled within so
+/// many seconds after it came. The session begins in Idle, and the changes of state are those to
+/// which the order leads.
 pub fn make_records<'a, A: Allocator + Copy>(
     alloc: A,
     connection: &Connection<'a>,
-    limit: Limit,
+    framings: Framings,
     within: u16,
 ) -> Result<Recording<'a, A>, AllocError>
     requires received { IsCovered connection.now.received }
     requires sent { IsCovered connection.now.sent }
     // Where the packets' seconds don't fall, the records tell the connection.
-    ensures told { IfOk result (λ made. IsClocked connection.now → IsRecordedInOrder limit within
-        connection.now made.entries.items made.received_rest made.sent_rest) }
+    ensures told { IfOk result (λ made. IsClocked connection.now → IsRecordedInOrder framings
+        within connection.now made.entries.items made.received made.sent) }
 {
-    let received = received_messages(alloc, limit, &connection.received)?;
-    let sent = sent_messages(alloc, limit, &connection.sent, connection.end)?;
+    let received = received_messages(alloc, framings.received, &connection.received)?;
+    let sent = sent_messages(alloc, framings.sent, &connection.sent, connection.end)?;
     let exchange = Exchange {
         opened_by: connection.opened_by,
         packet: connection.packet,
@@ -98,7 +98,7 @@ pub fn make_records<'a, A: Allocator + Copy>(
     let entries = made_entries(alloc, exchange, within)?;
     Ok(Recording {
         entries,
-        received_rest: received.rest,
-        sent_rest: sent.rest,
+        received: received.unshown,
+        sent: sent.unshown,
     })
 }

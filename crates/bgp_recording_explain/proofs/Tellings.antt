@@ -5,7 +5,7 @@ use Rattle.packets.specs.Packet.{Recorded}
 use Rattle.streams.specs.Connections.{numbered}
 use Rattle.streams.specs.Passed.{Segment}
 use Rattle.mrt.specs.declared.sink.Sink as sinks
-use Rattle.bgp_prefix.specs.RouteRefresh.{is_offered}
+use Rattle.bgp_prefix.specs.declared.session.RouteRefresh.TheVariants as refreshes
 use Rattle.bgp_open.specs.declared.config.Config.{Config}
 use Rattle.bgp_text.specs.Lines.{Writes}
 use Rattle.bgp_text.specs.declared.lines.Lines.{Lines}
@@ -29,7 +29,7 @@ module _ {T : Type 0} {sink : sinks.Ghosts T} (config : Config) (wanted : Import
     (a b : Lines T sink) (old new : List Remark) (status : ℕ) where
   -- it was explained
   pub was_explained : {Z : Type 0} (made : Recording Z) → TellsOne wanted number packets segments made
-      → (IsTrue (is_offered wanted.selection.session.refresh) → AllByRecursion IsNoRefresh (records_of made.entries.items))
+      → (wanted.selection.session.refresh ≡ refreshes.Refused → AllByRecursion IsNoRefresh (records_of made.entries.items))
       → PutsExplained config named made.entries.items (notes_of made) a b old new status
       → Puts a b old new status (IsToldAs config wanted packets segments number named)
   was_explained made tells without puts = record {
@@ -70,10 +70,10 @@ module _ {T : Type 0} {sink : sinks.Ghosts T} (config : Config) (wanted : Import
 
   -- or it has a ROUTE-REFRESH
   pub was_refreshed : {Z : Type 0} (refusal : Refusal) (made : Recording Z) → TellsOne wanted number packets segments made
-      → IsTrue (is_offered wanted.selection.session.refresh) → IsRefreshIn made.entries.items made.received_rest made.sent_rest (Some refusal)
+      → wanted.selection.session.refresh ≡ refreshes.Refused → IsRefreshIn made.entries.items made.received.rest made.sent.rest (Some refusal)
       → Writes a b (refusal_line refusal) → status ≡ refused_status refusal → AddsTold old new (IsHelp named refusal)
       → Puts a b old new status (IsToldAs config wanted packets segments number named)
-  was_refreshed refusal made tells may is wrote told adds = record {
+  was_refreshed refusal made tells refuses is wrote told adds = record {
     text = refusal_line refusal;
     own = adds.own;
     wrote = wrote;
@@ -87,7 +87,7 @@ module _ {T : Type 0} {sink : sinks.Ghosts T} (config : Config) (wanted : Import
           notes = notes_of made;
           chosen = tells.answered;
           made = is_made wanted number packets segments made tells;
-          may = may;
+          refuses = refuses;
           is = is;
         });
         helps = adds.is_told;

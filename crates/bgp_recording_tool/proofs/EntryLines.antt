@@ -5,20 +5,20 @@ use Rattle.std.specs.List.{AllByRecursion}
 use Rattle.bgp_prefix.specs.Shown.{ShownRecord, Received, Sent, Changed}
 use Rattle.bgp_prefix.specs.declared.session.Session.{Session}
 use Rattle.streams.specs.declared.connection.Connection.{Connection}
-use Rattle.bgp_wire.specs.Header.{limit_with}
 use Rattle.bgp_text.specs.Capture.{IsRecordLine, AreRecordLines}
 use Rattle.bgp_recording.specs.Captured.{records_of}
 use Rattle.bgp_recording.specs.Recorded.{IsRecorded}
 use Rattle.bgp_recording.specs.declared.entry.Entry.{Entry}
-use Rattle.bgp_recording.specs.declared.framing.Rest.{Rest}
-use Rattle.bgp_recording.proofs.Capturing.{made_are_allowed}
+use Rattle.bgp_recording.specs.declared.framing.Unshown.{Unshown}
+use Rattle.bgp_recording.specs.Pieces.{framings_of}
+use Rattle.bgp_recording.proofs.Capturing.{made_are_allowed_calmly}
 use Rattle.bgp_import.specs.Captures.{shown_by}
 use Rattle.bgp_import.proofs.Entries.{from_here}
 use Rattle.bgp_recording_tool.specs.Decoding.{HasLine}
-use Rattle.bgp_recording_tool.specs.Options.{calm}
+use Rattle.mrt.specs.RefreshLaws.{without_refresh}
 
 -- a line is the same, whether the session may have a ROUTE-REFRESH or not
-pub line_same : (session : Session) (shown : ShownRecord) (line : List ℕ) → IsRecordLine (calm session) shown line → IsRecordLine session shown line
+pub line_same : (session : Session) (shown : ShownRecord) (line : List ℕ) → IsRecordLine (without_refresh session) shown line → IsRecordLine session shown line
 line_same session (Received second octets) line is = is
 line_same session (Sent second octets) line is = is
 line_same session (Changed second old new) line is = is
@@ -42,6 +42,6 @@ no_line_left session entries i past text so_far =
     (so_far [] (subst (λ (es : List Entry). AreRecordLines session (records_of es) []) (sym (drop_of_length-le entries past)) refl))
 
 -- made records have lines
-pub have_lines : (session : Session) (within : ℕ) (connection : Connection) (entries : List Entry) (received_rest sent_rest : Rest)
-    → IsRecorded (limit_with session.extended) within connection entries received_rest sent_rest → AllByRecursion (HasLine session) entries
-have_lines session within connection entries received_rest sent_rest recorded = made_are_allowed (calm session) within connection entries received_rest sent_rest (λ yes. cc) recorded
+pub have_lines : (session : Session) (within : ℕ) (connection : Connection) (entries : List Entry) (received_unshown sent_unshown : Unshown)
+    → IsRecorded (framings_of session) within connection entries received_unshown sent_unshown → AllByRecursion (HasLine session) entries
+have_lines session within connection entries received_unshown sent_unshown recorded = made_are_allowed_calmly session within connection entries received_unshown sent_unshown recorded

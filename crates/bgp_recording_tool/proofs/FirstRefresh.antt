@@ -1,9 +1,8 @@
 -- A capture that is read for a session without ROUTE-REFRESH is refused at the first of them for one which may have it.
-use Rattle.std.proofs.Common.{◌≡◌, ◌∙◌, ◌⊎◌, ◌||◌, ◌++◌, ℕ, Bool, true, false, List, [], ◌∷◌, length, Option, None, Some, IsTrue, if◌then◌else◌, nat_eq, refl, sym, ap, subst, inl, inr, arith, append_assoc, append-nil}
+use Rattle.std.proofs.Common.{◌≡◌, ◌∙◌, ◌⊎◌, ◌||◌, ◌++◌, ℕ, Bool, true, false, List, [], ◌∷◌, length, Option, None, Some, if◌then◌else◌, nat_eq, refl, sym, ap, subst, inl, inr, arith, append_assoc, append-nil}
 use Rattle.std.proofs.lemmas.Bool.{cases_lt, cases_eq}
 use Rattle.std.specs.List.{AllByRecursion, list_any}
 use Rattle.bgp_prefix.specs.Shown.{ShownRecord, Received, Sent, Changed, second_of}
-use Rattle.bgp_prefix.specs.RouteRefresh.{is_offered}
 use Rattle.bgp_prefix.specs.declared.session.Session.{Session}
 use Rattle.bgp_prefix.specs.declared.session.RouteRefresh.{RouteRefresh}
 use Rattle.bgp_prefix.specs.declared.session.RouteRefresh.TheVariants as refreshes
@@ -18,8 +17,8 @@ use Rattle.mrt.specs.declared.fault.FaultKind.TheVariants as kinds
 use Rattle.mrt.proofs.OneReading.{judged_on}
 use Rattle.mrt.proofs.TakenOut.{IsSame, never_refused, passed_over_by}
 use Rattle.bgp_recording.specs.Captured.{IsNoRefresh}
-use Rattle.bgp_recording_tool.specs.Headline.{IsFirstRefresh, PassesNone}
-use Rattle.bgp_recording_tool.specs.Options.{calm}
+use Rattle.bgp_recording_tool.specs.Headline.{IsFirstRefresh}
+use Rattle.mrt.specs.RefreshLaws.{without_refresh}
 use Rattle.bgp_recording_tool.proofs.Calm.{each_but_one}
 
 -- ---- whether a record is one
@@ -135,7 +134,7 @@ not_held H (one ∷ before) after rule judgement denied not (inr there) holds =
 
 module _ (session : Session) (may : session.refresh ≡ refreshes.Refused) (last : Option ℕ) (place : Place) where
   abbrev Calmly : Rule → Type 0
-  Calmly = Holds (calm session) last place
+  Calmly = Holds (without_refresh session) last place
 
   abbrev Really : Rule → Type 0
   Really = Holds session last place
@@ -231,7 +230,7 @@ module _ (session : Session) (may : session.refresh ≡ refreshes.Refused) (last
   content = content_in (header_of octets) (body_of octets)
 
   -- it is refused
-  refused_here : IsJudged (calm session) last octets OfSession → ¬ IsNoRefresh (shown_of octets) → IsJudged session last octets (Refused kinds.RouteRefresh)
+  refused_here : IsJudged (without_refresh session) last octets OfSession → ¬ IsNoRefresh (shown_of octets) → IsJudged session last octets (Refused kinds.RouteRefresh)
   refused_here judged is =
       let known = not_held (Calmly session may last here) (Nothing ∷ CutHeader ∷ OtherTypeCut ∷ OtherType ∷ LongBody ∷ CutBody ∷ []) (NoFields ∷ OtherSession ∷ content_rules) OtherSubtype OfSession refl refl judged in
       let plain = not_held (Calmly session may last here) (Nothing ∷ CutHeader ∷ OtherTypeCut ∷ OtherType ∷ LongBody ∷ CutBody ∷ OtherSubtype ∷ NoFields ∷ OtherSession ∷ [])
@@ -241,7 +240,7 @@ module _ (session : Session) (may : session.refresh ≡ refreshes.Refused) (last
       by_it session may last here before_refresh after_refresh OfSession refl refl (both.0, both.1, may) judged
 
   -- and it isn't
-  read_here : IsJudged (calm session) last octets OfSession → IsNoRefresh (shown_of octets) → IsJudged session last octets OfSession
+  read_here : IsJudged (without_refresh session) last octets OfSession → IsNoRefresh (shown_of octets) → IsJudged session last octets OfSession
   read_here judged not =
       without_it session may last here before_refresh after_refresh OfSession refl refl
       (λ holds. no_refresh_by _ _ _ _ (header_of octets).second (old_state_in content) (new_state_in content) content
@@ -285,7 +284,7 @@ tail_of [] = []
 tail_of (shown ∷ later) = later
 
 module _ (session : Session) (may : session.refresh ≡ refreshes.Refused) (refresh : ShownRecord) (later : List ShownRecord) (is_one : ¬ IsNoRefresh refresh) where
-  parted : (last : Option ℕ) (pieces : List Piece) (front : List ShownRecord) → ArePieces (calm session) last pieces
+  parted : (last : Option ℕ) (pieces : List Piece) (front : List ShownRecord) → ArePieces (without_refresh session) last pieces
       → records_of pieces ≡ front ++ (refresh ∷ later) → AllByRecursion IsNoRefresh front → Parted session last pieces front
   parted last [] front each shown none = absurd (empty_has front later refresh shown)
   parted last (Other octets ∷ pieces) front each shown none =
@@ -297,7 +296,7 @@ module _ (session : Session) (may : session.refresh ≡ refreshes.Refused) (refr
       record { whole = each.0.whole; judged = decided_before session may last (place_of octets) before_refresh after_refresh SkippedSession refl refl each.0.judged }
       (λ more. refl) (parted last pieces front each.1 shown none)
   parted last (PassedOver octets ∷ pieces) front each shown none =
-      let passed = (passed_over_by (calm session) last (place_of octets) rules each.0.judged).0 in absurd (cc)
+      let passed = (passed_over_by (without_refresh session) last (place_of octets) rules each.0.judged).0 in absurd (cc)
   parted last (Shown octets ∷ pieces) [] each shown none =
       let same : shown_of octets ≡ refresh = ap (λ (rs : List ShownRecord). head_or refresh rs) shown in record {
         before = [];
@@ -323,7 +322,7 @@ module _ (session : Session) (may : session.refresh ≡ refreshes.Refused) (refr
         judged = more.judged;
       }
 
-pub first_refused : (session : Session) (octets : List ℕ) (records front : List ShownRecord) → Spells (calm session) octets records → session.refresh ≡ refreshes.Refused
+pub first_refused : (session : Session) (octets : List ℕ) (records front : List ShownRecord) → Spells (without_refresh session) octets records → session.refresh ≡ refreshes.Refused
     → IsFirstRefresh records front → (offset : ℕ) × IsFirstFault session octets front kinds.RouteRefresh offset
 first_refused session octets records front spells may first =
     let both = parted session may first.refresh first.later first.is_one None spells.pieces front spells.text.each (sym spells.shown ∙ first.whole) first.none_before in (
@@ -345,18 +344,18 @@ first_refused session octets records front spells may first =
 -- ---- and no other fault is the first
 
 module _ (one : OneFault) (never : NeverBoth) (session : Session) (octets : List ℕ) (records front : List ShownRecord) (kind : FaultKind) (offset : ℕ)
-    (spells : Spells (calm session) octets records) (reads : (IsTrue (is_offered session.refresh) → AllByRecursion IsNoRefresh records) → Spells session octets records)
-    (without : PassesNone session records) (fault : IsFirstFault session octets front kind offset) where
+    (spells : session.refresh ≡ refreshes.Refused → Spells (without_refresh session) octets records)
+    (reads : (session.refresh ≡ refreshes.Refused → AllByRecursion IsNoRefresh records) → Spells session octets records) (fault : IsFirstFault session octets front kind offset) where
   -- where they read as these records there is none
-  read_whole : {X : Type 0} → (IsTrue (is_offered session.refresh) → AllByRecursion IsNoRefresh records) → X
+  read_whole : {X : Type 0} → (session.refresh ≡ refreshes.Refused → AllByRecursion IsNoRefresh records) → X
   read_whole none = absurd (never session octets records front kind offset (reads none) fault)
 
   alone_by : (refresh : RouteRefresh) → session.refresh ≡ refresh → (kind ≡ kinds.RouteRefresh) × (session.refresh ≡ refreshes.Refused) × IsFirstRefresh records front
-  alone_by refreshes.NotOffered is = read_whole (λ may. let denied : IsTrue false = subst (λ (r : RouteRefresh). IsTrue (is_offered r)) is may in absurd (cc))
-  alone_by refreshes.PassedOver is = read_whole (λ may. without is)
+  alone_by refreshes.NotOffered is = read_whole (λ refused. absurd (let both = sym is ∙ refused in cc))
+  alone_by refreshes.PassedOver is = read_whole (λ refused. absurd (let both = sym is ∙ refused in cc))
   alone_by refreshes.Refused is = elim (first_or_none records) [
-    | inl none ↦ read_whole (λ may. none)
-    | inr some ↦ let refused = first_refused session octets records some.0 spells is some.1 in
+    | inl none ↦ read_whole (λ refused. none)
+    | inr some ↦ let refused = first_refused session octets records some.0 (spells is) is some.1 in
         let same = one session octets front some.0 kind kinds.RouteRefresh offset refused.0 fault refused.1 in
         (same.1, is, subst (λ (f : List ShownRecord). IsFirstRefresh records f) (sym same.0) some.1)
   ]

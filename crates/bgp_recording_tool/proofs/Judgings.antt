@@ -1,10 +1,10 @@
 -- What is told of one connection, by what was made of it and what is answered of that.
-use Rattle.std.proofs.Common.{◌≡◌, ◌∙◌, ◌++◌, ℕ, List, [], Option, Some, IsTrue, refl, sym, ap, append-nil, length, reverse, inl, inr}
+use Rattle.std.proofs.Common.{◌≡◌, ◌∙◌, ◌++◌, ℕ, List, [], Option, Some, refl, sym, ap, append-nil, length, reverse, inl, inr}
 use Rattle.std.specs.List.{AllByRecursion}
 use Rattle.packets.specs.Packet.{Recorded}
 use Rattle.streams.specs.Connections.{numbered}
 use Rattle.streams.specs.Passed.{Segment}
-use Rattle.bgp_prefix.specs.RouteRefresh.{is_offered}
+use Rattle.bgp_prefix.specs.declared.session.RouteRefresh.TheVariants as refreshes
 use Rattle.bgp_open.specs.declared.config.Config.{Config}
 use Rattle.bgp_judge.specs.Verdict.{VerdictValue, HasVerdict}
 use Rattle.bgp_recording.specs.Captured.{IsNoRefresh, records_of}
@@ -27,7 +27,7 @@ is_made wanted number packets segments made tells = record { recorded = tells.re
 module _ (config : Config) (wanted : Import) (packets : List Recorded) (segments : List Segment) (number named : Option ℕ) where
   -- it was judged
   is_judged : {Z : Type 0} (made : Recording Z) → TellsOne wanted number packets segments made → (verdict : VerdictValue)
-      → (IsTrue (is_offered wanted.selection.session.refresh) → AllByRecursion IsNoRefresh (records_of made.entries.items))
+      → (wanted.selection.session.refresh ≡ refreshes.Refused → AllByRecursion IsNoRefresh (records_of made.entries.items))
       → HasVerdict config (records_of made.entries.items) verdict
       → IsJudged config wanted packets segments number named verdict (remarks_on named made.entries.items (notes_of made) verdict)
   is_judged made tells verdict without is = record {
@@ -43,7 +43,7 @@ module _ (config : Config) (wanted : Import) (packets : List Recorded) (segments
 
   -- and what there is to tell of it was added
   pub adds_judged : {Z : Type 0} (old new : List Remark) (made : Recording Z) → TellsOne wanted number packets segments made → (verdict : VerdictValue)
-      → (IsTrue (is_offered wanted.selection.session.refresh) → AllByRecursion IsNoRefresh (records_of made.entries.items))
+      → (wanted.selection.session.refresh ≡ refreshes.Refused → AllByRecursion IsNoRefresh (records_of made.entries.items))
       → HasVerdict config (records_of made.entries.items) verdict
       → new ≡ old ++ remarks_on named made.entries.items (notes_of made) verdict
       → AddsTold old new (IsTold config wanted packets segments number named (Judged verdict))
@@ -64,9 +64,9 @@ module _ (config : Config) (wanted : Import) (packets : List Recorded) (segments
 
   -- or it has a ROUTE-REFRESH
   pub adds_refresh : {Z : Type 0} (old new : List Remark) (refusal : Refusal) (made : Recording Z) → TellsOne wanted number packets segments made
-      → IsTrue (is_offered wanted.selection.session.refresh) → IsRefreshIn made.entries.items made.received_rest made.sent_rest (Some refusal)
+      → wanted.selection.session.refresh ≡ refreshes.Refused → IsRefreshIn made.entries.items made.received.rest made.sent.rest (Some refusal)
       → AddsTold old new (IsHelp named refusal) → AddsTold old new (IsTold config wanted packets segments number named (Refused refusal))
-  adds_refresh old new refusal made tells may is adds = record {
+  adds_refresh old new refusal made tells refuses is adds = record {
     own = adds.own;
     added = adds.added;
     is_told = record {
@@ -76,7 +76,7 @@ module _ (config : Config) (wanted : Import) (packets : List Recorded) (segments
         notes = notes_of made;
         chosen = tells.answered;
         made = is_made wanted number packets segments made tells;
-        may = may;
+        refuses = refuses;
         is = is;
       });
       helps = adds.is_told;

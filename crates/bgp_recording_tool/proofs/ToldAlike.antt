@@ -1,10 +1,8 @@
 -- What is told of a connection is what the capture reads as that is imported of it.
-use Rattle.std.proofs.Common.{◌≡◌, ◌≢◌, ◌∙◌, ℕ, Bool, true, false, List, [], ◌∷◌, Option, None, Some, Result, Ok, Err, IsTrue, length, reverse, nat_lt, if◌then◌else◌, refl, sym, ap, subst, inl, inr}
+use Rattle.std.proofs.Common.{◌≡◌, ◌∙◌, ℕ, Bool, true, false, List, [], ◌∷◌, Option, None, Some, Result, Ok, Err, length, reverse, nat_lt, if◌then◌else◌, refl, sym, ap, subst, inl, inr}
 use Rattle.std.specs.List.{AllByRecursion}
 use Rattle.bgp_prefix.specs.Shown.{ShownRecord, Received, Sent, Changed}
-use Rattle.bgp_prefix.specs.RouteRefresh.{is_offered}
 use Rattle.bgp_prefix.specs.declared.session.Session.{Session}
-use Rattle.bgp_prefix.specs.declared.session.RouteRefresh.{RouteRefresh}
 use Rattle.bgp_prefix.specs.declared.session.RouteRefresh.TheVariants as refreshes
 use Rattle.streams.specs.Choice.{IsAnswered, IsRefused, refusal_of, numbered_one}
 use Rattle.streams.specs.Connections.{numbered}
@@ -99,19 +97,14 @@ not_unchosen number count segments connection refusal answered not = not_both nu
 
 -- ---- what is told
 
-must_refuse : (refresh : RouteRefresh) → refresh ≢ refreshes.PassedOver → IsTrue (is_offered refresh) → refresh ≡ refreshes.Refused
-must_refuse refreshes.NotOffered unasked may = absurd (cc)
-must_refuse refreshes.Refused unasked may = refl
-must_refuse refreshes.PassedOver unasked may = absurd (unasked refl)
-
 pub tells_as : ImportAndJudgeAgree → JudgeTellsTheCapture
-tells_as agree config imports judges number packets segments connection entries notes octets named (Judged verdict) remarks can unasked session mean taken also answered made capture told =
+tells_as agree config imports judges number packets segments connection entries notes octets named (Judged verdict) remarks can session mean taken also answered made capture told =
     let theirs : IsMadeOfPackets imports number packets entries notes = record { segments = segments; connection = connection; taken = taken; answered = answered; made = made } in
     let own : IsMadeOfPackets judges number packets told.entries told.notes =
     record { segments = segments; connection = told.connection; taken = also; answered = told.chosen; made = told.made } in
     let agrees = (agree config imports judges number packets entries told.entries notes told.notes octets can session mean theirs capture own).2 in
-    (records_of told.entries, agrees.reads (λ may. told.without (subst (λ (s : Session). IsTrue (is_offered s.refresh)) (sym session) may)), told.is)
-tells_as agree config imports judges number packets segments connection entries notes octets named (Refused refusal) remarks can unasked session mean taken also answered made capture told =
+    (records_of told.entries, agrees.reads (λ refuses. told.without (subst (λ (s : Session). s.refresh ≡ refreshes.Refused) (sym session) refuses)), told.is)
+tells_as agree config imports judges number packets segments connection entries notes octets named (Refused refusal) remarks can session mean taken also answered made capture told =
     elim told.why [
       | inl (inl not) ↦ absurd (not_unchosen number (length packets) (reverse segments) connection refusal answered not)
       | inl (inr memory) ↦ inr (ap refusal_number memory)
@@ -119,7 +112,7 @@ tells_as agree config imports judges number packets segments connection entries 
           let own : IsMadeOfPackets judges number packets refresh.entries refresh.notes =
           record { segments = segments; connection = refresh.connection; taken = also; answered = refresh.chosen; made = refresh.made } in
           let agrees = (agree config imports judges number packets entries refresh.entries notes refresh.notes octets can session mean theirs capture own).2 in
-          let first = some_first (records_of refresh.entries) (none_there refresh.entries refresh.notes.received refresh.notes.sent refusal refresh.is) in
-          let at = agrees.refused (must_refuse config.parts.session.refresh unasked (subst (λ (s : Session). IsTrue (is_offered s.refresh)) session refresh.may)) first.0 first.1 in
-          inl (eighteen refresh.entries refresh.notes.received refresh.notes.sent refusal refresh.is, first.0, at.0, at.1)
+          let first = some_first (records_of refresh.entries) (none_there refresh.entries refresh.notes.received.rest refresh.notes.sent.rest refusal refresh.is) in
+          let at = agrees.refused (subst (λ (s : Session). s.refresh ≡ refreshes.Refused) session refresh.refuses) first.0 first.1 in
+          inl (eighteen refresh.entries refresh.notes.received.rest refresh.notes.sent.rest refusal refresh.is, first.0, at.0, at.1)
     ]

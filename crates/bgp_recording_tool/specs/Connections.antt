@@ -1,6 +1,6 @@
 -- What judging tells of the connections of a session, in a recording that was read to its end.
 use Rattle.std.specs.Prelude.{◌≡◌, ◌<◌, ◌⊎◌, ◌++◌, ℕ, zero, suc, List, [], Option, None, Some}
-use Rattle.std.specs.Prelude.{length, reverse, codes, IsTrue, ◌∷◌}
+use Rattle.std.specs.Prelude.{length, reverse, codes, ◌∷◌}
 use Rattle.std.specs.List.{AllByRecursion}
 use Rattle.packets.specs.Packet.{Recorded}
 use Rattle.streams.specs.Choice.{IsAnswered, OpensAs, numbered_one}
@@ -8,7 +8,7 @@ use Rattle.streams.specs.Connections.{numbered}
 use Rattle.streams.specs.Passed.{Segment}
 use Rattle.streams.specs.declared.connection.Connection.{Connection}
 use Rattle.streams.specs.declared.connection.Opening.{Opening}
-use Rattle.bgp_prefix.specs.RouteRefresh.{is_offered}
+use Rattle.bgp_prefix.specs.declared.session.RouteRefresh.TheVariants as refreshes
 use Rattle.bgp_open.specs.declared.config.Config.{Config}
 use Rattle.bgp_judge.specs.Verdict.{VerdictValue, HasVerdict}
 use Rattle.bgp_recording.specs.Captured.{IsNoRefresh, records_of}
@@ -48,7 +48,7 @@ pub record HasOneMore (Before : List ℕ → List ℕ → List Remark → Type 0
 module _ (config : Config) (wanted : Import) (packets : List Recorded) (segments : List Segment)
   where
     -- These entries are made of the connection with this number, or of the only one, and this is
-    -- the verdict on their records. None of them is a ROUTE-REFRESH, where the session may have
+    -- the verdict on their records. None of them is a ROUTE-REFRESH, where the session refuses
     -- one.
     pub record IsJudged (number named : Option ℕ) (verdict : VerdictValue)
         (remarks : List Remark) : Type 0 where
@@ -57,20 +57,20 @@ module _ (config : Config) (wanted : Import) (packets : List Recorded) (segments
       pub notes : Notes
       pub chosen : IsAnswered number (length packets) (numbered (reverse segments)) connection
       pub made : IsMadeOf wanted connection entries notes
-      pub without : IsTrue (is_offered wanted.selection.session.refresh)
+      pub without : wanted.selection.session.refresh ≡ refreshes.Refused
           → AllByRecursion IsNoRefresh (records_of entries)
       pub is : HasVerdict config (records_of entries) verdict
       pub remarked : remarks ≡ remarks_on named entries notes verdict
 
-    -- the session may have a ROUTE-REFRESH, and there is one, at which it is refused
+    -- the session refuses a ROUTE-REFRESH, and there is one
     pub record HasRefresh (number : Option ℕ) (refusal : Refusal) : Type 0 where
       pub connection : Connection
       pub entries : List Entry
       pub notes : Notes
       pub chosen : IsAnswered number (length packets) (numbered (reverse segments)) connection
       pub made : IsMadeOf wanted connection entries notes
-      pub may : IsTrue (is_offered wanted.selection.session.refresh)
-      pub is : IsRefreshIn entries notes.received notes.sent (Some refusal)
+      pub refuses : wanted.selection.session.refresh ≡ refreshes.Refused
+      pub is : IsRefreshIn entries notes.received.rest notes.sent.rest (Some refusal)
 
     -- or it is refused, or memory was refused
     pub record IsNotJudged (number named : Option ℕ) (refusal : Refusal) (remarks : List Remark)

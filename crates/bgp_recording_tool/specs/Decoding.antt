@@ -7,6 +7,7 @@ use Rattle.streams.specs.Connections.{numbered}
 use Rattle.streams.specs.Passed.{Segment}
 use Rattle.streams.specs.declared.connection.Connection.{Connection}
 use Rattle.bgp_prefix.specs.declared.session.Session.{Session}
+use Rattle.mrt.specs.RefreshLaws.{without_refresh}
 use Rattle.mrt.specs.Written.{IsAllowed}
 use Rattle.bgp_recording.specs.Captured.{records_of}
 use Rattle.bgp_recording.specs.declared.entry.Entry.{Entry}
@@ -25,13 +26,13 @@ use Rattle.bgp_recording_tool.specs.declared.judging.Judged.{Judged}
 use Rattle.bgp_words.specs.declared.recording.RecordingOptions.{RecordingOptions}
 use Rattle.bgp_recording_tool.specs.declared.remark.Remark.{Remark}
 use Rattle.bgp_recording_tool.specs.Judging.{IsUnmeant}
-use Rattle.bgp_recording_tool.specs.Options.{IsMisfit, calm, import_of}
+use Rattle.bgp_recording_tool.specs.Options.{IsMisfit, import_of}
 use Rattle.bgp_recording_tool.specs.Remarks.{IsHelp, making_remarks, some_of}
 use Rattle.bgp_recording_tool.specs.Told.{refused_status}
 
--- a capture of the session may have such a record, where it may have a ROUTE-REFRESH
+-- a capture of the session may have such a record, where no ROUTE-REFRESH is refused
 abbrev pub HasLine : Session → Entry → Type 0
-HasLine session entry = IsAllowed (calm session) None (shown_by entry)
+HasLine session entry = IsAllowed (without_refresh session) None (shown_by entry)
 
 -- The session's packets have these segments, none of which is refused; and the sink goes from
 -- `empty` to `filled`.

@@ -1,12 +1,9 @@
 -- The laws on what a yes is worth that is answered of a recording, and that what is imported of it
 -- is judged the same.
-use Rattle.std.specs.Prelude.{◌≡◌, ◌≢◌, ◌⊎◌, ◌++◌, ℕ, List, ◌∷◌, Option, IsTrue, length, reverse}
+use Rattle.std.specs.Prelude.{◌≡◌, ◌⊎◌, ◌++◌, ℕ, List, ◌∷◌, Option, length, reverse}
 use Rattle.std.specs.List.{AllByRecursion}
 use Rattle.bgp_prefix.specs.Shown.{ShownRecord}
-use Rattle.bgp_prefix.specs.RouteRefresh.{is_offered}
-use Rattle.bgp_prefix.specs.declared.session.Session.{Session}
 use Rattle.bgp_prefix.specs.declared.session.RouteRefresh.TheVariants as refreshes
-use Rattle.bgp_wire.specs.Header.{limit_with}
 use Rattle.streams.specs.declared.connection.Connection.{Connection}
 use Rattle.streams.specs.Choice.{IsAnswered}
 use Rattle.streams.specs.Connections.{numbered}
@@ -21,6 +18,7 @@ use Rattle.bgp_machine.specs.Run.{End, IsComplete}
 use Rattle.bgp_judge.specs.Ends.{ListsEnds}
 use Rattle.bgp_judge.specs.Verdict.{VerdictValue, HasVerdict}
 use Rattle.bgp_recording.specs.Captured.{CanBeNamed, IsNoRefresh, records_of}
+use Rattle.bgp_recording.specs.Pieces.{framings_of}
 use Rattle.bgp_recording.specs.Recorded.{IsRecorded}
 use Rattle.bgp_recording.specs.declared.entry.Entry.{Entry}
 use Rattle.bgp_import.specs.Captures.{IsCapture}
@@ -35,13 +33,13 @@ use Rattle.bgp_recording_tool.specs.Told.{Told, Judged, Refused}
 use Rattle.bgp_recording_tool.specs.declared.remark.Remark.{Remark}
 
 -- Some run of the session machine ends so and shows just the records of these entries, and they
--- tell the connection: its messages, in an order that is allowed within the patience, and the
--- changes of state to which that order leads.
+-- tell the connection: its messages, but for those that the session passes over, in an order that
+-- is allowed within the patience, and the changes of state to which that order leads.
 pub record IsShownWithin (config : Config) (wanted : Import) (connection : Connection)
     (entries : List Entry) (notes : Notes) (e : End) : Type 0 where
   pub complete : IsComplete config (records_of entries) e
-  pub recorded : IsRecorded (limit_with config.parts.session.extended) wanted.within connection
-      entries notes.received notes.sent
+  pub recorded : IsRecorded (framings_of config.parts.session) wanted.within connection entries
+      notes.received notes.sent
 
 -- Whatever ends are listed of the entries that are made of a connection, each is one that such a
 -- run has.
@@ -62,40 +60,31 @@ pub record IsFirstRefresh (records front : List ShownRecord) : Type 0 where
   pub none_before : AllByRecursion IsNoRefresh front
   pub is_one : ¬ IsNoRefresh refresh
 
--- none of these records is a ROUTE-REFRESH, where the session passes such over
-abbrev pub PassesNone : Session → List ShownRecord → Type 0
-PassesNone session records =
-    session.refresh ≡ refreshes.PassedOver → AllByRecursion IsNoRefresh records
-
 -- The octets read as just the records of these entries, unless one of them is a ROUTE-REFRESH and
--- the session may have one; and any verdict on what they read as is the one on these records.
--- Where there is one and the session refuses it, a reader refuses them at the first, and for nothing
--- else. Of a session that passes such over this holds where there is none.
+-- the session refuses it; and any verdict on what they read as is the one on these records. Where
+-- there is one and the session refuses it, a reader refuses them at the first, and for nothing else.
 pub record Agrees (config : Config) (entries : List Entry) (octets : List ℕ) : Type 0 where
   pub reads :
-      (IsTrue (is_offered config.parts.session.refresh)
+      (config.parts.session.refresh ≡ refreshes.Refused
       → AllByRecursion IsNoRefresh (records_of entries))
       → Spells config.parts.session octets (records_of entries)
   pub shows : (records : List ShownRecord)
-      → PassesNone config.parts.session (records_of entries)
       → Spells config.parts.session octets records → records_of entries ≡ records
   pub one : (records : List ShownRecord) (verdict judged : VerdictValue)
-      → PassesNone config.parts.session (records_of entries)
       → Spells config.parts.session octets records → HasVerdict config records verdict
       → HasVerdict config (records_of entries) judged → verdict ≡ judged
   pub refused : config.parts.session.refresh ≡ refreshes.Refused → (front : List ShownRecord)
       → IsFirstRefresh (records_of entries) front
       → (offset : ℕ) × IsFirstFault config.parts.session octets front kinds.RouteRefresh offset
   pub alone : (front : List ShownRecord) (kind : FaultKind) (offset : ℕ)
-      → PassesNone config.parts.session (records_of entries)
       → IsFirstFault config.parts.session octets front kind offset
       → (kind ≡ kinds.RouteRefresh) × (config.parts.session.refresh ≡ refreshes.Refused)
       × IsFirstRefresh (records_of entries) front
 
 -- Whatever is imported of packets and whatever is judged of them, of the same session, number and
 -- patience, are one list of records, of which the same is told, and the capture of the former is
--- judged as the latter are. Whether the session of the import may have a ROUTE-REFRESH plays no
--- part.
+-- judged as the latter are. Whether the session of the import refuses a ROUTE-REFRESH plays no part;
+-- what it passes over, that of the judge does, too.
 abbrev pub ImportAndJudgeAgree : Type 0
 ImportAndJudgeAgree =
     (config : Config) (imports judges : Import) (number : Option ℕ) (packets : List Recorded)
@@ -121,14 +110,13 @@ TellsAs config octets (Refused refusal) =
     ⊎ (refusal_number refusal ≡ 17)
 
 -- Where a capture can be imported of packets, whatever is told of the connection that is judged is
--- what the capture reads as, unless the session passes a ROUTE-REFRESH over.
+-- what the capture reads as.
 abbrev pub JudgeTellsTheCapture : Type 0
 JudgeTellsTheCapture =
     (config : Config) (imports judges : Import) (number : Option ℕ) (packets : List Recorded)
     (segments : List Segment) (connection : Connection) (entries : List Entry) (notes : Notes)
     (octets : List ℕ) (named : Option ℕ) (told : Told) (remarks : List Remark)
     → CanBeNamed config.parts.session
-    → config.parts.session.refresh ≢ refreshes.PassedOver
     → judges.selection.session ≡ config.parts.session
     → MeanTheSame imports judges
     → AreTaken imports.selection 0 packets segments

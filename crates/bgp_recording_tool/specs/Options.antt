@@ -2,7 +2,6 @@
 use Rattle.std.specs.Prelude.{◌≡◌, Option, None, Some}
 use Rattle.bgp_prefix.specs.Address.{family_of}
 use Rattle.bgp_prefix.specs.declared.session.Session.{Session}
-use Rattle.bgp_prefix.specs.declared.session.RouteRefresh.TheVariants as refreshes
 use Rattle.bgp_import.specs.declared.importing.Import.{Import}
 use Rattle.bgp_words.specs.declared.recording.RecordingOptions.{RecordingOptions}
 use Rattle.bgp_recording_tool.specs.declared.remark.Remark.{Remark}
@@ -20,10 +19,6 @@ import_of session options = record {
   connection = options.connection;
   within = options.within;
 }
-
--- the session without ROUTE-REFRESH
-abbrev pub calm : Session → Session
-calm session = record session { refresh = refreshes.NotOffered }
 
 -- both addresses are of one family: packets go between such alone
 abbrev pub IsOneFamily : Session → Type 0

@@ -28,8 +28,8 @@ some_of (Some x ∷ more) = x ∷ some_of more
 -- how the records were made
 abbrev pub notes_of : {X : Type 0} → Recording X → Notes
 notes_of made = record {
-  received = made.received_rest;
-  sent = made.sent_rest;
+  received = made.received;
+  sent = made.sent;
   put_off = put_off 0 made.entries.items;
 }
 

@@ -1,10 +1,10 @@
 //! What is answered of one of a recording's connections.
 
 ghost use Rattle.std.specs.Prelude.{◌≡◌, ◌++◌, List, length, reverse, IfOk, IfSome, IfNone};
-ghost use Rattle.std.specs.Prelude.{Err, IsTrue, OnErr, OnOk, Some};
+ghost use Rattle.std.specs.Prelude.{Err, OnErr, OnOk, Some};
 ghost use Rattle.std.specs.List.{AllByRecursion};
 ghost use Rattle.bgp_judge.specs.Verdict.{IsVerdict, verdict_value};
-ghost use Rattle.bgp_prefix.specs.RouteRefresh.{is_offered};
+ghost use Rattle.bgp_prefix.specs.declared.session.RouteRefresh.TheVariants.{Refused};
 ghost use Rattle.bgp_recording.specs.Captured.{IsNoRefresh, records_of};
 ghost use Rattle.bgp_import.specs.Gathers.{HoldsSession};
 ghost use Rattle.bgp_import.specs.Making.{HoldsTaken};
@@ -26,7 +26,7 @@ use crate::verdict::judge_entries;
 use bgp_import::{Gathered, Import, Note, Refusal, notes_on, records_of, refresh_in};
 use bgp_judge::{Tracker, Verdict};
 use bgp_open::Config;
-use bgp_prefix::Session;
+use bgp_prefix::{RouteRefresh, Session};
 use bgp_recording::{Entry, Recording};
 use mrt::Record;
 use std::alloc::{AllocError, Allocator};
@@ -48,13 +48,21 @@ fn made_remark(connection: Option<usize>, note: Option<Note>) -> Option<Remark>
 pub(crate) fn making_remarks<A: Allocator>(
     connection: Option<usize>,
     made: &Recording<'_, A>,
-) -> [Option<Remark>; 3]
+) -> [Option<Remark>; 5]
     ensures { result ≡ making_remarks connection (notes_of made.now) }
 {
-    let [received, sent, put_off] = notes_on(made).in_order();
+    let [
+        received_passed,
+        sent_passed,
+        received_left,
+        sent_left,
+        put_off,
+    ] = notes_on(made).in_order();
     [
-        made_remark(connection, received),
-        made_remark(connection, sent),
+        made_remark(connection, received_passed),
+        made_remark(connection, sent_passed),
+        made_remark(connection, received_left),
+        made_remark(connection, sent_left),
         made_remark(connection, put_off),
     ]
 }
@@ -118,9 +126,25 @@ pub fn add_remarks_on<A: Allocator + Copy>(
         (verdict_value verdict.now)) }
     ensures err { OnErr result (remarks.new.items ≡ remarks.old.items) }
 {
-    let [received, sent, put_off] = making_remarks(named, made);
+    let [
+        received_passed,
+        sent_passed,
+        received_left,
+        sent_left,
+        put_off,
+    ] = making_remarks(named, made);
     let judged = verdict_remark(named, made.entries.as_slice(), verdict);
-    add_remarks(remarks, &[received, sent, put_off, judged])
+    add_remarks(
+        remarks,
+        &[
+            received_passed,
+            sent_passed,
+            received_left,
+            sent_left,
+            put_off,
+            judged,
+        ],
+    )
 }
 
 /// Judges the records of a connection, and adds what there is to tell of it, with this number where
@@ -143,15 +167,16 @@ fn judge_made<A: Allocator + Copy, T: Tracker<A>>(
 }
 
 /// Why the records of a connection aren't judged, if they aren't: its session may have a
-/// ROUTE-REFRESH, which the machine doesn't know, and there is one.
+/// ROUTE-REFRESH, which the machine doesn't know, nothing says that such are to be passed over, and
+/// there is one.
 pub fn refused_refresh<A: Allocator>(session: &Session, made: &Recording<'_, A>) -> Option<Refusal>
-    ensures some { IfSome result (λ refusal. IsTrue (is_offered session.now.refresh)
-        × IsRefreshIn made.now.entries.items made.now.received_rest made.now.sent_rest
+    ensures some { IfSome result (λ refusal. (session.now.refresh ≡ Refused)
+        × IsRefreshIn made.now.entries.items made.now.received.rest made.now.sent.rest
         (Some refusal)) }
-    ensures none { IfNone result (IsTrue (is_offered session.now.refresh)
+    ensures none { IfNone result (session.now.refresh ≡ Refused
         → AllByRecursion IsNoRefresh (records_of made.now.entries.items)) }
 {
-    if session.refresh.is_offered() {
+    if session.refresh == RouteRefresh::Refused {
         refresh_in(made)
     } else {
         None

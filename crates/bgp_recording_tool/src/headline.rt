@@ -85,7 +85,8 @@ pub fn judge_recording<A: Allocator + Copy, T: Tracker<A>, R: Source, W: Sink>(
 ///
 /// For each end that is listed there is a run of the session machine that ends so, with just these
 /// routes, and that explains the packets: it hears each message that the peer sent, and sends each
-/// that the local system sent, but for the octets that a remark tells to be left. Nothing is
+/// that the local system sent, but for the octets that a remark tells to be left and the
+/// ROUTE-REFRESHes that one tells to be passed over. Nothing is
 /// handled before it came; nothing that was on the wire before is moved after it; and nothing waits
 /// longer than the patience, 10 seconds unless told (`IsRecorded` of bgp_recording).
 ///
@@ -105,8 +106,9 @@ pub fn each_end_is_shown()
 /// one list of records ([`recordings_are_made_once`]). The capture that
 /// [`import_recording`](bgp_import::import_recording) writes reads as just these, and whatever
 /// verdict holds of what it reads as is the one that is answered of the recording. A reader refuses
-/// such a capture at its first ROUTE-REFRESH, where the session may have one, and for nothing else
-/// (7 RouteRefresh); and exactly there is the recording refused for that (18 RouteRefresh).
+/// such a capture at its first ROUTE-REFRESH, where the session refuses one, and for nothing else
+/// (7 RouteRefresh); and exactly there is the recording refused for that (18 RouteRefresh). Where
+/// both pass such messages over, none is in the capture.
 pub fn import_and_judge_agree()
     ensures agree { ImportAndJudgeAgree }
     ensures told { JudgeTellsTheCapture }

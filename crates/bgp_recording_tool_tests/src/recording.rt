@@ -3,6 +3,7 @@
 mod endings;
 mod extended;
 mod memory;
+mod refresh;
 mod rows;
 
 ghost use Rattle.std.specs.Prelude.{◌≡◌, IfSome, IsTrue};
@@ -10,7 +11,7 @@ ghost use Rattle.std.specs.List.{AllByRecursion};
 ghost use Rattle.bgp_recording.specs.Givers.{given_by, IsNotEmpty};
 ghost use Rattle.bgp_recording.specs.Gathered.{IsCovered};
 
-use bgp_recording::{Entry, Rest, make_records};
+use bgp_recording::{Entry, Framing, Framings, Rest, make_records};
 use bgp_wire::Limit;
 use mrt::Record;
 use std::alloc::{AllocError, Allocator, Global};
@@ -101,6 +102,14 @@ fn connection_of<'a>(row: &Row, received: &'a [u8], sent: &'a [u8]) -> Connectio
     }
 }
 
+/// Both directions framed at this limit, and no ROUTE-REFRESH passed over.
+fn framed_at(limit: Limit) -> Framings {
+    Framings::alike(Framing {
+        limit,
+        skips_refresh: false,
+    })
+}
+
 /// Whether what is made of a connection, at this limit and within ten seconds, is what the row
 /// says: no answer where memory was refused.
 fn is_made<A: Allocator + Copy>(
@@ -112,10 +121,10 @@ fn is_made<A: Allocator + Copy>(
     if !is_covered(&connection.received) || !is_covered(&connection.sent) {
         return Some(false);
     }
-    let made = make_records(alloc, connection, limit, 10).ok()?;
+    let made = make_records(alloc, connection, framed_at(limit), 10).ok()?;
     Some(
         are_records(&made.entries, row.records)
-            && made.received_rest == row.received_rest
-            && made.sent_rest == row.sent_rest,
+            && made.received.rest == row.received_rest
+            && made.sent.rest == row.sent_rest,
     )
 }

@@ -44,12 +44,21 @@ fn address_after(words: &str, option: &str) -> Option<Address> {
     read_address(word_after(words, option)?)
 }
 
+/// What becomes of a ROUTE-REFRESH.
+fn refresh_of(words: &str) -> RouteRefresh {
+    if has_flag(words, "--skip-refresh") {
+        RouteRefresh::PassedOver
+    } else {
+        RouteRefresh::with_offer(!has_flag(words, "--no-refresh"))
+    }
+}
+
 /// The session that the words name.
 pub(crate) fn session_of(words: &str) -> Option<Session> {
     Some(Session {
         peer: address_after(words, "--peer")?,
         local: address_after(words, "--local")?,
-        refresh: RouteRefresh::with_offer(!has_flag(words, "--no-refresh")),
+        refresh: refresh_of(words),
         extended: has_flag(words, "--extended"),
     })
 }

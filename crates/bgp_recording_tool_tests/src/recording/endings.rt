@@ -335,6 +335,7 @@ static ENDINGS: [Row; 7] = [
         received_rest: Rest::BehindFault {
             place: 68,
             count: 10,
+            is_refresh: false,
         },
         sent_rest: Rest::Short { count: 0 },
     },

@@ -71,14 +71,14 @@ fn ends_with(
     if !is_covered(&connection.received) || !is_covered(&connection.sent) {
         return false;
     }
-    let Ok(made) = make_records(alloc, connection, limit, 10) else {
+    let Ok(made) = make_records(alloc, connection, framed_at(limit), 10) else {
         return false;
     };
     let is_last = match made.entries.last() {
         Some(entry) => entry.record == record,
         None => false,
     };
-    is_last && made.entries.len() == 4 && made.received_rest == rest
+    is_last && made.entries.len() == 4 && made.received.rest == rest
 }
 
 /// Whether the UPDATE is one message as an extended one, and else its header is at fault.
@@ -90,6 +90,7 @@ fn is_one_message_if_extended(alloc: Global) -> Result<bool, AllocError> {
     let behind = Rest::BehindFault {
         place: 49,
         count: 4078,
+        is_refresh: false,
     };
     let long = Record::In(101, &update);
     let header = Record::In(101, &HEADER);

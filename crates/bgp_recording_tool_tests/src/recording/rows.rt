@@ -406,6 +406,7 @@ pub static ROWS: [Row; 9] = [
         received_rest: Rest::BehindFault {
             place: 68,
             count: 0,
+            is_refresh: false,
         },
         sent_rest: Rest::Short { count: 0 },
     },
@@ -453,6 +454,7 @@ pub static ROWS: [Row; 9] = [
         received_rest: Rest::BehindFault {
             place: 68,
             count: 0,
+            is_refresh: false,
         },
         sent_rest: Rest::Short { count: 0 },
     },

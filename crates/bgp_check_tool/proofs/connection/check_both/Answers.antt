@@ -17,8 +17,8 @@ none_of_opener : (within : ℕ) (session : Session) (opening : Opening) (connect
     → IsEndTold within session opening connection side told → HasRefresh within connection side None
 none_of_opener within session opening connection side told end = record {
   entries = end.entries;
-  received_rest = end.received_rest;
-  sent_rest = end.sent_rest;
+  received_unshown = end.received_unshown;
+  sent_unshown = end.sent_unshown;
   made = end.made;
   is = end.calm;
 }

@@ -13,9 +13,9 @@ returns-in-Some-clause-err g c = λ clock.
     let made = c.in-Ok.made in
     record {
       entries = made.entries.items;
-      received_rest = made.received_rest;
-      sent_rest = made.sent_rest;
-      made = subst (λ (v : Connection). IsMade c.args.between.now.within v made.entries.items made.received_rest made.sent_rest) c.seen_from.ensures
+      received_unshown = made.received;
+      sent_unshown = made.sent;
+      made = subst (λ (v : Connection). IsMade c.args.between.now.within v made.entries.items made.received made.sent) c.seen_from.ensures
           (c.in-Ok.ensures (subst (λ (v : Connection). IsClocked v) (sym c.seen_from.ensures) (clocked c.args.side c.args.connection.now clock)));
       is = c.in-Some.ensures.is;
     }
@@ -27,9 +27,9 @@ returns-in-Ok-told_by-clause-ok g c = λ clock.
     let is = c.in-Ok-told_by.ensures in
     record {
       entries = made.entries.items;
-      received_rest = made.received_rest;
-      sent_rest = made.sent_rest;
-      made = subst (λ (v : Connection). IsMade c.args.between.now.within v made.entries.items made.received_rest made.sent_rest) c.seen_from.ensures
+      received_unshown = made.received;
+      sent_unshown = made.sent;
+      made = subst (λ (v : Connection). IsMade c.args.between.now.within v made.entries.items made.received made.sent) c.seen_from.ensures
           (c.in-Ok.ensures (subst (λ (v : Connection). IsClocked v) (sym c.seen_from.ensures) (clocked c.args.side c.args.connection.now clock)));
       calm = c.in_default-refresh_in.ensures.is;
       is_end = is.end ∙ c.end_of-end.ensures;

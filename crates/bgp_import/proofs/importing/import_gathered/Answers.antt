@@ -1,8 +1,8 @@
 use Rattle.std.proofs.Common.{List, refl, sym, subst}
 use Rattle.std.specs.List.{AllByRecursion}
-use Rattle.bgp_wire.specs.Header.{limit_with}
+use Rattle.bgp_recording.specs.Pieces.{framings_of}
 use Rattle.bgp_recording.specs.Recorded.{IsRecordedInOrder}
-use Rattle.bgp_recording.specs.declared.framing.Rest.{Rest}
+use Rattle.bgp_recording.specs.declared.framing.Unshown.{Unshown}
 use Rattle.bgp_recording.specs.declared.entry.Entry.{Entry}
 use Rattle.bgp_import.specs.Captures.{CanBeWritten, IsCapture, put_off}
 use Rattle.bgp_import.specs.declared.note.Notes.{Notes}
@@ -27,8 +27,8 @@ returns-in-Ok-write_capture-clause-imports g c = λ packets segments taken holds
     let notes = c.notes_on.result in
     let told = rw c.in-Ok.is at (c.records_of.ensures packets segments taken holds) in
     let wrote = c.in-Ok-write_capture.ensures.ok in
-    let recorded = subst (λ (r : Rest). IsRecordedInOrder (limit_with import'.selection.session.extended) import'.within told.connection made.entries.items r notes.sent) (sym c.notes_on.ensures.received)
-    (subst (λ (r : Rest). IsRecordedInOrder (limit_with import'.selection.session.extended) import'.within told.connection made.entries.items made.received_rest r) (sym c.notes_on.ensures.sent) told.recorded) in
+    let recorded = subst (λ (r : Unshown). IsRecordedInOrder (framings_of import'.selection.session) import'.within told.connection made.entries.items r notes.sent) (sym c.notes_on.ensures.received)
+    (subst (λ (r : Unshown). IsRecordedInOrder (framings_of import'.selection.session) import'.within told.connection made.entries.items made.received r) (sym c.notes_on.ensures.sent) told.recorded) in
     record {
       capture = wrote.0;
       captured = record {
@@ -48,7 +48,7 @@ returns-clause-imports g c = λ packets segments taken holds.
     let made = c.in-Ok.made in
     let told = rw c.in-Ok.is at (c.records_of.ensures packets segments taken holds) in
     let wrote = c.in-Err-write_capture.ensures.err in
-    let notes : Notes = record { received = made.received_rest; sent = made.sent_rest; put_off = put_off 0 made.entries.items } in
+    let notes : Notes = record { received = made.received; sent = made.sent; put_off = put_off 0 made.entries.items } in
     record {
       notes = notes;
       capture = wrote.0;

@@ -1,5 +1,5 @@
 use Rattle.std.proofs.Common.{inl, inr, subst, reverse, length}
-use Rattle.bgp_wire.specs.declared.header.Limit.{Limit}
+use Rattle.bgp_recording.specs.declared.framing.Framings.{Framings}
 use Rattle.bgp_recording.specs.Recorded.{IsRecordedInOrder}
 use Rattle.bgp_recording.proofs.Capturing.{made_are_writable}
 use Rattle.bgp_import.proofs.InOrder.{in_order}
@@ -29,12 +29,12 @@ returns-in-Ok-make_records g c = λ packets segments taken holds.
     let made = c.in-Ok-make_records.made in
     let answered = rw c.in-Ok.is at (c.choose.ensures (reverse segments) (length packets) holds) in
     let told = c.in-Ok-make_records.ensures.told (is_clocked (reverse segments) _ (length packets) connection (in_order _ packets segments taken) answered) in
-    let recorded = subst (λ (limit : Limit). IsRecordedInOrder limit c.args.import.now.within connection made.entries.items made.received_rest made.sent_rest) c.with_extended-limit.ensures told in
+    let recorded = subst (λ (f : Framings). IsRecordedInOrder f c.args.import.now.within connection made.entries.items made.received made.sent) c.of_session-framings.ensures told in
     record {
       connection = connection;
       answered = answered;
       recorded = recorded;
-      writable = entries_written session made.entries.items (made_are_writable session c.args.import.now.within connection made.entries.items made.received_rest made.sent_rest c.requires.families recorded.told);
+      writable = entries_written session made.entries.items (made_are_writable session c.args.import.now.within connection made.entries.items made.received made.sent c.requires.families recorded.told);
     }
 
 pub returns-in-Err-make_records : goal.returns-in-Err-make_records

@@ -1,41 +1,33 @@
-use Rattle.std.proofs.Common.{◌∙◌, ap, not, refl}
-use Rattle.bgp_recording.specs.declared.message.Message.{Message}
-use Rattle.bgp_recording.proofs.Splitting.{split_message, split_fault, split_short}
+use Rattle.std.proofs.Common.{refl}
+use Rattle.bgp_recording.proofs.Splitting.{split_fault, split_kept, split_passed, split_short}
 use Rattle.bgp_recording.proofs.framing.split_messages.Goals as goal
 
-pub loop-front-preserved : goal.loop-front-preserved
-loop-front-preserved g c =
-    let front = c.in-Some.front in
-    let moment = c.moment-moment.result in
-    let m : Message = record { octets = front.octets; kind = front.kind; packet = moment.packet; second = moment.second } in
-    split_message c.args.limit c.args.direction c.args.givers.now c.args.octets.now c.split_at.result.1.now c.loop-front.place c.place.result c.loop-front.cursor c.moment-moment.new.self
-    c.loop-front.messages.items c.push.new.self.items m c.loop-front.invariant c.split_at.ensures.back (c.is_none.ensures ∙ ap not c.if-is_none.false) c.in-Some.ensures c.place.ensures c.moment-moment.ensures.gives
-    c.moment-moment.ensures.at c.moment-moment.ensures.base c.in_ok-push.ensures.items
+pub returns-in-None : goal.returns-in-None
+returns-in-None g c =
+    split_short c.args.framing c.args.direction c.args.givers.now c.args.octets.now c.split_at.result.1.now c.loop-rest.place c.loop-rest.passed_over _ c.loop-rest.cursor c.loop-rest.messages.items
+    c.loop-rest.invariant c.split_at.ensures.back c.in-None.ensures refl
 
-pub returns-then-is_none-clause-framed : goal.returns-then-is_none-clause-framed
-returns-then-is_none-clause-framed g c =
-    let front = c.in-Some.front in
-    let moment = c.moment-moment.result in
-    let m : Message = record { octets = front.octets; kind = front.kind; packet = moment.packet; second = moment.second } in
-    (split_fault c.args.limit c.args.direction c.args.givers.now c.args.octets.now c.split_at.result.1.now c.loop-front.place c.place.result _ c.loop-front.cursor
-    c.loop-front.messages.items c.push.new.self.items m c.loop-front.invariant c.split_at.ensures.back (c.is_none.ensures ∙ ap not c.if-is_none.true) c.in-Some.ensures c.place.ensures c.moment-moment.ensures.gives refl
-    c.in_ok-push.ensures.items).framed
+pub loop-rest-preserved-in-Some-PassedOver : goal.loop-rest-preserved-in-Some-PassedOver
+loop-rest-preserved-in-Some-PassedOver g c =
+    let front = c.in-Some-PassedOver in
+    let is = rw front.field-0-is at front.ensures in
+    split_passed c.args.framing c.args.direction c.args.givers.now c.args.octets.now c.split_at.result.1.now front.refresh.now c.loop-rest.place c.loop-rest.passed_over c.loop-rest.cursor
+    c.loop-rest.messages.items c.loop-rest.invariant c.split_at.ensures.back is.0 is.1 is.2
 
-pub returns-then-is_none-clause-kinds : goal.returns-then-is_none-clause-kinds
-returns-then-is_none-clause-kinds g c =
-    let front = c.in-Some.front in
-    let moment = c.moment-moment.result in
-    let m : Message = record { octets = front.octets; kind = front.kind; packet = moment.packet; second = moment.second } in
-    (split_fault c.args.limit c.args.direction c.args.givers.now c.args.octets.now c.split_at.result.1.now c.loop-front.place c.place.result _ c.loop-front.cursor
-    c.loop-front.messages.items c.push.new.self.items m c.loop-front.invariant c.split_at.ensures.back (c.is_none.ensures ∙ ap not c.if-is_none.true) c.in-Some.ensures c.place.ensures c.moment-moment.ensures.gives refl
-    c.in_ok-push.ensures.items).kinds
+pub loop-rest-preserved : goal.loop-rest-preserved
+loop-rest-preserved g c =
+    let front = c.in-Some-Message in
+    let is = rw front.field-0-is at front.ensures in
+    let m = c.message_at in
+    split_kept c.args.framing c.args.direction c.args.givers.now c.args.octets.now c.split_at.result.1.now front.octets.now c.loop-rest.place c.loop-rest.passed_over c.loop-rest.cursor m.new.cursor
+    c.loop-rest.messages.items c.push.new.self.items m.result front.kind c.loop-rest.invariant c.split_at.ensures.back is.0 is.1 is.2 m.ensures.octets m.ensures.kind
+    m.ensures.stamped m.ensures.at m.ensures.base c.in_ok-push-in-Some-Message.ensures.items
 
-pub returns-in_default-clause-framed : goal.returns-in_default-clause-framed
-returns-in_default-clause-framed g c =
-    (split_short c.args.limit c.args.direction c.args.givers.now c.args.octets.now c.split_at.result.1.now c.loop-front.place _ c.loop-front.cursor c.loop-front.messages.items
-    c.loop-front.invariant c.split_at.ensures.back c.in_default.ensures refl).framed
-
-pub returns-in_default-clause-stamped : goal.returns-in_default-clause-stamped
-returns-in_default-clause-stamped g c =
-    (split_short c.args.limit c.args.direction c.args.givers.now c.args.octets.now c.split_at.result.1.now c.loop-front.place _ c.loop-front.cursor c.loop-front.messages.items
-    c.loop-front.invariant c.split_at.ensures.back c.in_default.ensures refl).stamped
+pub returns-in-Some-Fault : goal.returns-in-Some-Fault
+returns-in-Some-Fault g c =
+    let front = c.in-Some-Fault in
+    let is = rw front.field-0-is at front.ensures in
+    let m = c.message_at-in-Some-Fault in
+    split_fault c.args.framing c.args.direction c.args.givers.now c.args.octets.now c.split_at.result.1.now front.header.now c.loop-rest.place c.loop-rest.passed_over _ front.is_refresh
+    c.loop-rest.cursor c.loop-rest.messages.items c.push-in-Some-Fault.new.self.items m.result c.loop-rest.invariant c.split_at.ensures.back is.0 is.1 is.2
+    m.ensures.octets m.ensures.kind m.ensures.stamped refl c.in_ok-push-in-Some-Fault.ensures.items

@@ -8,9 +8,9 @@ returns g c = record {
       let connection = c.args.connection.now in
       let received = c.in_ok-received.received in
       let sent = c.in_ok-sent.sent in
-      recorded_by c.args.limit c.args.within connection c.in_ok-entries.entries.items received.rest sent.rest received.messages.items sent.messages.items c.deref.result.now c.deref-2.result.now
+      recorded_by c.args.framings c.args.within connection c.in_ok-entries.entries.items received.unshown sent.unshown received.messages.items sent.messages.items c.deref.result.now c.deref-2.result.now
       c.deref.ensures.value c.deref-2.ensures.value c.in_ok-received.ensures c.in_ok-sent.ensures
       (c.in_ok-entries.ensures.told
-      (is_told_by c.args.limit connection _ received.messages.items sent.messages.items received.rest sent.rest refl refl refl c.deref.ensures.value c.deref-2.ensures.value clocked
+      (is_told_by c.args.framings connection _ received.messages.items sent.messages.items received.unshown sent.unshown refl refl refl c.deref.ensures.value c.deref-2.ensures.value clocked
       c.in_ok-received.ensures c.in_ok-sent.ensures)) c.in_ok-entries.ensures.seconds c.in_ok-entries.ensures.order;
 }

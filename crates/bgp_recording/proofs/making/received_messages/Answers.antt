@@ -3,5 +3,4 @@ use Rattle.bgp_recording.proofs.making.received_messages.Goals as goal
 
 pub returns : goal.returns
 returns g c =
-    let framed = c.in_ok-framed.ensures in
-    heard_by c.args.limit c.args.stream.now _ _ c.in_ok-givers.givers.items c.deref.result.now c.deref.ensures.value c.in_ok-givers.ensures.latest framed.framed framed.kinds framed.stamped
+    heard_by c.args.framing c.args.stream.now _ _ c.in_ok-givers.givers.items c.deref.result.now c.deref.ensures.value c.in_ok-givers.ensures.latest c.in_ok-framed.ensures

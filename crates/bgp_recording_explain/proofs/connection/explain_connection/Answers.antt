@@ -1,11 +1,11 @@
-use Rattle.std.proofs.Common.{◌≡◌, ◌∙◌, ◌++◌, ℕ, List, IsTrue, length, reverse, ap, inr, refl, subst, sym}
+use Rattle.std.proofs.Common.{◌≡◌, ◌∙◌, ◌++◌, ℕ, List, length, reverse, ap, inr, refl, subst, sym}
 use Rattle.std.specs.List.{AllByRecursion}
-use Rattle.bgp_prefix.specs.RouteRefresh.{is_offered}
+use Rattle.bgp_prefix.specs.declared.session.RouteRefresh.TheVariants as refreshes
 use Rattle.bgp_prefix.specs.declared.session.Session.{Session}
-use Rattle.bgp_wire.specs.Header.{limit_with}
 use Rattle.bgp_text.specs.Lines.{Writes}
 use Rattle.bgp_tool.specs.Status.{code_of}
 use Rattle.bgp_import.specs.Refusals.{refusal_line}
+use Rattle.bgp_recording.specs.Pieces.{framings_of}
 use Rattle.bgp_recording.specs.Recorded.{IsRecorded}
 use Rattle.bgp_recording.proofs.Capturing.{made_are_allowed}
 use Rattle.bgp_recording_tool.specs.Remarks.{AddsTold, IsHelp}
@@ -31,9 +31,9 @@ explain_made-requires g c =
     let h = c.requires.holds in
     let tells = rw c.in-Ok.is at (c.records_of.ensures h.packets h.segments h.taken h.holds) in
     let session = c.args.config.now.parts.session in
-    made_are_allowed session c.args.import.now.within tells.connection c.in-Ok.made.entries.items c.in-Ok.made.received_rest c.in-Ok.made.sent_rest
-    (λ may. c.in_default.ensures.none (subst (λ (s : Session). IsTrue (is_offered s.refresh)) (sym c.requires.session) may))
-    (subst (λ (s : Session). IsRecorded (limit_with s.extended) c.args.import.now.within tells.connection c.in-Ok.made.entries.items c.in-Ok.made.received_rest c.in-Ok.made.sent_rest)
+    made_are_allowed session c.args.import.now.within tells.connection c.in-Ok.made.entries.items c.in-Ok.made.received c.in-Ok.made.sent
+    (λ refuses. c.in_default.ensures.none (subst (λ (s : Session). s.refresh ≡ refreshes.Refused) (sym c.requires.session) refuses))
+    (subst (λ (s : Session). IsRecorded (framings_of s) c.args.import.now.within tells.connection c.in-Ok.made.entries.items c.in-Ok.made.received c.in-Ok.made.sent)
     c.requires.session tells.recorded.told)
 
 pub returns-in-Ok-explain_made : goal.returns-in-Ok-explain_made

@@ -36,7 +36,7 @@ write_entries-requires-clause-lines g c =
     let h = c.requires.holds in
     let tells = rw c.in-Ok.is at (c.records_of.ensures h.packets h.segments h.taken h.holds) in
     subst (λ (es : List Entry). AllByRecursion (HasLine c.args.import.now.selection.session) es) (sym c.as_slice.ensures.value)
-    (have_lines c.args.import.now.selection.session c.args.import.now.within tells.connection c.in-Ok.made.entries.items c.in-Ok.made.received_rest c.in-Ok.made.sent_rest tells.recorded.told)
+    (have_lines c.args.import.now.selection.session c.args.import.now.within tells.connection c.in-Ok.made.entries.items c.in-Ok.made.received c.in-Ok.made.sent tells.recorded.told)
 
 pub returns : goal.returns
 returns g c = λ packets segments taken holds.
