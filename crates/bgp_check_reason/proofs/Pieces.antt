@@ -1,0 +1,14 @@
+-- Three pieces, each after its separator.
+use Rattle.std.proofs.Common.{◌≡◌, ◌++◌, ◌∷◌, ℕ, List, [], Option, None, Some, append_assoc, refl}
+use Rattle.bgp_parts_text.specs.Pieces.{separated, next_separator}
+
+-- a piece, if there is one, and then the others
+piece_by_piece : (before : List ℕ) (piece : Option (List ℕ)) (pieces : List (Option (List ℕ)))
+    → separated before (piece ∷ pieces) ≡ separated before (piece ∷ []) ++ separated (next_separator before piece) pieces
+piece_by_piece before None pieces = refl
+piece_by_piece before (Some piece) pieces = simp append_assoc
+
+pub three_pieces : (before first second : List ℕ) (a b c : Option (List ℕ)) → first ≡ next_separator before a → second ≡ next_separator first b
+    → separated before (a ∷ b ∷ c ∷ []) ≡ separated before (a ∷ []) ++ (separated first (b ∷ []) ++ separated second (c ∷ []))
+three_pieces before first second a b c is1 is2 =
+    rw (is2, is1, piece_by_piece before a (b ∷ c ∷ []), piece_by_piece (next_separator before a) b (c ∷ [])) refl

@@ -1,0 +1,99 @@
+-- Why a verdict on an end is a no or unfinished, and the lines that tell it.
+use Rattle.std.specs.Prelude.{◌≡◌, ◌⊎◌, ◌+◌, Bool, true, false, ℕ, List, [], Option, None, Some}
+use Rattle.std.specs.Prelude.{MatchOption, option_map, take}
+use Rattle.std.specs.List.{AllByRecursion}
+use Rattle.bgp_prefix.specs.Shown.{ShownRecord}
+use Rattle.bgp_prefix.specs.declared.session.Session.{Session}
+use Rattle.bgp_open.specs.Open.{open_of}
+use Rattle.bgp_open.specs.declared.config.Config.{Config}
+use Rattle.bgp_judge.specs.Verdict.{HasVerdict, No, Unfinished, VerdictValue, Yes}
+use Rattle.bgp_check.specs.Answered.{AnswerValue, IsJudged, JudgedAs, Unjudged}
+use Rattle.bgp_check.specs.Configurations.{own_faults}
+use Rattle.bgp_check.specs.Opens.{HasOwnOpen}
+use Rattle.bgp_check.specs.declared.own_fault.OwnFault.{OwnFault}
+use Rattle.bgp_check.specs.declared.peer_as.PeerAs.{PeerAs}
+use Rattle.bgp_check.specs.declared.peer_as.PeerAs.TheVariants.{Any, Is, OtherThan}
+use Rattle.bgp_explain.specs.Entries.{CanBeShown, SaysOfEntries}
+use Rattle.bgp_recording.specs.Captured.{records_of}
+use Rattle.bgp_recording.specs.declared.entry.Entry.{Entry}
+use Rattle.bgp_check_reason.specs.OwnFaults.{AreOwnFaults, faults_text}
+use Rattle.bgp_check_reason.specs.Telling.{told_text}
+use Rattle.bgp_check_reason.specs.Under.{IsToldUnder}
+use Rattle.bgp_check_reason.specs.declared.own_faults.OwnFaults.{OwnFaults}
+use Rattle.bgp_check_reason.specs.declared.reason.Reason.{Reason}
+
+-- what `bgp judge --explain` says of these entries under a configuration, after the verdict; nothing,
+-- where no capture of its session can hold their records
+abbrev pub IsSaid : Config → List Entry → VerdictValue → List ℕ → Type 0
+IsSaid config entries verdict text =
+    (AllByRecursion (CanBeShown config.parts.session) entries
+    × SaysOfEntries config entries verdict text)
+    ⊎ ((¬ AllByRecursion (CanBeShown config.parts.session) entries) × (text ≡ []))
+
+-- ---- what differs from that
+
+-- the peer has to have another AS number than its OPEN says
+abbrev pub is_of_another : PeerAs → Bool
+is_of_another Any = false
+is_of_another (Is number) = false
+is_of_another (OtherThan number) = true
+
+-- all own faults of an OPEN, if it has one
+abbrev pub AreFaultsOf : List ℕ → Option OwnFaults → Type 0
+AreFaultsOf own faults = MatchOption faults
+    ((fault : OwnFault) → ¬ own_faults (open_of own) fault) (AreOwnFaults (open_of own))
+
+-- of the first OPEN that is sent, up to the record after so many: a no is at one with own faults at
+-- the latest, so that the impossible record is that OPEN, where it has some
+abbrev pub AreFaultsFrom : Option (List ℕ) → Option OwnFaults → Type 0
+AreFaultsFrom None faults = faults ≡ None
+AreFaultsFrom (Some own) faults = AreFaultsOf own faults
+
+abbrev pub AreFaultsAt : List ShownRecord → ℕ → Option OwnFaults → Type 0
+AreFaultsAt records count faults =
+    (own : Option (List ℕ)) × HasOwnOpen (take (count + 1) records) own × AreFaultsFrom own faults
+
+abbrev pub AreFaultsIn : List ShownRecord → VerdictValue → Option OwnFaults → Type 0
+AreFaultsIn records (Yes ends) faults = faults ≡ None
+AreFaultsIn records (No count) faults = AreFaultsAt records count faults
+AreFaultsIn records Unfinished faults = faults ≡ None
+
+-- ---- all of it
+
+-- The configuration under which the verdict is told, what is said of it, and how that is told.
+pub record IsExplained (session : Session) (entries : List Entry) (peer : PeerAs)
+    (verdict : VerdictValue) (text : List ℕ) : Type 0 where
+  pub config : Config
+  pub under : IsToldUnder session (records_of entries) peer config
+  pub holds : HasVerdict config (records_of entries) verdict
+  pub said : List ℕ
+  pub is_said : IsSaid config entries verdict said
+  pub faults : Option OwnFaults
+  pub are_faults : AreFaultsIn (records_of entries) verdict faults
+  pub told : text ≡ told_text (is_of_another peer) (option_map faults_text faults) said
+
+-- of records that are judged for this peer, whatever the verdict is
+abbrev pub IsToldAs : Session → List Entry → PeerAs → Option OwnFaults → List ℕ → Type 0
+IsToldAs session entries peer faults text =
+    (number : Option ℕ) (verdict : VerdictValue)
+    → IsJudged session (records_of entries) number peer verdict
+    → AreFaultsIn (records_of entries) verdict faults
+    → IsExplained session entries peer verdict text
+
+-- of a yes nothing is told
+abbrev pub IsReasonOf : Session → List Entry → PeerAs → VerdictValue → List ℕ → Type 0
+IsReasonOf session entries peer (Yes ends) text = text ≡ []
+IsReasonOf session entries peer (No count) text =
+    IsExplained session entries peer (No count) text
+IsReasonOf session entries peer Unfinished text =
+    IsExplained session entries peer Unfinished text
+
+abbrev pub IsReasonTo : Session → List Entry → AnswerValue → List ℕ → Type 0
+IsReasonTo session entries (Unjudged why) text = text ≡ []
+IsReasonTo session entries (JudgedAs number peer verdict) text =
+    IsReasonOf session entries peer verdict text
+
+-- the lines of one
+abbrev pub reason_text : {X : Type 0} → Reason X → List ℕ
+reason_text reason =
+    told_text reason.names_another (option_map faults_text reason.own_faults) reason.text.items

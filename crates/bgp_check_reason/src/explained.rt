@@ -1,0 +1,79 @@
+//! What `bgp judge --explain` says of entries, in memory.
+
+ghost use Rattle.std.specs.Prelude.{◌<◌, ℕ, IfOk, List, OnOk};
+ghost use Rattle.std.specs.List.{AllByRecursion};
+ghost use Rattle.bgp_judge.specs.Verdict.{HasVerdict, VerdictValue, verdict_value};
+ghost use Rattle.bgp_explain.specs.Details.{AreDetailsOf};
+ghost use Rattle.bgp_explain.specs.Entries.{AreExplained, CanBeShown, SaysOfEntries};
+ghost use Rattle.bgp_recording.specs.Captured.{records_of};
+ghost use Rattle.bgp_check_reason.specs.Reason.{IsSaid};
+
+use crate::shown::can_be_shown;
+use bgp_explain::{Details, ExplainedEntries, explain_entries, put_explained_entries};
+use bgp_judge::{Tracker, records_have_just_one_verdict};
+use bgp_open::Config;
+use bgp_recording::Entry;
+use bgp_text::Lines;
+use mrt::{Failed, MemSink, Sink};
+use std::alloc::{AllocError, Allocator};
+
+/// Writes what explains the verdict on the records of entries.
+fn write_explained<W: Sink, A: Allocator + Copy>(
+    sink: &mut W,
+    config: &Config,
+    entries: &[Entry<'_>],
+    explained: &ExplainedEntries<A>,
+    details: &Option<Details<'_, A>>,
+) -> Result<(), Failed>
+    requires failures { W.failures sink.old < u64.MAX }
+    requires explained { AreExplained config.now entries.now explained.now }
+    requires details { AreDetailsOf config.now explained.now.reason details.now }
+    ensures { OnOk result ((more : List ℕ)
+        × SaysOfEntries config.now entries.now (verdict_value explained.now.verdict) more
+        × W.takes sink.old sink.new more) }
+{
+    let mut lines = Lines::new(sink);
+    put_explained_entries(&mut lines, config, entries, explained, details);
+    let handed_over = lines.hand_over();
+    // No effect: it ends the loan of the sink.
+    lines.into_sink();
+    handed_over
+}
+
+/// What is said of entries whose records a capture can hold.
+fn text_of<A: Allocator + Copy, T: Tracker<A>>(
+    alloc: A,
+    config: &Config,
+    entries: &[Entry<'_>],
+) -> Result<Vec<u8, A>, AllocError>
+    requires { AllByRecursion (CanBeShown config.now.parts.session) entries.now }
+    ensures { IfOk result (λ text. (verdict : VerdictValue)
+        → HasVerdict config.now (records_of entries.now) verdict
+        → SaysOfEntries config.now entries.now verdict text.items) }
+{
+    records_have_just_one_verdict();
+    let explained = explain_entries::<A, T>(alloc, config, entries)?;
+    let details = explained.details(alloc, config)?;
+    let mut sink = MemSink::new(alloc);
+    match write_explained(&mut sink, config, entries, &explained, &details) {
+        Ok(()) => Ok(sink.into_octets()),
+        Err(_) => Err(AllocError),
+    }
+}
+
+/// What is said of entries after the verdict on their records under a configuration: nothing, where
+/// no capture of its session can hold them all.
+pub(crate) fn said_of<A: Allocator + Copy, T: Tracker<A>>(
+    alloc: A,
+    config: &Config,
+    entries: &[Entry<'_>],
+) -> Result<Vec<u8, A>, AllocError>
+    ensures { IfOk result (λ text. (verdict : VerdictValue)
+        → HasVerdict config.now (records_of entries.now) verdict
+        → IsSaid config.now entries.now verdict text.items) }
+{
+    if !can_be_shown(&config.parts.session, entries) {
+        return Ok(Vec::new(alloc));
+    }
+    text_of::<A, T>(alloc, config, entries)
+}

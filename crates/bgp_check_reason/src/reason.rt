@@ -1,0 +1,151 @@
+//! Why a verdict on an end is a no or unfinished, as it is told.
+
+ghost use Rattle.std.specs.Prelude.{◌≡◌, ◌<◌, [], ℕ, List, Option, IfOk, length, map};
+ghost use Rattle.mrt.specs.Reader.{shown_of};
+ghost use Rattle.bgp_judge.specs.Verdict.{HasVerdict, VerdictValue, verdict_value};
+ghost use Rattle.bgp_check.specs.Answered.{IsAnswerTo, IsJudged, answer_value, number_of};
+ghost use Rattle.bgp_check.specs.Opens.{HasOwnOpen};
+ghost use Rattle.bgp_recording.specs.Captured.{records_of};
+ghost use Rattle.bgp_text.specs.Lines.{Writes};
+ghost use Rattle.bgp_check_reason.specs.Reason.{AreFaultsAt, IsReasonOf, IsReasonTo, IsToldAs};
+ghost use Rattle.bgp_check_reason.specs.Reason.{is_of_another, reason_text};
+
+use crate::explained::said_of;
+use crate::laws::the_verdict_is_told_under_one;
+use crate::own_faults::{OwnFaults, own_faults_of};
+use crate::telling::put_told;
+use crate::under::told_under;
+use bgp_check::{Answer, Judged, PeerAs, own_open};
+use bgp_judge::{Tracker, Verdict};
+use bgp_prefix::Session;
+use bgp_recording::Entry;
+use bgp_text::Lines;
+use mrt::{Record, Sink};
+use std::alloc::{AllocError, Allocator, Global};
+
+/// Why a verdict on an end is a no or unfinished, as it is told; of a yes nothing is.
+#[derive(Drop)]
+pub struct Reason<A: Allocator = Global> {
+    /// What `bgp judge --explain` says after the verdict.
+    text: Vec<u8, A>,
+    /// Its peer has to have another AS number than its OPEN says, whichever.
+    names_another: bool,
+    /// What the end's OPEN says that no configuration has, where that record is impossible.
+    own_faults: Option<OwnFaults>,
+}
+
+impl<A: Allocator> Reason<A> {
+    /// No reason.
+    fn nothing(alloc: A) -> Reason<A>
+        ensures { reason_text result ≡ [] }
+    {
+        Reason {
+            text: Vec::new(alloc),
+            names_another: false,
+            own_faults: None,
+        }
+    }
+}
+
+/// Whether a peer has to have another AS number than its OPEN says.
+fn is_of_another(peer: PeerAs) -> bool
+    ensures { result ≡ is_of_another peer }
+{
+    matches!(peer, PeerAs::OtherThan(_))
+}
+
+/// The own faults of the first OPEN that these records show as sent, up to the one after so many.
+/// The end tells this AS number by its OPEN.
+fn own_faults_at(records: &[Record<'_>], number: Option<u32>, count: u64) -> Option<OwnFaults>
+    requires within { count < length records.now }
+    requires number { (own : Option (List ℕ)) → HasOwnOpen (map shown_of records.now) own
+        → number ≡ number_of own }
+    ensures { AreFaultsAt (map shown_of records.now) count result }
+{
+    let own = own_open(&records[..count as usize + 1])?;
+    own_faults_of(own, number?)
+}
+
+/// Why a verdict is so that isn't yes.
+fn explained<A: Allocator + Copy, T: Tracker<A>>(
+    alloc: A,
+    session: &Session,
+    entries: &[Entry<'_>],
+    records: &[Record<'_>],
+    peer: PeerAs,
+    own_faults: Option<OwnFaults>,
+) -> Result<Reason<A>, AllocError>
+    requires records { map shown_of records.now ≡ records_of entries.now }
+    requires judged { (number : Option ℕ) × (verdict : VerdictValue)
+        × IsJudged session.now (records_of entries.now) number peer verdict }
+    ensures { IfOk result (λ reason. IsToldAs session.now entries.now peer own_faults
+        (reason_text reason)) }
+{
+    the_verdict_is_told_under_one();
+    let config = told_under(session, records, peer);
+    Ok(Reason {
+        text: said_of::<A, T>(alloc, &config, entries)?,
+        names_another: is_of_another(peer),
+        own_faults,
+    })
+}
+
+/// Why the verdict on an end's records is so.
+fn reason_for<A: Allocator + Copy, T: Tracker<A>>(
+    alloc: A,
+    session: &Session,
+    entries: &[Entry<'_>],
+    records: &[Record<'_>],
+    judged: &Judged<A>,
+) -> Result<Reason<A>, AllocError>
+    requires records { map shown_of records.now ≡ records_of entries.now }
+    requires judged { IsJudged session.now (records_of entries.now) judged.now.as_number
+        judged.now.peer_as (verdict_value judged.now.verdict) }
+    ensures { IfOk result (λ reason. IsReasonOf session.now entries.now judged.now.peer_as
+        (verdict_value judged.now.verdict) (reason_text reason)) }
+{
+    let peer = judged.peer_as;
+    match &judged.verdict {
+        Verdict::Yes(_) => Ok(Reason::nothing(alloc)),
+        Verdict::No(count) => {
+            let faults = own_faults_at(records, judged.as_number, *count);
+            explained::<A, T>(alloc, session, entries, records, peer, faults)
+        }
+        Verdict::Unfinished => explained::<A, T>(alloc, session, entries, records, peer, None),
+    }
+}
+
+/// Why the verdict on an end's records is a no or unfinished, by what is answered of them: what
+/// `bgp judge --explain` says of these entries, whose records they are, under the configuration
+/// under which the verdict is told. Of a yes, and of an end that isn't judged, it is nothing.
+///
+/// `AllocError` is answered where memory is refused.
+pub fn reason_of<A: Allocator + Copy, T: Tracker<A>>(
+    alloc: A,
+    session: &Session,
+    entries: &[Entry<'_>],
+    records: &[Record<'_>],
+    answer: &Answer<A>,
+) -> Result<Reason<A>, AllocError>
+    requires records { map shown_of records.now ≡ records_of entries.now }
+    requires answer { IsAnswerTo session.now (records_of entries.now) (answer_value answer.now) }
+    ensures { IfOk result (λ reason. IsReasonTo session.now entries.now (answer_value answer.now)
+        (reason_text reason)) }
+{
+    match answer {
+        Answer::NotJudged(_) => Ok(Reason::nothing(alloc)),
+        Answer::Judged(judged) => reason_for::<A, T>(alloc, session, entries, records, judged),
+    }
+}
+
+/// Puts the lines of a reason.
+pub fn put_reason<W: Sink, A: Allocator>(lines: &mut Lines<'_, W>, reason: &Reason<A>)
+    ensures { Writes lines.old lines.new (reason_text reason.now) }
+{
+    put_told(
+        lines,
+        reason.names_another,
+        reason.own_faults,
+        reason.text.as_slice(),
+    );
+}
