@@ -1,7 +1,8 @@
 -- The records of a session so far, and one more.
-use Rattle.std.proofs.Common.{◌≡◌, ◌∙◌, ℕ, ◌+◌, ◌<◌, ◌≤◌, List, [], ◌∷◌, ◌++◌, Option, None, Some, length, take, drop, get_or, map, refl, sym, ap, subst, append-nil, suc}
+use Rattle.std.proofs.Common.{◌≡◌, ◌∙◌, ℕ, ◌+◌, ◌<◌, ◌≤◌, Bool, true, false, cond, if◌then◌else◌, List, [], ◌∷◌, ◌++◌, Option, None, Some, length, take, drop, get_or, map, refl, sym, ap, subst, append-nil, suc}
 use Rattle.std.proofs.Math.Seq.{drop-cons}
 use Rattle.std.proofs.lemmas.List.{map-append, take-append-drop, take_all, take_more}
+use Rattle.std.proofs.lemmas.List.Elements.{filter-append}
 use Rattle.bgp_prefix.specs.Shown.{ShownRecord, second_of}
 use Rattle.mrt.specs.Capture.{shown_of}
 use Rattle.mrt.specs.Rules.{OfSession, Refused}
@@ -11,6 +12,7 @@ use Rattle.mrt_sessions.specs.declared.lengths.ExtendedMessages.{ExtendedMessage
 use Rattle.mrt_sessions.specs.declared.named.NamedRecord.{NamedRecord}
 use Rattle.mrt_sessions.specs.File.{Located}
 use Rattle.mrt_sessions.specs.Located.{located}
+use Rattle.mrt_sessions.specs.Sessions.{is_between, records_between}
 use Rattle.mrt_sessions.specs.Reading.{AreAllowed, IsJudgedHere, IsReading, last_of}
 
 module _ (addresses : Addresses) (extended : ExtendedMessages) where
@@ -76,3 +78,42 @@ cut_at named i x within is =
     ap (λ (n : NamedRecord). map located (take i named) ++ located n ∷ map located (drop (suc i) named)) is
     ∙ ap (λ (ls : List Located). map located (take i named) ++ ls) (sym (ap (map located) (drop-cons named i x within)))
     ∙ sym (map-append located (take i named) (drop i named)) ∙ ap (map located) (take-append-drop i named)
+
+-- ---- those of one session among them
+
+between_one : (addresses : Addresses) (front : List Located) (x : Located) (b : Bool) → is_between addresses x ≡ b
+    → records_between addresses (front ++ x ∷ []) ≡ records_between addresses front ++ (if b then x ∷ [] else [])
+between_one addresses front x b is = filter-append (is_between addresses) front (x ∷ []) ∙ ap (λ (ls : List Located). records_between addresses front ++ ls) (single b is) where
+  single : (b : Bool) → is_between addresses x ≡ b → records_between addresses (x ∷ []) ≡ (if b then x ∷ [] else [])
+  single true is = ap (λ (c : Bool). if c then x ∷ [] else []) is
+  single false is = ap (λ (c : Bool). if c then x ∷ [] else []) is
+
+pub one_of_it : (addresses : Addresses) (named : List NamedRecord) (i : ℕ) (x : NamedRecord) → i < length named → x ≡ get_or named i x → is_between addresses (located x) ≡ true
+    → records_between addresses (map located (take (i + 1) named)) ≡ records_between addresses (map located (take i named)) ++ located x ∷ []
+one_of_it addresses named i x within is between =
+    ap (records_between addresses) (one_more named i x within is) ∙ between_one addresses (map located (take i named)) (located x) true between
+
+pub one_of_another : (addresses : Addresses) (named : List NamedRecord) (i : ℕ) (x : NamedRecord) → i < length named → x ≡ get_or named i x
+    → is_between addresses (located x) ≡ false
+    → records_between addresses (map located (take (i + 1) named)) ≡ records_between addresses (map located (take i named))
+one_of_another addresses named i x within is apart =
+    ap (records_between addresses) (one_more named i x within is) ∙ between_one addresses (map located (take i named)) (located x) false apart
+    ∙ append-nil (records_between addresses (map located (take i named)))
+
+pub all_of_it : (addresses : Addresses) (named : List NamedRecord) (i : ℕ) → length named ≤ i
+    → records_between addresses (map located (take i named)) ≡ records_between addresses (map located named)
+all_of_it addresses named i past = ap (records_between addresses) (all_of named i past)
+
+first_of_it : (addresses : Addresses) (x : Located) (later : List Located) (b : Bool) → is_between addresses x ≡ b → b ≡ true
+    → records_between addresses (x ∷ later) ≡ x ∷ records_between addresses later
+first_of_it addresses x later true is its = ap (λ (c : Bool). cond c (x ∷ records_between addresses later) (records_between addresses later)) is
+first_of_it addresses x later false is its = absurd cc
+
+pub cut_at_it : (addresses : Addresses) (named : List NamedRecord) (i : ℕ) (x : NamedRecord) → i < length named → x ≡ get_or named i x → is_between addresses (located x) ≡ true
+    → records_between addresses (map located (take i named)) ++ located x ∷ records_between addresses (map located (drop (suc i) named))
+    ≡ records_between addresses (map located named)
+cut_at_it addresses named i x within is between =
+    sym (ap (records_between addresses) (sym (cut_at named i x within is))
+    ∙ filter-append (is_between addresses) (map located (take i named)) (located x ∷ map located (drop (suc i) named))
+    ∙ ap (λ (ls : List Located). records_between addresses (map located (take i named)) ++ ls)
+    (first_of_it addresses (located x) (map located (drop (suc i) named)) true between refl))

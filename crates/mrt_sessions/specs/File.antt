@@ -1,6 +1,7 @@
 -- A file of records, whichever sessions it has (RFC 6396, 2): records one after another, each of
 -- which is one of a session or is skipped, and then the end or the first fault.
-use Rattle.std.specs.Prelude.{◌≡◌, ◌≢◌, ◌≤◌, ◌+◌, ◌++◌, ℕ, List, [], ◌∷◌, length, Option, None, Some}
+use Rattle.std.specs.Prelude.{◌≡◌, ◌≢◌, ◌≤◌, ◌+◌, ◌++◌, ℕ, List, [], ◌∷◌, length}
+use Rattle.std.specs.Prelude.{Option, None, Some}
 use Rattle.std.specs.Prelude.{◌==◌, Bool, true, IsTrue, if◌then◌else◌, option_map}
 use Rattle.std.specs.List.{AllByRecursion, flat_map}
 use Rattle.bgp_prefix.specs.declared.session.Session.{Session}
@@ -25,8 +26,8 @@ IsJudgedForAll octets judgement =
     (session : Session) (last : Option ℕ) → IsTrue session.extended
     → IsJudged session last octets judgement
 
--- A record of some session: of type BGP4MP or BGP4MP_ET, of a subtype that is known, and with a body
--- that isn't too long and has its fields. So it names two addresses.
+-- A record of some session: of type BGP4MP or BGP4MP_ET, of a subtype that is known, and with a
+-- body that isn't too long and has its fields. So it names two addresses.
 pub record NamesSession (octets : List ℕ) : Type 0 where
   pub whole : IsRecord octets
   pub kind : IsTrue (is_of (header_of octets).kind (16 ∷ 17 ∷ []))

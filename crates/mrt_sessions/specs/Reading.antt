@@ -13,8 +13,8 @@ use Rattle.mrt_sessions.specs.declared.addresses.Addresses.{Addresses}
 use Rattle.mrt_sessions.specs.declared.lengths.ExtendedMessages.{ExtendedMessages}
 use Rattle.mrt_sessions.specs.File.{Located}
 
--- Whether a record of this form has a message that may be an extended one (RFC 8654). Each direction
--- has its own limit: that which its receiver offers.
+-- Whether a record of this form has a message that may be an extended one (RFC 8654). Each
+-- direction has its own limit: that which its receiver offers.
 abbrev pub may_be_extended : ExtendedMessages → Option Form → Bool
 may_be_extended extended None = false
 may_be_extended extended (Some forms.Change) = false
@@ -22,8 +22,8 @@ may_be_extended extended (Some forms.Received) = extended.received
 may_be_extended extended (Some forms.Sent) = extended.sent
 may_be_extended extended (Some forms.AddPath) = false
 
--- The session as this record of it is read, whose messages have the limit of the record's direction.
--- Its ROUTE-REFRESH messages are records of it.
+-- The session as this record of it is read, whose messages have the limit of the record's
+-- direction. Its ROUTE-REFRESH messages are records of it.
 abbrev pub session_for : Addresses → ExtendedMessages → List ℕ → Session
 session_for addresses extended octets = record {
   peer = addresses.peer;

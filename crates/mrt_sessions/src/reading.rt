@@ -1,6 +1,6 @@
 //! The records of one session of a file.
 
-ghost use Rattle.std.specs.Prelude.{◌≡◌, ◌≤◌, All, IfErr, IfOk, drop, length, map};
+ghost use Rattle.std.specs.Prelude.{◌≡◌, ◌≤◌, IfErr, IfOk, drop, length, map};
 ghost use Rattle.bgp_prefix.specs.Shown.{second_of};
 ghost use Rattle.mrt.specs.Capture as capture;
 ghost use Rattle.mrt.specs.Found.{header_value, shown_as};
@@ -9,6 +9,7 @@ ghost use Rattle.mrt.specs.Reader.{shown_of};
 ghost use Rattle.mrt.specs.Rules.{OfSession, Refused};
 ghost use Rattle.mrt_sessions.specs.File.{addresses_of};
 ghost use Rattle.mrt_sessions.specs.Located.{located};
+ghost use Rattle.mrt_sessions.specs.Sessions.{is_between, records_between};
 ghost use Rattle.mrt_sessions.specs.Reading.{IsJudgedHere, IsReading, may_be_extended};
 
 use crate::addresses::Addresses;
@@ -93,8 +94,15 @@ fn second_of(shown: &Record<'_>) -> Seconds
     }
 }
 
-/// Reads the records of the session between these addresses, which are all that a file has of it,
-/// in their order. ROUTE-REFRESH messages (RFC 2918) are records as others.
+/// Whether the record names these addresses.
+fn is_between(named: &NamedRecord<'_>, addresses: Addresses) -> bool
+    ensures { result ≡ is_between addresses (located named.now) }
+{
+    addresses.cmp(&named.addresses()).is_eq()
+}
+
+/// Reads the records of the session between these addresses, of records of a file in their order:
+/// those of other sessions are skipped. ROUTE-REFRESH messages (RFC 2918) are records as others.
 ///
 /// `AllocError` is answered where there was no memory for the list.
 pub fn read_session<'a, A: Allocator + Copy>(
@@ -103,13 +111,16 @@ pub fn read_session<'a, A: Allocator + Copy>(
     extended: ExtendedMessages,
     records: &[NamedRecord<'a>],
 ) -> Result<SessionRecords<'a, A>, AllocError>
-    requires { All (λ r. addresses_of r.octets.now ≡ addresses) records.now }
-    ensures { IfOk result (λ read. IsReading addresses extended (map located records.now)
+    ensures { IfOk result (λ read. IsReading addresses extended
+        (records_between addresses (map located records.now))
         (map shown_of read.records.items) read.fault) }
 {
     let mut shown = Vec::new(alloc);
     let mut last = None;
     for named in records {
+        if !is_between(named, addresses) {
+            continue;
+        }
         match read_record(addresses, extended, last, named) {
             Ok(next) => {
                 last = Some(second_of(&next));
