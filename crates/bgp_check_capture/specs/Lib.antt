@@ -1,0 +1,5 @@
+pub mod Offers
+pub mod Cut
+pub mod Passed
+pub mod Told
+pub mod StretchLaws

@@ -1,0 +1,110 @@
+//! What the OPENs of a session offer of messages that aren't those of every session.
+
+ghost use Rattle.std.specs.Prelude.{◌≡◌, ◌↔◌, IfSome, IsTrue, map, option_map};
+ghost use Rattle.bgp_machine.specs.Lists.{Has};
+ghost use Rattle.bgp_open.specs.Capability.{capability_of};
+ghost use Rattle.bgp_open.specs.OpenFault.{IsWellFormed};
+ghost use Rattle.mrt_sessions.specs.Located.{located};
+ghost use Rattle.bgp_check_capture.specs.Offers.{HearsOffer, OffersExtended, SendsOffer};
+ghost use Rattle.bgp_check_capture.specs.Offers.{is_route_refresh, offers_refresh, refresh_in};
+
+use bgp_check::offer_of;
+use bgp_open::{Capability, Open, read_open};
+use mrt::{Form, form_of};
+use mrt_sessions::{ExtendedMessages, NamedRecord};
+
+/// The Capability Code of route refresh (RFC 2918, 2).
+const ROUTE_REFRESH: u8 = 2;
+
+/// Whether the octets are a whole and well-formed OPEN that offers extended messages (RFC 8654, 4).
+fn offers_extended(octets: &[u8]) -> bool
+    ensures { IsTrue result ↔ OffersExtended octets.now }
+{
+    match read_open(octets) {
+        Ok(message) => offer_of(&message).extended,
+        Err(_) => false,
+    }
+}
+
+/// Whether the record is an OPEN that the local system sent, with that offer.
+fn sends_offer(named: &NamedRecord<'_>) -> bool
+    ensures { IsTrue result ↔ SendsOffer (located named.now) }
+{
+    match form_of(named.header().subtype) {
+        Some(Form::Sent) => offers_extended(named.content()),
+        Some(Form::Change | Form::Received | Form::AddPath) | None => false,
+    }
+}
+
+/// Whether it is one that it received.
+fn hears_offer(named: &NamedRecord<'_>) -> bool
+    ensures { IsTrue result ↔ HearsOffer (located named.now) }
+{
+    match form_of(named.header().subtype) {
+        Some(Form::Received) => offers_extended(named.content()),
+        Some(Form::Change | Form::Sent | Form::AddPath) | None => false,
+    }
+}
+
+/// Whether an OPEN among the records that the local system sent offers extended messages.
+fn sends_an_offer(records: &[NamedRecord<'_>]) -> bool
+    ensures { IsTrue result ↔ Has SendsOffer (map located records.now) }
+{
+    for named in records {
+        if sends_offer(named) {
+            return true;
+        }
+    }
+    false
+}
+
+/// Whether one among those that it received does.
+fn hears_an_offer(records: &[NamedRecord<'_>]) -> bool
+    ensures { IsTrue result ↔ Has HearsOffer (map located records.now) }
+{
+    for named in records {
+        if hears_offer(named) {
+            return true;
+        }
+    }
+    false
+}
+
+/// Which messages of a session may be extended ones, by all of its records in a file: each direction
+/// by what an OPEN of its receiver offers.
+pub fn extended_messages(records: &[NamedRecord<'_>]) -> ExtendedMessages
+    ensures received { IsTrue result.received ↔ Has SendsOffer (map located records.now) }
+    ensures sent { IsTrue result.sent ↔ Has HearsOffer (map located records.now) }
+{
+    ExtendedMessages {
+        received: sends_an_offer(records),
+        sent: hears_an_offer(records),
+    }
+}
+
+fn is_route_refresh(capability: Capability<'_>) -> bool
+    ensures { result ≡ is_route_refresh (capability_of capability.entry) }
+{
+    capability.code == ROUTE_REFRESH
+}
+
+/// Whether an OPEN offers route refresh (RFC 2918, 2).
+fn offers_refresh(message: &Open<'_>) -> bool
+    ensures { result ≡ offers_refresh message.now.capabilities }
+{
+    message.caps().any(is_route_refresh)
+}
+
+/// Whether there is an OPEN, and it offers route refresh.
+pub(crate) fn refresh_in(octets: Option<&[u8]>) -> bool
+    requires { IfSome octets (λ o. IsWellFormed o.now) }
+    ensures { result ≡ refresh_in (option_map (λ o. o.now) octets.entry) }
+{
+    let Some(octets) = octets else {
+        return false;
+    };
+    match read_open(octets) {
+        Ok(message) => offers_refresh(&message),
+        Err(_) => unreachable!(),
+    }
+}

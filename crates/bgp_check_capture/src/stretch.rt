@@ -1,0 +1,116 @@
+//! What is told of a stretch of a session.
+
+ghost use Rattle.std.specs.Prelude.{◌≡◌, IfOk, length, map, option_map};
+ghost use Rattle.mrt.specs.Reader.{shown_of};
+ghost use Rattle.bgp_check.specs.Answered.{IsAnswerTo, answer_value};
+ghost use Rattle.bgp_check_capture.specs.Passed.{left_value};
+ghost use Rattle.bgp_check_capture.specs.Told.{IsStretchTold, answer_by, place_of, told_value};
+ghost use Rattle.bgp_check_capture.specs.Told.{with_leaving};
+
+use crate::leaving::left_answer;
+use crate::offers::refresh_in;
+use crate::passing::{Kept, RefreshOffers, keep};
+use bgp_check::{Answer, check_end, heard_open, own_open};
+use bgp_judge::{Tracker, Verdict};
+use bgp_prefix::Session;
+use mrt::Record;
+use std::alloc::{AllocError, Allocator, Global};
+
+/// What is told of a stretch.
+#[derive(Drop)]
+pub struct StretchTold<A: Allocator = Global> {
+    /// What is answered of its records without those that are passed over.
+    pub answer: Answer<A>,
+    /// How many records of the stretch stand before the first impossible one, of a no: all, where
+    /// that is the one that leaves it.
+    pub impossible: Option<usize>,
+    /// How many ROUTE-REFRESH messages (RFC 2918) are passed over that the local system received.
+    pub received: usize,
+    /// And that it sent.
+    pub sent: usize,
+}
+
+/// How many records of the stretch stand before the first impossible one.
+fn place_of<A: Allocator>(answer: &Answer<A>, places: &[usize], all: usize) -> Option<usize>
+    ensures { result ≡ place_of (answer_value answer.now) places.now all }
+{
+    let Answer::Judged(judged) = answer else {
+        return None;
+    };
+    match &judged.verdict {
+        Verdict::No(count) => match places.get(*count as usize) {
+            Some(place) => Some(*place),
+            None => Some(all),
+        },
+        Verdict::Yes(_) | Verdict::Unfinished => None,
+    }
+}
+
+/// What is answered of these records and the one that leaves them, if one does.
+fn answer_with<'a, A: Allocator + Copy, T: Tracker<A>>(
+    alloc: A,
+    session: &Session,
+    mut records: Vec<Record<'a>, A>,
+    leaving: Option<Record<'a>>,
+) -> Result<Answer<A>, AllocError>
+    ensures { IfOk result (λ answer. IsAnswerTo session.now
+        (with_leaving (map shown_of records.entry.items) (option_map shown_of leaving.entry))
+        (answer_value answer)) }
+{
+    match leaving {
+        Some(leaving) => {
+            records.push(leaving)?;
+            check_end::<A, T>(alloc, session, &records)
+        }
+        None => check_end::<A, T>(alloc, session, &records),
+    }
+}
+
+/// The answer of a stretch, of that of its records and the one that leaves it.
+fn answer_by<A: Allocator + Copy>(
+    alloc: A,
+    leaving: Option<Record<'_>>,
+    answer: Answer<A>,
+) -> Result<Answer<A>, AllocError>
+    ensures { IfOk result (λ told. answer_value told
+        ≡ answer_by (option_map shown_of leaving.entry) (answer_value answer)) }
+{
+    match leaving {
+        Some(_) => left_answer(alloc, answer),
+        None => Ok(answer),
+    }
+}
+
+/// What is told of a stretch of the session, with the record that leaves it, if one does: with that
+/// it is judged, and where both begin a run, the stretch ended in Idle. ROUTE-REFRESH messages are
+/// passed over that their receiver offered.
+///
+/// `AllocError` is answered where memory was refused, and then nothing else.
+pub fn check_stretch<'a, A: Allocator + Copy, T: Tracker<A>>(
+    alloc: A,
+    session: &Session,
+    stretch: &[Record<'a>],
+    leaving: Option<Record<'a>>,
+) -> Result<StretchTold<A>, AllocError>
+    ensures { IfOk result (λ told. IsStretchTold session.now (map shown_of stretch.now)
+        (length stretch.now) (option_map shown_of leaving.entry) (told_value told)) }
+{
+    let offers = RefreshOffers {
+        received: refresh_in(own_open(stretch)),
+        sent: refresh_in(heard_open(stretch)),
+    };
+    let Kept {
+        records,
+        places,
+        received,
+        sent,
+    } = keep(alloc, offers, stretch)?;
+    let answer = answer_with::<A, T>(alloc, session, records, leaving)?;
+    let impossible = place_of(&answer, &places, stretch.len());
+    Ok(StretchTold {
+        answer: answer_by(alloc, leaving, answer)?,
+        impossible,
+        received,
+        sent,
+    })
+}
