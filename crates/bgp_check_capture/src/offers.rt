@@ -70,8 +70,8 @@ fn hears_an_offer(records: &[NamedRecord<'_>]) -> bool
     false
 }
 
-/// Which messages of a session may be extended ones, by all of its records in a file: each direction
-/// by what an OPEN of its receiver offers.
+/// Which messages of a session may be extended ones, by all of its records in a file: each
+/// direction by what an OPEN of its receiver offers.
 pub fn extended_messages(records: &[NamedRecord<'_>]) -> ExtendedMessages
     ensures received { IsTrue result.received ↔ Has SendsOffer (map located records.now) }
     ensures sent { IsTrue result.sent ↔ Has HearsOffer (map located records.now) }

@@ -79,8 +79,8 @@ impl<'a, A: Allocator + Copy> Kept<'a, A> {
     ) -> Result<(), AllocError>
         requires received { self.old.received < usize.MAX }
         requires sent { self.old.sent < usize.MAX }
-        ensures { OnOk result
-            (Takes offers place (shown_of shown.entry) (left_value self.old) (left_value self.new)) }
+        ensures { OnOk result (Takes offers place (shown_of shown.entry)
+            (left_value self.old) (left_value self.new)) }
     {
         if is_passed_over(&shown, offers) {
             self.pass_over(&shown);
