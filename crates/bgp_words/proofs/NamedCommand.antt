@@ -27,10 +27,10 @@ two_names a b other same = other (ap first same)
 of_decode : (rows : List Row) (file : Text) (command : Command) → IsStream false file rows → NamesBy (codes "decode") rows command
     → IsDecodeOf file command
 of_decode rows file (Decode extended name) is also =
-    let (here, _mrt, _peer, _local, plain) = is in
-    let (there, _mrt, _peer, _local, long) = also.1 in (long ∙ sym plain, same_Some _ _ (sym there ∙ here))
+    let (here, _mrt, _peer, _local, _all, plain) = is in
+    let (there, _mrt, _peer, _local, _all, long) = also.1 in (long ∙ sym plain, same_Some _ _ (sym there ∙ here))
 of_decode rows file (Capture session recording name) is also =
-    let (_file, not_mrt, _peer, _local, _plain) = is in
+    let (_file, not_mrt, _peer, _local, _all, _plain) = is in
     let (_file, mrt, _peer, _local, _refresh, _long, _recording) = also.1 in
     let bad : false ≡ true = sym not_mrt ∙ mrt in absurd (cc)
 of_decode rows file (Judge config recording explain name) is also = absurd (two_names (codes "decode") (codes "judge") (λ e. omega (arith, e)) also.0)

@@ -24,15 +24,15 @@ IsSpelled words file =
 
 pub behind_dashes : (name file : Text) → IsSpelled (name ∷ codes "decode" ∷ codes "--" ∷ file ∷ []) file
 unfolding clap_on_literals
-behind_dashes name file = (refl, (refl, (refl, refl, refl, refl, refl)))
+behind_dashes name file = (refl, (refl, (refl, refl, refl, refl, refl, refl)))
 
 pub a_dash : (name : Text) → IsSpelled (name ∷ codes "decode" ∷ codes "-" ∷ []) (codes "-")
 unfolding clap_on_literals
-a_dash name = (refl, (refl, (refl, refl, refl, refl, refl)))
+a_dash name = (refl, (refl, (refl, refl, refl, refl, refl, refl)))
 
 pub no_word : (name : Text) → IsSpelled (name ∷ codes "decode" ∷ [] ∷ []) []
 unfolding clap_on_literals
-no_word name = (refl, (refl, (refl, refl, refl, refl, refl)))
+no_word name = (refl, (refl, (refl, refl, refl, refl, refl, refl)))
 
 -- what `decode` reads, once the program is built
 abbrev decode_shape : Shape
@@ -91,7 +91,7 @@ module _ (w : Text) where
 
     stream_is : stream_by (nothing_held, value)
     unfolding clap_on_literals
-    stream_is = (refl, refl, refl, refl, refl)
+    stream_is = (refl, refl, refl, refl, refl, refl)
 
     whole_passes : (name : Text) → fault_of program_words (name ∷ codes "decode" ∷ w ∷ [])
         ≡ whole_by (level_fault decode_shape [] nothing_held (w ∷ []) false [])

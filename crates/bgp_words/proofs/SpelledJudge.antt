@@ -8,20 +8,19 @@ use Rattle.clap.specs.Walk.{Held, Step, Walk, after_step, finished, idle, nothin
 use Rattle.clap.specs.Simple.{Shape, built, names_of, new_shape}
 use Rattle.clap.proofs.OnLiterals.{clap_on_literals}
 use Rattle.bgp_prefix.specs.Notation.{IsAddressText}
-use Rattle.bgp_prefix.specs.RouteRefresh.{refresh_with}
 use Rattle.bgp_prefix.specs.declared.session.RouteRefresh.TheVariants as refreshes
 use Rattle.bgp_open.specs.declared.config.ConfigParts.{ConfigParts}
 use Rattle.bgp_words.specs.Words.{program_words}
 use Rattle.bgp_words.specs.Values.{IsFamiliesText, IsHoldText, IsIdentifierText, IsPortText, IsPositiveText, IsSecondsText, is_given}
 use Rattle.bgp_words.specs.Settings.{AreParts}
-use Rattle.bgp_words.specs.Recording.{AreRecordingOptions, usual_recording}
+use Rattle.bgp_words.specs.Recording.{AreRecordingOptions, refresh_told, usual_recording}
 use Rattle.bgp_words.specs.declared.recording.RecordingOptions.{RecordingOptions}
 use Rattle.bgp_words.proofs.SameParts.{same_recording}
 use Rattle.bgp_words.proofs.PlainWords.{IsPlainWord, Passes, met_plain, none_wrong, pass, pass_none}
 
 -- the parts of a configuration, as `judge` is told of them
 abbrev pub AreJudged : ConfigParts → List Row → Type 0
-AreJudged parts rows = AreParts parts (refresh_with (not (is_given (codes "no-refresh") rows))) rows
+AreJudged parts rows = AreParts parts (refresh_told (not (is_given (codes "no-refresh") rows)) rows) rows
 
 -- what `judge` reads, once the program is built
 abbrev judge_shape : Shape

@@ -4,9 +4,8 @@ use Rattle.std.specs.Prelude.{codes}
 use Rattle.clap.specs.Words.{Row, Text, first_of}
 use Rattle.bgp_prefix.specs.Notation.{IsAddressText}
 use Rattle.bgp_prefix.specs.declared.session.Session.{Session}
-use Rattle.bgp_prefix.specs.declared.session.RouteRefresh.TheVariants as refreshes
 use Rattle.bgp_words.specs.Values.{IsNoFlag, IsValue, is_given}
-use Rattle.bgp_words.specs.Recording.{AreRecordingOptions}
+use Rattle.bgp_words.specs.Recording.{AreRecordingOptions, refresh_told}
 use Rattle.bgp_words.specs.declared.recording.RecordingOptions.{RecordingOptions}
 use Rattle.bgp_words.specs.declared.words.Command.{Command}
 use Rattle.bgp_words.specs.declared.words.Command.TheVariants.{Decode, Capture, Judge}
@@ -18,17 +17,18 @@ abbrev pub IsStream : Bool → Text → List Row → Type 0
 IsStream extended file rows =
     (first_of (codes "FILE") rows ≡ Some file) × (is_given (codes "mrt") rows ≡ false)
     × (first_of (codes "peer") rows ≡ None) × (first_of (codes "local") rows ≡ None)
+    × (is_given (codes "skip-refresh") rows ≡ false)
     × (extended ≡ is_given (codes "extended") rows)
 
--- The values of `decode --mrt --peer A --local A FILE`, of a session without route refresh;
--- `--extended`: the local system offers extended messages. What is told of a recording is there
--- whatever FILE is.
+-- The values of `decode --mrt --peer A --local A FILE`, of a session without route refresh, whose
+-- messages are passed over with `--skip-refresh`; `--extended`: the local system offers extended
+-- messages. What is told of a recording is there whatever FILE is.
 abbrev pub IsCapture : Session → RecordingOptions → Text → List Row → Type 0
 IsCapture session recording file rows =
     (first_of (codes "FILE") rows ≡ Some file) × (is_given (codes "mrt") rows ≡ true)
     × IsValue IsAddressText (codes "peer") rows session.peer
     × IsValue IsAddressText (codes "local") rows session.local
-    × (session.refresh ≡ refreshes.NotOffered)
+    × (session.refresh ≡ refresh_told false rows)
     × (session.extended ≡ is_given (codes "extended") rows)
     × AreRecordingOptions recording rows
 

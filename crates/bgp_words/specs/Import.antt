@@ -4,10 +4,9 @@ use Rattle.std.specs.Prelude.{◌≡◌, ◌≢◌, ◌⊎◌, ℕ, Bool, true, 
 use Rattle.std.specs.Prelude.{is_some, codes}
 use Rattle.clap.specs.Words.{Row, Text, first_of}
 use Rattle.bgp_prefix.specs.declared.session.Session.{Session}
-use Rattle.bgp_prefix.specs.declared.session.RouteRefresh.TheVariants as refreshes
 use Rattle.bgp_words.specs.Values.{IsPortText, IsSecondsText, IsValue, is_given}
 use Rattle.bgp_words.specs.Settings.{IsOfOneFamily, IsSession}
-use Rattle.bgp_words.specs.Recording.{AreRecordingOptions}
+use Rattle.bgp_words.specs.Recording.{AreRecordingOptions, refresh_told}
 use Rattle.bgp_words.specs.declared.recording.RecordingOptions.{RecordingOptions}
 use Rattle.bgp_words.specs.declared.words.Command.{Command}
 use Rattle.bgp_words.specs.declared.words.Command.TheVariants.{Decode, Capture, Judge}
@@ -19,11 +18,12 @@ use Rattle.bgp_words.specs.declared.words.Command.TheVariants.{Speak, Pair}
 abbrev pub AreApart : Session → Option ℕ → Type 0
 AreApart session local_port = (session.peer ≢ session.local) ⊎ (is_some local_port ≡ true)
 
--- The values of `import`. A TCP connection is of one family; the session has no route refresh.
+-- The values of `import`. A TCP connection is of one family; the session has no route refresh, and
+-- its messages are passed over with `--skip-refresh`.
 abbrev pub IsImport : Session → RecordingOptions → Text → Text → List Row → Type 0
 IsImport session recording file out rows =
-    IsSession session refreshes.NotOffered rows × IsOfOneFamily session × AreRecordingOptions recording rows
-    × AreApart session recording.local_port
+    IsSession session (refresh_told false rows) rows × IsOfOneFamily session
+    × AreRecordingOptions recording rows × AreApart session recording.local_port
     × (first_of (codes "FILE") rows ≡ Some file) × (first_of (codes "OUT") rows ≡ Some out)
 
 -- the values of `list`: the port of the connections, and a file

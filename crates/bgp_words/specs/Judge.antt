@@ -3,13 +3,12 @@
 use Rattle.std.specs.Prelude.{◌≡◌, Bool, true, false, not, List, [], ◌∷◌, Some, codes}
 use Rattle.clap.specs.Words.{Row, Text, first_of}
 use Rattle.bgp_prefix.specs.Notation.{IsAddressText}
-use Rattle.bgp_prefix.specs.RouteRefresh.{refresh_with}
 use Rattle.bgp_prefix.specs.declared.session.RouteRefresh.TheVariants as refreshes
 use Rattle.bgp_open.specs.declared.config.Config.{Config}
 use Rattle.bgp_open.specs.declared.config.ConfigParts.{ConfigParts}
 use Rattle.bgp_words.specs.Values.{IsPositiveText, IsIdentifierText, IsNoFlag, is_given}
 use Rattle.bgp_words.specs.Settings.{AreParts}
-use Rattle.bgp_words.specs.Recording.{AreRecordingOptions, usual_recording}
+use Rattle.bgp_words.specs.Recording.{AreRecordingOptions, refresh_told, usual_recording}
 use Rattle.bgp_words.specs.declared.recording.RecordingOptions.{RecordingOptions}
 use Rattle.bgp_words.specs.declared.words.Command.{Command}
 use Rattle.bgp_words.specs.declared.words.Command.TheVariants.{Decode, Capture, Judge}
@@ -17,10 +16,10 @@ use Rattle.bgp_words.specs.declared.words.Command.TheVariants.{Check, Import, Li
 use Rattle.bgp_words.specs.declared.words.Command.TheVariants.{Speak, Pair}
 
 -- the values of `judge`: a configuration, and a file; `--no-refresh`: the local system offers no
--- route refresh; `--explain`: the reason is wanted
+-- route refresh; `--skip-refresh`: its messages are passed over; `--explain`: the reason is wanted
 abbrev pub IsJudge : Config → RecordingOptions → Bool → Text → List Row → Type 0
 IsJudge config recording explain file rows =
-    AreParts config.parts (refresh_with (not (is_given (codes "no-refresh") rows))) rows
+    AreParts config.parts (refresh_told (not (is_given (codes "no-refresh") rows)) rows) rows
     × AreRecordingOptions recording rows × (explain ≡ is_given (codes "explain") rows)
     × (first_of (codes "FILE") rows ≡ Some file)
 

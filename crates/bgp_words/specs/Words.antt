@@ -26,7 +26,8 @@ default_word name value = record (option_word name) { defaults = value ∷ [] }
 abbrev pub with_file : Text → App
 with_file name = with_rule (new_app name) (file_word (codes "FILE"))
 
--- the options that are for recordings
+-- the options of the commands that read one session: four that are for recordings alone, and
+-- `--skip-refresh`
 abbrev pub port_word : Rule
 port_word = default_word (codes "port") (codes "179")
 
@@ -35,11 +36,12 @@ within_word = default_word (codes "within") (codes "10")
 
 abbrev pub with_recording : App → App
 with_recording command =
-    with_rule (with_rule (with_rule (with_rule command port_word)
-    (option_word (codes "local-port"))) (option_word (codes "connection"))) within_word
+    with_rule (with_rule (with_rule (with_rule (with_rule command port_word)
+    (option_word (codes "local-port"))) (option_word (codes "connection"))) within_word)
+    (flag_word (codes "skip-refresh"))
 
 -- `decode FILE`, `decode --mrt --peer A --local A FILE`, each with `--extended` or without, and
--- with the options that are for recordings
+-- with the options of a session that is read
 abbrev pub decode_words : App
 decode_words =
     with_recording (with_rule (with_rule (with_rule (with_rule (with_file (codes "decode"))
@@ -66,15 +68,15 @@ with_choices command =
 abbrev pub with_settings : App → App
 with_settings command = with_choices (with_needs command)
 
--- `judge FILE` with the options that tell of the session, those that are for recordings, and
+-- `judge FILE` with the options that tell of the session, those of one that is read, and
 -- `--explain` or without
 abbrev pub judge_words : App
 judge_words =
     with_rule (with_recording (with_settings (with_file (codes "judge"))))
     (flag_word (codes "explain"))
 
--- `import --local A --peer A FILE OUT`, with `--extended` or without, and with the options that are
--- for recordings
+-- `import --local A --peer A FILE OUT`, with `--extended` or without, and with the options of a
+-- session that is read
 abbrev pub import_words : App
 import_words =
     with_recording (with_rule (with_rule (with_rule (with_rule (with_file (codes "import"))

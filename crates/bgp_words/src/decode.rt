@@ -10,10 +10,10 @@ ghost use Rattle.bgp_words.specs.declared.recording.RecordingOptions.{RecordingO
 
 use crate::misfit::Misfit;
 use crate::options::{READ, Word, with_words};
-use crate::recording::{recording_of, with_recording};
+use crate::recording::{recording_of, refresh_of, with_recording};
 use crate::values::{address_of, has_flag, has_value, value_of};
 use crate::words::Command;
-use bgp_prefix::{RouteRefresh, Session};
+use bgp_prefix::Session;
 use clap::ArgMatches;
 use std::alloc::{AllocError, Global};
 
@@ -57,7 +57,8 @@ then the lines are those of the capture that bgp import makes of it, or
   recording refused: 14 Missing at packet 7 received octet 49
                         the reason's number and name, the packet's number from 1, and the octet's
                         place in the stream from 0
-A dash stands for nothing.
+With --skip-refresh a ROUTE-REFRESH that is whole has no line; standard error says how many were
+passed over. A dash stands for nothing.
 
 The manual is docs/bgp.1.md, at the top of the repository.";
 
@@ -107,7 +108,7 @@ pub(crate) fn decode_of<'a>(decode: &ArgMatches<'a>) -> Result<Command<'a>, Misf
         let session = Session {
             peer,
             local,
-            refresh: RouteRefresh::NotOffered,
+            refresh: refresh_of(decode, false),
             extended,
         };
         let recording = recording_of(decode)?;
@@ -119,6 +120,9 @@ pub(crate) fn decode_of<'a>(decode: &ArgMatches<'a>) -> Result<Command<'a>, Misf
     }
     if has_value(decode, "peer") || has_value(decode, "local") {
         return Err(Misfit::Missing { name: "mrt" });
+    }
+    if has_flag(decode, "skip-refresh") {
+        return Err(Misfit::SkipsInStream);
     }
     Ok(Command::Decode { extended, file })
 }

@@ -10,11 +10,11 @@ ghost use Rattle.bgp_words.specs.declared.recording.RecordingOptions.{RecordingO
 
 use crate::misfit::Misfit;
 use crate::options::{READ, Word, with_words};
-use crate::recording::{recording_of, with_recording};
+use crate::recording::{recording_of, refresh_of, with_recording};
 use crate::settings::{is_of_one_family, session_of};
 use crate::values::value_of;
 use crate::words::Command;
-use bgp_prefix::{RouteRefresh, Session};
+use bgp_prefix::Session;
 use clap::ArgMatches;
 use std::alloc::{AllocError, Global};
 
@@ -79,7 +79,8 @@ pub(crate) fn import_of<'a>(import: &ArgMatches<'a>) -> Result<Command<'a>, Misf
     ensures err { IsErr result → (session : Session) (recording : Told) (file out : List ℕ) →
         IsImport session recording file out (rows_of (found_of import.now)) → ⊥ }
 {
-    let session = session_of(import, RouteRefresh::NotOffered)?;
+    let refresh = refresh_of(import, false);
+    let session = session_of(import, refresh)?;
     if !is_of_one_family(&session) {
         return Err(Misfit::TwoFamilies);
     }

@@ -11,11 +11,10 @@ ghost use Rattle.bgp_words.specs.declared.recording.RecordingOptions.{RecordingO
 
 use crate::misfit::Misfit;
 use crate::options::{READ, Word, with_word};
-use crate::recording::{recording_of, with_recording};
+use crate::recording::{recording_of, refresh_of, with_recording};
 use crate::settings::{config_of, with_settings};
 use crate::values::{has_flag, value_of};
 use crate::words::Command;
-use bgp_prefix::RouteRefresh;
 use clap::ArgMatches;
 use std::alloc::{AllocError, Global};
 
@@ -41,6 +40,9 @@ records that the router at --local made, or a recording: a packet capture, as tc
 With --explain the reason follows a no and an unfinished, in lines of its own: the record, the state
 before it, the message received last, and every record that could have stood there, and no other.
 
+With --skip-refresh a ROUTE-REFRESH that is whole is no record; standard error says how many were
+passed over.
+
 A capture is refused for one of these reasons:
   1 Truncated           it ends inside a record, or is compressed: zcat FILE.gz | bgp judge .. -
   2 TooLong             a record's body has more than 8192 octets, or than 65583 with --extended
@@ -48,7 +50,8 @@ A capture is refused for one of these reasons:
   4 BadState            a change of state names one that RFC 6396 doesn't have; FRR writes 7 and 8
   5 NotAMessage         a record doesn't hold one whole message
   6 TimeBack            a record's second is below that of the session's record before it
-  7 RouteRefresh        a ROUTE-REFRESH isn't judged; --no-refresh if the router didn't offer it
+  7 RouteRefresh        a ROUTE-REFRESH isn't judged; --skip-refresh passes over it; --no-refresh if
+                        the router didn't offer it
   8 AddPath             a record has additional paths (RFC 8050), which aren't read
   9 Device              a read failed; standard error says why
   10 Memory             memory was refused
@@ -106,10 +109,8 @@ pub(crate) fn judge_of<'a>(judge: &ArgMatches<'a>) -> Result<Command<'a>, Misfit
         (config : Configured) (recording : Told) (explain : Bool) (file : List ℕ) →
         IsJudge config recording explain file (rows_of (found_of judge.now)) → ⊥ }
 {
-    let config = config_of(
-        judge,
-        RouteRefresh::with_offer(!has_flag(judge, "no-refresh")),
-    )?;
+    let refresh = refresh_of(judge, !has_flag(judge, "no-refresh"));
+    let config = config_of(judge, refresh)?;
     let recording = recording_of(judge)?;
     let explain = has_flag(judge, "explain");
     let file = value_of(judge, "FILE")?;

@@ -58,6 +58,8 @@ pub(crate) enum Misfit<'a> {
         /// The option's name.
         name: &'a str,
     },
+    /// The messages to pass over are a stream's, and not a session's.
+    SkipsInStream,
     /// The value of an option isn't what it wants.
     Value {
         /// The option's name.
@@ -86,6 +88,9 @@ impl Display for Misfit<'_> {
             Misfit::Missing { name } => write!(
                 f,
                 "--{name} is missing: --mrt, --peer and --local go together"
+            ),
+            Misfit::SkipsInStream => f.write_str(
+                "--skip-refresh wants --mrt, --peer and --local: of a raw stream all is printed",
             ),
             Misfit::Value { name, word, wanted } => {
                 write!(f, "--{name} wants {wanted}, and {word:?} is none")

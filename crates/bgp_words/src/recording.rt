@@ -1,15 +1,16 @@
-//! What the commands that read a recording of packets are told of it.
+//! What the commands that read one session are told of it: most is of recordings of packets alone.
 
 ghost use Rattle.std.specs.Prelude.{◌≡◌, ◌↔◌, IfOk, IsOkAnd, false};
 ghost use Rattle.clap.specs.Words.{app_of, found_of, rows_of};
 ghost use Rattle.clap.specs.declared.builder.command.Command.TheViews.{out-Command as fields_of};
 ghost use Rattle.bgp_words.specs.Words.{with_recording};
-ghost use Rattle.bgp_words.specs.Recording.{AreRecordingOptions};
+ghost use Rattle.bgp_words.specs.Recording.{AreRecordingOptions, refresh_told};
 ghost use Rattle.bgp_words.specs.declared.recording.RecordingOptions.{RecordingOptions as Told};
 
 use crate::misfit::Misfit;
 use crate::options::{Word, with_words};
-use crate::values::{connection_of, optional_port_of, port_of, seconds_of};
+use crate::values::{connection_of, has_flag, optional_port_of, port_of, seconds_of};
+use bgp_prefix::RouteRefresh;
 use clap::ArgMatches;
 use std::alloc::{AllocError, Global};
 
@@ -41,8 +42,8 @@ pub(crate) const WITHIN: Word<'static> = Word::Default(
     "How many seconds a received message of a recording may wait: 0 to 65535",
 );
 
-/// The words that are for recordings alone.
-static WORDS: [Word<'static>; 4] = [
+/// The words of a session that is read: four that are for recordings alone, and one that isn't.
+static WORDS: [Word<'static>; 5] = [
     PORT,
     Word::Option(
         "local-port",
@@ -53,9 +54,13 @@ static WORDS: [Word<'static>; 4] = [
         "The number of the connection in a recording that is meant, as bgp list prints it",
     ),
     WITHIN,
+    Word::Flag(
+        "skip-refresh",
+        "ROUTE-REFRESH messages are passed over: neither printed nor judged",
+    ),
 ];
 
-/// The command with the words that are for recordings after its own.
+/// The command with the words of a session that is read after its own.
 pub(crate) fn with_recording<'a>(
     alloc: Global,
     command: clap::Command<'a>,
@@ -78,4 +83,16 @@ pub(crate) fn recording_of<'a>(matches: &ArgMatches<'a>) -> Result<RecordingOpti
         connection: connection_of(matches, "connection")?,
         within: seconds_of(matches, "within")?,
     })
+}
+
+/// What becomes of the ROUTE-REFRESH messages of a session that is read, where its local system may
+/// have offered route refresh or not: `--skip-refresh` passes over them either way.
+pub(crate) fn refresh_of(matches: &ArgMatches<'_>, offered: bool) -> RouteRefresh
+    ensures { result ≡ refresh_told offered (rows_of (found_of matches.now)) }
+{
+    if has_flag(matches, "skip-refresh") {
+        RouteRefresh::PassedOver
+    } else {
+        RouteRefresh::with_offer(offered)
+    }
 }

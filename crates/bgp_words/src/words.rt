@@ -43,7 +43,7 @@ pub enum Command<'a> {
     /// one connection in a recording.
     Capture {
         /// The session's ends, and whether the local system offers extended messages; it has no
-        /// route refresh.
+        /// route refresh, or its messages are passed over.
         session: Session,
         /// What is told of the recording, if the file is one.
         recording: RecordingOptions,
@@ -64,7 +64,7 @@ pub enum Command<'a> {
     /// Make a capture of one connection in a recording.
     Import {
         /// The session's ends, and whether the local system offers extended messages; it has no
-        /// route refresh. The addresses are of one family.
+        /// route refresh, or its messages are passed over. The addresses are of one family.
         session: Session,
         /// What is told of the recording. The local port is, where both addresses are one.
         recording: RecordingOptions,

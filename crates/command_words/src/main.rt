@@ -3,7 +3,7 @@
 #![tactic(auto)]
 
 use bgp_open::{ConfigParts, Families};
-use bgp_prefix::{Address, Session};
+use bgp_prefix::{Address, RouteRefresh, Session};
 use bgp_tool::{Command, Speaking, Start, command_line, words_status};
 use bgp_words::RecordingOptions;
 use clap::Error;
@@ -123,10 +123,9 @@ fn capture_text(
     recording: &RecordingOptions,
     file: &str,
 ) -> Result<String, AllocError> {
-    let Session { peer, local, .. } = *session;
-    let extended = extended_text(session.extended);
+    let ends = ends_text(alloc, session)?;
     let told = unusual_text(alloc, recording)?;
-    format!(in alloc; "capture peer {peer} local {local}{extended}{told} file {file:?}")
+    format!(in alloc; "capture {ends}{told} file {file:?}")
 }
 
 /// What `judge` is told.
@@ -151,10 +150,8 @@ fn import_text(
     file: &str,
     out: &str,
 ) -> Result<String, AllocError> {
-    let Session { peer, local, .. } = *session;
-    let extended = extended_text(session.extended);
+    let ends = ends_text(alloc, session)?;
     let told = recording_text(alloc, recording)?;
-    let ends = format!(in alloc; "local {local} peer {peer}{extended}")?;
     format!(in alloc; "import {ends} {told} file {file:?} out {out:?}")
 }
 
@@ -180,6 +177,27 @@ fn speak_text(
     let parts = parts_text(alloc, parts)?;
     let own = speaking_text(alloc, speaking)?;
     format!(in alloc; "speak {parts} {own} file {file:?}")
+}
+
+/// The two ends of a session, whose ROUTE-REFRESH messages may be passed over.
+fn ends_text(alloc: Global, session: &Session) -> Result<String, AllocError> {
+    let Session { peer, local, .. } = *session;
+    let extended = extended_text(session.extended);
+    let skipping = match session.refresh {
+        RouteRefresh::NotOffered => "",
+        RouteRefresh::Refused => " refresh true",
+        RouteRefresh::PassedOver => " refresh skipped",
+    };
+    format!(in alloc; "peer {peer} local {local}{extended}{skipping}")
+}
+
+/// What becomes of ROUTE-REFRESH messages.
+fn refresh_text(refresh: RouteRefresh) -> &'static str {
+    match refresh {
+        RouteRefresh::NotOffered => "false",
+        RouteRefresh::Refused => "true",
+        RouteRefresh::PassedOver => "skipped",
+    }
 }
 
 /// The word that says that extended messages are offered, after a blank.
@@ -248,7 +266,7 @@ fn parts_text(alloc: Global, parts: &ConfigParts) -> Result<String, AllocError> 
     let (id, Families { v4, v6 }) = (Address::V4(local_id), families);
     let own = format!(in alloc; "local-as {local_as} peer-as {peer_as} local-id {id}")?;
     let ends = format!(in alloc; "local {local} peer {peer} hold {hold} v4 {v4} v6 {v6}")?;
-    let (extended, refresh) = (extended_text(extended), refresh.is_offered());
+    let (extended, refresh) = (extended_text(extended), refresh_text(refresh));
     let rest = format!(in alloc; "as4 {as4} delay-open {delay_open} refresh {refresh}{extended}")?;
     format!(in alloc; "{own} {ends} {rest} large-hold {large_hold}")
 }

@@ -1,7 +1,7 @@
 use Rattle.std.proofs.Common.{◌∙◌, Bool, not, ap, refl, subst}
 use Rattle.clap.specs.Words.{found_of, rows_of}
-use Rattle.bgp_prefix.specs.RouteRefresh.{refresh_with}
 use Rattle.bgp_prefix.specs.declared.session.RouteRefresh.{RouteRefresh}
+use Rattle.bgp_words.specs.Recording.{refresh_told}
 use Rattle.bgp_words.specs.Settings.{AreParts}
 use Rattle.bgp_words.proofs.judge.judge_of.Goals as goal
 
@@ -12,7 +12,7 @@ returns-clause-ok c =
       refl,
       (
         subst (λ (offers : RouteRefresh). AreParts config.parts offers rows)
-            (c.with_offer.ensures ∙ ap (λ (given : Bool). refresh_with (not given)) c.has_flag.ensures)
+            (c.refresh_of-refresh.ensures ∙ ap (λ (given : Bool). refresh_told (not given) rows) c.has_flag.ensures)
             ((c.in_ok-config.ensures config).0 refl),
         (c.in_ok-recording.ensures c.in_ok-recording.recording).0 refl,
         c.has_flag-explain.ensures,

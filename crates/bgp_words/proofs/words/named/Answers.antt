@@ -1,6 +1,6 @@
 use Rattle.std.proofs.Common.{refl, subst, codes}
 use Rattle.clap.specs.Words.{found_of, rows_of}
-use Rattle.bgp_words.specs.Spelled.{Names, NamesJudge}
+use Rattle.bgp_words.specs.Spelled.{Names, NamesDecode, NamesJudge}
 use Rattle.bgp_words.proofs.NamedCommand.{met_command, none_checked, none_decoded, none_imported, none_judged, none_listed, none_spoken}
 use Rattle.bgp_words.proofs.words.named.Goals as goal
 
@@ -38,6 +38,13 @@ returns-in-Some-clause-none c err command names =
     let rows = rows_of (found_of met.decode.now) in
     none_decoded rows (c.decode_of.ensures.no_stream err) (c.decode_of.ensures.no_capture err) command
     (subst (λ used. Names used command) (met_command _ _ _ (codes "decode") rows (met.ensures.found.0 refl) met.ensures.rows) names)
+
+pub returns-in-Some-clause-no_stream : goal.returns-in-Some-clause-no_stream
+returns-in-Some-clause-no_stream c err extended file names =
+    let met = c.in-Some in
+    let rows = rows_of (found_of met.decode.now) in
+    c.decode_of.ensures.no_stream err extended file
+    (subst (NamesDecode extended file) (met_command _ _ _ (codes "decode") rows (met.ensures.found.0 refl) met.ensures.rows) names).1
 
 pub returns-in-Some-subcommand_matches-clause-no_judge : goal.returns-in-Some-subcommand_matches-clause-no_judge
 returns-in-Some-subcommand_matches-clause-no_judge c err config recording explain file names =
