@@ -5,9 +5,9 @@ use bgp_import::CutShort;
 use bgp_open::Config;
 use bgp_prefix::Session;
 use bgp_recording_tool::{FileOutcome, RecordingOptions, decode_file, judge_file};
-use bgp_tool::{ErrorWords, Note, Outcome, decode_opened};
+use bgp_tool::{ErrorWords, Note, Outcome, decode_opened, passed_over};
 use bgp_wire::Limit;
-use mrt::FromWrite;
+use mrt::{FromWrite, SkippedRecords};
 use std::alloc::Global;
 use std::fs::OpenFile;
 use std::io::{BufReader, ErrorKind, Read};
@@ -127,6 +127,7 @@ pub fn open<R: Files>(rt: &R, file: &str) -> io::Result<R::File> {
 
 /// Tells what there is to tell of a command's end, and answers its exit status.
 pub fn tell<R: Eprint>(rt: &R, outcome: &Outcome<'_>) -> u8 {
+    tell_passed_over(rt, outcome.skipped);
     if let Some(note) = outcome.note {
         tell_note(rt, &note);
     }
@@ -137,6 +138,7 @@ pub fn tell<R: Eprint>(rt: &R, outcome: &Outcome<'_>) -> u8 {
 /// its exit status.
 pub fn tell_all<R: Eprint>(rt: &R, outcome: &FileOutcome<'_, Global>) -> u8 {
     tell_cut_short(rt, outcome.cut_short);
+    tell_passed_over(rt, outcome.skipped);
     for remark in &outcome.remarks {
         let _ = eprintln!(rt; "bgp: {remark}");
     }
@@ -150,6 +152,20 @@ pub fn tell_all<R: Eprint>(rt: &R, outcome: &FileOutcome<'_, Global>) -> u8 {
 pub fn tell_cut_short<R: Eprint>(rt: &R, cut_short: Option<CutShort>) {
     if let Some(cut_short) = cut_short {
         let _ = eprintln!(rt; "bgp: {cut_short}");
+    }
+}
+
+/// Tells how many ROUTE-REFRESH messages of a capture were passed over, where any was.
+fn tell_passed_over<R: Eprint>(rt: &R, skipped: Option<SkippedRecords>) {
+    let Some(skipped) = skipped else {
+        return;
+    };
+    let (received, sent) = passed_over(&skipped);
+    if let Some(note) = received {
+        tell_note(rt, &note);
+    }
+    if let Some(note) = sent {
+        tell_note(rt, &note);
     }
 }
 

@@ -1,6 +1,6 @@
 -- What explaining a capture that a reader gives leaves in a writer, as far as both tell their
 -- octets, and what is told of its end on standard error.
-use Rattle.std.specs.Prelude.{◌⊎◌, ◌++◌, ℕ, Bool, List, Option, None, Some}
+use Rattle.std.specs.Prelude.{◌≡◌, ◌⊎◌, ◌++◌, ℕ, Bool, List, Option, None, Some}
 use Rattle.std.proofs.Common.{inl, inr}
 use Rattle.std.specs.Borrow.{Bor}
 use Rattle.bgp_prefix.specs.Shown.{ShownRecord}
@@ -50,3 +50,4 @@ pub record ExplainsOpened {R W : Type 0} (remaining : R → Option (List ℕ))
       (fault_told explained.holds.answer)
       (lacking_in explained.holds.code (records_of explained.pieces))
       old new outcome.status outcome.note
+  pub skipped : outcome.skipped ≡ Some found.skipped

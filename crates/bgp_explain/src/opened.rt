@@ -68,6 +68,7 @@ fn explain_reader<'a, A: Allocator + Copy, T: Tracker<A>, R: Read + Drop, W: Wri
     );
     let refused = refused_by(&explained.answer);
     let status = write_explained(sink, alloc, config, &explained);
+    let skipped = records.skipped();
     let note = if sink.failures() > failures {
         unwritten(sink)
     } else {
@@ -75,7 +76,11 @@ fn explain_reader<'a, A: Allocator + Copy, T: Tracker<A>, R: Read + Drop, W: Wri
         let lacking = explained.totals.seen.lacking(status);
         note_of(command, status, file, &source, &records, refused, lacking)
     };
-    Outcome { status, note }
+    Outcome {
+        status,
+        skipped: Some(skipped),
+        note,
+    }
 }
 
 /// Why a capture is refused, if it is.

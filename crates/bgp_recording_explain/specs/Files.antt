@@ -26,4 +26,4 @@ module _ {R W X : Type 0} (remaining : R → Option (List ℕ)) (contents : W �
       options from to old new (judged_by outcome))
       (λ peeked. ExplainsOpened (peeked_remaining remaining) contents config may_lack file peeked
       (writer_state old) (writer_state new)
-      (record { status = outcome.status; note = outcome.note }))
+      (record { status = outcome.status; skipped = outcome.skipped; note = outcome.note }))

@@ -21,6 +21,7 @@ use std::io::{Read, Write};
 /// An outcome with nothing to tell of connections.
 fn without_remarks<'a, A: Allocator + Copy>(alloc: A, outcome: Outcome<'a>) -> FileOutcome<'a, A>
     ensures status { result.status ≡ outcome.entry.status }
+    ensures skipped { result.skipped ≡ outcome.entry.skipped }
     ensures note { result.note ≡ outcome.entry.note }
     ensures remarks { result.remarks.items ≡ [] }
     ensures uncut { result.cut_short ≡ None }
@@ -28,6 +29,7 @@ fn without_remarks<'a, A: Allocator + Copy>(alloc: A, outcome: Outcome<'a>) -> F
     FileOutcome {
         status: outcome.status,
         cut_short: None,
+        skipped: outcome.skipped,
         remarks: Vec::new(alloc),
         note: outcome.note,
     }
@@ -51,7 +53,7 @@ pub fn explain_file<'a, A: Allocator + Copy, T: Tracker<A>, R: Read + Drop, W: W
     ensures explained { IfOk opened (λ reader. ExplainsFile R.remaining W.contents options.now
         file.entry reader sink.old sink.new result config.now (MayLack T.may_lack)) }
     ensures unopened { IfErr opened (λ error. IsUnopened file.entry (error_kind error)
-        (record { status = result.status; note = result.note })
+        (record { status = result.status; skipped = result.skipped; note = result.note })
         × (result.cut_short ≡ None) × (result.remarks.items ≡ []) × (sink.new ≡ sink.old)) }
 {
     let peeked = match opened {
@@ -69,6 +71,7 @@ pub fn explain_file<'a, A: Allocator + Copy, T: Tracker<A>, R: Read + Drop, W: W
     FileOutcome {
         status: judged.status,
         cut_short: judged.cut_short,
+        skipped: None,
         remarks: judged.remarks,
         note,
     }

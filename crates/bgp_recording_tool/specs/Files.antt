@@ -77,7 +77,8 @@ pub record ReadsFile {R W X : Type 0} (remaining : R → Option (List ℕ)) (fil
   pub peeked : Peeked R
   pub is_peeked : IsPeeked remaining reader peeked
   pub is : (IsTrue (is_recording peeked.front.items)
-      × ReadsRecording file peeked old new outcome.status outcome.note IsRecording)
+      × ReadsRecording file peeked old new outcome.status outcome.note IsRecording
+      × (outcome.skipped ≡ None))
       ⊎ (IsFalse (is_recording peeked.front.items) × IsCapture peeked
       × (outcome.cut_short ≡ None) × (outcome.remarks.items ≡ []))
 
@@ -99,7 +100,7 @@ module _ {R W X : Type 0} (remaining : R → Option (List ℕ)) (contents : W �
       (judged_by outcome))
       (λ peeked. JudgesOpened (peeked_remaining remaining) contents config may_lack file peeked
       (writer_state old) (writer_state new)
-      (record { status = outcome.status; note = outcome.note }))
+      (record { status = outcome.status; skipped = outcome.skipped; note = outcome.note }))
 
   abbrev pub DecodesFile : Session → Type 0
   DecodesFile session = ReadsFile remaining file reader old new outcome
@@ -109,4 +110,4 @@ module _ {R W X : Type 0} (remaining : R → Option (List ℕ)) (contents : W �
       (judged_by outcome))
       (λ peeked. DecodesOpened (peeked_remaining remaining) contents session file peeked
       (writer_state old) (writer_state new)
-      (record { status = outcome.status; note = outcome.note }))
+      (record { status = outcome.status; skipped = outcome.skipped; note = outcome.note }))

@@ -18,7 +18,7 @@ use bgp_open::Config;
 use bgp_prefix::Session;
 use bgp_tool::{Note, Outcome, decode_opened_capture, judge_opened, unopened, unwritten};
 use bgp_words::RecordingOptions;
-use mrt::{FromRead, FromWrite, Sink};
+use mrt::{FromRead, FromWrite, Sink, SkippedRecords};
 use std::alloc::Allocator;
 use std::io;
 use std::io::{Read, Write};
@@ -30,6 +30,9 @@ pub struct FileOutcome<'a, A: Allocator> {
     pub status: u8,
     /// That a recording was cut short, where it was: to be told first.
     pub cut_short: Option<CutShort>,
+    /// How many records of a capture were skipped, by why, as far as it was read; `None` of a
+    /// recording, and where the file couldn't be opened.
+    pub skipped: Option<SkippedRecords>,
     /// What there is to tell of a recording's connections, in their order: to be told then.
     pub remarks: Vec<Remark, A>,
     /// What went wrong, if anything did.
@@ -39,6 +42,7 @@ pub struct FileOutcome<'a, A: Allocator> {
 /// An outcome with nothing to tell of connections.
 fn without_remarks<'a, A: Allocator + Copy>(alloc: A, outcome: Outcome<'a>) -> FileOutcome<'a, A>
     ensures status { result.status ≡ outcome.entry.status }
+    ensures skipped { result.skipped ≡ outcome.entry.skipped }
     ensures note { result.note ≡ outcome.entry.note }
     ensures remarks { result.remarks.items ≡ [] }
     ensures uncut { result.cut_short ≡ None }
@@ -46,6 +50,7 @@ fn without_remarks<'a, A: Allocator + Copy>(alloc: A, outcome: Outcome<'a>) -> F
     FileOutcome {
         status: outcome.status,
         cut_short: None,
+        skipped: outcome.skipped,
         remarks: Vec::new(alloc),
         note: outcome.note,
     }
@@ -115,7 +120,7 @@ pub fn judge_file<'a, A: Allocator + Copy, T: Tracker<A>, R: Read + Drop, W: Wri
     ensures judged { IfOk opened (λ reader. JudgesFile R.remaining W.contents options.now
         file.entry reader sink.old sink.new result config.now T.may_lack) }
     ensures unopened { IfErr opened (λ error. IsUnopened file.entry (error_kind error)
-        (record { status = result.status; note = result.note })
+        (record { status = result.status; skipped = result.skipped; note = result.note })
         × (result.cut_short ≡ None) × (result.remarks.items ≡ []) × (sink.new ≡ sink.old)) }
 {
     let peeked = match opened {
@@ -133,6 +138,7 @@ pub fn judge_file<'a, A: Allocator + Copy, T: Tracker<A>, R: Read + Drop, W: Wri
     FileOutcome {
         status: judged.status,
         cut_short: judged.cut_short,
+        skipped: None,
         remarks: judged.remarks,
         note,
     }
@@ -156,7 +162,7 @@ pub fn decode_file<'a, A: Allocator + Copy, R: Read + Drop, W: Write>(
     ensures decoded { IfOk opened (λ reader. DecodesFile R.remaining W.contents options.now
         file.entry reader sink.old sink.new result session.now) }
     ensures unopened { IfErr opened (λ error. IsUnopened file.entry (error_kind error)
-        (record { status = result.status; note = result.note })
+        (record { status = result.status; skipped = result.skipped; note = result.note })
         × (result.cut_short ≡ None) × (result.remarks.items ≡ []) × (sink.new ≡ sink.old)) }
 {
     let peeked = match opened {
@@ -174,6 +180,7 @@ pub fn decode_file<'a, A: Allocator + Copy, R: Read + Drop, W: Write>(
     FileOutcome {
         status: judged.status,
         cut_short: judged.cut_short,
+        skipped: None,
         remarks: judged.remarks,
         note,
     }

@@ -61,11 +61,12 @@ pub record DecodesReader {R W : Type 0} (limit : Limit)
   -- where it ended, the reader has nothing left
   pub ended : ((outcome.status ≡ 0) ⊎ (outcome.status ≡ 2)) → IsAtEnd left
   pub told : Tells limit file given written old new outcome
+  pub no_capture : outcome.skipped ≡ None
 
 -- A file couldn't be opened: a device failed, or memory was refused.
 abbrev pub IsUnopened : Bor (List ℕ) → ErrorKind → Outcome → Type 0
 IsUnopened file kind outcome =
     ((kind ≡ errors.OutOfMemory) × (outcome.status ≡ 4)
-    × (outcome.note ≡ Some (OutOfMemory file 0)))
+    × (outcome.note ≡ Some (OutOfMemory file 0)) × (outcome.skipped ≡ None))
     ⊎ ((kind ≢ errors.OutOfMemory) × (outcome.status ≡ 5)
-    × (outcome.note ≡ Some (Unopened file kind)))
+    × (outcome.note ≡ Some (Unopened file kind)) × (outcome.skipped ≡ None))

@@ -1,7 +1,7 @@
 -- What a decoding of a capture that a reader gives leaves in a writer, as far as both tell their
 -- octets, and what is told of its end on standard error.
-use Rattle.std.specs.Prelude.{◌≡◌, ◌<◌, ◌+◌, ◌++◌, ℕ, Bool, true, false, List}
-use Rattle.std.specs.Prelude.{Option, None, Some, is_some, option_map}
+use Rattle.std.specs.Prelude.{◌≡◌, ◌<◌, ◌+◌, ◌++◌, ◌==◌, ℕ, Bool, true, false, List}
+use Rattle.std.specs.Prelude.{Option, None, Some, is_some, option_map, if◌then◌else◌}
 use Rattle.std.specs.Borrow.{Bor}
 use Rattle.bgp_prefix.specs.declared.session.Session.{Session}
 use Rattle.mrt.specs.Capture.{joined}
@@ -65,6 +65,10 @@ module _ (command : CaptureCommand) (file : Bor (List ℕ)) where
   told_of octets found fault lacking =
       told_by (is_some found.last) (no_capture (kept octets)) fault lacking found.other
 
+-- what is told of messages that were passed over, by how many they are: nothing where none was
+abbrev pub counted : (ℕ → Note) → ℕ → Option Note
+counted note count = if count == 0 then None else Some (note count)
+
 -- What is told of a command that ended with this status: of the writer, where it failed, and else
 -- of the octets that were read.
 pub record TellsCapture {R W : Type 0} (command : CaptureCommand) (file : Bor (List ℕ))
@@ -90,3 +94,4 @@ pub record DecodesOpened {R W : Type 0} (remaining : R → Option (List ℕ))
       old new found outcome.status
   pub told : TellsCapture Decode file source (joined decoded.pieces ++ decoded.rest) found
       (fault_in decoded.answer) None old new outcome.status outcome.note
+  pub skipped : outcome.skipped ≡ Some found.skipped

@@ -1,6 +1,6 @@
 -- What judging a capture that a reader gives leaves in a writer, as far as both tell their octets,
 -- and what is told of its end on standard error.
-use Rattle.std.specs.Prelude.{◌⊎◌, ◌++◌, ℕ, Bool, List, Option, None, Some}
+use Rattle.std.specs.Prelude.{◌≡◌, ◌⊎◌, ◌++◌, ℕ, Bool, List, Option, None, Some}
 use Rattle.std.proofs.Common.{inl, inr}
 use Rattle.std.specs.Borrow.{Bor}
 use Rattle.bgp_prefix.specs.Shown.{ShownRecord}
@@ -45,3 +45,4 @@ pub record JudgesOpened {R W : Type 0} (remaining : R → Option (List ℕ))
   pub told : TellsCapture Judge file source (joined judged.pieces ++ judged.rest) found
       (fault_told judged.holds.answer) (lacking_in judged.holds.code (records_of judged.pieces))
       old new outcome.status outcome.note
+  pub skipped : outcome.skipped ≡ Some found.skipped

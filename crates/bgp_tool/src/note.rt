@@ -98,6 +98,16 @@ pub enum Note<'a> {
         /// What it shows: no change that leaves Idle, or no message that was sent.
         seen: Seen,
     },
+    /// ROUTE-REFRESH messages that the local system received were passed over.
+    ReceivedPassedOver {
+        /// How many, which isn't 0.
+        count: u64,
+    },
+    /// ROUTE-REFRESH messages that it sent were.
+    SentPassedOver {
+        /// How many, which isn't 0.
+        count: u64,
+    },
     /// A pair of ends gave up.
     Pair {
         /// The name of the left end's capture.
@@ -155,6 +165,12 @@ impl fmt::Display for Note<'_> {
             } => put_form(f, file, form, typed(command)),
             Note::Refused { file, fault, unmet } => put_refusal(f, file, fault, unmet),
             Note::NothingDone { file, seen } => put_nothing_done(f, file, seen),
+            Note::ReceivedPassedOver { count } => {
+                write!(f, "received ROUTE-REFRESH messages passed over: {count}")
+            }
+            Note::SentPassedOver { count } => {
+                write!(f, "sent ROUTE-REFRESH messages passed over: {count}")
+            }
             Note::Pair { file, fault } => put_pair(f, file, fault),
         }
     }

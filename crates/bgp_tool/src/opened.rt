@@ -13,7 +13,7 @@ use crate::front::{WithFront, no_stream};
 use crate::note::Note;
 use crate::status::Status;
 use bgp_wire::Limit;
-use mrt::{FromRead, FromWrite, Source};
+use mrt::{FromRead, FromWrite, SkippedRecords, Source};
 use std::alloc::Allocator;
 use std::io;
 use std::io::{ErrorKind, Read, Write};
@@ -23,6 +23,9 @@ use std::io::{ErrorKind, Read, Write};
 pub struct Outcome<'a> {
     /// The exit status.
     pub status: u8,
+    /// How many records of a capture were skipped, by why, as far as it was read; `None` where no
+    /// capture was.
+    pub skipped: Option<SkippedRecords>,
     /// What there is to tell on standard error.
     pub note: Option<Note<'a>>,
 }
@@ -61,11 +64,13 @@ pub fn unopened<'a>(file: &'a str, error: ErrorKind) -> Outcome<'a>
     if error == ErrorKind::OutOfMemory {
         return Outcome {
             status: Status::Memory.code(),
+            skipped: None,
             note: Some(Note::OutOfMemory { file, octet: 0 }),
         };
     }
     Outcome {
         status: Status::Device.code(),
+        skipped: None,
         note: Some(Note::Unopened { file, error }),
     }
 }
@@ -86,7 +91,11 @@ fn decode_reader<'a, R: Read + Drop, W: Write, A: Allocator + Copy>(
     let mut source = WithFront::new(FromRead::new(reader));
     let status = decode_raw(limit, alloc, &mut source, sink);
     let note = note_of(status, file, &source, sink);
-    Outcome { status, note }
+    Outcome {
+        status,
+        skipped: None,
+        note,
+    }
 }
 
 /// What to tell of a decoding that ended with this status.

@@ -66,6 +66,7 @@ fn decode_reader<'a, R: Read + Drop, W: Write, A: Allocator + Copy>(
     let failures = sink.failures();
     let decoded = decode_with(&mut records, session, &mut source, sink);
     let status = decoded.status;
+    let skipped = records.skipped();
     let note = if sink.failures() > failures {
         unwritten(sink)
     } else {
@@ -80,7 +81,11 @@ fn decode_reader<'a, R: Read + Drop, W: Write, A: Allocator + Copy>(
             None,
         )
     };
-    Outcome { status, note }
+    Outcome {
+        status,
+        skipped: Some(skipped),
+        note,
+    }
 }
 
 /// What to tell of a command that ended with this status, where the sink took all of its text, and

@@ -75,6 +75,7 @@ fn judge_reader<'a, A: Allocator + Copy, T: Tracker<A>, R: Read + Drop, W: Write
     );
     let refused = refused_by(&answer);
     let status = write_answer(sink, &answer);
+    let skipped = records.skipped();
     let note = if sink.failures() > failures {
         unwritten(sink)
     } else {
@@ -82,5 +83,9 @@ fn judge_reader<'a, A: Allocator + Copy, T: Tracker<A>, R: Read + Drop, W: Write
         let lacking = seen.lacking(status);
         note_of(command, status, file, &source, &records, refused, lacking)
     };
-    Outcome { status, note }
+    Outcome {
+        status,
+        skipped: Some(skipped),
+        note,
+    }
 }

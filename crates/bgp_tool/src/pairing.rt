@@ -259,5 +259,9 @@ pub fn pair_session<'a, A: Allocator + Copy, T: Tracker<A>, R: Net + Files, W: W
     } else {
         fault.map(|fault| Note::Pair { file, fault })
     };
-    Outcome { status, note }
+    Outcome {
+        status,
+        skipped: None,
+        note,
+    }
 }

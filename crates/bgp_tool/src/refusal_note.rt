@@ -65,8 +65,8 @@ fn words_of(kind: FaultKind) -> (&'static str, &'static str) {
         ),
         FaultKind::RouteRefresh => (
             "the record",
-            " holds a ROUTE-REFRESH (RFC 2918), which isn't judged: --no-refresh says that the \
-             router doesn't offer it",
+            " holds a ROUTE-REFRESH (RFC 2918), which isn't judged: --skip-refresh passes over it; \
+             --no-refresh says that the router doesn't offer it",
         ),
         FaultKind::AddPath => (
             "the record",

@@ -7,6 +7,7 @@ mod devices;
 mod great;
 mod judging;
 mod opened;
+mod passing;
 mod speaking;
 mod updates;
 

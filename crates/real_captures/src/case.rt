@@ -65,6 +65,9 @@ fn take_words(session: &mut Session, words: &str) -> io::Result<()> {
     session.peer = address_behind(words, "--peer")?;
     session.local = address_behind(words, "--local")?;
     session.extended = words.split(' ').any(|word| word == "--extended");
+    if words.split(' ').any(|word| word == "--skip-refresh") {
+        session.refresh = RouteRefresh::PassedOver;
+    }
     Ok(())
 }
 

@@ -3,14 +3,14 @@
 
 use super::captures::{FIRST, SESSION};
 use super::devices::{Given, giving};
-use super::opened::{Task, config_of, done, ends, file_of};
+use super::opened::{Task, config_of, done, ends, ends_so, file_of};
 use super::*;
 use bgp_open::Config;
 use mrt::{CaptureFault, FaultKind};
 use std::io::ErrorKind;
 
 /// What is told, and its words.
-static NOTES: [(Note<'static>, &str); 14] = [
+static NOTES: [(Note<'static>, &str); 16] = [
     (
         Note::NothingDone {
             file: "a.mrt",
@@ -126,6 +126,14 @@ static NOTES: [(Note<'static>, &str); 14] = [
             other: None,
         },
         "a: no record of this session was read",
+    ),
+    (
+        Note::ReceivedPassedOver { count: 6 },
+        "received ROUTE-REFRESH messages passed over: 6",
+    ),
+    (
+        Note::SentPassedOver { count: 1 },
+        "sent ROUTE-REFRESH messages passed over: 1",
     ),
 ];
 
@@ -347,7 +355,7 @@ static REFUSALS: [(FaultKind, u64, Option<Unmet>, &str); 12] = [
         36,
         None,
         "a.mrt: the record at octet 36 holds a ROUTE-REFRESH (RFC 2918), which isn't judged: \
-         --no-refresh says that the router doesn't offer it",
+         --skip-refresh passes over it; --no-refresh says that the router doesn't offer it",
     ),
     (
         FaultKind::AddPath,
@@ -399,10 +407,7 @@ static STATUSES: [(&[u8], &str, u8); 3] = [
 fn a_stream_has_its_status_and_nothing_is_told(rt: HostRuntime) -> Result<(), Fail> {
     let config = config_of(SESSION)?;
     for (octets, text, status) in &STATUSES {
-        let ended = Outcome {
-            status: *status,
-            note: None,
-        };
+        let ended = (*status, None);
         let octets = Ok(giving(octets));
         let is_so = ends(
             rt.alloc(),
@@ -488,7 +493,7 @@ fn are_told(alloc: Global, config: &Config, octets: Given<'_>, form: Option<Form
     let (outcome, written) = done(alloc, alloc, Task::Decode, config, Ok(octets), None);
     let file = file_of(Task::Decode);
     let note = form.map(|form| Note::NoStream { file, form });
-    outcome == Outcome { status: 3, note } && written.starts_with(b"fault at 0 1/1")
+    ends_so(&outcome, (3, note)) && written.starts_with(b"fault at 0 1/1")
 }
 
 #[test]
@@ -546,8 +551,7 @@ fn are_refused(
 ) -> bool {
     let (outcome, written) = done(alloc, alloc, task, config, Ok(octets), None);
     let note = Some(refused_note(task, form));
-    outcome == Outcome { status: 3, note }
-        && written.starts_with(b"capture refused: 1 Truncated at")
+    ends_so(&outcome, (3, note)) && written.starts_with(b"capture refused: 1 Truncated at")
 }
 
 /// The commands of captures.

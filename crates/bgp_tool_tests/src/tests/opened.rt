@@ -80,6 +80,15 @@ pub(super) fn done<A: Allocator + Copy>(
     (outcome, sink.into_inner().written)
 }
 
+/// The status with which a task ends, and what is told then.
+pub(super) type Ended<'a> = (u8, Option<Note<'a>>);
+
+/// Whether a task ended so.
+pub(super) fn ends_so(outcome: &Outcome<'_>, ended: Ended<'_>) -> bool {
+    let (status, note) = ended;
+    outcome.status == status && outcome.note == note
+}
+
 /// Whether a task with this memory writes this text and ends so.
 pub(super) fn ends<A: Allocator + Copy>(
     memory: A,
@@ -88,10 +97,10 @@ pub(super) fn ends<A: Allocator + Copy>(
     config: &Config,
     opened: io::Result<Given<'_>>,
     text: &str,
-    ended: Outcome<'_>,
+    ended: Ended<'_>,
 ) -> bool {
     let (outcome, written) = done(memory, alloc, task, config, opened, None);
-    outcome == ended && written.as_slice() == text.as_bytes()
+    ends_so(&outcome, ended) && written.as_slice() == text.as_bytes()
 }
 
 /// Whether a file that can't be opened for this cause has this status, and this is told of it.
@@ -103,10 +112,7 @@ fn is_unopened(
     status: u8,
     note: Note<'_>,
 ) -> bool {
-    let ended = Outcome {
-        status,
-        note: Some(note),
-    };
+    let ended = (status, Some(note));
     let opened = Err(io::Error::from(error));
     ends(alloc, alloc, task, config, opened, "", ended)
 }
@@ -222,10 +228,7 @@ fn a_failing_reader_is_told_with_its_place(rt: HostRuntime) -> Result<(), Fail> 
             octet: *octet as u64,
             error: Some(ErrorKind::TimedOut),
         };
-        let ended = Outcome {
-            status: 5,
-            note: Some(note),
-        };
+        let ended = (5, Some(note));
         let is_so = ends(rt.alloc(), rt.alloc(), *task, &config, reader, text, ended);
         assert!(rt; is_so, "{task:?}: at octet {octet}");
     }
@@ -360,7 +363,7 @@ fn is_told(alloc: Global, task: Task, told: &Told) -> Result<bool, Fail> {
     let (session, parts, text, status, tells) = *told;
     let (octets, config) = (joined(alloc, parts)?, config_of(session)?);
     let note = note_by(task, tells);
-    let ended = Outcome { status, note };
+    let ended = (status, note);
     Ok(ends(
         alloc,
         alloc,
@@ -418,15 +421,12 @@ fn refused_memory_is_told_and_ample_memory_is_not(rt: HostRuntime) -> Result<(),
             Task::Decode => giving(&KEEPALIVE),
             _ => giving(&CHANGE),
         };
-        let ended = Outcome {
-            status: if refused.is_some() { 4 } else { 0 },
-            note: match refused {
-                Some(octet) => Some(Note::OutOfMemory {
-                    file,
-                    octet: *octet,
-                }),
-                None => note_by(*task, Tells::NothingDone(LEFT_IDLE)),
-            },
+        let ended = match refused {
+            Some(octet) => {
+                let octet = *octet;
+                (4, Some(Note::OutOfMemory { file, octet }))
+            }
+            None => (0, note_by(*task, Tells::NothingDone(LEFT_IDLE))),
         };
         let is_so = ends(&heap, rt.alloc(), *task, &config, Ok(octets), text, ended);
         assert!(rt; is_so, "{task:?}: on a heap of {size}");
@@ -473,8 +473,7 @@ fn is_shown(
     match capture_of(alloc, records) {
         Some(octets) => {
             let (outcome, _) = done(alloc, alloc, task, config, Ok(giving(&octets)), None);
-            let note = note_by(task, tells);
-            outcome == Outcome { status, note }
+            ends_so(&outcome, (status, note_by(task, tells)))
         }
         None => false,
     }

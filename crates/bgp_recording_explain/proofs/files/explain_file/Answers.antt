@@ -1,4 +1,4 @@
-use Rattle.std.proofs.Common.{◌∙◌, ◌+◌, ℕ, sym, ap, subst, inl, inr}
+use Rattle.std.proofs.Common.{◌∙◌, ◌+◌, ℕ, refl, sym, ap, subst, inl, inr}
 use Rattle.mrt.specs.FromWrite.{writer_state}
 use Rattle.bgp_tool.specs.declared.opened.Outcome.{Outcome}
 use Rattle.bgp_explain.specs.Explaining.{MayLack}
@@ -20,7 +20,8 @@ returns-then-not-is_recording-clause-explained g c =
         subst
             (λ (o : Outcome). ExplainsOpened (peeked_remaining g.R.Read.remaining) g.W.Write.contents c.args.config.now (MayLack g.T.Tracker.may_lack) c.args.file c.new-peeked.result
             (writer_state c.args.sink.now) (writer_state c.explain_opened-outcome.new.sink) o)
-            (same_outcome c.explain_opened-outcome.result outcome.result.status outcome.result.note outcome.ensures.status outcome.ensures.note)
+            (same_outcome c.explain_opened-outcome.result outcome.result.status outcome.result.skipped outcome.result.note
+            outcome.ensures.status outcome.ensures.skipped outcome.ensures.note)
             c.explain_opened-outcome.ensures.explained,
         outcome.ensures.uncut,
         outcome.ensures.remarks,
@@ -50,5 +51,6 @@ returns-clause-explained g c =
             reader = λ same status. note.reader (same ∙ sym before) status;
           };
         },
+        refl,
       );
     })

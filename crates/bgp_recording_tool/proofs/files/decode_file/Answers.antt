@@ -1,4 +1,4 @@
-use Rattle.std.proofs.Common.{◌∙◌, ◌+◌, ℕ, sym, ap, subst, inl, inr}
+use Rattle.std.proofs.Common.{◌∙◌, ◌+◌, ℕ, refl, sym, ap, subst, inl, inr}
 use Rattle.mrt.specs.FromWrite.{writer_state}
 use Rattle.bgp_tool.specs.declared.opened.Outcome.{Outcome}
 use Rattle.bgp_tool.specs.OpenedCapture.{DecodesOpened}
@@ -19,7 +19,8 @@ returns-then-not-is_recording-clause-decoded g c =
         subst
             (λ (o : Outcome). DecodesOpened (peeked_remaining g.R.Read.remaining) g.W.Write.contents c.args.session.now c.args.file c.new-peeked.result
             (writer_state c.args.sink.now) (writer_state c.decode_opened_capture-outcome.new.sink) o)
-            (same_outcome c.decode_opened_capture-outcome.result outcome.result.status outcome.result.note outcome.ensures.status outcome.ensures.note)
+            (same_outcome c.decode_opened_capture-outcome.result outcome.result.status outcome.result.skipped outcome.result.note
+            outcome.ensures.status outcome.ensures.skipped outcome.ensures.note)
             c.decode_opened_capture-outcome.ensures.decoded,
         outcome.ensures.uncut,
         outcome.ensures.remarks,
@@ -49,5 +50,6 @@ returns-clause-decoded g c =
             reader = λ same status. note.reader (same ∙ sym before) status;
           };
         },
+        refl,
       );
     })

@@ -1,4 +1,4 @@
-use Rattle.std.proofs.Common.{rules, ◌≡◌, ◌∙◌, ◌++◌, ℕ, List, length, ap, subst, inl, inr, arith, Some, option_map}
+use Rattle.std.proofs.Common.{rules, ◌≡◌, ◌∙◌, ◌++◌, ℕ, List, length, refl, ap, subst, inl, inr, arith, Some, option_map}
 use Rattle.std.specs.Io.KnownBytes.{Consumes}
 use Rattle.mrt.specs.FromRead.{ReaderState, reader_state, fresh_reader}
 use Rattle.bgp_tool.specs.declared.note.Note.TheVariants.{Unread, OutOfMemory, NoStream}
@@ -60,4 +60,5 @@ returns-clause-decoded g c =
           ]
         ];
       };
+      no_capture = refl;
     }

@@ -1,4 +1,4 @@
-use Rattle.std.proofs.Common.{◌≡◌, ◌∙◌, ◌+◌, ◌++◌, List, ℕ, ap, subst, arith, inl, inr, is_some, None}
+use Rattle.std.proofs.Common.{◌≡◌, ◌∙◌, ◌+◌, ◌++◌, List, ℕ, ap, subst, arith, inl, inr, is_some, None, Some}
 use Rattle.mrt.specs.Capture.{joined}
 use Rattle.mrt.specs.FromRead.{ReaderState, reader_state, fresh_reader, Gives}
 use Rattle.mrt.specs.FromWrite.{writer_state}
@@ -57,4 +57,5 @@ returns-clause-decoded g c =
             ∙ ap (λ f. told_by Decode file (is_some found.last) (no_capture (kept octets)) f None found.other) refused)
             w.note_of-note.ensures.memory w.note_of-note.ensures.reader)
       ];
+      skipped = ap Some c.skipped-skipped.ensures;
     }

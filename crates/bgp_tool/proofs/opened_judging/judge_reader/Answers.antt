@@ -1,4 +1,4 @@
-use Rattle.std.proofs.Common.{◌≡◌, ◌∙◌, ◌++◌, ◌⊎◌, ◌+◌, ◌≤◌, ◌==◌, List, ℕ, ap, subst, arith, inl, inr, is_some}
+use Rattle.std.proofs.Common.{◌≡◌, ◌∙◌, ◌++◌, ◌⊎◌, ◌+◌, ◌≤◌, ◌==◌, List, ℕ, ap, subst, arith, inl, inr, is_some, Some}
 use Rattle.mrt.specs.Capture.{joined, records_of}
 use Rattle.mrt.specs.FromRead.{ReaderState, reader_state, fresh_reader, Gives}
 use Rattle.mrt.specs.FromWrite.{writer_state, Takes}
@@ -66,4 +66,5 @@ returns-clause-judged g c =
             (ap (λ (n : ℕ). lacking_by (n == 0) shows) (same_code told.read.holds.all (omega (arith, w.if-failures.false, c.failures.ensures, c.failures-failures.ensures))) ∙ told.lacking))
             w.note_of-note.ensures.memory w.note_of-note.ensures.reader)
       ];
+      skipped = ap Some c.skipped-skipped.ensures;
     }
