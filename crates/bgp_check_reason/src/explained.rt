@@ -1,6 +1,6 @@
 //! What `bgp judge --explain` says of entries, in memory.
 
-ghost use Rattle.std.specs.Prelude.{◌<◌, ℕ, IfOk, List, OnOk};
+ghost use Rattle.std.specs.Prelude.{◌<◌, ℕ, IfOk, IsSome, List, OnOk};
 ghost use Rattle.std.specs.List.{AllByRecursion};
 ghost use Rattle.bgp_judge.specs.Verdict.{HasVerdict, VerdictValue, verdict_value};
 ghost use Rattle.bgp_explain.specs.Details.{AreDetailsOf};
@@ -17,7 +17,7 @@ use bgp_text::Lines;
 use mrt::{Failed, MemSink, Sink};
 use std::alloc::{AllocError, Allocator};
 
-/// Writes what explains the verdict on the records of entries.
+/// Writes what explains the verdict on the records of entries, with the details of the reason.
 fn write_explained<W: Sink, A: Allocator + Copy>(
     sink: &mut W,
     config: &Config,
@@ -28,6 +28,7 @@ fn write_explained<W: Sink, A: Allocator + Copy>(
     requires failures { W.failures sink.old < u64.MAX }
     requires explained { AreExplained config.now entries.now explained.now }
     requires details { AreDetailsOf config.now explained.now.reason details.now }
+    requires all { IsSome details.now }
     ensures { OnOk result ((more : List ℕ)
         × SaysOfEntries config.now entries.now (verdict_value explained.now.verdict) more
         × W.takes sink.old sink.new more) }
@@ -40,7 +41,8 @@ fn write_explained<W: Sink, A: Allocator + Copy>(
     handed_over
 }
 
-/// What is said of entries whose records a capture can hold.
+/// What is said of entries whose records a capture can hold. `AllocError` is answered where memory
+/// is refused for the reason, or where there is none, as of a yes.
 fn text_of<A: Allocator + Copy, T: Tracker<A>>(
     alloc: A,
     config: &Config,
@@ -53,7 +55,10 @@ fn text_of<A: Allocator + Copy, T: Tracker<A>>(
 {
     records_have_just_one_verdict();
     let explained = explain_entries::<A, T>(alloc, config, entries)?;
-    let details = explained.details(alloc, config)?;
+    let details = explained.details(alloc, config);
+    if details.is_none() {
+        return Err(AllocError);
+    }
     let mut sink = MemSink::new(alloc);
     match write_explained(&mut sink, config, entries, &explained, &details) {
         Ok(()) => Ok(sink.into_octets()),

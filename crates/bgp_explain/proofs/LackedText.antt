@@ -1,5 +1,5 @@
 -- What a record lacks, and an UPDATE asks for, is what is told of it.
-use Rattle.std.proofs.Common.{◌≡◌, ◌++◌, List, ℕ, refl, ap}
+use Rattle.std.proofs.Common.{◌≡◌, List, ℕ, refl, ap}
 use Rattle.bgp_prefix.specs.Shown.{ShownRecord, Received, Sent, Changed}
 use Rattle.bgp_open.specs.declared.config.Config.{Config}
 use Rattle.bgp_open.specs.declared.link.Link.{Link}

@@ -7,7 +7,7 @@ use Rattle.bgp_machine.specs.declared.fsm.Fsm.TheVariants as fsms
 use Rattle.bgp_machine.specs.Going.{fsm_at}
 use Rattle.bgp_reason.specs.declared.told.Told.{Told}
 use Rattle.bgp_reason.specs.Told.{ToldOneMore, last_from, last_message, told, told_by_change, told_by_message, told_with}
-use Rattle.bgp_explain.specs.LastReceived.{IsLastAt, IsLastReceived, IsQuiet, LastReceivedIsTold, NoneSinceIdle}
+use Rattle.bgp_explain.specs.LastReceived.{IsLastReceived, IsQuiet, LastReceivedIsTold, NoneSinceIdle}
 
 -- ---- the last message, with one record more
 

@@ -9,7 +9,6 @@ pub mod EntryRecords
 pub mod Telling
 pub mod LackedText
 pub mod Naming
-pub mod NoRoom
 pub mod OnePossible
 pub mod OneReason
 pub mod OneText

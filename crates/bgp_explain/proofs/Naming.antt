@@ -1,6 +1,6 @@
 -- What the impossible record lacks is named.
-use Rattle.std.proofs.Common.{◌≡◌, List, ℕ, [], Option, None, Some, inl, inr, sym, subst}
-use Rattle.bgp_prefix.specs.Shown.{ShownRecord, Received, Sent, Changed}
+use Rattle.std.proofs.Common.{List, ℕ, Option, None, Some, inl, inr, subst}
+use Rattle.bgp_prefix.specs.Shown.{Received, Sent, Changed}
 use Rattle.bgp_open.specs.declared.config.Config.{Config}
 use Rattle.bgp_open.specs.declared.link.Link.{Link}
 use Rattle.bgp_wire.specs.Framing.{IsFrame}
@@ -11,7 +11,7 @@ use Rattle.bgp_reason.specs.Sending.{sending_link}
 use Rattle.bgp_parts.specs.NotificationParts.{PossibleLacksNothing}
 use Rattle.bgp_parts.specs.OwnOpenParts.{OwnOpenLacksNothing}
 use Rattle.bgp_parts.specs.UpdateParts.{CleanLacksNothing}
-use Rattle.bgp_explain.specs.Lacked.{Lacked, Nothing, Open, Update, Notification, RecordLacks, SentLacks}
+use Rattle.bgp_explain.specs.Lacked.{Lacked, Nothing, Open, Update, Notification, SentLacks}
 use Rattle.bgp_explain.specs.Laws.{IsItemThere, NamesNothing, NamesWhatLacks}
 
 module _ (own : OwnOpenLacksNothing) (like : PossibleLacksNothing) (clean : CleanLacksNothing) (config : Config) (possible : Possible)

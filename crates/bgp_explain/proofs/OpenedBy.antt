@@ -18,11 +18,10 @@ use Rattle.bgp_machine.specs.Going.{fsm_at, going_on}
 use Rattle.bgp_machine.specs.Heard.{Hears}
 use Rattle.bgp_machine.specs.Run.{Begins}
 use Rattle.bgp_machine.specs.State.{Turn, fsm_of, link_at, number_of}
-use Rattle.bgp_machine.specs.Step.{HiddenIn, ReceivedIn, hidden_change}
+use Rattle.bgp_machine.specs.Step.{HiddenIn, ReceivedIn}
 use Rattle.bgp_machine.proofs.Shapes.{shape_received}
 use Rattle.bgp_judge.specs.Member.{Member}
-use Rattle.bgp_judge.specs.Next.{Next, Continues}
-use Rattle.bgp_judge.specs.Next as next
+use Rattle.bgp_judge.specs.Next.{Next}
 use Rattle.bgp_judge.specs.Told.{Told, told, told_by_change, told_by_message, told_next}
 use Rattle.bgp_judge.proofs.Telling.{told_one_more}
 use Rattle.bgp_reason.proofs.Explaining.{Explains, before_told, each_explained, explained_from}

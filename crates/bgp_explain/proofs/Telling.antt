@@ -1,5 +1,5 @@
 -- What is explained, told by its text.
-use Rattle.std.proofs.Common.{◌≡◌, ◌∙◌, ◌⊎◌, ◌+◌, ◌++◌, ◌==◌, ℕ, zero, suc, List, [], Bool, true, arith, refl, sym, ap, subst, inl, inr, map, take, length, append-nil, IsTrue, is_some, false, Option, None, Some, Result, Ok, Err}
+use Rattle.std.proofs.Common.{◌≡◌, ◌∙◌, ◌⊎◌, ◌+◌, ◌++◌, ◌==◌, ℕ, zero, suc, List, [], Bool, true, arith, refl, sym, ap, subst, inl, inr, map, take, length, append-nil, false, Option, None, Some, Result, Ok, Err}
 use Rattle.bgp_prefix.specs.Shown.{ShownRecord}
 use Rattle.bgp_open.specs.declared.config.Config.{Config}
 use Rattle.mrt.specs.declared.fault.CaptureFault.{CaptureFault}
@@ -10,7 +10,6 @@ use Rattle.bgp_tool.proofs.SeenSoFar.{fault_is_no_yes}
 use Rattle.bgp_tool.specs.Front.{kept}
 use Rattle.bgp_tool.specs.Seen.{lacking_by, lacking_in, seen_in}
 use Rattle.std.proofs.Math.Dec.{eqb-suc-zero}
-use Rattle.mrt.specs.declared.fault.FaultKind.TheVariants.{Memory}
 use Rattle.mrt.specs.Progress.{failures_of}
 use Rattle.mrt.specs.ReadBy.{ReadBy}
 use Rattle.mrt.specs.Reader.{ReaderState}
@@ -32,13 +31,13 @@ use Rattle.bgp_explain.specs.declared.explained.Explained.{Explained}
 use Rattle.bgp_explain.specs.declared.explained.Impossible.{Impossible}
 use Rattle.bgp_explain.specs.declared.explained.Reason.{Reason}
 use Rattle.bgp_explain.specs.declared.explained.Totals.{Totals}
-use Rattle.bgp_explain.specs.Capture.{ExplainsCapture, SaysExplained, TellsExplained, TellsNoRoom, TellsWhy, TellsWhyNot}
+use Rattle.bgp_explain.specs.Capture.{ExplainsCapture, SaysExplained, SaysUnexplained, TellsExplained, TellsVerdict, TellsWhy, TellsWhyNot}
 use Rattle.bgp_explain.specs.Details.{next_in}
-use Rattle.bgp_explain.specs.Explaining.{Explains, ExplainsBy}
+use Rattle.bgp_explain.specs.Explaining.{Explains, ExplainsBy, IsExplained}
 use Rattle.bgp_explain.specs.Kept.{shown_by}
 use Rattle.bgp_explain.specs.Opened.{fault_told}
 use Rattle.bgp_explain.specs.Reason.{AreSummed, HasReason, IsNext, IsReasonAt}
-use Rattle.bgp_explain.specs.Text.{CanBePut, CanBePutOf, IsExplainedText, IsImpossibleLine, IsMoreBy, IsMoreOf, IsSaidOf, IsWhy}
+use Rattle.bgp_explain.specs.Text.{CanBePut, CanBePutOf, IsExplainedText, IsImpossibleLine, IsMoreBy, IsMoreOf, IsReasonText, IsWhy, no_memory_line}
 use Rattle.bgp_explain.specs.Packets.{no_packets}
 use Rattle.bgp_explain.specs.Skipped.{skipped_of}
 use Rattle.bgp_explain.specs.Tally.{tally_of, yes_lines}
@@ -83,29 +82,42 @@ module _ {X : Type 0} (config : Config) (packets : ℕ → Option ℕ) where
     whole = ap (λ (f : List ℕ). f ++ rest) (line.2 ∙ ap (λ (n : ℕ). record_line n (packets n) line.0) next.0.number);
   }
 
-  -- what stands after a no
-  pub more_of_no : (Y : Type 0) (records : List ShownRecord) (count : ℕ) (why : Option (Reason X)) (more : List ℕ) → HasReason {X = Y} config records (No count) why
-      → IsMoreBy config packets why more → TellsWhyNot config packets (take count records) (take (count + 1) records) more
-  more_of_no Y records count None more has is = absurd has
-  more_of_no Y records count (Some reason) more has is =
+  -- what stands after a no that has a reason
+  pub why_not : (Y : Type 0) (records : List ShownRecord) (count : ℕ) (reason : Reason X) (more : List ℕ) → HasReason {X = Y} config records (No count) (Some reason)
+      → IsReasonText config packets reason more → TellsWhyNot config packets (take count records) (take (count + 1) records) more
+  why_not Y records count reason more has is =
       subst (λ (t : List ℕ). TellsWhyNot config packets (take count records) (take (count + 1) records) t) (sym is.whole)
       (tells_not (take count records) (take (count + 1) records) reason reason.impossible is.first is.rest has.1 is.impossible has.0 is.why)
 
   -- and after an unfinished
-  pub more_of_unfinished : (Y : Type 0) (records : List ShownRecord) (why : Option (Reason X)) (more : List ℕ) → HasReason {X = Y} config records Unfinished why
-      → IsMoreBy config packets why more → TellsWhy config packets records None more
-  more_of_unfinished Y records None more has is = absurd has
-  more_of_unfinished Y records (Some reason) more has is =
+  pub why_unfinished : (Y : Type 0) (records : List ShownRecord) (reason : Reason X) (more : List ℕ) → HasReason {X = Y} config records Unfinished (Some reason)
+      → IsReasonText config packets reason more → TellsWhy config packets records None more
+  why_unfinished Y records reason more has is =
       let none : is.first ≡ [] = subst (λ (o : Option (Impossible X)). IsImpossibleLine config.parts.session packets o is.first) has.1 is.impossible in
       let why = subst (λ (o : Option (Impossible X)). IsWhy config packets reason.told reason.link reason.unjudged reason.last_message.items reason.possible (next_in o) is.rest) has.1 is.why in
       let whole = is.whole ∙ ap (λ (f : List ℕ). f ++ is.rest) none in
       subst (λ (t : List ℕ). TellsWhy config packets records None t) (sym whole) (tells_why records reason None is.rest has.0 why)
 
-says : {X Y : Type 0} (config : Config) (records : List ShownRecord) (skipped : Skipped) (verdict : Verdict X) (why : Option (Reason Y)) (totals : Totals) (more text : List ℕ)
+  -- the reason, or that there was no memory for it
+  more_of_no : (Y : Type 0) (records : List ShownRecord) (count : ℕ) (why : Option (Reason X)) (detailed : Bool) (more : List ℕ) → HasReason {X = Y} config records (No count) why
+      → IsMoreBy config packets why detailed more
+      → TellsWhyNot config packets (take count records) (take (count + 1) records) more ⊎ (more ≡ no_memory_line)
+  more_of_no Y records count None detailed more has is = inr is
+  more_of_no Y records count (Some reason) false more has is = inr is
+  more_of_no Y records count (Some reason) true more has is = inl (why_not Y records count reason more has is)
+
+  more_of_unfinished : (Y : Type 0) (records : List ShownRecord) (why : Option (Reason X)) (detailed : Bool) (more : List ℕ) → HasReason {X = Y} config records Unfinished why
+      → IsMoreBy config packets why detailed more → TellsWhy config packets records None more ⊎ (more ≡ no_memory_line)
+  more_of_unfinished Y records None detailed more has is = inr is
+  more_of_unfinished Y records (Some reason) false more has is = inr is
+  more_of_unfinished Y records (Some reason) true more has is = inl (why_unfinished Y records reason more has is)
+
+-- explained, or told without its reason
+says : {X Y : Type 0} (config : Config) (records : List ShownRecord) (skipped : Skipped) (verdict : Verdict X) (why : Option (Reason Y)) (detailed : Bool) (totals : Totals) (more text : List ℕ)
     → IsVerdict config records verdict → HasReason config records verdict why → AreSummed records verdict totals.tally totals.seen → totals.skipped ≡ skipped
-    → IsMoreOf config (Ok verdict) why totals more → text ≡ verdict_text verdict ++ more
-    → SaysExplained config records skipped text (verdict_status verdict)
-says config records skipped (Yes ends) why totals more text is has sums skips tells whole = record {
+    → IsMoreOf config (Ok verdict) why detailed totals more → text ≡ verdict_text verdict ++ more
+    → SaysExplained config records skipped text (verdict_status verdict) ⊎ SaysUnexplained config records text (verdict_status verdict)
+says config records skipped (Yes ends) why detailed totals more text is has sums skips tells whole = inl record {
   first = verdict_text (Yes ends);
   more = more;
   says = inl record { ends = map end_value ends.items; some = is.0; lists = is.1; prints = refl; tells = refl };
@@ -114,89 +126,114 @@ says config records skipped (Yes ends) why totals more text is has sums skips te
       ∙ ap (λ (k : Skipped). yes_lines (tally_of records) (Some k) (seen_in records).left_idle) skips;
   whole = whole;
 }
-says {X} config records skipped (No count) why totals more text is has sums skips tells whole = record {
-  first = verdict_text {X = X} (No count);
-  more = more;
-  says = inr (inl record { count = count; within = is.0; before = is.1; behind = is.2; prints = refl; tells = refl });
-  explains = more_of_no config no_packets X records count why more has tells;
-  whole = whole;
-}
-says {X} config records skipped Unfinished why totals more text is has sums skips tells whole = record {
-  first = verdict_text {X = X} Unfinished;
-  more = more;
-  says = inr (inr record { begins = is.0; none = is.1; prints = refl; tells = refl });
-  explains = more_of_unfinished config no_packets X records why more has tells;
-  whole = whole;
-}
+says {X} {Y} config records skipped (No count) why detailed totals more text is has sums skips tells whole =
+    elim (more_of_no config no_packets X records count why detailed more has tells) [
+      | inl why_not ↦ inl record {
+        first = verdict_text {X = X} (No count);
+        more = more;
+        says = inr (inl record { count = count; within = is.0; before = is.1; behind = is.2; prints = refl; tells = refl });
+        explains = why_not;
+        whole = whole;
+      }
+      | inr none ↦ inr record {
+        first = verdict_text {X = X} (No count);
+        says = inr (inl record { count = count; within = is.0; before = is.1; behind = is.2; prints = refl; tells = refl });
+        no_yes = λ (e : 1 ≡ 0). omega (arith, e);
+        whole = whole ∙ ap (λ (m : List ℕ). verdict_text {X = X} (No count) ++ m) none;
+      }
+    ]
+says {X} {Y} config records skipped Unfinished why detailed totals more text is has sums skips tells whole =
+    elim (more_of_unfinished config no_packets X records why detailed more has tells) [
+      | inl may ↦ inl record {
+        first = verdict_text {X = X} Unfinished;
+        more = more;
+        says = inr (inr record { begins = is.0; none = is.1; prints = refl; tells = refl });
+        explains = may;
+        whole = whole;
+      }
+      | inr none ↦ inr record {
+        first = verdict_text {X = X} Unfinished;
+        says = inr (inr record { begins = is.0; none = is.1; prints = refl; tells = refl });
+        no_yes = λ (e : 2 ≡ 0). omega (arith, e);
+        whole = whole ∙ ap (λ (m : List ℕ). verdict_text {X = X} Unfinished ++ m) none;
+      }
+    ]
 
 module _ {R : Type 0} (gives : R → R → List ℕ → Type 0) (has_ended : R → Bool) (counts : R → ℕ) (config : Config)
     (source source' : R) (may_lack : Config → List ShownRecord → ShownRecord → Type 0) where
   same_count : counts source' ≡ counts source + 0 → counts source' ≡ counts source
   same_count counted = omega arith
 
-  -- what is explained is told by its text and status
-  tells_it : {X Y : Type 0} (answer : Result (Verdict X) CaptureFault) (why : Option (Reason Y)) (totals : Totals) (more text : List ℕ) (code : ℕ) → code ≡ answer_status answer
-      → ExplainsBy gives has_ended config source source' may_lack answer why totals → counts source' ≡ counts source + failures_of answer → IsMoreOf config answer why totals more
+  -- a verdict that is explained, or told without its reason
+  pub verdict_told : {X Y : Type 0} (verdict : Verdict X) (why : Option (Reason Y)) (totals : Totals) (text : List ℕ) (status : ℕ)
+      → (is : IsExplained gives has_ended config source source' may_lack verdict why totals) → counts source' ≡ counts source + 0
+      → SaysExplained config is.records (skipped_of is.spells.pieces) text status ⊎ SaysUnexplained config is.records text status
+      → TellsExplained gives has_ended counts config source source' text status
+      ⊎ TellsFault gives has_ended counts config source source' may_lack text status
+      ⊎ TellsVerdict gives has_ended counts config source source' text status
+  verdict_told verdict why totals text status is counted (inl explained) = inl record {
+    octets = is.octets;
+    records = is.records;
+    gave = is.gave;
+    ended = is.ended;
+    spells = is.spells;
+    says = explained;
+    counted = same_count counted;
+  }
+  verdict_told verdict why totals text status is counted (inr unexplained) = inr (inr record {
+    octets = is.octets;
+    records = is.records;
+    gave = is.gave;
+    ended = is.ended;
+    spells = is.spells;
+    says = unexplained;
+    counted = same_count counted;
+  })
+
+  pub no_fault_told : {X Y : Type 0} (verdict : Verdict X) (why : Option (Reason Y)) (totals : Totals) (text : List ℕ) (status : ℕ)
+      → (is : IsExplained gives has_ended config source source' may_lack verdict why totals) → (counted : counts source' ≡ counts source + 0)
+      → (said : SaysExplained config is.records (skipped_of is.spells.pieces) text status ⊎ SaysUnexplained config is.records text status)
+      → None ≡ fault_told (verdict_told verdict why totals text status is counted said)
+  unfolding verdict_told
+  no_fault_told verdict why totals text status is counted (inl explained) = refl
+  no_fault_told verdict why totals text status is counted (inr unexplained) = refl
+
+  -- what is explained is told by its text and status, or without its reason
+  tells_it : {X Y : Type 0} (answer : Result (Verdict X) CaptureFault) (why : Option (Reason Y)) (detailed : Bool) (totals : Totals) (more text : List ℕ)
+      → ExplainsBy gives has_ended config source source' may_lack answer why totals → counts source' ≡ counts source + failures_of answer → IsMoreOf config answer why detailed totals more
       → text ≡ answer_text answer ++ more
-      → TellsExplained gives has_ended counts config source source' text code
-      ⊎ TellsFault gives has_ended counts config source source' may_lack text code
-      ⊎ TellsNoRoom gives has_ended counts config source source' text code
-  tells_it (Ok verdict) why totals more text code same is counted tell whole = inl record {
-    octets = is.octets;
-    records = is.records;
-    gave = is.gave;
-    ended = is.ended;
-    spells = is.spells;
-    says = subst (λ (n : ℕ). SaysExplained config is.records (skipped_of is.spells.pieces) text n) (sym same)
-        (says config is.records (skipped_of is.spells.pieces) verdict why totals more text is.verdict is.reason is.summed is.skips tell whole);
-    counted = same_count counted;
-  }
-  tells_it (Err fault) why totals more text code same is counted tell whole =
-      let none : more ≡ [] = subst (λ (w : Option (Reason _)). IsMoreBy config no_packets w more) is.1 tell in inr (inl record {
-        fault = fault;
-        why = is.0;
-        prints = whole ∙ ap (λ (m : List ℕ). refused_line fault.kind fault.offset ++ m) none ∙ append-nil (refused_line fault.kind fault.offset);
-        tells = same;
-        counted = counted;
-      })
+      → TellsExplained gives has_ended counts config source source' text (answer_status answer)
+      ⊎ TellsFault gives has_ended counts config source source' may_lack text (answer_status answer)
+      ⊎ TellsVerdict gives has_ended counts config source source' text (answer_status answer)
+  tells_it (Ok verdict) why detailed totals more text is counted tell whole =
+      verdict_told verdict why totals text (verdict_status verdict) is counted
+      (says config is.records (skipped_of is.spells.pieces) verdict why detailed totals more text is.verdict is.reason is.summed is.skips tell whole)
+  tells_it (Err fault) why detailed totals more text is counted tell whole = inr (inl record {
+    fault = fault;
+    why = is.0;
+    prints = whole ∙ ap (λ (m : List ℕ). refused_line fault.kind fault.offset ++ m) tell ∙ append-nil (refused_line fault.kind fault.offset);
+    tells = refl;
+    counted = counted;
+  })
 
-  -- or that there was no memory for its details
-  tells_no_room : {X Y : Type 0} (answer : Result (Verdict X) CaptureFault) (why : Option (Reason Y)) (totals : Totals) (text : List ℕ) (code : ℕ)
-      → ExplainsBy gives has_ended config source source' may_lack answer why totals → counts source' ≡ counts source + failures_of answer → IsTrue (is_some why)
-      → text ≡ refused_line Memory totals.octets → code ≡ 4 → TellsNoRoom gives has_ended counts config source source' text code
-  tells_no_room (Ok verdict) why totals text code is counted some prints four = record {
-    octets = is.octets;
-    records = is.records;
-    gave = is.gave;
-    ended = is.ended;
-    spells = is.spells;
-    prints = prints ∙ ap (refused_line Memory) is.count;
-    tells = four;
-    counted = same_count counted;
-  }
-  tells_no_room (Err fault) why totals text code is counted some prints four =
-      absurd (let k : is_some why ≡ false = ap is_some is.1 in let none : ⊥ = cc in none)
-
-  pub tells : {X : Type 0} (explained : Explained X) (text : List ℕ) (code : ℕ) → Explains gives has_ended config source source' may_lack explained
-      → counts source' ≡ counts source + failures_of explained.answer → IsSaidOf config explained text code
-      → TellsExplained gives has_ended counts config source source' text code
-      ⊎ TellsFault gives has_ended counts config source source' may_lack text code
-      ⊎ TellsNoRoom gives has_ended counts config source source' text code
-  tells explained text code is counted (inl said) =
-      tells_it explained.answer explained.reason explained.totals said.0.more text code said.1 is counted said.0.is_more said.0.whole
-  tells explained text code is counted (inr said) =
-      inr (inr (tells_no_room explained.answer explained.reason explained.totals text code is counted said.0 said.1 said.2))
+  pub tells : {X : Type 0} (explained : Explained X) (detailed : Bool) (text : List ℕ) → Explains gives has_ended config source source' may_lack explained
+      → counts source' ≡ counts source + failures_of explained.answer → IsExplainedText config explained detailed text
+      → TellsExplained gives has_ended counts config source source' text (answer_status explained.answer)
+      ⊎ TellsFault gives has_ended counts config source source' may_lack text (answer_status explained.answer)
+      ⊎ TellsVerdict gives has_ended counts config source source' text (answer_status explained.answer)
+  tells explained detailed text is counted said =
+      tells_it explained.answer explained.reason detailed explained.totals said.more text is counted said.is_more said.whole
 
   -- a record that is kept can be put
   can_put : {X Y : Type 0} (answer : Result (Verdict X) CaptureFault) (why : Option (Reason Y)) (totals : Totals) → ExplainsBy gives has_ended config source source' may_lack answer why totals
       → CanBePutOf config.parts.session why
   can_put (Ok (Yes ends)) why octets is = subst (λ (w : Option (Reason _)). CanBePutOf config.parts.session w) (sym is.reason) tt
-  can_put (Ok (No count)) None octets is = absurd is.reason
+  can_put (Ok (No count)) None octets is = tt
   can_put (Ok (No count)) (Some reason) octets is = next_can (take count is.records) (take (count + 1) is.records) reason.impossible is.reason.1 where
     next_can : {Y : Type 0} (before records : List ShownRecord) (o : Option (Impossible Y)) → IsNext config before o records → CanBePut config.parts.session o
     next_can before records None next = absurd next
     next_can before records (Some i) next = next.0.allowed
-  can_put (Ok Unfinished) None octets is = absurd is.reason
+  can_put (Ok Unfinished) None octets is = tt
   can_put (Ok Unfinished) (Some reason) octets is = subst (λ (o : Option (Impossible _)). CanBePut config.parts.session o) (sym is.reason.1) tt
   can_put (Err fault) why octets is = subst (λ (w : Option (Reason _)). CanBePutOf config.parts.session w) (sym is.1) tt
 
@@ -277,38 +314,31 @@ module _ {R W : Type 0} (takes : W → W → List ℕ → Type 0) (failures : W 
 module _ {F R W : Type 0} (view : F → R) (takes : W → W → List ℕ → Type 0) (failures : W → ℕ) (gives : R → R → List ℕ → Type 0)
     (has_ended : R → Bool) (counts : R → ℕ) (config : Config) (source source' : F)
     (may_lack : Config → List ShownRecord → ShownRecord → Type 0) (sink sink' : W) where
-  told_in : {X Y : Type 0} (given : R → R → List ℕ → Type 0) (answer : Result (Verdict X) CaptureFault) (why : Option (Reason Y)) (totals : Totals) (more text : List ℕ)
-      (code : ℕ) (same : code ≡ answer_status answer)
+  told_in : {X Y : Type 0} (given : R → R → List ℕ → Type 0) (answer : Result (Verdict X) CaptureFault) (why : Option (Reason Y)) (detailed : Bool) (totals : Totals) (more text : List ℕ)
       → (is : ExplainsBy given has_ended config (view source) (view source') may_lack answer why totals)
-      → (counted : counts (view source') ≡ counts (view source) + failures_of answer) (tell : IsMoreOf config answer why totals more) (whole : text ≡ answer_text answer ++ more)
-      → fault_in answer ≡ fault_told (tells_it given has_ended counts config (view source) (view source') may_lack answer why totals more text code same is counted tell whole)
+      → (counted : counts (view source') ≡ counts (view source) + failures_of answer) (tell : IsMoreOf config answer why detailed totals more) (whole : text ≡ answer_text answer ++ more)
+      → fault_in answer ≡ fault_told (tells_it given has_ended counts config (view source) (view source') may_lack answer why detailed totals more text is counted tell whole)
   unfolding tells_it
-  told_in given (Ok verdict) why totals more text code same is counted tell whole = refl
-  told_in given (Err fault) why totals more text code same is counted tell whole = refl
+  told_in given (Ok verdict) why detailed totals more text is counted tell whole =
+      no_fault_told given has_ended counts config (view source) (view source') may_lack verdict why totals text (verdict_status verdict) is counted
+      (says config is.records (skipped_of is.spells.pieces) verdict why detailed totals more text is.verdict is.reason is.summed is.skips tell whole)
+  told_in given (Err fault) why detailed totals more text is counted tell whole = refl
 
-  -- there is a verdict where there is a reason
-  no_fault : {X Y : Type 0} (given : R → R → List ℕ → Type 0) (answer : Result (Verdict X) CaptureFault) (why : Option (Reason Y)) (totals : Totals)
-      → ExplainsBy given has_ended config (view source) (view source') may_lack answer why totals → IsTrue (is_some why) → fault_in answer ≡ None
-  no_fault given (Ok verdict) why totals is some = refl
-  no_fault given (Err fault) why totals is some = absurd (let k : is_some why ≡ false = ap is_some is.1 in let none : ⊥ = cc in none)
-
-  told_at : {X : Type 0} (given : R → R → List ℕ → Type 0) (explained : Explained X) (text : List ℕ) (code : ℕ)
+  told_at : {X : Type 0} (given : R → R → List ℕ → Type 0) (explained : Explained X) (detailed : Bool) (text : List ℕ)
       → (is : Explains given has_ended config (view source) (view source') may_lack explained)
-      → (counted : counts (view source') ≡ counts (view source) + failures_of explained.answer) (said : IsSaidOf config explained text code)
-      → fault_in explained.answer ≡ fault_told (tells given has_ended counts config (view source) (view source') may_lack explained text code is counted said)
+      → (counted : counts (view source') ≡ counts (view source) + failures_of explained.answer) (said : IsExplainedText config explained detailed text)
+      → fault_in explained.answer ≡ fault_told (tells given has_ended counts config (view source) (view source') may_lack explained detailed text is counted said)
   unfolding tells
-  told_at given explained text code is counted (inl said) =
-      told_in given explained.answer explained.reason explained.totals said.0.more text code said.1 is counted said.0.is_more said.0.whole
-  told_at given explained text code is counted (inr said) = no_fault given explained.answer explained.reason explained.totals is said.0
+  told_at given explained detailed text is counted said =
+      told_in given explained.answer explained.reason detailed explained.totals said.more text is counted said.is_more said.whole
 
   -- what the records show is known where the verdict is yes
-  shows : {X : Type 0} (explained : Explained X) (text : List ℕ) (code : ℕ) (pieces : List Piece) (rest : List ℕ)
+  shows : {X : Type 0} (explained : Explained X) (pieces : List Piece) (rest : List ℕ)
       → ExplainsBy (λ from to some. some ≡ joined pieces ++ rest) has_ended config (view source) (view source') may_lack explained.answer explained.reason explained.totals
-      → ArePieces config.parts.session None pieces → EndsBy pieces rest (fault_in explained.answer) → IsSaidOf config explained text code → code ≡ 0
+      → ArePieces config.parts.session None pieces → EndsBy pieces rest (fault_in explained.answer) → answer_status explained.answer ≡ 0
       → explained.totals.seen ≡ seen_in (records_of pieces)
-  shows explained text code pieces rest is each ends (inr said) naught = absurd (omega (arith, said.2, naught))
-  shows explained text code pieces rest is each ends (inl said) naught =
-      go explained.answer explained.reason explained.totals is ends (sym said.1 ∙ naught) where
+  shows explained pieces rest is each ends naught =
+      go explained.answer explained.reason explained.totals is ends naught where
         go : {X Y : Type 0} (answer : Result (Verdict X) CaptureFault) (why : Option (Reason Y)) (totals : Totals)
             → ExplainsBy (λ from to some. some ≡ joined pieces ++ rest) has_ended config (view source) (view source') may_lack answer why totals
             → EndsBy pieces rest (fault_in answer) → answer_status answer ≡ 0 → totals.seen ≡ seen_in (records_of pieces)
@@ -326,15 +356,16 @@ module _ {F R W : Type 0} (view : F → R) (takes : W → W → List ℕ → Typ
       → ReadsWith (λ from to some. gives (view from) (view to) some × (front_of to ≡ kept (front_of from ++ some))) config.parts.session source source' reader
       (fault_in explained.answer) (λ given. Explains given (λ state. has_ended (view state)) config source source' may_lack explained)
       → counts (view source') ≡ counts (view source) + failures_of explained.answer
-      → (text : List ℕ) × (code : ℕ) × IsSaidOf config explained text code × IsWritten takes failures text code sink sink' status
+      → (text : List ℕ) × (detailed : Bool) × IsExplainedText config explained detailed text × IsWritten takes failures text (answer_status explained.answer) sink sink' status
       → refused ≡ fault_in explained.answer
       → ToldOf takes failures gives has_ended counts config (view source) (view source') may_lack sink sink' reader status (front_of source') refused
       explained.totals.seen
-  explains_read front_of reader explained status refused nothing (by, ends) counted (text, code, said, wrote) is =
+  explains_read front_of reader explained status refused nothing (by, ends) counted (text, detailed, said, wrote) is =
+      let code = answer_status explained.answer in
       let octets = joined by.pieces ++ by.rest in
       let given = λ (from to : R) (some : List ℕ). some ≡ octets in
       let seen = viewed view has_ended config source source' may_lack octets explained.answer explained.reason explained.totals by.holds in
-      let told = told_at given explained text code seen counted said in record {
+      let told = told_at given explained detailed text seen counted said in record {
         read = record {
           pieces = by.pieces;
           rest = by.rest;
@@ -344,14 +375,14 @@ module _ {F R W : Type 0} (view : F → R) (takes : W → W → List ℕ → Typ
           holds = record {
             text = text;
             code = code;
-            answer = tells given has_ended counts config (view source) (view source') may_lack explained text code seen counted said;
+            answer = tells given has_ended counts config (view source) (view source') may_lack explained detailed text seen counted said;
             wrote = wrote;
           };
         };
         ends = subst (λ (f : Option CaptureFault). EndsBy by.pieces by.rest f) told ends;
         front = by.gave.1 ∙ ap (λ (o : List ℕ). kept (o ++ octets)) nothing;
         fault = is ∙ told;
-        lacking = same_lacking code explained.totals.seen (records_of by.pieces) (shows explained text code by.pieces by.rest seen by.each ends said);
+        lacking = same_lacking code explained.totals.seen (records_of by.pieces) (shows explained by.pieces by.rest seen by.each ends);
       }
 
 -- what is explained of octets that were given is explained of what was given
@@ -405,12 +436,12 @@ module _ {R W : Type 0} (takes : W → W → List ℕ → Type 0) (failures : W 
   pub explains_capture : {X : Type 0} (reader : ReaderState) (explained : Explained X) (status : ℕ)
       → ReadsWith gives config.parts.session source source' reader (fault_in explained.answer) (λ given. Explains given has_ended config source source' may_lack explained)
       → counts source' ≡ counts source + failures_of explained.answer
-      → (text : List ℕ) × (code : ℕ) × IsSaidOf config explained text code × IsWritten takes failures text code sink sink' status
+      → (text : List ℕ) × (detailed : Bool) × IsExplainedText config explained detailed text × IsWritten takes failures text (answer_status explained.answer) sink sink' status
       → ExplainsCapture gives has_ended takes counts failures config source source' may_lack sink sink' status
-  explains_capture reader explained status (by, ends) counted (text, code, said, wrote) = record {
+  explains_capture reader explained status (by, ends) counted (text, detailed, said, wrote) = record {
     text = text;
-    code = code;
-    answer = tells gives has_ended counts config source source' may_lack explained text code
+    code = answer_status explained.answer;
+    answer = tells gives has_ended counts config source source' may_lack explained detailed text
         (explains_given has_ended config source source' may_lack (λ from to octets. octets ≡ joined by.pieces ++ by.rest) gives
         (λ octets is. subst (λ (o : List ℕ). gives source source' o) (sym is) by.gave) explained.answer explained.reason explained.totals by.holds)
         counted said;

@@ -1,18 +1,17 @@
 -- What explaining a capture reads, writes and answers.
-use Rattle.std.specs.Prelude.{◌≡◌, ◌<◌, ◌+◌, ◌^◌, ◌++◌, ◌⊎◌, ℕ, Bool, List, [], ◌∷◌, Option, None}
-use Rattle.std.specs.Prelude.{Some, IfSome, IsTrue, length, take}
+use Rattle.std.specs.Prelude.{◌≡◌, ◌≢◌, ◌<◌, ◌+◌, ◌^◌, ◌++◌, ◌⊎◌, ℕ, Bool, List, [], ◌∷◌}
+use Rattle.std.specs.Prelude.{Option, None, Some, IfSome, IsTrue, length, take}
 use Rattle.std.proofs.Common.{inl, inr}
 use Rattle.bgp_prefix.specs.Shown.{ShownRecord}
 use Rattle.bgp_open.specs.declared.config.Config.{Config}
 use Rattle.mrt.specs.Capture.{Spells}
-use Rattle.mrt.specs.declared.fault.FaultKind.TheVariants.{Memory}
 use Rattle.bgp_reason.specs.declared.kinds.Possible.{Possible}
 use Rattle.bgp_reason.specs.Asked.{AreAsked}
 use Rattle.bgp_reason.specs.Possible.{ArePossible}
 use Rattle.bgp_reason.specs.Sending.{sending_link}
 use Rattle.bgp_reason.specs.Told.{told, last_message}
 use Rattle.bgp_reason_text.specs.Record.{record_line}
-use Rattle.bgp_text.specs.Capture.{IsRecordText, refused_line}
+use Rattle.bgp_text.specs.Capture.{IsRecordText}
 use Rattle.bgp_tool.specs.Answer.{IsWritten}
 use Rattle.bgp_tool.specs.Judging.{SaysVerdict, TellsFault}
 use Rattle.bgp_tool.specs.Seen.{seen_in}
@@ -22,7 +21,7 @@ use Rattle.bgp_explain.specs.Packets.{no_packets}
 use Rattle.bgp_explain.specs.declared.skipped.Skipped.{Skipped}
 use Rattle.bgp_explain.specs.Skipped.{skipped_of}
 use Rattle.bgp_explain.specs.Tally.{tally_of, yes_lines}
-use Rattle.bgp_explain.specs.Text.{IsWhy}
+use Rattle.bgp_explain.specs.Text.{IsWhy, no_memory_line}
 
 -- The lines on what records tell, and what may follow them: all of it, and nothing else, no kind
 -- without a record of it either. Where the next record is impossible, it is given with its number.
@@ -83,9 +82,17 @@ pub record TellsExplained {R : Type 0} (gives : R → R → List ℕ → Type 0)
   pub says : SaysExplained config records (skipped_of spells.pieces) text status
   pub counted : failures source' ≡ failures source
 
--- The source was read to its end, and its octets spell records; but memory was refused for the
--- details of a reason, at the end.
-pub record TellsNoRoom {R : Type 0} (gives : R → R → List ℕ → Type 0) (has_ended : R → Bool)
+-- the text of a verdict other than yes, and after it that memory was refused for its reason
+pub record SaysUnexplained (config : Config) (records : List ShownRecord) (text : List ℕ)
+    (status : ℕ) : Type 0 where
+  pub first : List ℕ
+  pub says : SaysVerdict config records first status
+  pub no_yes : status ≢ 0
+  pub whole : text ≡ first ++ no_memory_line
+
+-- The source was read to its end, its octets spell records, and this is the verdict on them; but
+-- memory was refused for its reason.
+pub record TellsVerdict {R : Type 0} (gives : R → R → List ℕ → Type 0) (has_ended : R → Bool)
     (failures : R → ℕ) (config : Config) (source source' : R) (text : List ℕ) (status : ℕ)
     : Type 0 where
   pub octets : List ℕ
@@ -93,11 +100,11 @@ pub record TellsNoRoom {R : Type 0} (gives : R → R → List ℕ → Type 0) (h
   pub gave : gives source source' octets
   pub ended : IsTrue (has_ended source')
   pub spells : Spells config.parts.session octets records
-  pub prints : text ≡ refused_line Memory (length octets)
-  pub tells : status ≡ 4
+  pub says : SaysUnexplained config records text status
   pub counted : failures source' ≡ failures source
 
--- The verdict is told and explained, or the fault is told; all of its text was written, if the sink
+-- The verdict is told and explained, or the fault is told, of which those of memory are the
+-- tracker's; or the verdict is told without its reason. All of its text was written, if the sink
 -- didn't fail, and then the status is its own; and else a beginning, and the status is 5.
 pub record ExplainsCapture {R W : Type 0} (gives : R → R → List ℕ → Type 0)
     (has_ended : R → Bool) (takes : W → W → List ℕ → Type 0) (source_failures : R → ℕ)
@@ -108,17 +115,18 @@ pub record ExplainsCapture {R W : Type 0} (gives : R → R → List ℕ → Type
   pub code : ℕ
   pub answer : TellsExplained gives has_ended source_failures config source source' text code
       ⊎ TellsFault gives has_ended source_failures config source source' may_lack text code
-      ⊎ TellsNoRoom gives has_ended source_failures config source source' text code
+      ⊎ TellsVerdict gives has_ended source_failures config source source' text code
   pub wrote : IsWritten takes failures text code sink sink' status
 
 -- ---- the laws
 
--- what is explained begins with what is judged
+-- what is explained, or told without its reason, begins with what is judged
 abbrev pub ExplainedAsJudged : Type 0
 ExplainedAsJudged =
     (config : Config) (octets : List ℕ) (records also : List ShownRecord) (skipped : Skipped)
     (text other : List ℕ) (status code : ℕ)
-    → Spells config.parts.session octets records → SaysExplained config records skipped text status
+    → Spells config.parts.session octets records
+    → SaysExplained config records skipped text status ⊎ SaysUnexplained config records text status
     → Spells config.parts.session octets also → SaysVerdict config also other code
     → (status ≡ code) × ((more : List ℕ) × (text ≡ other ++ more))
 

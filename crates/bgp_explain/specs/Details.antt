@@ -15,7 +15,7 @@ use Rattle.bgp_explain.specs.Kept.{shown_by}
 use Rattle.bgp_explain.specs.Lacked.{Lacked, Nothing, RecordLacks, lacked_of}
 use Rattle.bgp_explain.specs.Updates.{Asking, Asks, asking_of}
 
--- what the next record lacks, with its number, where there is one, and it is impossible
+-- what the next record lacks, where there is one, with its number
 abbrev pub AreLacksOf : Config → Option Link → Possible → Option (ℕ × ShownRecord) → Lacked
     → Type 0
 AreLacksOf config link possible None lacked = lacked ≡ Nothing
@@ -53,9 +53,9 @@ pub record AreDetails {X Y : Type 0} (config : Config) (reason : Reason X) (deta
   pub update : IsAskedBy config reason.told reason.link reason.last_message.items
       (asking_in details.update)
 
--- of one that there may be
+-- of one that there may be; none where memory was refused for them
 abbrev pub AreDetailsOf : {X Y : Type 0} → Config → Option (Reason X) → Option (Details Y) → Type 0
 AreDetailsOf config None None = Unit {0}
 AreDetailsOf config None (Some details) = ⊥
-AreDetailsOf config (Some reason) None = ⊥
+AreDetailsOf config (Some reason) None = Unit {0}
 AreDetailsOf config (Some reason) (Some details) = AreDetails config reason details

@@ -1,7 +1,6 @@
 -- What explaining the records of a recording's entries answers, and what is told of it after the
 -- verdict.
-use Rattle.std.specs.Prelude.{◌≡◌, ◌+◌, ℕ, List, None, take}
-use Rattle.bgp_prefix.specs.Shown.{ShownRecord}
+use Rattle.std.specs.Prelude.{◌≡◌, ◌⊎◌, ◌+◌, ℕ, Bool, true, false, List, None, take}
 use Rattle.bgp_prefix.specs.declared.session.Session.{Session}
 use Rattle.mrt.specs.Reader.{shown_of}
 use Rattle.mrt.specs.Written.{IsAllowed}
@@ -15,6 +14,7 @@ use Rattle.bgp_explain.specs.Capture.{TellsWhy, TellsWhyNot}
 use Rattle.bgp_explain.specs.Packets.{packets_of}
 use Rattle.bgp_explain.specs.Reason.{AreSummed, HasReason}
 use Rattle.bgp_explain.specs.Tally.{tally_of, yes_lines}
+use Rattle.bgp_explain.specs.Text.{no_memory_line}
 
 -- a capture of the session may have its record
 abbrev pub CanBeShown : Session → Entry → Type 0
@@ -28,7 +28,7 @@ pub record AreExplained {X : Type 0} (config : Config) (entries : List Entry)
   pub summed : AreSummed (records_of entries) explained.verdict explained.tally explained.seen
 
 -- What is told after the verdict: of a no why the next record is impossible, of an unfinished what
--- may follow, and after a yes what the records are.
+-- may follow, and after a yes what the records are; or that memory was refused for the reason.
 module _ (config : Config) (entries : List Entry) where
   abbrev pub SaysOfEntries : VerdictValue → List ℕ → Type 0
   SaysOfEntries (Yes ends) more =
@@ -39,3 +39,14 @@ module _ (config : Config) (entries : List Entry) where
       (take (count + 1) (records_of entries)) more
   SaysOfEntries Unfinished more =
       TellsWhy config (packets_of entries) (records_of entries) None more
+
+  -- where the details of the reason are there, and without a reason where they aren't
+  abbrev pub SaysWhere : Bool → VerdictValue → List ℕ → Type 0
+  SaysWhere detailed (Yes ends) more = SaysOfEntries (Yes ends) more
+  SaysWhere true verdict more = SaysOfEntries verdict more
+  SaysWhere false verdict more = more ≡ no_memory_line
+
+  -- with a reason or without
+  abbrev pub SaysOrNot : VerdictValue → List ℕ → Type 0
+  SaysOrNot (Yes ends) more = SaysOfEntries (Yes ends) more
+  SaysOrNot verdict more = SaysOfEntries verdict more ⊎ (more ≡ no_memory_line)

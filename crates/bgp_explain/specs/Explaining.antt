@@ -1,10 +1,9 @@
 -- What explaining a capture reads and answers: the verdict on the session's records with its
 -- reason, or why there is none.
-use Rattle.std.specs.Prelude.{◌≡◌, ◌⊎◌, ◌++◌, ℕ, Bool, List, [], ◌∷◌, length, IsTrue, Option, None}
+use Rattle.std.specs.Prelude.{◌≡◌, ℕ, Bool, List, length, IsTrue, Option, None}
 use Rattle.std.specs.Prelude.{Result, Ok, Err}
-use Rattle.bgp_prefix.specs.Shown.{ShownRecord, Received}
+use Rattle.bgp_prefix.specs.Shown.{ShownRecord}
 use Rattle.bgp_open.specs.declared.config.Config.{Config}
-use Rattle.bgp_machine.specs.Run.{Begins}
 use Rattle.mrt.specs.Capture.{Piece, ArePieces, Spells, joined, records_of}
 use Rattle.mrt.specs.Reader.{ReaderState}
 use Rattle.mrt.specs.ReadBy.{Knows}
@@ -17,19 +16,6 @@ use Rattle.bgp_explain.specs.declared.explained.Reason.{Reason}
 use Rattle.bgp_explain.specs.declared.explained.Totals.{Totals}
 use Rattle.bgp_explain.specs.Reason.{AreSummed, HasReason}
 use Rattle.bgp_explain.specs.Skipped.{skipped_of}
-
--- a message that is received
-abbrev pub HoldsReceived : ShownRecord → Type 0
-HoldsReceived (Received second octets) = Unit {0}
-HoldsReceived shown = ⊥
-
--- Memory may be lacked at a record where the tracker may lack it; where a message is received, of
--- which a copy is kept; and at the first impossible one, which is kept with its reason.
-abbrev pub MayLack : (Config → List ShownRecord → ShownRecord → Type 0)
-    → Config → List ShownRecord → ShownRecord → Type 0
-MayLack may_lack config records shown =
-    may_lack config records shown ⊎ HoldsReceived shown
-    ⊎ (¬ Begins config (records ++ shown ∷ []))
 
 -- The source goes from `old` to `new`. The members are the source's.
 module _ {S : Type 0} (gives : S → S → List ℕ → Type 0) (has_ended : S → Bool) (config : Config)

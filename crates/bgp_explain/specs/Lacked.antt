@@ -1,5 +1,5 @@
 -- What the impossible record lacks of an item that it resembles, and its text.
-use Rattle.std.specs.Prelude.{◌≡◌, ◌⊎◌, ℕ, List, [], if◌then◌else◌, Option, None, Some, IsNone}
+use Rattle.std.specs.Prelude.{◌≡◌, ◌⊎◌, ℕ, List, [], if◌then◌else◌, Option, IsNone}
 use Rattle.std.specs.Prelude.{IsSomeAnd, map, codes}
 use Rattle.bgp_prefix.specs.Shown.{ShownRecord, Received, Sent, Changed}
 use Rattle.bgp_open.specs.declared.config.Config.{Config}

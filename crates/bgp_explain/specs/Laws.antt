@@ -1,8 +1,10 @@
 -- What is told of a no: which records could have stood in the place of the first impossible one,
 -- and what this lacks of them.
-use Rattle.std.specs.Prelude.{◌≡◌, ◌↔◌, ◌+◌, ◌++◌, ℕ, List, [], ◌∷◌, None, IsTrue, take}
-use Rattle.bgp_prefix.specs.Shown.{ShownRecord}
+use Rattle.std.specs.Prelude.{◌≡◌, ◌↔◌, ◌<◌, ◌+◌, ◌^◌, ◌++◌, ℕ, List, [], ◌∷◌, Option, None}
+use Rattle.std.specs.Prelude.{IsTrue, take}
+use Rattle.bgp_prefix.specs.Shown.{ShownRecord, Received}
 use Rattle.bgp_open.specs.declared.config.Config.{Config}
+use Rattle.bgp_open.specs.declared.link.Link.{Link}
 use Rattle.bgp_machine.specs.Run.{Begins}
 use Rattle.bgp_judge.specs.Verdict.{HasVerdict, No}
 use Rattle.bgp_parts.specs.NotificationParts.{HasNoPart}
@@ -34,6 +36,16 @@ CouldHaveStood =
     (config : Config) (records : List ShownRecord) (count : ℕ) (possible : Possible)
     → HasVerdict config records (No count) → ArePossible config (take count records) possible
     → CouldStand config records count possible
+
+-- Of a no at a message that was received, with these octets, after records that settle this link: it
+-- isn't told that a message could have been received there, and so what is owed is told.
+abbrev pub TellsWhatIsOwed : Config → Option Link → List ℕ → Type 0
+TellsWhatIsOwed config link octets =
+    (records : List ShownRecord) (count second : ℕ) (possible : Possible)
+    → second < 2 ^ 32 → HasVerdict config records (No count)
+    → take (count + 1) records ≡ take count records ++ Received second octets ∷ []
+    → sending_link config (take count records) ≡ link
+    → ArePossible config (take count records) possible → ¬ IsTrue possible.message
 
 -- ---- what it lacks
 

@@ -17,7 +17,7 @@ use Rattle.bgp_tool.specs.declared.opened.Outcome.{Outcome}
 use Rattle.bgp_tool.specs.Judging.{TellsFault}
 use Rattle.bgp_tool.specs.OpenedCapture.{TellsCapture}
 use Rattle.bgp_tool.specs.Seen.{lacking_in}
-use Rattle.bgp_explain.specs.Capture.{ExplainsCapture, TellsExplained, TellsNoRoom}
+use Rattle.bgp_explain.specs.Capture.{ExplainsCapture, TellsExplained, TellsVerdict}
 
 -- the fault that is told before the end, if one is
 abbrev pub fault_told : {R : Type 0} {gives : R → R → List ℕ → Type 0} {has_ended : R → Bool}
@@ -25,7 +25,7 @@ abbrev pub fault_told : {R : Type 0} {gives : R → R → List ℕ → Type 0} {
     {may_lack : Config → List ShownRecord → ShownRecord → Type 0} {text : List ℕ} {status : ℕ}
     → TellsExplained gives has_ended failures config source source' text status
     ⊎ TellsFault gives has_ended failures config source source' may_lack text status
-    ⊎ TellsNoRoom gives has_ended failures config source source' text status
+    ⊎ TellsVerdict gives has_ended failures config source source' text status
     → Option CaptureFault
 fault_told (inl tells) = None
 fault_told (inr (inl tells)) = Some tells.fault

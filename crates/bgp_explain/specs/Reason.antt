@@ -56,14 +56,14 @@ AreSummed records (Yes ends) tally seen = (tally ≡ tally_of records) × (seen 
 AreSummed records verdict tally seen = Unit {0}
 
 -- A verdict has this reason. Of a no it is that of the records before the first impossible one, and
--- this one is kept; a yes needs none.
+-- this one is kept; a yes has none, and another verdict none where memory was refused for it.
 abbrev pub HasReason : {X Y : Type 0} → Config → List ShownRecord → Verdict X
     → Option (Reason Y) → Type 0
 HasReason config records (Yes ends) reason = reason ≡ None
-HasReason config records (No count) None = ⊥
+HasReason config records (No count) None = Unit {0}
 HasReason config records (No count) (Some reason) =
     IsReasonAt config (take count records) reason
     × IsNext config (take count records) reason.impossible (take (count + 1) records)
-HasReason config records Unfinished None = ⊥
+HasReason config records Unfinished None = Unit {0}
 HasReason config records Unfinished (Some reason) =
     IsReasonAt config records reason × (reason.impossible ≡ None)

@@ -1,13 +1,12 @@
 -- The text of what is explained: the verdict's own text, and then that of its reason.
-use Rattle.std.specs.Prelude.{◌≡◌, ◌≤◌, ◌⊎◌, ◌++◌, ℕ, List, [], Option, None, Some, IsSome}
-use Rattle.std.specs.Prelude.{Result, Ok, Err, length}
+use Rattle.std.specs.Prelude.{◌≡◌, ◌≤◌, ◌++◌, ℕ, Bool, true, List, [], Option, None, Some}
+use Rattle.std.specs.Prelude.{Result, Ok, Err, codes, length}
 use Rattle.bgp_prefix.specs.Shown.{ShownRecord}
 use Rattle.bgp_prefix.specs.declared.session.Session.{Session}
 use Rattle.bgp_open.specs.declared.config.Config.{Config}
 use Rattle.bgp_open.specs.declared.link.Link.{Link}
 use Rattle.mrt.specs.Written.{IsAllowed}
 use Rattle.mrt.specs.declared.fault.CaptureFault.{CaptureFault}
-use Rattle.mrt.specs.declared.fault.FaultKind.TheVariants.{Memory}
 use Rattle.bgp_judge.specs.declared.verdict.Verdict.{Verdict}
 use Rattle.bgp_judge.specs.declared.verdict.Verdict.TheVariants.{Yes}
 use Rattle.bgp_reason.specs.declared.kinds.Possible.{Possible}
@@ -19,8 +18,8 @@ use Rattle.bgp_reason_text.specs.NotWhole.{IsWhyNotSent, not_whole_line}
 use Rattle.bgp_reason_text.specs.Notes.{AreEndNotes, AreNotes, notes_text, with_offers}
 use Rattle.bgp_reason_text.specs.Record.{record_line, state_line}
 use Rattle.bgp_check.specs.declared.unjudged.Unjudged.{Unjudged}
-use Rattle.bgp_text.specs.Capture.{IsRecordText, refused_line}
-use Rattle.bgp_tool.specs.Answer.{answer_status, answer_text}
+use Rattle.bgp_text.specs.Capture.{IsRecordText}
+use Rattle.bgp_tool.specs.Answer.{answer_text}
 use Rattle.bgp_explain.specs.declared.explained.Explained.{Explained}
 use Rattle.bgp_explain.specs.declared.explained.Impossible.{Impossible}
 use Rattle.bgp_explain.specs.declared.explained.Reason.{Reason}
@@ -123,32 +122,31 @@ pub record IsReasonText {X : Type 0} (config : Config) (packets : ℕ → Option
 
 -- ---- of what is explained
 
-abbrev pub IsMoreBy : {X : Type 0} → Config → (ℕ → Option ℕ) → Option (Reason X) → List ℕ
-    → Type 0
-IsMoreBy config packets None more = more ≡ []
-IsMoreBy config packets (Some reason) more = IsReasonText config packets reason more
+-- what is told in place of a reason where memory was refused for it
+abbrev pub no_memory_line : List ℕ
+no_memory_line = codes "note no memory for the reason\n"
 
--- after a yes what its records are, and else the reason, where there is one
+-- the reason, where there is one and its details are there, or that memory was refused for it
+abbrev pub IsMoreBy : {X : Type 0} → Config → (ℕ → Option ℕ) → Option (Reason X) → Bool → List ℕ
+    → Type 0
+IsMoreBy config packets (Some reason) true more = IsReasonText config packets reason more
+IsMoreBy config packets reason detailed more = more ≡ no_memory_line
+
+-- after a yes what its records are, after a fault nothing, and else the reason
 abbrev pub IsMoreOf : {X Y : Type 0} → Config → Result (Verdict X) CaptureFault → Option (Reason Y)
-    → Totals → List ℕ → Type 0
-IsMoreOf config (Ok (Yes ends)) reason totals more =
+    → Bool → Totals → List ℕ → Type 0
+IsMoreOf config (Ok (Yes ends)) reason detailed totals more =
     more ≡ yes_lines totals.tally (Some totals.skipped) totals.seen.left_idle
-IsMoreOf config answer reason totals more = IsMoreBy config no_packets reason more
+IsMoreOf config (Ok verdict) reason detailed totals more =
+    IsMoreBy config no_packets reason detailed more
+IsMoreOf config (Err fault) reason detailed totals more = more ≡ []
 
 -- the verdict's own text, and then what comes after it
 pub record IsExplainedText {X : Type 0} (config : Config) (explained : Explained X)
-    (text : List ℕ) : Type 0 where
+    (detailed : Bool) (text : List ℕ) : Type 0 where
   pub more : List ℕ
-  pub is_more : IsMoreOf config explained.answer explained.reason explained.totals more
+  pub is_more : IsMoreOf config explained.answer explained.reason detailed explained.totals more
   pub whole : text ≡ answer_text explained.answer ++ more
-
--- What is said of it, with its exit status: its text; or where there is a verdict and memory was
--- refused for the details of its reason, that fault, at the capture's end.
-abbrev pub IsSaidOf : {X : Type 0} → Config → Explained X → List ℕ → ℕ → Type 0
-IsSaidOf config explained text code =
-    (IsExplainedText config explained text × (code ≡ answer_status explained.answer))
-    ⊎ (IsSome explained.reason × (text ≡ refused_line Memory explained.totals.octets)
-    × (code ≡ 4))
 
 -- ---- what can be put
 

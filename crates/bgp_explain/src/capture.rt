@@ -5,7 +5,7 @@ ghost use Rattle.mrt.specs.declared.fault.FaultKind.TheVariants.{Memory};
 ghost use Rattle.mrt.specs.Progress.{failures_of};
 ghost use Rattle.mrt.specs.Reader.{fresh_reader};
 ghost use Rattle.bgp_judge.specs.Judging.{Judges, ReadsWith, fault_in};
-ghost use Rattle.bgp_explain.specs.Explaining.{Explains, Follows, MayLack};
+ghost use Rattle.bgp_explain.specs.Explaining.{Explains, Follows};
 ghost use Rattle.bgp_explain.specs.Progress.{IsAt};
 
 use crate::explained::{Explained, Totals};
@@ -62,7 +62,7 @@ fn follow<A: Allocator + Copy, T: Tracker<A>, S: Source>(
     ensures follows { ReadsWith S.gives config.now.parts.session source.old source.new reader.new
         (fault_in result)
         (λ gives. Follows gives S.has_ended config.now source.old source.new
-        (MayLack T.may_lack)
+        T.may_lack
         (λ records. IsAt (T.stands_for tracker.new) config.now records progress.new)
         reader.new result) }
     ensures failures { S.failures source.new ≡ S.failures source.old + failures_of result }
@@ -85,9 +85,8 @@ fn follow<A: Allocator + Copy, T: Tracker<A>, S: Source>(
 /// found a record of the session, and the addresses of the first record of another one.
 ///
 /// It reads in one pass, and holds one record at a time, and beside it the message that was
-/// received last and the first impossible record. Memory may be refused for these and for what
-/// could have stood in the place of that record, too: then the fault is at that record, or at one
-/// that holds a received message; of records that are unfinished it is at the capture's length.
+/// received last and the first impossible record. Where memory is refused for these, or for what
+/// could have stood in the place of that record, there is no reason; the verdict is the same.
 pub fn explain_with<A: Allocator + Copy, T: Tracker<A>, S: Source>(
     reader: &mut Reader<A>,
     alloc: A,
@@ -99,11 +98,11 @@ pub fn explain_with<A: Allocator + Copy, T: Tracker<A>, S: Source>(
     ensures judged { ReadsWith S.gives config.now.parts.session source.old source.new reader.new
         (fault_in result.answer)
         (λ gives. Judges gives S.has_ended config.now source.old source.new
-        (MayLack T.may_lack) result.answer) }
+        T.may_lack result.answer) }
     ensures explained { ReadsWith S.gives config.now.parts.session source.old source.new reader.new
         (fault_in result.answer)
         (λ gives. Explains gives S.has_ended config.now source.old source.new
-        (MayLack T.may_lack) result) }
+        T.may_lack result) }
     ensures failures { S.failures source.new
         ≡ S.failures source.old + failures_of result.answer }
 {

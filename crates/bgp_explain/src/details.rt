@@ -1,7 +1,7 @@
 //! What takes memory of what a reason says: what the impossible record lacks of what it resembles,
 //! and what an UPDATE asks for.
 
-ghost use Rattle.std.specs.Prelude.{◌≡◌, ◌↔◌, IfOk, IfSome, IfNone, IsSome, IsTrue, OnErr};
+ghost use Rattle.std.specs.Prelude.{◌≡◌, ◌↔◌, IfOk, IfSome, IfNone, IsTrue};
 ghost use Rattle.bgp_open.specs.declared.link.Link.{Link as TheLink};
 ghost use Rattle.bgp_machine.specs.Heard.{Announces};
 ghost use Rattle.bgp_explain.specs.Details.{AreDetails, AreDetailsOf, AreLacksOf, IsAskedBy};
@@ -96,17 +96,19 @@ impl<'a, A: Allocator + Copy> Details<'a, A> {
     }
 }
 
-/// What a reason says besides, where there is one.
+/// What a reason says besides, where there is one, and memory for it.
 pub(crate) fn details_of<'a, A: Allocator + Copy>(
     alloc: A,
     config: &Config,
     reason: &'a Option<Reason<A>>,
-) -> Result<Option<Details<'a, A>>, AllocError>
-    ensures ok { IfOk result (AreDetailsOf config.now reason.entry.now) }
-    ensures some { OnErr result (IsSome reason.entry.now) }
+) -> Option<Details<'a, A>>
+    ensures { AreDetailsOf config.now reason.entry.now result }
 {
     match reason {
-        None => Ok(None),
-        Some(reason) => Ok(Some(Details::of(alloc, config, reason)?)),
+        None => None,
+        Some(reason) => match Details::of(alloc, config, reason) {
+            Ok(details) => Some(details),
+            Err(_) => None,
+        },
     }
 }

@@ -1,11 +1,11 @@
 //! The verdict on the records of a recording's entries, and why it is a no or unfinished.
 
-ghost use Rattle.std.specs.Prelude.{List, ℕ, IfOk};
+ghost use Rattle.std.specs.Prelude.{List, ℕ, IfOk, is_some};
 ghost use Rattle.std.specs.List.{AllByRecursion};
 ghost use Rattle.bgp_judge.specs.Verdict.{verdict_value};
 ghost use Rattle.bgp_text.specs.Lines.{Writes};
 ghost use Rattle.bgp_explain.specs.Details.{AreDetailsOf};
-ghost use Rattle.bgp_explain.specs.Entries.{AreExplained, CanBeShown, SaysOfEntries};
+ghost use Rattle.bgp_explain.specs.Entries.{AreExplained, CanBeShown, SaysWhere};
 
 use crate::details::{Details, details_of};
 use crate::explained::Reason;
@@ -25,7 +25,7 @@ use std::alloc::{AllocError, Allocator, Global};
 pub struct ExplainedEntries<A: Allocator = Global> {
     /// The verdict.
     pub verdict: Verdict<A>,
-    /// Why it is a no or unfinished.
+    /// Why it is a no or unfinished; none where memory was refused for it.
     pub reason: Option<Reason<A>>,
     /// How many records there are, up to the first impossible one.
     pub tally: Tally,
@@ -34,7 +34,7 @@ pub struct ExplainedEntries<A: Allocator = Global> {
 }
 
 /// Judges the records of entries, one after another, and keeps why the verdict is a no or
-/// unfinished.
+/// unfinished, as far as there is memory for it. Memory is refused where the tracker lacks it.
 ///
 /// Beside the tracker it holds the message that was received last and the first impossible record.
 pub fn explain_entries<A: Allocator + Copy, T: Tracker<A>>(
@@ -61,9 +61,10 @@ pub fn explain_entries<A: Allocator + Copy, T: Tracker<A>>(
 }
 
 impl<A: Allocator + Copy> ExplainedEntries<A> {
-    /// What the reason says besides, as far as it takes memory; none of a yes.
-    pub fn details(&self, alloc: A, config: &Config) -> Result<Option<Details<'_, A>>, AllocError>
-        ensures { IfOk result (AreDetailsOf config.now self.entry.now.reason) }
+    /// What the reason says besides, as far as it takes memory; none where memory is refused for
+    /// it, or where there is no reason, as of a yes.
+    pub fn details(&self, alloc: A, config: &Config) -> Option<Details<'_, A>>
+        ensures { AreDetailsOf config.now self.entry.now.reason result }
     {
         details_of(alloc, config, &self.reason)
     }
@@ -71,7 +72,7 @@ impl<A: Allocator + Copy> ExplainedEntries<A> {
 
 /// Puts what is told after the verdict on the records of these entries: after a yes how many there
 /// are, and else why it is so, with the packet of the record that can't be, and that by which the
-/// last message came.
+/// last message came; or that memory was refused for the reason, where there are no details of it.
 pub fn put_explained_entries<W: Sink, A: Allocator + Copy>(
     lines: &mut Lines<'_, W>,
     config: &Config,
@@ -82,7 +83,8 @@ pub fn put_explained_entries<W: Sink, A: Allocator + Copy>(
     requires explained { AreExplained config.now entries.now explained.now }
     requires details { AreDetailsOf config.now explained.now.reason details.now }
     ensures { (more : List ℕ)
-        × SaysOfEntries config.now entries.now (verdict_value explained.now.verdict) more
+        × SaysWhere config.now entries.now (is_some details.now)
+        (verdict_value explained.now.verdict) more
         × Writes lines.old lines.new more }
 {
     match &explained.verdict {

@@ -59,7 +59,8 @@ pub struct Explained<A: Allocator = Global> {
     /// The verdict, or the fault for which there is none, as
     /// [`judge_with`](bgp_judge::judge_with) answers it.
     pub answer: Result<Verdict<A>, CaptureFault>,
-    /// Why the verdict is a no or unfinished. A yes has its ends, and a fault its place.
+    /// Why the verdict is a no or unfinished; none where memory was refused for it. A yes has its
+    /// ends, and a fault its place.
     pub reason: Option<Reason<A>>,
     /// What the capture holds, where there is a verdict.
     pub totals: Totals,

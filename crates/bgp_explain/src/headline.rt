@@ -1,14 +1,12 @@
 //! What explaining a capture promises.
 
-ghost use Rattle.std.specs.Prelude.{◌<◌, ◌≤◌, ◌^◌, ℕ, List};
+ghost use Rattle.std.specs.Prelude.{◌<◌, ◌≤◌, ◌^◌, ℕ, Bool, List};
 ghost use Rattle.bgp_tool.specs.Answer.{answer_status, IsWritten};
 ghost use Rattle.bgp_explain.specs.Capture.{ExplainedAsJudged, ExplainsCapture};
-ghost use Rattle.bgp_explain.specs.Details.{AreDetailsOf};
-ghost use Rattle.bgp_explain.specs.Explaining.{MayLack};
-ghost use Rattle.bgp_explain.specs.Text.{CanBePutOf, IsExplainedText, IsSaidOf};
+ghost use Rattle.bgp_explain.specs.Text.{CanBePutOf, IsExplainedText};
 
-use crate::capture::{explain_with, out_of_memory, refused};
-use crate::details::{Details, details_of};
+use crate::capture::explain_with;
+use crate::details::details_of;
 use crate::explained::Explained;
 use crate::texts::put_explained;
 use bgp_judge::Tracker;
@@ -18,33 +16,8 @@ use bgp_tool::{each_capture_has_one_verdict, hand_over};
 use mrt::{Reader, Sink, Source};
 use std::alloc::Allocator;
 
-/// Writes the text of what is explained, with the details of its reason, and answers its exit
-/// status, or that of a device where the sink failed.
-fn write_with<W: Sink, A: Allocator + Copy>(
-    sink: &mut W,
-    config: &Config,
-    explained: &Explained<A>,
-    details: &Option<Details<'_, A>>,
-) -> u8
-    requires failures { W.failures sink.old < 2 ^ 63 }
-    requires can { CanBePutOf config.now.parts.session explained.now.reason }
-    requires details { AreDetailsOf config.now explained.now.reason details.now }
-    ensures writes { (text : List ℕ) × IsExplainedText config.now explained.now text
-        × IsWritten W.takes W.failures text (answer_status explained.now.answer)
-        sink.old sink.new result }
-    ensures statuses { result ≤ 5 }
-{
-    let mut lines = Lines::new(sink);
-    let status = put_explained(&mut lines, config, explained, details);
-    let status = hand_over(&mut lines, status);
-    // No effect: it ends the loan of the sink.
-    lines.into_sink();
-    status.code()
-}
-
-/// Writes the text of what is explained, and answers its exit status, or that of a device where the
-/// sink failed. Where memory is refused for the details of the reason, it is that of a fault at the
-/// capture's end.
+/// Writes the text of what is explained, with the details of its reason, as far as there is memory
+/// for them, and answers its exit status, or that of a device where the sink failed.
 pub(crate) fn write_explained<W: Sink, A: Allocator + Copy>(
     sink: &mut W,
     alloc: A,
@@ -53,17 +26,19 @@ pub(crate) fn write_explained<W: Sink, A: Allocator + Copy>(
 ) -> u8
     requires failures { W.failures sink.old < 2 ^ 63 }
     requires can { CanBePutOf config.now.parts.session explained.now.reason }
-    ensures writes { (text : List ℕ) × (code : ℕ) × IsSaidOf config.now explained.now text code
-        × IsWritten W.takes W.failures text code sink.old sink.new result }
+    ensures writes { (text : List ℕ) × (detailed : Bool)
+        × IsExplainedText config.now explained.now detailed text
+        × IsWritten W.takes W.failures text (answer_status explained.now.answer)
+        sink.old sink.new result }
     ensures statuses { result ≤ 5 }
 {
-    match details_of(alloc, config, &explained.reason) {
-        Ok(details) => write_with(sink, config, explained, &details),
-        Err(_) => {
-            let fault: Explained<A> = refused(out_of_memory(explained.totals.octets));
-            write_with(sink, config, &fault, &None)
-        }
-    }
+    let details = details_of(alloc, config, &explained.reason);
+    let mut lines = Lines::new(sink);
+    let status = put_explained(&mut lines, config, explained, &details);
+    let status = hand_over(&mut lines, status);
+    // No effect: it ends the loan of the sink.
+    lines.into_sink();
+    status.code()
 }
 
 /// Judges the capture that a source gives, as [`judge_capture`](bgp_tool::judge_capture) does, and
@@ -83,8 +58,9 @@ pub(crate) fn write_explained<W: Sink, A: Allocator + Copy>(
 ///   they are of another session, with the addresses of the first of these, or of another kind.
 ///
 /// After a refusal it writes nothing more. Where the sink failed, a beginning of that text is
-/// written, and the status is 5. Where memory was refused for what an UPDATE lacks or asks
-/// for, it is that of `capture refused: 10 Memory at OFFSET`, the capture's length.
+/// written, and the status is 5. Where memory was refused for the reason, `note no memory for the
+/// reason` stands in its place, and the verdict and the status are told all the same: so memory is
+/// refused in a verdict's place only where [`judge_capture`](bgp_tool::judge_capture) may lack it.
 ///
 /// It rests on the contract of [`Tracker`] alone, and so holds with every tracker.
 pub fn explain_capture<A: Allocator + Copy, T: Tracker<A>, R: Source, W: Sink>(
@@ -96,15 +72,16 @@ pub fn explain_capture<A: Allocator + Copy, T: Tracker<A>, R: Source, W: Sink>(
     requires source { R.failures source.old < 2 ^ 63 }
     requires sink { W.failures sink.old < 2 ^ 63 }
     ensures { ExplainsCapture R.gives R.has_ended W.takes R.failures W.failures config.now
-        source.old source.new (MayLack T.may_lack) sink.old sink.new result }
+        source.old source.new T.may_lack sink.old sink.new result }
 {
     let mut reader = Reader::new(alloc);
     let explained = explain_with::<A, T, R>(&mut reader, alloc, config, source);
     write_explained(sink, alloc, config, &explained)
 }
 
-/// Law: what is explained is judged. The text of what is explained begins with that of the one
-/// verdict which judging the capture tells, and the exit status is the same.
+/// Law: what is explained is judged. The text of what is explained, or told without its reason,
+/// begins with that of the one verdict which judging the capture tells, and the exit status is the
+/// same.
 pub fn explained_as_judged()
     ensures { ExplainedAsJudged }
 {

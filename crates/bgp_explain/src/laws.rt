@@ -1,15 +1,18 @@
-//! Laws of what is explained, each on a function that does nothing.
+//! Laws of what is explained, each on a function that answers nothing.
 
+ghost use Rattle.std.specs.Prelude.{◌≤◌, length};
 ghost use Rattle.bgp_explain.specs.Capture.{HasOneText};
 ghost use Rattle.bgp_explain.specs.LastReceived.{LastReceivedIsTold};
-ghost use Rattle.bgp_explain.specs.Laws.{CouldHaveStood, NamesWhatLacks};
+ghost use Rattle.bgp_explain.specs.Laws.{CouldHaveStood, NamesWhatLacks, TellsWhatIsOwed};
 
 use bgp_judge::records_have_just_one_verdict;
+use bgp_open::{Config, Link};
 use bgp_parts::{clean_lacks_nothing, own_open_lacks_nothing, possible_lacks_nothing};
-use bgp_reason::{each_no_has_a_reason, records_tell_one_by_one};
+use bgp_reason::{each_message_can_be_heard, each_no_has_a_reason, records_tell_one_by_one};
 use bgp_tool::each_capture_has_one_verdict;
 use bgp_update::subcodes_are_sets;
 use mrt::each_record_is_allowed;
+use std::alloc::Allocator;
 
 /// Of a no it is told which records could have stood in the place of the first impossible one: each
 /// of those that are told, and no other. The impossible one is none of them, and there is one.
@@ -17,6 +20,21 @@ pub fn what_could_have_stood_is_told()
     ensures { CouldHaveStood }
 {
     each_no_has_a_reason();
+}
+
+/// Where the first impossible record is a message that was received, from a header's length on, it
+/// isn't told that one could have been received there, and so what is owed is told. `link` is the
+/// one on which a message is sent that follows the records before it. What is run decides what the
+/// message is, and nothing of it is answered; it says the same where memory is refused.
+pub fn a_no_at_a_message_tells_what_is_owed<A: Allocator + Copy>(
+    alloc: A,
+    config: &Config,
+    link: Option<Link>,
+    octets: &[u8],
+)
+    ensures { 19 ≤ length octets.now → TellsWhatIsOwed config.now link octets.now }
+{
+    each_message_can_be_heard(alloc, config, link, octets);
 }
 
 /// Where a no tells an item that the impossible record resembles, it names a part at least that

@@ -34,8 +34,8 @@ pub use explained::{Explained, Impossible, Reason, Totals};
 pub use headline::{explain_capture, explained_as_judged};
 pub use kept::KeptRecord;
 pub use laws::{
-    a_no_names_what_lacks, each_verdict_is_explained_in_one_way, the_last_message_is_told,
-    what_could_have_stood_is_told,
+    a_no_at_a_message_tells_what_is_owed, a_no_names_what_lacks,
+    each_verdict_is_explained_in_one_way, the_last_message_is_told, what_could_have_stood_is_told,
 };
 pub use opened::explain_opened;
 pub use skipped::Skipped;

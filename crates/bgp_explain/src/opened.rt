@@ -5,7 +5,6 @@ ghost use Rattle.std.specs.IoError.{error_kind};
 ghost use Rattle.mrt.specs.FromWrite.{writer_state};
 ghost use Rattle.bgp_judge.specs.Judging.{fault_in};
 ghost use Rattle.bgp_tool.specs.Opened.{IsUnopened};
-ghost use Rattle.bgp_explain.specs.Explaining.{MayLack};
 ghost use Rattle.bgp_explain.specs.Opened.{ExplainsOpened};
 
 use crate::capture::explain_with;
@@ -32,7 +31,7 @@ pub fn explain_opened<'a, A: Allocator + Copy, T: Tracker<A>, R: Read + Drop, W:
 ) -> Outcome<'a>
     requires { (writer_state sink.old).failures < 2 ^ 63 }
     ensures explained { IfOk opened (λ reader. ExplainsOpened R.remaining W.contents config.now
-        (MayLack T.may_lack) file.entry reader (writer_state sink.old) (writer_state sink.new)
+        T.may_lack file.entry reader (writer_state sink.old) (writer_state sink.new)
         result) }
     ensures unopened { IfErr opened (λ error. IsUnopened file.entry (error_kind error) result
         × (writer_state sink.new ≡ writer_state sink.old)) }
@@ -53,7 +52,7 @@ fn explain_reader<'a, A: Allocator + Copy, T: Tracker<A>, R: Read + Drop, W: Wri
     sink: &mut FromWrite<W>,
 ) -> Outcome<'a>
     requires { (writer_state sink.old).failures < 2 ^ 63 }
-    ensures explained { ExplainsOpened R.remaining W.contents config.now (MayLack T.may_lack)
+    ensures explained { ExplainsOpened R.remaining W.contents config.now T.may_lack
         file.entry reader (writer_state sink.old) (writer_state sink.new) result }
     ensures statuses { result.status ≤ 5 }
 {

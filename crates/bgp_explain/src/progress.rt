@@ -9,14 +9,13 @@ ghost use Rattle.bgp_machine.specs.Run.{Begins};
 ghost use Rattle.mrt.specs.Reader.{shown_of};
 ghost use Rattle.mrt.specs.Written.{IsAllowed};
 ghost use Rattle.bgp_reason.specs.Told.{last_from};
-ghost use Rattle.bgp_explain.specs.Explaining.{HoldsReceived, MayLack};
-ghost use Rattle.bgp_explain.specs.Progress.{IsAt, IsToldOf};
-ghost use Rattle.bgp_explain.specs.Reason.{AreSummed, HasReason};
+ghost use Rattle.bgp_explain.specs.Progress.{AreSaidBy, IsAt, IsFound, IsNamed, IsToldOf};
+ghost use Rattle.bgp_explain.specs.Reason.{AreSummed, HasReason, IsReasonAt};
 
 use crate::explained::{Impossible, Reason};
 use crate::kept::KeptRecord;
 use crate::sending::Sending;
-use crate::so_far::{Progress, Stop};
+use crate::so_far::{Found, Progress, Stop};
 use crate::tally::Tally;
 use bgp_judge::{End, Tracker, Verdict};
 use bgp_open::Config;
@@ -41,20 +40,95 @@ fn expires_in_time(possible: &Possible)
     }
 }
 
-/// Keeps the message in place of the one before, where one was received.
-fn keep_message<A: Allocator>(last: &mut Vec<u8, A>, shown: &Record<'_>) -> Result<(), AllocError>
-    ensures ok { IfOk result (λ done.
-        last.new.items ≡ last_from last.old.items (shown_of shown.now ∷ [])) }
-    ensures memory { OnErr result (HoldsReceived (shown_of shown.now)) }
+/// The message that was received last, after one record more, as far as there is memory for it.
+fn message_after<A: Allocator + Copy>(
+    alloc: A,
+    before: Option<Vec<u8, A>>,
+    shown: &Record<'_>,
+) -> Option<Vec<u8, A>>
+    ensures { (octets : List ℕ) → IfSome before (λ message. message.items ≡ octets)
+        → IfSome result (λ message. message.items ≡ last_from octets (shown_of shown.now ∷ [])) }
 {
-    match *shown {
-        Record::In(_, octets) => {
-            last.clear();
-            last.extend_from_slice(octets)?;
-            Ok(())
-        }
-        Record::Out(_, _) | Record::Change(_, _, _) => Ok(()),
+    let Record::In(_, octets) = *shown else {
+        return before;
+    };
+    let mut message = match before {
+        Some(message) => message,
+        None => Vec::new(alloc),
+    };
+    message.clear();
+    match message.extend_from_slice(octets) {
+        Ok(()) => Some(message),
+        Err(_) => None,
     }
+}
+
+/// Why records stop being those of a run, as far as there was memory for it.
+fn stopped<A: Allocator>(
+    told: Told,
+    sending: Sending,
+    last_message: Option<Vec<u8, A>>,
+    found: Option<Found<A>>,
+) -> Option<Reason<A>>
+    ensures { (config : TheConfig) (before : List ShownRecord) (shown : ShownRecord)
+        → AreSaidBy config before told sending last_message
+        → IfSome found (IsFound config before shown)
+        → IfSome result (λ reason. IsReasonAt config before reason
+        × IsNamed before shown reason.impossible) }
+{
+    let Some(last_message) = last_message else {
+        return None;
+    };
+    let Some(
+        Found {
+            impossible,
+            possible,
+        },
+    ) = found
+    else {
+        return None;
+    };
+    Some(Reason {
+        told,
+        link: sending.link,
+        unjudged: sending.offers.of_both(),
+        last_message,
+        impossible: Some(impossible),
+        possible,
+    })
+}
+
+/// Why records that begin a run are unfinished, as far as there is memory for it.
+fn unfinished<A: Allocator + Copy, T: Tracker<A>>(
+    alloc: A,
+    tracker: &T,
+    config: &Config,
+    told: Told,
+    sending: Sending,
+    last_message: Option<Vec<u8, A>>,
+) -> Option<Reason<A>>
+    ensures { (records : List ShownRecord) → T.stands_for tracker.now config.now records
+        → AreSaidBy config.now records told sending last_message
+        → IfSome result (λ reason. IsReasonAt config.now records reason
+        × (reason.impossible ≡ None)) }
+{
+    records_tell_one_by_one();
+    let Some(last_message) = last_message else {
+        return None;
+    };
+    let last = last_message.as_slice();
+    let Ok(possible) = possible(alloc, tracker, config, told.state, last) else {
+        return None;
+    };
+    expires_in_time(&possible);
+    Some(Reason {
+        told,
+        link: sending.link,
+        unjudged: sending.offers.of_both(),
+        last_message,
+        impossible: None,
+        possible,
+    })
 }
 
 impl<A: Allocator + Copy> Progress<A> {
@@ -69,20 +143,18 @@ impl<A: Allocator + Copy> Progress<A> {
             sending: Sending::nothing(),
             tally: Tally::nothing(),
             seen: Seen::nothing(),
-            last_message: Vec::new(alloc),
+            last_message: Some(Vec::new(alloc)),
             stop: None,
         }
     }
 
     /// Keeps what one record more tells, where all begin a run.
-    fn keep(&mut self, config: &Config, shown: &Record<'_>) -> Result<(), AllocError>
+    fn keep(&mut self, alloc: A, config: &Config, shown: &Record<'_>)
         requires { self.old.count < u64.MAX }
         ensures told { (records : List ShownRecord) → IsToldOf config.now records self.old
             → Begins config.now (records ++ shown_of shown.now ∷ [])
-            → IfOk result (λ done. IsToldOf config.now (records ++ shown_of shown.now ∷ [])
-            self.new) }
+            → IsToldOf config.now (records ++ shown_of shown.now ∷ []) self.new }
         ensures same { self.new.stop ≡ self.old.stop }
-        ensures memory { OnErr result (HoldsReceived (shown_of shown.now)) }
         ensures count { self.new.count ≤ self.old.count + 1 }
     {
         records_tell_one_by_one();
@@ -92,11 +164,46 @@ impl<A: Allocator + Copy> Progress<A> {
         self.seen = self.seen.with(shown);
         self.told = self.told.with(self.count, shown);
         self.sending = self.sending.with(config, state, self.told.state, shown);
-        keep_message(&mut self.last_message, shown)
+        self.last_message = message_after(alloc, self.last_message.take(), shown);
+    }
+
+    /// The first impossible record, and what could have stood in its place, as far as there is
+    /// memory for it.
+    fn find<T: Tracker<A>>(
+        &self,
+        alloc: A,
+        tracker: &T,
+        config: &Config,
+        shown: &Record<'_>,
+    ) -> Option<Found<A>>
+        requires { self.now.count < u64.MAX }
+        ensures { (records : List ShownRecord) → T.stands_for tracker.now config.now records
+            → IsToldOf config.now records self.now
+            → IfSome result (IsFound config.now records (shown_of shown.now)) }
+    {
+        records_tell_one_by_one();
+        let Some(last) = &self.last_message else {
+            return None;
+        };
+        let Ok(possible) = possible(alloc, tracker, config, self.told.state, last.as_slice()) else {
+            return None;
+        };
+        expires_in_time(&possible);
+        let Ok(record) = KeptRecord::copy_of(alloc, shown) else {
+            return None;
+        };
+        Some(Found {
+            impossible: Impossible {
+                number: self.count + 1,
+                record,
+            },
+            possible,
+        })
     }
 
     /// Lets the tracker take one record more, if none of them is impossible. Of the first that is,
-    /// it is kept what could have stood in its place.
+    /// it is kept what could have stood in its place, as far as there is memory for it: memory is
+    /// refused where the tracker lacks it, and there alone.
     pub(crate) fn advance<T: Tracker<A>>(
         &mut self,
         alloc: A,
@@ -114,32 +221,23 @@ impl<A: Allocator + Copy> Progress<A> {
         ensures err { OnErr result (self.old.stop ≡ None) }
         ensures memory { (records : List ShownRecord)
             → IsAt (T.stands_for tracker.old) config.now records self.old
-            → OnErr result (MayLack T.may_lack config.now records (shown_of shown.now)) }
+            → OnErr result (T.may_lack config.now records (shown_of shown.now)) }
         ensures count { self.new.count ≤ self.old.count + 1 }
     {
         if self.stop.is_some() {
             return Ok(());
         }
-        if tracker.take(shown)? {
-            self.keep(config, shown)
-        } else {
-            records_tell_one_by_one();
-            let last = self.last_message.as_slice();
-            let possible = possible(alloc, tracker, config, self.told.state, last)?;
-            expires_in_time(&possible);
-            let impossible = Impossible {
-                number: self.count + 1,
-                record: KeptRecord::copy_of(alloc, shown)?,
-            };
-            self.stop = Some(Stop {
-                impossible,
-                possible,
-            });
-            Ok(())
+        if !tracker.take(shown)? {
+            let found = self.find(alloc, tracker, config, shown);
+            self.stop = Some(Stop { found });
+            return Ok(());
         }
+        self.keep(alloc, config, shown);
+        Ok(())
     }
 
-    /// The verdict on all records, and its reason.
+    /// The verdict on all records, and its reason, as far as there is memory for it. Memory is
+    /// refused where the tracker lacks it for the ends, and there alone.
     pub(crate) fn conclude<T: Tracker<A>>(
         self,
         alloc: A,
@@ -163,40 +261,15 @@ impl<A: Allocator + Copy> Progress<A> {
             stop,
             ..
         } = self;
-        let link = sending.link;
-        let unjudged = sending.offers.of_both();
-        if let Some(
-            Stop {
-                impossible,
-                possible,
-            },
-        ) = stop
-        {
-            let reason = Reason {
-                told,
-                link,
-                unjudged,
-                last_message,
-                impossible: Some(impossible),
-                possible,
-            };
-            return Ok((Verdict::No(count), Some(reason)));
+        if let Some(Stop { found }) = stop {
+            let reason = stopped(told, sending, last_message, found);
+            return Ok((Verdict::No(count), reason));
         }
         let ends = tracker.ends()?;
         if is_some(ends.as_slice()) {
             return Ok((Verdict::Yes(ends), None));
         }
-        records_tell_one_by_one();
-        let possible = possible(alloc, tracker, config, told.state, last_message.as_slice())?;
-        expires_in_time(&possible);
-        let reason = Reason {
-            told,
-            link,
-            unjudged,
-            last_message,
-            impossible: None,
-            possible,
-        };
-        Ok((Verdict::Unfinished, Some(reason)))
+        let reason = unfinished(alloc, tracker, config, told, sending, last_message);
+        Ok((Verdict::Unfinished, reason))
     }
 }

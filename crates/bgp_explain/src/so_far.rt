@@ -9,12 +9,18 @@ use bgp_reason::{Possible, Told};
 use bgp_tool::Seen;
 use std::alloc::{Allocator, Global};
 
-/// Where the records stop being those of a run: the first impossible one, and what was possible in
-/// its place.
+/// The first impossible record, and what was possible in its place.
 #[derive(Drop)]
-pub(crate) struct Stop<A: Allocator = Global> {
+pub(crate) struct Found<A: Allocator = Global> {
     pub(crate) impossible: Impossible<A>,
     pub(crate) possible: Possible,
+}
+
+/// The records stop being those of a run at the first impossible one.
+#[derive(Drop)]
+pub(crate) struct Stop<A: Allocator = Global> {
+    /// None where memory was refused for it.
+    pub(crate) found: Option<Found<A>>,
 }
 
 /// What is kept of the records so far, up to the first impossible one: beside a few words two
@@ -27,7 +33,9 @@ pub(crate) struct Progress<A: Allocator = Global> {
     pub(crate) sending: Sending,
     pub(crate) tally: Tally,
     pub(crate) seen: Seen,
-    pub(crate) last_message: Vec<u8, A>,
+    /// The message that was received last, empty where none was; none where memory was refused for
+    /// it.
+    pub(crate) last_message: Option<Vec<u8, A>>,
     pub(crate) stop: Option<Stop<A>>,
     ghost few: { (tally.received ≤ count) × (tally.sent ≤ count) × (tally.changes ≤ count)
         × (tally.ignored ≤ count) },

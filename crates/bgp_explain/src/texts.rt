@@ -1,6 +1,6 @@
 //! The text of what is explained: the verdict's own, and then why it is a no or unfinished.
 
-ghost use Rattle.std.specs.Prelude.{◌≡◌, ℕ, List};
+ghost use Rattle.std.specs.Prelude.{◌≡◌, ℕ, List, is_some};
 ghost use Rattle.bgp_text.specs.Lines.{Writes};
 ghost use Rattle.bgp_tool.specs.Answer.{answer_status};
 ghost use Rattle.bgp_tool.specs.Status.{code_of};
@@ -9,7 +9,8 @@ ghost use Rattle.bgp_explain.specs.Lacked.{following_lines, lacked_of};
 ghost use Rattle.bgp_explain.specs.Packets.{packets_of};
 ghost use Rattle.bgp_explain.specs.Text.{AreNotesOf, AreNotesOn, CanBePut, CanBePutOf};
 ghost use Rattle.bgp_explain.specs.Text.{IsExplainedText, IsMoreBy, IsMoreOf, IsReasonText};
-ghost use Rattle.bgp_explain.specs.Text.{IsReceived, IsUnwholeOf, received_text, why_text};
+ghost use Rattle.bgp_explain.specs.Text.{IsReceived, IsUnwholeOf, no_memory_line, received_text};
+ghost use Rattle.bgp_explain.specs.Text.{why_text};
 ghost use Rattle.bgp_explain.specs.Updates.{asking_of, update_line};
 
 use crate::details::Details;
@@ -211,7 +212,14 @@ pub fn put_reason<W: Sink, A: Allocator + Copy>(
     );
 }
 
-/// Puts a reason, where there is one.
+/// Puts that memory was refused for a reason.
+fn put_no_memory<W: Sink>(lines: &mut Lines<'_, W>)
+    ensures { Writes lines.old lines.new no_memory_line }
+{
+    lines.put(b"note no memory for the reason\n");
+}
+
+/// Puts a reason with its details, where there are both, or that memory was refused for it.
 pub(crate) fn put_any_reason<W: Sink, A: Allocator + Copy>(
     lines: &mut Lines<'_, W>,
     config: &Config,
@@ -221,20 +229,21 @@ pub(crate) fn put_any_reason<W: Sink, A: Allocator + Copy>(
 )
     requires can { CanBePutOf config.now.parts.session reason.now }
     requires details { AreDetailsOf config.now reason.now details.now }
-    ensures { (more : List ℕ) × IsMoreBy config.now (packets_of entries.now) reason.now more
+    ensures { (more : List ℕ)
+        × IsMoreBy config.now (packets_of entries.now) reason.now (is_some details.now) more
         × Writes lines.old lines.new more }
 {
     match reason {
-        None => {}
+        None => put_no_memory(lines),
         Some(reason) => match details {
-            None => {}
+            None => put_no_memory(lines),
             Some(details) => put_reason(lines, config, entries, reason, details),
         },
     }
 }
 
 /// Puts what stands after the verdict's own text: after a yes what its records are, and else why it
-/// is so, with the details of the reason.
+/// is so, with the details of the reason. After a fault there is nothing.
 fn put_more<W: Sink, A: Allocator + Copy>(
     lines: &mut Lines<'_, W>,
     config: &Config,
@@ -244,7 +253,7 @@ fn put_more<W: Sink, A: Allocator + Copy>(
     requires can { CanBePutOf config.now.parts.session explained.now.reason }
     requires details { AreDetailsOf config.now explained.now.reason details.now }
     ensures { (more : List ℕ) × IsMoreOf config.now explained.now.answer explained.now.reason
-        explained.now.totals more × Writes lines.old lines.new more }
+        (is_some details.now) explained.now.totals more × Writes lines.old lines.new more }
 {
     match &explained.answer {
         Ok(Verdict::Yes(_)) => {
@@ -260,12 +269,12 @@ fn put_more<W: Sink, A: Allocator + Copy>(
         Ok(Verdict::Unfinished) => {
             put_any_reason(lines, config, &[], &explained.reason, details);
         }
-        Err(_) => put_any_reason(lines, config, &[], &explained.reason, details),
+        Err(_) => {}
     }
 }
 
-/// Puts the text of what is explained, with the details of its reason, and answers its exit status,
-/// that of the verdict.
+/// Puts the text of what is explained, with the details of its reason, or that memory was refused
+/// for it where there are none, and answers its exit status, that of the verdict.
 pub fn put_explained<W: Sink, A: Allocator + Copy>(
     lines: &mut Lines<'_, W>,
     config: &Config,
@@ -274,7 +283,8 @@ pub fn put_explained<W: Sink, A: Allocator + Copy>(
 ) -> Status
     requires can { CanBePutOf config.now.parts.session explained.now.reason }
     requires details { AreDetailsOf config.now explained.now.reason details.now }
-    ensures writes { (text : List ℕ) × IsExplainedText config.now explained.now text
+    ensures writes { (text : List ℕ)
+        × IsExplainedText config.now explained.now (is_some details.now) text
         × Writes lines.old lines.new text }
     ensures status { code_of result ≡ answer_status explained.now.answer }
 {

@@ -12,7 +12,7 @@ use Rattle.bgp_import.specs.declared.importing.Import.{Import}
 use Rattle.bgp_recording_tool.specs.declared.remark.Remark.{Remark}
 use Rattle.bgp_recording_tool.specs.Connections.{HasSeveral, IsJudged, IsNotJudged, IsOpening}
 use Rattle.bgp_recording_tool.specs.Told.{status_over}
-use Rattle.bgp_explain.specs.Entries.{SaysOfEntries}
+use Rattle.bgp_explain.specs.Entries.{SaysOrNot}
 use Rattle.bgp_recording_explain.specs.Told.{Told, Explained, Refused, told_status, told_text}
 
 -- One connection more is told of, under its line: what was told before it stands before it. Its
@@ -38,11 +38,11 @@ pub record HasOneMore (Before : List ℕ → List ℕ → List Remark → Type 0
 module _ (config : Config) (wanted : Import) (packets : List Recorded) (segments : List Segment)
   where
     -- It is judged as without a reason, and what is told after the verdict explains it by the
-    -- entries whose records were judged.
+    -- entries whose records were judged, or says that memory was refused for the reason.
     pub record IsExplained (number named : Option ℕ) (verdict : VerdictValue) (more : List ℕ)
         (remarks : List Remark) : Type 0 where
       pub judged : IsJudged config wanted packets segments number named verdict remarks
-      pub explains : SaysOfEntries config judged.entries verdict more
+      pub explains : SaysOrNot config judged.entries verdict more
 
     -- or it is refused
     abbrev pub IsTold : Option ℕ → Option ℕ → Told → List Remark → Type 0

@@ -12,16 +12,17 @@ use Rattle.bgp_recording.specs.declared.entry.Entry.{Entry}
 use Rattle.bgp_recording_tool.specs.declared.remark.Remark.{Remark}
 use Rattle.bgp_recording_tool.specs.Remarks.{remarks_on}
 use Rattle.bgp_recording_tool.specs.Told.{value_status, value_text}
-use Rattle.bgp_explain.specs.Entries.{SaysOfEntries}
+use Rattle.bgp_explain.specs.Entries.{SaysOrNot}
 
--- the verdict on the records of these entries and what explains it, with this exit status
+-- the verdict on the records of these entries and what explains it, or that there was no memory for
+-- the reason, with this exit status
 pub record PutsExplained {T : Type 0} {sink : sinks.Ghosts T} (config : Config) (named : Option ℕ)
     (entries : List Entry) (notes : Notes) (lines lines' : Lines T sink)
     (remarks remarks' : List Remark) (status : ℕ) : Type 0 where
   pub verdict : VerdictValue
   pub more : List ℕ
   pub is : HasVerdict config (records_of entries) verdict
-  pub explains : SaysOfEntries config entries verdict more
+  pub explains : SaysOrNot config entries verdict more
   pub wrote : Writes lines lines' (value_text verdict ++ more)
   pub added : remarks' ≡ remarks ++ remarks_on named entries notes verdict
   pub tells : status ≡ value_status verdict

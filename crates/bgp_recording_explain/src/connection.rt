@@ -17,7 +17,7 @@ ghost use Rattle.bgp_recording_tool.specs.Options.{IsOneFamily};
 ghost use Rattle.bgp_recording_tool.specs.Remarks.{AddsTold, IsHelp, notes_of};
 ghost use Rattle.bgp_recording_tool.specs.Told.{refused_status, value_status, value_text};
 ghost use Rattle.bgp_explain.specs.Details.{AreDetailsOf};
-ghost use Rattle.bgp_explain.specs.Entries.{AreExplained, CanBeShown, SaysOfEntries};
+ghost use Rattle.bgp_explain.specs.Entries.{AreExplained, CanBeShown, SaysOrNot};
 ghost use Rattle.bgp_recording_explain.specs.Connections.{IsToldAs};
 ghost use Rattle.bgp_recording_explain.specs.Putting.{PutsExplained, PutsNothing};
 
@@ -34,8 +34,8 @@ use bgp_tool::{Status, put_verdict};
 use mrt::Sink;
 use std::alloc::{AllocError, Allocator};
 
-/// Puts the verdict on the records of these entries, and then what explains it, and answers its
-/// exit status.
+/// Puts the verdict on the records of these entries, and then what explains it, or that memory was
+/// refused for the reason, and answers its exit status.
 fn put_explained<A: Allocator + Copy, W: Sink>(
     lines: &mut Lines<'_, W>,
     config: &Config,
@@ -46,7 +46,7 @@ fn put_explained<A: Allocator + Copy, W: Sink>(
     requires explained { AreExplained config.now entries.now explained.now }
     requires details { AreDetailsOf config.now explained.now.reason details.now }
     ensures writes { (more : List ℕ)
-        × SaysOfEntries config.now entries.now (verdict_value explained.now.verdict) more
+        × SaysOrNot config.now entries.now (verdict_value explained.now.verdict) more
         × Writes lines.old lines.new
         (value_text (verdict_value explained.now.verdict) ++ more) }
     ensures status { code_of result ≡ value_status (verdict_value explained.now.verdict) }
@@ -57,8 +57,8 @@ fn put_explained<A: Allocator + Copy, W: Sink>(
 }
 
 /// Explains the records of a connection, adds what there is to tell of it, with this number where
-/// several are told of, and answers the exit status. Where memory is refused nothing is put or
-/// added.
+/// several are told of, and answers the exit status. Where memory is refused for the verdict nothing
+/// is put or added.
 fn explain_made<A: Allocator + Copy, T: Tracker<A>, W: Sink>(
     alloc: A,
     config: &Config,
@@ -75,7 +75,7 @@ fn explain_made<A: Allocator + Copy, T: Tracker<A>, W: Sink>(
 {
     let entries = made.entries.as_slice();
     let explained = explain_entries::<A, T>(alloc, config, entries)?;
-    let details = explained.details(alloc, config)?;
+    let details = explained.details(alloc, config);
     add_remarks_on(remarks, named, made, &explained.verdict)?;
     Ok(put_explained(lines, config, entries, &explained, &details))
 }

@@ -4,7 +4,6 @@ ghost use Rattle.std.specs.Prelude.{◌≡◌, ◌<◌, ◌^◌, [], IfErr, IfOk
 ghost use Rattle.std.specs.IoError.{error_kind};
 ghost use Rattle.mrt.specs.FromWrite.{writer_state};
 ghost use Rattle.bgp_tool.specs.Opened.{IsUnopened};
-ghost use Rattle.bgp_explain.specs.Explaining.{MayLack};
 ghost use Rattle.bgp_recording_explain.specs.Files.{ExplainsFile};
 
 use crate::headline::explain_recording;
@@ -51,7 +50,7 @@ pub fn explain_file<'a, A: Allocator + Copy, T: Tracker<A>, R: Read + Drop, W: W
 ) -> FileOutcome<'a, A>
     requires { (writer_state sink.old).failures < 2 ^ 63 }
     ensures explained { IfOk opened (λ reader. ExplainsFile R.remaining W.contents options.now
-        file.entry reader sink.old sink.new result config.now (MayLack T.may_lack)) }
+        file.entry reader sink.old sink.new result config.now T.may_lack) }
     ensures unopened { IfErr opened (λ error. IsUnopened file.entry (error_kind error)
         (record { status = result.status; skipped = result.skipped; note = result.note })
         × (result.cut_short ≡ None) × (result.remarks.items ≡ []) × (sink.new ≡ sink.old)) }

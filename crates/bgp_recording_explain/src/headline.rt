@@ -29,8 +29,8 @@ use std::alloc::Allocator;
 /// * after a yes how many records there are, and of which kinds.
 ///
 /// After a refusal it writes nothing more. Where memory is refused for the reason of a connection,
-/// it is that of its refusal, `recording refused: 17 Memory`. A recording that was cut short is
-/// explained by what it has, and it is told that it was.
+/// `note no memory for the reason` stands in its place, and the verdict is told all the same. A
+/// recording that was cut short is explained by what it has, and it is told that it was.
 ///
 /// By [`made_records_could_have_stood`](crate::made_records_could_have_stood) each line after a no
 /// can be put to the test, and by

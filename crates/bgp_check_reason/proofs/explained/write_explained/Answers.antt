@@ -1,5 +1,8 @@
-use Rattle.std.proofs.Common.{rules}
+use Rattle.std.proofs.Common.{Bool, rules, subst}
 use Rattle.std.proofs.lemmas.Result.{on_ok_weaker}
+use Rattle.bgp_judge.specs.Verdict.{verdict_value}
+use Rattle.bgp_explain.specs.Entries.{SaysWhere}
+use Rattle.bgp_explain.proofs.EntryRecords.{says_all}
 use Rattle.bgp_text.proofs.Fresh.{IsFresh}
 use Rattle.bgp_text.proofs.Pieces.{Joins, and_nothing}
 use Rattle.bgp_check_reason.proofs.Written.{took_all}
@@ -9,7 +12,11 @@ pub returns : goal.returns
 returns g c =
     let law : Joins g.W.Sink = record { joined = g.met.W.Sink.joined } in
     let fresh : IsFresh c.new-lines.result = record { empty = c.new-lines.ensures.empty; calm = c.new-lines.ensures.fresh } in
-    let (more, says, put) = c.put_explained_entries.ensures in
+    let (more, so, put) = c.put_explained_entries.ensures in
+    let config = c.args.config.now in
+    let entries = c.args.entries.now in
+    let verdict = verdict_value c.args.explained.now.verdict in
+    let says = says_all config entries verdict more (subst (λ (b : Bool). SaysWhere config entries b verdict more) c.requires.all so) in
     let wrote = and_nothing law put c.hand_over-handed_over.ensures.writes in
     on_ok_weaker c.hand_over-handed_over.result
     (λ calm. (more, says, took_all c.new-lines.result c.hand_over-handed_over.new.self c.args.sink.now _ more fresh c.new-lines.ensures.now (search rules) wrote c.hand_over-handed_over.ensures.none calm))

@@ -1,4 +1,4 @@
-use Rattle.std.proofs.Common.{◌≡◌, ℕ, List, [], None, take, subst, arith}
+use Rattle.std.proofs.Common.{List, [], None, take, subst, arith}
 use Rattle.bgp_prefix.specs.Shown.{ShownRecord}
 use Rattle.bgp_judge.proofs.Verdicts.{no_record_begins}
 use Rattle.bgp_recording.specs.Captured.{records_of}

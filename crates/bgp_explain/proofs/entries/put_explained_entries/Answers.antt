@@ -1,30 +1,54 @@
-use Rattle.std.proofs.Common.{◌≡◌, ◌+◌, ◌∙◌, ℕ, List, Option, None, ap, subst, take}
-use Rattle.bgp_prefix.specs.Shown.{ShownRecord}
+use Rattle.std.proofs.Common.{◌≡◌, ◌∙◌, ℕ, Bool, true, false, IsTrue, List, Option, None, Some, ap, is_some, refl, subst}
 use Rattle.bgp_open.specs.declared.config.Config.{Config}
 use Rattle.bgp_judge.specs.declared.verdict.Verdict.{Verdict}
 use Rattle.bgp_judge.specs.declared.verdict.Verdict.TheVariants.{No, Unfinished}
+use Rattle.bgp_judge.specs.Verdict as values
 use Rattle.bgp_recording.specs.Captured.{records_of}
+use Rattle.bgp_recording.specs.declared.entry.Entry.{Entry}
 use Rattle.bgp_tool.specs.declared.seen.Seen.{Seen}
 use Rattle.bgp_explain.specs.declared.explained.Reason.{Reason}
 use Rattle.bgp_explain.specs.declared.tally.Tally.{Tally}
-use Rattle.bgp_explain.specs.Capture.{TellsWhy, TellsWhyNot}
+use Rattle.bgp_explain.specs.declared.details.Details.{Details}
+use Rattle.bgp_explain.specs.Details.{AreDetailsOf}
+use Rattle.bgp_explain.specs.Entries.{SaysWhere}
 use Rattle.bgp_explain.specs.Packets.{packets_of}
 use Rattle.bgp_explain.specs.Reason.{HasReason}
 use Rattle.bgp_explain.specs.Tally.{tally_of, yes_lines}
 use Rattle.bgp_explain.specs.Text.{IsMoreBy}
 use Rattle.bgp_explain.proofs.EntryRecords.{can_of}
-use Rattle.bgp_explain.proofs.Telling.{more_of_no, more_of_unfinished}
+use Rattle.bgp_explain.proofs.Telling.{why_not, why_unfinished}
 use Rattle.bgp_explain.proofs.entries.put_explained_entries.Goals as goal
 
-says_no : {X Y : Type 0} (config : Config) (packets : ℕ → Option ℕ) (records : List ShownRecord) (verdict : Verdict Y) (count : ℕ) (why : Option (Reason X)) (more : List ℕ)
-    → verdict ≡ No count → HasReason config records verdict why → IsMoreBy config packets why more → TellsWhyNot config packets (take count records) (take (count + 1) records) more
-says_no {X} {Y} config packets records verdict count why more is has by =
-    more_of_no config packets Y records count why more (subst (λ (v : Verdict Y). HasReason config records v why) is has) by
+-- there are details of a reason alone
+detailed_so : {X Y : Type 0} (config : Config) (why : Option (Reason X)) (details : Option (Details Y)) → AreDetailsOf config why details → IsTrue (is_some details) → IsTrue (is_some why)
+detailed_so config None None are some = some
+detailed_so config None (Some details) are some = absurd are
+detailed_so config (Some reason) details are some = refl
 
-says_unfinished : {X Y : Type 0} (config : Config) (packets : ℕ → Option ℕ) (records : List ShownRecord) (verdict : Verdict Y) (why : Option (Reason X)) (more : List ℕ)
-    → verdict ≡ Unfinished → HasReason config records verdict why → IsMoreBy config packets why more → TellsWhy config packets records None more
-says_unfinished {X} {Y} config packets records verdict why more is has by =
-    more_of_unfinished config packets Y records why more (subst (λ (v : Verdict Y). HasReason config records v why) is has) by
+module _ {X : Type 0} (Y : Type 0) (config : Config) (entries : List Entry) where
+  after_no : (count : ℕ) (why : Option (Reason X)) (detailed : Bool) (more : List ℕ) → HasReason {X = Y} config (records_of entries) (No count) why → (IsTrue detailed → IsTrue (is_some why))
+      → IsMoreBy config (packets_of entries) why detailed more → SaysWhere config entries detailed (values.No count) more
+  after_no count None true more has some is = absurd (let k : false ≡ true = some refl in cc)
+  after_no count None false more has some is = is
+  after_no count (Some reason) false more has some is = is
+  after_no count (Some reason) true more has some is = why_not config (packets_of entries) Y (records_of entries) count reason more has is
+
+  after_unfinished : (why : Option (Reason X)) (detailed : Bool) (more : List ℕ) → HasReason {X = Y} config (records_of entries) Unfinished why → (IsTrue detailed → IsTrue (is_some why))
+      → IsMoreBy config (packets_of entries) why detailed more → SaysWhere config entries detailed values.Unfinished more
+  after_unfinished None true more has some is = absurd (let k : false ≡ true = some refl in cc)
+  after_unfinished None false more has some is = is
+  after_unfinished (Some reason) false more has some is = is
+  after_unfinished (Some reason) true more has some is = why_unfinished config (packets_of entries) Y (records_of entries) reason more has is
+
+  says_no : (verdict : Verdict Y) (count : ℕ) (why : Option (Reason X)) (detailed : Bool) (more : List ℕ) → verdict ≡ No count → HasReason config (records_of entries) verdict why
+      → (IsTrue detailed → IsTrue (is_some why)) → IsMoreBy config (packets_of entries) why detailed more → SaysWhere config entries detailed (values.No count) more
+  says_no verdict count why detailed more is has some by =
+      after_no count why detailed more (subst (λ (v : Verdict Y). HasReason config (records_of entries) v why) is has) some by
+
+  says_unfinished : (verdict : Verdict Y) (why : Option (Reason X)) (detailed : Bool) (more : List ℕ) → verdict ≡ Unfinished → HasReason config (records_of entries) verdict why
+      → (IsTrue detailed → IsTrue (is_some why)) → IsMoreBy config (packets_of entries) why detailed more → SaysWhere config entries detailed values.Unfinished more
+  says_unfinished verdict why detailed more is has some by =
+      after_unfinished why detailed more (subst (λ (v : Verdict Y). HasReason config (records_of entries) v why) is has) some by
 
 pub put_any_reason-requires-clause-can : goal.put_any_reason-requires-clause-can
 put_any_reason-requires-clause-can g c =
@@ -48,15 +72,17 @@ returns-in-Yes g c =
 pub returns-in-No : goal.returns-in-No
 returns-in-No g c =
     let (more, is, put) = c.put_any_reason.ensures in
-    let entries = c.args.entries.now in
-    let says = says_no c.args.config.now (packets_of entries) (records_of entries) c.args.explained.now.verdict _ c.args.explained.now.reason more c.in-No.is
-    c.requires.explained.reason is in
+    let explained = c.args.explained.now in
+    let details = c.args.details.now in
+    let says = says_no _ c.args.config.now c.args.entries.now explained.verdict _ explained.reason (is_some details) more c.in-No.is
+    c.requires.explained.reason (detailed_so c.args.config.now explained.reason details c.requires.details) is in
     rw c.in-No.is (more, says, put)
 
 pub returns-in-Unfinished : goal.returns-in-Unfinished
 returns-in-Unfinished g c =
     let (more, is, put) = c.put_any_reason-in-Unfinished.ensures in
-    let entries = c.args.entries.now in
-    let says = says_unfinished c.args.config.now (packets_of entries) (records_of entries) c.args.explained.now.verdict c.args.explained.now.reason more c.in-Unfinished.is
-    c.requires.explained.reason is in
+    let explained = c.args.explained.now in
+    let details = c.args.details.now in
+    let says = says_unfinished _ c.args.config.now c.args.entries.now explained.verdict explained.reason (is_some details) more c.in-Unfinished.is
+    c.requires.explained.reason (detailed_so c.args.config.now explained.reason details c.requires.details) is in
     rw c.in-Unfinished.is (more, says, put)

@@ -9,7 +9,6 @@ use Rattle.bgp_tool.specs.Seen.{lacking_by, lacking_in}
 use Rattle.bgp_tool.specs.declared.front.WithFront.{WithFront}
 use Rattle.bgp_tool.specs.declared.note.CaptureCommand.TheVariants.{Judge}
 use Rattle.bgp_tool.proofs.ToldCapture.{of_writer, of_reader}
-use Rattle.bgp_explain.specs.Explaining.{MayLack}
 use Rattle.bgp_explain.specs.Opened.{fault_told}
 use Rattle.bgp_explain.proofs.Telling.{ToldOf, can_be_put, explains_read}
 use Rattle.bgp_explain.proofs.opened.explain_reader.Goals.{then-failures, else-failures}
@@ -22,7 +21,7 @@ same_code (inr broken) none = let more = broken.0 in absurd (omega (arith, more,
 
 pub write_explained-status-requires-clause-can : goal.write_explained-status-requires-clause-can
 write_explained-status-requires-clause-can g c =
-    can_be_put _ _ c.args.config.now c.new-source.result c.explain_with-explained.new.source (MayLack g.T.Tracker.may_lack) c.explain_with-explained.new.reader
+    can_be_put _ _ c.args.config.now c.new-source.result c.explain_with-explained.new.source g.T.Tracker.may_lack c.explain_with-explained.new.reader
     c.explain_with-explained.result c.explain_with-explained.ensures.explained
 
 pub returns-clause-explained : goal.returns-clause-explained
@@ -38,18 +37,18 @@ returns-clause-explained g c =
     let status = c.write_explained-status.result in
     let explained = c.explain_with-explained.result in
     let shows = explained.totals.seen in
-    let (text, code, said, wrote) = c.write_explained-status.ensures.writes in
+    let (text, detailed, said, wrote) = c.write_explained-status.ensures.writes in
     let fresh : reader_state first.source ≡ fresh_reader c.args.reader =
     ap reader_state c.new-source.ensures.source ∙ c.new.ensures in
     let refused = c.refused_by-refused.result in
     let told = subst
     (λ (s : ReaderState _). ToldOf (Takes g.W.Write.contents) (λ state. state.failures) (Gives g.R.Read.remaining) (λ state. state.has_ended)
-    (λ state. state.failures) config s last (MayLack g.T.Tracker.may_lack) old new found status seen.front.items refused shows)
+    (λ state. state.failures) config s last g.T.Tracker.may_lack old new found status seen.front.items refused shows)
     fresh
     (explains_read (λ (a : WithFront (FromRead _)). reader_state a.source) (Takes g.W.Write.contents) (λ state. state.failures) (Gives g.R.Read.remaining)
-    (λ state. state.has_ended) (λ state. state.failures) config first seen (MayLack g.T.Tracker.may_lack) old new (λ (a : WithFront (FromRead _)). a.front.items) found
+    (λ state. state.has_ended) (λ state. state.failures) config first seen g.T.Tracker.may_lack old new (λ (a : WithFront (FromRead _)). a.front.items) found
     explained status refused c.new-source.ensures.front c.explain_with-explained.ensures.explained c.explain_with-explained.ensures.failures
-    (text, code, said, record { written = wrote.written; left = wrote.left; took = wrote.took; begun = wrote.begun; all = wrote.all }) c.refused_by-refused.ensures) in
+    (text, detailed, said, record { written = wrote.written; left = wrote.left; took = wrote.took; begun = wrote.begun; all = wrote.all }) c.refused_by-refused.ensures) in
     let octets = joined told.read.pieces ++ told.read.rest in
     let fault = fault_told told.read.holds.answer in
     let lacking = lacking_in told.read.holds.code (records_of told.read.pieces) in record {

@@ -3,7 +3,7 @@ use Rattle.std.specs.List.{AllByRecursion}
 use Rattle.bgp_judge.specs.Verdict.{HasVerdict, verdict_value}
 use Rattle.bgp_recording.specs.Captured.{records_of}
 use Rattle.bgp_recording.specs.declared.entry.Entry.{Entry}
-use Rattle.bgp_explain.specs.Entries.{CanBeShown, SaysOfEntries}
+use Rattle.bgp_explain.specs.Entries.{CanBeShown, SaysOrNot}
 use Rattle.bgp_recording_explain.proofs.connection.explain_made.Goals as goal
 
 pub explain_entries-requires : goal.explain_entries-requires
@@ -20,7 +20,7 @@ returns g c =
       verdict = verdict;
       more = more;
       is = subst (λ (es : List Entry). HasVerdict config (records_of es) verdict) same c.in_ok-explained.ensures.verdict;
-      explains = subst (λ (es : List Entry). SaysOfEntries config es verdict more) same says;
+      explains = subst (λ (es : List Entry). SaysOrNot config es verdict more) same says;
       wrote = wrote;
       added = c.in_ok-add_remarks_on.ensures.ok;
       tells = c.put_explained.ensures.status;

@@ -1,7 +1,6 @@
 use Rattle.std.proofs.Common.{◌∙◌, ◌+◌, ℕ, refl, sym, ap, subst, inl, inr}
 use Rattle.mrt.specs.FromWrite.{writer_state}
 use Rattle.bgp_tool.specs.declared.opened.Outcome.{Outcome}
-use Rattle.bgp_explain.specs.Explaining.{MayLack}
 use Rattle.bgp_explain.specs.Opened.{ExplainsOpened}
 use Rattle.bgp_recording_tool.specs.Files.{peeked_remaining}
 use Rattle.bgp_recording_tool.proofs.Outcomes.{same_outcome}
@@ -18,7 +17,7 @@ returns-then-not-is_recording-clause-explained g c =
       is = inr (
         sym c.if-not-is_recording.ensures,
         subst
-            (λ (o : Outcome). ExplainsOpened (peeked_remaining g.R.Read.remaining) g.W.Write.contents c.args.config.now (MayLack g.T.Tracker.may_lack) c.args.file c.new-peeked.result
+            (λ (o : Outcome). ExplainsOpened (peeked_remaining g.R.Read.remaining) g.W.Write.contents c.args.config.now g.T.Tracker.may_lack c.args.file c.new-peeked.result
             (writer_state c.args.sink.now) (writer_state c.explain_opened-outcome.new.sink) o)
             (same_outcome c.explain_opened-outcome.result outcome.result.status outcome.result.skipped outcome.result.note
             outcome.ensures.status outcome.ensures.skipped outcome.ensures.note)

@@ -1,8 +1,5 @@
-use Rattle.std.proofs.Common.{◌≡◌, subst, sym}
 use Rattle.mrt.specs.Reader.{shown_of}
 use Rattle.bgp_judge.specs.Told as judged
-use Rattle.bgp_check.specs.declared.unjudged.UnjudgedOffer.{UnjudgedOffer}
-use Rattle.bgp_explain.specs.Offers.{IsOfferOf, settling_open}
 use Rattle.bgp_explain.proofs.OffersKept.{peers_then, settling_kept}
 use Rattle.bgp_explain.proofs.offers.Offers.with.Goals as goal
 

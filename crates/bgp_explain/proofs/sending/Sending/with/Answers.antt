@@ -1,4 +1,4 @@
-use Rattle.std.proofs.Common.{◌≡◌, ◌∙◌, ◌++◌, ◌∷◌, [], sym, ap}
+use Rattle.std.proofs.Common.{◌∙◌}
 use Rattle.mrt.specs.Reader.{shown_of}
 use Rattle.bgp_judge.specs.Told as judged
 use Rattle.bgp_explain.proofs.LinkKept.{link_kept, offered_then}
