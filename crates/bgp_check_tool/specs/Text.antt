@@ -41,17 +41,17 @@ families_name families = families_by families.v4 families.v6
 
 -- ---- an end that isn't judged
 
-abbrev pub reason_text : NotJudged → List ℕ
-reason_text reasons.NothingSent = codes "no sent message"
-reason_text reasons.ExtendedParameters = codes "an OPEN has parameters of RFC 9072"
-reason_text reasons.NoFamily = codes "its OPEN offers neither v4 nor v6"
-reason_text (reasons.AddPath families) =
+abbrev pub why_text : NotJudged → List ℕ
+why_text reasons.NothingSent = codes "no sent message"
+why_text reasons.ExtendedParameters = codes "an OPEN has parameters of RFC 9072"
+why_text reasons.NoFamily = codes "its OPEN offers neither v4 nor v6"
+why_text (reasons.AddPath families) =
     codes "both OPENs offer ADD-PATH for " ++ families_name families
-reason_text reasons.Ipv6NextHops = codes "both OPENs offer IPv6 next hops for v4"
+why_text reasons.Ipv6NextHops = codes "both OPENs offer IPv6 next hops for v4"
 
 unfoldable pub not_judged_line : Endpoint → NotJudged → List ℕ
 not_judged_line end why =
-    codes "not judged: " ++ (end_text end ++ (codes ", " ++ (reason_text why ++ codes "\n")))
+    codes "not judged: " ++ (end_text end ++ (codes ", " ++ (why_text why ++ codes "\n")))
 
 -- an end of a connection whose two ends are one
 unfoldable pub one_end_line : Endpoint → List ℕ
@@ -116,9 +116,11 @@ verdict_text routes told number peer (Yes ends) =
     codes "yes" ++ (whose_text told.end number peer
     ++ flat_map (ending_text routes told.highest) ends)
 verdict_text routes told number peer (No count) =
-    no_text count told.packet ++ (whose_text told.end number peer ++ note_line told.put_off)
+    no_text count told.packet ++ (whose_text told.end number peer
+    ++ (told.reason ++ note_line told.put_off))
 verdict_text routes told number peer Unfinished =
-    codes "unfinished" ++ (whose_text told.end number peer ++ note_line told.put_off)
+    codes "unfinished" ++ (whose_text told.end number peer
+    ++ (told.reason ++ note_line told.put_off))
 
 abbrev pub answer_text : Bool → EndTold → AnswerValue → List ℕ
 answer_text routes told (Unjudged why) = not_judged_line told.end why

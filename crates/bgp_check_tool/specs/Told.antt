@@ -15,6 +15,7 @@ use Rattle.bgp_import.specs.Captures.{put_off}
 use Rattle.bgp_import.specs.ListText.{end_of}
 use Rattle.bgp_import.specs.Refreshes.{IsRefreshIn}
 use Rattle.bgp_check.specs.Answered.{AnswerValue, IsAnswerTo, JudgedAs, Unjudged, answer_value}
+use Rattle.bgp_check_reason.specs.Reason.{IsReasonTo, reason_text}
 use Rattle.bgp_check_tool.specs.declared.ending.Told.{Told}
 use Rattle.bgp_check_tool.specs.Made.{IsMade}
 use Rattle.bgp_check_tool.specs.Seen.{seen_from, session_from}
@@ -29,6 +30,8 @@ pub record EndTold : Type 0 where
   pub put_off : ℕ
   -- the number of the highest state that is told
   pub highest : ℕ
+  -- the lines on why it is a no or unfinished, where it is
+  pub reason : List ℕ
 
 abbrev pub told_value : {X : Type 0} → Told X → EndTold
 told_value told = record {
@@ -37,6 +40,7 @@ told_value told = record {
   packet = told.packet;
   put_off = told.put_off;
   highest = told.highest;
+  reason = reason_text told.reason;
 }
 
 -- the number of the state to which a record changes: 0 where it is no change
@@ -74,3 +78,4 @@ pub record IsEndTold (within : ℕ) (session : Session) (opening : Opening) (con
   pub is_packet : told.packet ≡ packet_of told.answer entries
   pub is_put_off : told.put_off ≡ put_off 0 entries
   pub is_highest : told.highest ≡ highest_state (records_of entries)
+  pub explains : IsReasonTo (session_from side session) entries told.answer told.reason

@@ -3,12 +3,14 @@
 ghost use Rattle.std.specs.Prelude.{◌≡◌, IfOk, map};
 ghost use Rattle.mrt.specs.Reader.{shown_of};
 ghost use Rattle.bgp_check.specs.Answered.{IsAnswerTo, answer_value};
+ghost use Rattle.bgp_check_reason.specs.Reason.{IsReasonTo, reason_text};
 ghost use Rattle.bgp_import.specs.Captures.{put_off};
 ghost use Rattle.bgp_recording.specs.Captured.{records_of};
 ghost use Rattle.bgp_check_tool.specs.Told.{highest_state, new_state, packet_of};
 
 use crate::making::records_of;
 use bgp_check::{Answer, check_end};
+use bgp_check_reason::{Reason, reason_of};
 use bgp_import::notes_on;
 use bgp_judge::{Tracker, Verdict};
 use bgp_prefix::Session;
@@ -30,6 +32,8 @@ pub(crate) struct Told<A: Allocator> {
     pub(crate) put_off: usize,
     /// The number of the highest state that the records tell (RFC 6396, 4.4.1).
     pub(crate) highest: u16,
+    /// Why the verdict is a no or unfinished, where it is.
+    pub(crate) reason: Reason<A>,
 }
 
 /// The number of the state to which a record changes: 0 where it is no change.
@@ -84,15 +88,19 @@ pub(crate) fn told_by<A: Allocator + Copy, T: Tracker<A>>(
     ensures put_off { IfOk result (λ told. told.put_off ≡ put_off 0 made.now.entries.items) }
     ensures highest { IfOk result (λ told. told.highest
         ≡ highest_state (records_of made.now.entries.items)) }
+    ensures reason { IfOk result (λ told. IsReasonTo session.now made.now.entries.items
+        (answer_value told.answer) (reason_text told.reason)) }
 {
     let entries = made.entries.as_slice();
     let records = records_of(alloc, entries)?;
     let answer = check_end::<A, T>(alloc, session, &records)?;
+    let reason = reason_of::<A, T>(alloc, session, entries, &records, &answer)?;
     Ok(Told {
         end,
         packet: packet_of(&answer, entries),
         answer,
         put_off: notes_on(made).put_off,
         highest: highest_state(&records),
+        reason,
     })
 }

@@ -7,13 +7,14 @@ ghost use Rattle.bgp_judge.specs.Verdict.{verdict_value};
 ghost use Rattle.bgp_text.specs.Lines.{Writes};
 ghost use Rattle.bgp_check_tool.specs.Text.{as_text, ending_line, ending_text, families_name};
 ghost use Rattle.bgp_check_tool.specs.Text.{no_text, not_judged_line, note_line, one_end_line};
-ghost use Rattle.bgp_check_tool.specs.Text.{packet_text, peer_text, reached_text, reason_text};
-ghost use Rattle.bgp_check_tool.specs.Text.{route_line, state_name, told_lines, verdict_text};
-ghost use Rattle.bgp_check_tool.specs.Text.{whose_text};
+ghost use Rattle.bgp_check_tool.specs.Text.{packet_text, peer_text, reached_text, route_line};
+ghost use Rattle.bgp_check_tool.specs.Text.{state_name, told_lines, verdict_text, whose_text};
+ghost use Rattle.bgp_check_tool.specs.Text.{why_text};
 ghost use Rattle.bgp_check_tool.specs.Told.{told_value};
 
 use crate::ending::Told;
 use bgp_check::{Answer, Judged, NotJudged, PeerAs};
+use bgp_check_reason::put_reason;
 use bgp_import::put_end;
 use bgp_judge::{End, Verdict};
 use bgp_open::Families;
@@ -52,8 +53,8 @@ fn families_name(families: Families) -> &'static str
 }
 
 /// Why an end isn't judged.
-fn put_reason<W: Sink>(lines: &mut Lines<'_, W>, why: NotJudged)
-    ensures { Writes lines.old lines.new (reason_text why) }
+fn put_why<W: Sink>(lines: &mut Lines<'_, W>, why: NotJudged)
+    ensures { Writes lines.old lines.new (why_text why) }
 {
     match why {
         NotJudged::NothingSent => lines.put(b"no sent message"),
@@ -74,7 +75,7 @@ fn put_not_judged<W: Sink>(lines: &mut Lines<'_, W>, end: Endpoint, why: NotJudg
     lines.put(b"not judged: ");
     put_end(lines, end);
     lines.put(b", ");
-    put_reason(lines, why);
+    put_why(lines, why);
     lines.put(b"\n");
 }
 
@@ -252,11 +253,13 @@ fn put_verdict<W: Sink, A: Allocator>(
         Verdict::No(count) => {
             put_no(lines, *count, told.packet);
             put_whose(lines, told.end, judged.as_number, judged.peer_as);
+            put_reason(lines, &told.reason);
             put_note(lines, told.put_off);
         }
         Verdict::Unfinished => {
             lines.put(b"unfinished");
             put_whose(lines, told.end, judged.as_number, judged.peer_as);
+            put_reason(lines, &told.reason);
             put_note(lines, told.put_off);
         }
     }

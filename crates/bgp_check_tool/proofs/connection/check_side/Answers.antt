@@ -4,6 +4,7 @@ use Rattle.streams.specs.declared.connection.Connection.{Connection}
 use Rattle.bgp_recording.specs.Captured.{records_of}
 use Rattle.bgp_recording.specs.Gathered.{IsClocked}
 use Rattle.bgp_check.specs.Answered.{IsAnswerTo, answer_value}
+use Rattle.bgp_check_reason.specs.Reason.{IsReasonTo, reason_text}
 use Rattle.bgp_check_tool.specs.Made.{IsMade}
 use Rattle.bgp_check_tool.proofs.OtherEnd.{clocked}
 use Rattle.bgp_check_tool.proofs.connection.check_side.Goals as goal
@@ -37,4 +38,5 @@ returns-in-Ok-told_by-clause-ok g c = λ clock.
       is_packet = is.packet;
       is_put_off = is.put_off;
       is_highest = is.highest;
+      explains = subst (λ (v : Session). IsReasonTo v made.entries.items (answer_value told.answer) (reason_text told.reason)) c.session_from-session.ensures is.reason;
     }

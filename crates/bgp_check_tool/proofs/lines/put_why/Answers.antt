@@ -1,6 +1,6 @@
 use Rattle.std.proofs.Common.{◌∙◌}
 use Rattle.bgp_text.proofs.Pieces.{Joins, and_then}
-use Rattle.bgp_check_tool.proofs.lines.put_reason.Goals as goal
+use Rattle.bgp_check_tool.proofs.lines.put_why.Goals as goal
 
 pub returns-in-AddPath : goal.returns-in-AddPath
 returns-in-AddPath g c =
