@@ -3,6 +3,7 @@
 mod captures;
 mod extended;
 mod refreshes;
+mod sessions;
 mod written;
 
 use linked_list_allocator::LocalHeap;

@@ -1,0 +1,122 @@
+//! Of `mrt_sessions`: which sessions a file has, which records each of them has, and where both stop.
+
+use super::captures::{CHANGE, RECEIVED};
+use super::*;
+use bgp_prefix::Address;
+use bgp_wire::vectors::KEEPALIVE;
+use mrt_sessions::*;
+
+/// A KEEPALIVE with ADD-PATH (RFC 8050, 3) that 192.0.2.1 received of 192.0.2.9 at second 102.
+const ADD_PATH: [u8; 51] = [
+    0x00, 0x00, 0x00, 0x66, 0x00, 0x10, 0x00, 0x09, 0x00, 0x00, 0x00, 0x27, // header
+    0x00, 0x00, 0xfd, 0xea, 0x00, 0x00, 0xfd, 0xe9, 0x00, 0x00, 0x00, 0x01, // numbers
+    0xc0, 0x00, 0x02, 0x09, 0xc0, 0x00, 0x02, 0x01, // addresses
+    0xff, 0xff, 0xff, 0xff, 0xff, 0xff, 0xff, 0xff, // marker
+    0xff, 0xff, 0xff, 0xff, 0xff, 0xff, 0xff, 0xff, // marker
+    0x00, 0x13, 0x04, // Length and type of the message
+];
+
+/// The sessions of 192.0.2.1 with 192.0.2.2 and with 192.0.2.9.
+const FIRST: Addresses = Addresses {
+    peer: Address::V4(0xc000_0202),
+    local: Address::V4(0xc000_0201),
+};
+
+const SECOND: Addresses = Addresses {
+    peer: Address::V4(0xc000_0209),
+    local: Address::V4(0xc000_0201),
+};
+
+/// Messages of at most 4096 octets, in both directions.
+const PLAIN: ExtendedMessages = ExtendedMessages {
+    received: false,
+    sent: false,
+};
+
+/// Whether a session has these records and this fault, and so many messages received and changes.
+fn has(
+    alloc: Global,
+    sessions: &Sessions<'_>,
+    addresses: Addresses,
+    records: &[Record<'_>],
+    fault: Option<CaptureFault>,
+    received: u64,
+    changes: u64,
+) -> bool {
+    let Some(named) = sessions.records(addresses) else {
+        return false;
+    };
+    let counts = Counts {
+        received,
+        sent: 0,
+        changes,
+    };
+    match read_session(alloc, addresses, PLAIN, named) {
+        Ok(read) => {
+            read.records.as_slice() == records && read.fault == fault && Counts::of(named) == counts
+        }
+        Err(AllocError) => false,
+    }
+}
+
+/// Whether these octets have both sessions, the second of which is refused at its first record.
+fn are_told(alloc: Global, octets: &[u8]) -> bool {
+    let Ok(file) = records_in(alloc, octets) else {
+        return false;
+    };
+    let Ok(sessions) = Sessions::of(alloc, file.records.as_slice()) else {
+        return false;
+    };
+    let both = [Record::Change(100, 1, 2), Record::In(101, &KEEPALIVE)];
+    let add_path = CaptureFault {
+        kind: FaultKind::AddPath,
+        offset: 36,
+    };
+    let cut = CaptureFault {
+        kind: FaultKind::Truncated,
+        offset: 138,
+    };
+    sessions.in_order() == [FIRST, SECOND].as_slice()
+        && has(alloc, &sessions, FIRST, &both, None, 1, 1)
+        && has(alloc, &sessions, SECOND, &[], Some(add_path), 1, 0)
+        && file.fault(Ending::End) == Some(cut)
+}
+
+/// Whether they are, of a file whose last record is cut short.
+fn is_file_told(alloc: Global) -> bool {
+    let mut octets = Vec::new(alloc);
+    for record in &[&CHANGE[..], &ADD_PATH, &RECEIVED, &CHANGE[..35]] {
+        if octets.extend_from_slice(record).is_err() {
+            return false;
+        }
+    }
+    are_told(alloc, octets.as_slice())
+}
+
+#[test]
+fn sessions_of_a_file_are_told_apart(rt: HostRuntime) {
+    assert!(rt; is_file_told(rt.alloc()));
+}
+
+/// Whether of a source whose call of this number is upset so these octets are held.
+fn is_held(alloc: Global, call: u64, upset: SourceUpset, octets: &[u8], ending: Ending) -> bool {
+    let Ok(change) = CHANGE.to_vec(alloc) else {
+        return false;
+    };
+    let Some(piece) = NonZeroUsize::new(20) else {
+        return false;
+    };
+    let mut source = MemSource::new(change)
+        .in_pieces_of(piece)
+        .upset_at(call, upset);
+    let held = hold(alloc, &mut source);
+    held.octets.as_slice() == octets && held.ending == ending
+}
+
+#[test]
+fn what_was_read_before_a_failure_is_held(rt: HostRuntime) {
+    let front = &CHANGE[..20];
+    assert!(rt; is_held(rt.alloc(), 1, SourceUpset::Fail, front, Ending::Device));
+    assert!(rt; is_held(rt.alloc(), 1, SourceUpset::End, front, Ending::End));
+    assert!(rt; is_held(rt.alloc(), 9, SourceUpset::Fail, &CHANGE, Ending::End));
+}
