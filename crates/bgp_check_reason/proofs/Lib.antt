@@ -9,3 +9,4 @@ pub mod EachShown
 pub mod FaultTexts
 pub mod Written
 pub mod Held
+pub mod RestTexts

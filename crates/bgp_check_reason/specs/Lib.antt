@@ -4,3 +4,4 @@ pub mod Telling
 pub mod Under
 pub mod Shown
 pub mod Reason
+pub mod Unshown

@@ -15,7 +15,9 @@ mod reason;
 mod shown;
 mod telling;
 mod under;
+mod unshown;
 
 pub use laws::the_verdict_is_told_under_one;
 pub use own_faults::OwnFaults;
 pub use reason::{Reason, put_reason, reason_of};
+pub use unshown::put_unshown;

@@ -17,6 +17,7 @@ use Rattle.bgp_check.specs.declared.not_judged.NotJudged.TheVariants as reasons
 use Rattle.bgp_check.specs.declared.peer_as.PeerAs.{PeerAs}
 use Rattle.bgp_check.specs.declared.peer_as.PeerAs.TheVariants as peers
 use Rattle.bgp_check.specs.Answered.{AnswerValue, JudgedAs, Unjudged}
+use Rattle.bgp_check_reason.specs.Unshown.{unshown_notes}
 use Rattle.bgp_check_tool.specs.Told.{EndTold}
 
 -- the state with this number (RFC 6396, 4.4.1)
@@ -114,13 +115,13 @@ no_text count packet =
 abbrev pub verdict_text : Bool → EndTold → Option ℕ → PeerAs → VerdictValue → List ℕ
 verdict_text routes told number peer (Yes ends) =
     codes "yes" ++ (whose_text told.end number peer
-    ++ flat_map (ending_text routes told.highest) ends)
+    ++ (flat_map (ending_text routes told.highest) ends ++ unshown_notes told.received told.sent))
 verdict_text routes told number peer (No count) =
     no_text count told.packet ++ (whose_text told.end number peer
-    ++ (told.reason ++ note_line told.put_off))
+    ++ (told.reason ++ (unshown_notes told.received told.sent ++ note_line told.put_off)))
 verdict_text routes told number peer Unfinished =
     codes "unfinished" ++ (whose_text told.end number peer
-    ++ (told.reason ++ note_line told.put_off))
+    ++ (told.reason ++ (unshown_notes told.received told.sent ++ note_line told.put_off)))
 
 abbrev pub answer_text : Bool → EndTold → AnswerValue → List ℕ
 answer_text routes told (Unjudged why) = not_judged_line told.end why

@@ -32,6 +32,9 @@ pub record EndTold : Type 0 where
   pub highest : ℕ
   -- the lines on why it is a no or unfinished, where it is
   pub reason : List ℕ
+  -- what of the octets that it received is in no record, and of those that it sent
+  pub received : Unshown
+  pub sent : Unshown
 
 abbrev pub told_value : {X : Type 0} → Told X → EndTold
 told_value told = record {
@@ -41,6 +44,8 @@ told_value told = record {
   put_off = told.put_off;
   highest = told.highest;
   reason = reason_text told.reason;
+  received = told.received;
+  sent = told.sent;
 }
 
 -- the number of the state to which a record changes: 0 where it is no change
@@ -79,3 +84,5 @@ pub record IsEndTold (within : ℕ) (session : Session) (opening : Opening) (con
   pub is_put_off : told.put_off ≡ put_off 0 entries
   pub is_highest : told.highest ≡ highest_state (records_of entries)
   pub explains : IsReasonTo (session_from side session) entries told.answer told.reason
+  pub is_received : told.received ≡ received_unshown
+  pub is_sent : told.sent ≡ sent_unshown

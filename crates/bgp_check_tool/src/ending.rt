@@ -14,7 +14,7 @@ use bgp_check_reason::{Reason, reason_of};
 use bgp_import::notes_on;
 use bgp_judge::{Tracker, Verdict};
 use bgp_prefix::Session;
-use bgp_recording::{Entry, Recording};
+use bgp_recording::{Entry, Recording, Unshown};
 use mrt::Record;
 use segments::Endpoint;
 use std::alloc::{AllocError, Allocator};
@@ -34,6 +34,9 @@ pub(crate) struct Told<A: Allocator> {
     pub(crate) highest: u16,
     /// Why the verdict is a no or unfinished, where it is.
     pub(crate) reason: Reason<A>,
+    /// What of the octets that it received is in no record, and of those that it sent.
+    pub(crate) received: Unshown,
+    pub(crate) sent: Unshown,
 }
 
 /// The number of the state to which a record changes: 0 where it is no change.
@@ -90,6 +93,8 @@ pub(crate) fn told_by<A: Allocator + Copy, T: Tracker<A>>(
         ≡ highest_state (records_of made.now.entries.items)) }
     ensures reason { IfOk result (λ told. IsReasonTo session.now made.now.entries.items
         (answer_value told.answer) (reason_text told.reason)) }
+    ensures unshown { IfOk result (λ told. (told.received ≡ made.now.received)
+        × (told.sent ≡ made.now.sent)) }
 {
     let entries = made.entries.as_slice();
     let records = records_of(alloc, entries)?;
@@ -102,5 +107,7 @@ pub(crate) fn told_by<A: Allocator + Copy, T: Tracker<A>>(
         put_off: notes_on(made).put_off,
         highest: highest_state(&records),
         reason,
+        received: made.received,
+        sent: made.sent,
     })
 }

@@ -14,7 +14,7 @@ ghost use Rattle.bgp_check_tool.specs.Told.{told_value};
 
 use crate::ending::Told;
 use bgp_check::{Answer, Judged, NotJudged, PeerAs};
-use bgp_check_reason::put_reason;
+use bgp_check_reason::{put_reason, put_unshown};
 use bgp_import::put_end;
 use bgp_judge::{End, Verdict};
 use bgp_open::Families;
@@ -249,17 +249,20 @@ fn put_verdict<W: Sink, A: Allocator>(
             lines.put(b"yes");
             put_whose(lines, told.end, judged.as_number, judged.peer_as);
             put_endings(lines, endings.as_slice(), told.highest, routes);
+            put_unshown(lines, told.received, told.sent);
         }
         Verdict::No(count) => {
             put_no(lines, *count, told.packet);
             put_whose(lines, told.end, judged.as_number, judged.peer_as);
             put_reason(lines, &told.reason);
+            put_unshown(lines, told.received, told.sent);
             put_note(lines, told.put_off);
         }
         Verdict::Unfinished => {
             lines.put(b"unfinished");
             put_whose(lines, told.end, judged.as_number, judged.peer_as);
             put_reason(lines, &told.reason);
+            put_unshown(lines, told.received, told.sent);
             put_note(lines, told.put_off);
         }
     }

@@ -6,7 +6,7 @@
 //!
 //! No case has a message of type 5. That program passes over a ROUTE-REFRESH that was offered, and
 //! tells another one a fault of the header; a connection with either is refused here, by 18.
-//! Of its lines those are left out that tell the settings as options, and octets that are no message.
+//! Of its lines those are left out that tell the settings as options.
 #![tactic(auto)]
 
 mod answer;

@@ -39,4 +39,6 @@ returns-in-Ok-told_by-clause-ok g c = λ clock.
       is_put_off = is.put_off;
       is_highest = is.highest;
       explains = subst (λ (v : Session). IsReasonTo v made.entries.items (answer_value told.answer) (reason_text told.reason)) c.session_from-session.ensures is.reason;
+      is_received = is.unshown.0;
+      is_sent = is.unshown.1;
     }
