@@ -1,0 +1,110 @@
+//! Whether `bgp judge` reads the same records of a connection as are told.
+
+ghost use Rattle.std.specs.Prelude.{◌≡◌, ◌↔◌, IfOk, IsTrue, map};
+ghost use Rattle.mrt.specs.Reader.{shown_of};
+ghost use Rattle.bgp_recording.specs.Gathered.{IsClocked, IsCovered};
+ghost use Rattle.bgp_recording.specs.Tells.{numbered_of};
+ghost use Rattle.bgp_judge_line.specs.ReadAlike.{AreJudgeOptions, framings_by, passes_over};
+
+use crate::options::{Asked, JudgeOptions};
+use bgp_import::refresh_in;
+use bgp_open::Config;
+use bgp_recording::{
+    Entry, Framing, Framings, Recording, Unshown, connections_are_recorded_once, make_records,
+};
+use bgp_wire::Limit;
+use mrt::Record;
+use std::alloc::{AllocError, Allocator};
+use streams::Connection;
+
+/// Whether a ROUTE-REFRESH is passed over in either direction.
+fn passes_over(received: Unshown, sent: Unshown) -> bool
+    ensures { result ≡ passes_over received sent }
+{
+    0 < received.passed_over || 0 < sent.passed_over
+}
+
+/// By which rules `bgp judge` frames both directions.
+fn framings_by(config: &Config, skips_refresh: bool) -> Framings
+    ensures { result ≡ framings_by config.now skips_refresh }
+{
+    Framings::alike(Framing {
+        limit: Limit::with_extended(config.parts.session.extended),
+        skips_refresh,
+    })
+}
+
+/// Whether two records show the same.
+fn show_the_same(one: &Record<'_>, other: &Record<'_>) -> bool
+    ensures { IsTrue result ↔ (shown_of one.now ≡ shown_of other.now) }
+{
+    match (*one, *other) {
+        (Record::In(second, octets), Record::In(another, others)) => {
+            second == another && octets == others
+        }
+        (Record::Out(second, octets), Record::Out(another, others)) => {
+            second == another && octets == others
+        }
+        (Record::Change(second, old, new), Record::Change(another, before, after)) => {
+            second == another && old == before && new == after
+        }
+        _ => false,
+    }
+}
+
+/// Whether two entries are the same record at the same packet.
+fn is_same(one: &Entry<'_>, other: &Entry<'_>) -> bool
+    ensures { IsTrue result ↔ (numbered_of one.now ≡ numbered_of other.now) }
+{
+    one.packet == other.packet && show_the_same(&one.record, &other.record)
+}
+
+/// Whether these are the same, one after another.
+fn are_same(one: &[Entry<'_>], other: &[Entry<'_>]) -> bool
+    ensures { IsTrue result ↔ (map numbered_of one.now ≡ map numbered_of other.now) }
+{
+    if one.len() != other.len() {
+        return false;
+    }
+    for index in 0..one.len() {
+        if !is_same(&one[index], &other[index]) {
+            return false;
+        }
+    }
+    true
+}
+
+/// The options by which `bgp judge` gives the verdict on the records that were made of a connection,
+/// where that is told under this configuration. `None` where it reads other records: it frames the
+/// messages of both directions by what the local system offers alone, and passes over a
+/// ROUTE-REFRESH in both or in neither.
+///
+/// `AllocError` is answered where memory is refused: the records are made once more.
+pub fn judge_options<A: Allocator + Copy>(
+    alloc: A,
+    config: Config,
+    asked: Asked,
+    connection: &Connection<'_>,
+    within: u16,
+    made: &Recording<'_, A>,
+) -> Result<Option<JudgeOptions>, AllocError>
+    requires received { IsCovered connection.now.received }
+    requires sent { IsCovered connection.now.sent }
+    // Where the packets' seconds don't fall, the records tell the connection.
+    ensures { IfOk result (λ options. IsClocked connection.now → AreJudgeOptions config asked
+        within connection.now made.now.entries.items made.now.received made.now.sent options) }
+{
+    connections_are_recorded_once();
+    let skips_refresh = passes_over(made.received, made.sent);
+    let framings = framings_by(&config, skips_refresh);
+    let read = make_records(alloc, connection, framings, within)?;
+    if !are_same(read.entries.as_slice(), made.entries.as_slice()) {
+        return Ok(None);
+    }
+    Ok(Some(JudgeOptions {
+        config,
+        skips_refresh,
+        no_refresh: refresh_in(made).is_some(),
+        asked,
+    }))
+}
