@@ -4,8 +4,9 @@ use Rattle.std.specs.List.{AllByRecursion, Contains}
 use Rattle.packets.specs.Packet.{Recorded}
 use Rattle.bgp_import.specs.declared.refusal.Refusal.{Refusal}
 use Rattle.bgp_check_tool.specs.Blocks.{Block}
-use Rattle.bgp_check_tool.specs.Places.{HasAll, IsToldAt}
-use Rattle.bgp_check_tool.specs.Reading.{IsMemory}
+use Rattle.bgp_connections.specs.Places.{HasAll}
+use Rattle.bgp_check_tool.specs.Places.{IsToldAt}
+use Rattle.bgp_connections.specs.Reading.{IsMemory}
 
 -- the number of the last packet that was looked at
 pub as_many : (port within last many : ℕ) (packets : List Recorded) (blocks : List (ℕ × Block)) → last ≡ many

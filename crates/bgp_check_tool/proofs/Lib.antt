@@ -1,14 +1,8 @@
 pub mod OtherEnd
-pub mod AddressOrder
-pub mod Changed
-pub mod TakenSoFar
-pub mod ReadSoFar
-pub mod ListedSoFar
 pub mod OneMore
 pub mod AllTold
 pub mod Stretch
 pub mod Headline
 pub mod Texts
 pub mod Lists
-pub mod Rising
 pub mod Alone

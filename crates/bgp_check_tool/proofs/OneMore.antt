@@ -23,18 +23,19 @@ use Rattle.bgp_import.specs.declared.refusal.Refusal.TheVariants as refusals
 use Rattle.bgp_import.proofs.InOrder.{in_order}
 use Rattle.bgp_check_tool.specs.declared.connection.EndsTold.{EndsTold}
 use Rattle.bgp_check_tool.specs.declared.connection.EndsTold.TheVariants.{Both, One}
-use Rattle.bgp_check_tool.specs.declared.listed.Listed.{Listed}
-use Rattle.bgp_check_tool.specs.declared.listed.Listed.TheVariants as listed
-use Rattle.bgp_check_tool.specs.declared.talk.Talk.{Talk}
+use Rattle.bgp_connections.specs.declared.listed.Listed.{Listed}
+use Rattle.bgp_connections.specs.declared.listed.Listed.TheVariants as listed
+use Rattle.bgp_connections.specs.declared.talk.Talk.{Talk}
 use Rattle.bgp_check_tool.specs.Blocks.{Block, IsBlock, block_of, block_text}
-use Rattle.bgp_check_tool.specs.declared.talks.Talks.{Talks}
+use Rattle.bgp_connections.specs.declared.talks.Talks.{Talks}
 use Rattle.bgp_check_tool.specs.Checking.{PutsAll, PutsBlock, blocks_text, tally_from}
-use Rattle.bgp_check_tool.specs.Listed.{AreListed, CanBeTold, IsListed, IsPlaceOf, ListsOne}
-use Rattle.bgp_check_tool.specs.Pairs.{selection_of}
-use Rattle.bgp_check_tool.specs.Places.{HasAll, IsToldAt}
-use Rattle.bgp_check_tool.specs.Talks.{HoldsEach}
+use Rattle.bgp_connections.specs.Listed.{AreListed, IsListed, IsPlaceOf, ListsOne}
+use Rattle.bgp_connections.specs.Pairs.{selection_of}
+use Rattle.bgp_connections.specs.Places.{HasAll}
+use Rattle.bgp_check_tool.specs.Places.{IsToldAt}
+use Rattle.bgp_connections.specs.Talks.{HoldsEach}
 use Rattle.bgp_check_tool.specs.Tally.{no_tally, with_block}
-use Rattle.bgp_check_tool.proofs.ListedSoFar.{among_keys}
+use Rattle.bgp_connections.proofs.ListedSoFar.{among_keys}
 
 text_of : (f : ℕ × Block → List ℕ) (blocks : List (ℕ × Block)) (one : ℕ × Block) → flat_map f blocks ++ f one ≡ flat_map f (blocks ++ one ∷ [])
 text_of f [] one = sym (append-nil (f one))
@@ -84,15 +85,6 @@ one_more {T} {Z} law options packets last_packet place one entries before rest l
 pub one_listed : {Z : Type 0} (port : ℕ) (packets : List Recorded) (place : ℕ) (one : Listed Z) (before rest : List (ℕ × Listed Z)) → before ≡ (place, one) ∷ rest
     → AreListed port packets before → IsListed port packets place one
 one_listed {Z} port packets place one before rest is all = (subst (λ (es : List (ℕ × Listed Z)). AreListed port packets es) is all).0
-
--- what is listed can be told
-pub can_be_told : {Z : Type 0} (port : ℕ) (packets : List Recorded) (place : ℕ) (one : Listed Z) → IsListed port packets place one → CanBeTold one
-can_be_told port packets place (listed.Connection addresses talk opening) is = record {
-  segments = _;
-  holds = is.holds;
-  order = in_order (selection_of addresses port) packets is.segments is.has.taken;
-}
-can_be_told port packets place (listed.Refused addresses fault) is = tt
 
 -- what is told of a connection
 pub is_told : {X Z : Type 0} (port : ℕ) (packets : List Recorded) (within last_packet place : ℕ) (addresses : Addresses) (talk : Talk Z) (opening : Opening)

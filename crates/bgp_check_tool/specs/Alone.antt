@@ -13,40 +13,11 @@ use Rattle.bgp_prefix.specs.declared.session.Session.{Session}
 use Rattle.bgp_import.specs.Selecting.{AreTaken}
 use Rattle.bgp_import.specs.declared.refusal.Refusal.TheVariants as refusals
 use Rattle.bgp_check_tool.specs.Blocks.{AllRefused, Block, BothEnds, OneEnd, Refused}
-use Rattle.bgp_check_tool.specs.Pairs.{AreOrdered, selection_of, session_of}
-use Rattle.bgp_check_tool.specs.Places.{HasAll, HasConnection, IsNumber, IsToldAt, connection_in}
-use Rattle.bgp_check_tool.specs.Reading.{AreKnown}
-use Rattle.bgp_check_tool.specs.Talks.{IsRefusedAt}
-
--- ---- one at a packet
-
--- two connections that begin at one packet are one
-abbrev pub ConnectionsStandAlone : Type 0
-ConnectionsStandAlone =
-    (port : ℕ) (packets : List Recorded) (addresses others : Addresses)
-    (segments more : List Segment) (opening other : Opening)
-    → HasConnection port packets addresses segments opening
-    → HasConnection port packets others more other → opening.packet ≡ other.packet
-    → (addresses ≡ others) × (segments ≡ more) × (opening.number ≡ other.number)
-
--- the first packet that is refused for two addresses is that for no others
-abbrev pub RefusalsStandAlone : Type 0
-RefusalsStandAlone =
-    (port place : ℕ) (packets : List Recorded) (addresses others : Addresses)
-    (fault another : PacketFault) → AreKnown packets → AreOrdered addresses → AreOrdered others
-    → IsRefusedAt port packets addresses fault place
-    → IsRefusedAt port packets others another place
-    → (addresses ≡ others) × (fault ≡ another)
-
--- and no connection begins there
-abbrev pub NoneBeginsAtARefusal : Type 0
-NoneBeginsAtARefusal =
-    (port place : ℕ) (packets : List Recorded) (addresses others : Addresses)
-    (segments : List Segment) (opening : Opening) (fault : PacketFault) → AreKnown packets
-    → AreOrdered others → HasConnection port packets addresses segments opening
-    → IsRefusedAt port packets others fault place → ¬ (opening.packet ≡ place)
-
--- ---- all are told
+use Rattle.bgp_check_tool.specs.Places.{IsToldAt}
+use Rattle.bgp_connections.specs.Pairs.{AreOrdered, selection_of, session_of}
+use Rattle.bgp_connections.specs.Places.{HasAll, IsNumber, connection_in}
+use Rattle.bgp_connections.specs.Reading.{AreKnown}
+use Rattle.bgp_connections.specs.Talks.{IsRefusedAt}
 
 -- the block is told of the connection that was opened so
 abbrev pub IsOfConnection : Block → Session → Opening → Type 0

@@ -18,12 +18,13 @@ use Rattle.bgp_import.specs.declared.refusal.Refusal.{Refusal}
 use Rattle.bgp_import.specs.declared.refusal.Refusal.TheVariants as refusals
 use Rattle.bgp_check_tool.specs.declared.nothing.NothingJudged.{NothingJudged}
 use Rattle.bgp_check_tool.specs.declared.options.CheckOptions.{CheckOptions}
-use Rattle.bgp_check_tool.specs.declared.talks.Talks.{Talks}
+use Rattle.bgp_connections.specs.declared.talks.Talks.{Talks}
 use Rattle.bgp_check_tool.specs.declared.tally.Tally.{Tally}
 use Rattle.bgp_check_tool.specs.Blocks.{Block, block_text}
-use Rattle.bgp_check_tool.specs.Places.{HasAll, IsToldAt}
-use Rattle.bgp_check_tool.specs.Reading.{IsMemory, IsReadTo, cut_short_at, failures_of, looked_at}
-use Rattle.bgp_check_tool.specs.Talks.{HoldsEach}
+use Rattle.bgp_connections.specs.Places.{HasAll}
+use Rattle.bgp_check_tool.specs.Places.{IsToldAt}
+use Rattle.bgp_connections.specs.Reading.{IsMemory, IsReadTo, cut_short_at, failures_of, looked_at}
+use Rattle.bgp_connections.specs.Talks.{HoldsEach}
 use Rattle.bgp_check_tool.specs.Tally.{has_verdict, no_tally, nothing_text, status_of, tally_line}
 use Rattle.bgp_check_tool.specs.Tally.{with_block, with_refusal}
 

@@ -26,8 +26,9 @@ use Rattle.bgp_check.specs.WidestMade.{IsFaultless}
 use Rattle.bgp_check.specs.declared.peer_as.PeerAs.{PeerAs}
 use Rattle.bgp_check_tool.specs.Blocks.{BothEnds}
 use Rattle.bgp_check_tool.specs.Made.{IsMade}
-use Rattle.bgp_check_tool.specs.Pairs.{session_of}
-use Rattle.bgp_check_tool.specs.Places.{HasConnection, IsToldAt}
+use Rattle.bgp_connections.specs.Pairs.{session_of}
+use Rattle.bgp_connections.specs.Places.{HasConnection}
+use Rattle.bgp_check_tool.specs.Places.{IsToldAt}
 use Rattle.bgp_check_tool.specs.Seen.{seen_from, session_from}
 use Rattle.bgp_check_tool.specs.Told.{EndTold, IsEndTold}
 

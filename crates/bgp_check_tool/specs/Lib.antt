@@ -4,11 +4,7 @@ pub mod Told
 pub mod Text
 pub mod Blocks
 pub mod Tally
-pub mod Pairs
-pub mod Talks
-pub mod Reading
 pub mod Places
-pub mod Listed
 pub mod Checking
 pub mod Headline
 pub mod Alone

@@ -1,46 +1,27 @@
--- What there is to tell of in a recording, and where: each connection at its first packet, and two
--- addresses of whose connections none can be told at the first packet that is refused for them.
-use Rattle.std.specs.Prelude.{◌≡◌, ◌⊎◌, ◌≤◌, ℕ, List, length, reverse}
+-- What is told of a recording, and where: each connection at its first packet, and two addresses of
+-- whose connections none can be told at the first packet that is refused for them.
+use Rattle.std.specs.Prelude.{◌≡◌, ℕ, List, reverse}
 use Rattle.packets.specs.Packet.{Recorded}
 use Rattle.segments.specs.declared.fault.PacketFault.{PacketFault}
 use Rattle.segments.specs.declared.found.Addresses.{Addresses}
-use Rattle.streams.specs.Choice.{OpensAs, first_packet, numbered_one}
-use Rattle.streams.specs.Connections.{numbered}
 use Rattle.streams.specs.Passed.{Segment}
 use Rattle.streams.specs.declared.connection.Opening.{Opening}
 use Rattle.bgp_prefix.specs.declared.session.Session.{Session}
-use Rattle.bgp_import.specs.Selecting.{AreTaken}
 use Rattle.bgp_import.specs.declared.refusal.Refusal.{Refusal}
 use Rattle.bgp_import.specs.declared.refusal.Refusal.TheVariants as refusals
+use Rattle.bgp_connections.specs.Pairs.{AreOrdered, session_of}
+use Rattle.bgp_connections.specs.Places.{HasConnection}
+use Rattle.bgp_connections.specs.Talks.{IsRefusedAt}
 use Rattle.bgp_check_tool.specs.Blocks.{Block, BothEnds, IsBlock, OneEnd, Refused, AllRefused}
-use Rattle.bgp_check_tool.specs.Pairs.{AreOrdered, selection_of, session_of}
-use Rattle.bgp_check_tool.specs.Talks.{IsRefusedAt}
-
--- the segments of a connection, from the last one back to the first: of those of its session, from
--- the first one on, by its number
-abbrev pub connection_in : List Segment → ℕ → List Segment
-connection_in segments number = numbered_one (numbered (reverse segments)) number
-
-abbrev pub IsNumber : List Segment → ℕ → Type 0
-IsNumber segments number = (1 ≤ number) × (number ≤ length (numbered (reverse segments)))
 
 -- The packets of a recording, for a port.
 module _ (port : ℕ) (packets : List Recorded) where
-  -- these are the segments between two addresses, none of whose packets is refused, and they have a
-  -- connection that was opened so
-  pub record HasConnection (addresses : Addresses) (segments : List Segment) (opening : Opening)
-      : Type 0 where
-    pub ordered : AreOrdered addresses
-    pub taken : AreTaken (selection_of addresses port) 0 packets segments
-    pub number : IsNumber segments opening.number
-    pub opens : OpensAs (connection_in segments opening.number) opening
-
   -- The block is told of it, at its first packet; in a recording whose last packet has this number.
   pub record IsToldOfOne (within last_packet place : ℕ) (session : Session) (opening : Opening)
       (block : Block) : Type 0 where
     pub addresses : Addresses
     pub segments : List Segment
-    pub has : HasConnection addresses segments opening
+    pub has : HasConnection port packets addresses segments opening
     pub is_session : session ≡ session_of addresses
     pub is_place : place ≡ opening.packet
     pub is_block : IsBlock within last_packet (reverse segments) session opening block
@@ -63,27 +44,3 @@ module _ (port : ℕ) (packets : List Recorded) where
       IsToldOfOne within last_packet place session opening (Refused session opening refusal)
   IsToldAt within last_packet place (AllRefused addresses refusal) =
       IsToldOfAll place addresses refusal
-
-  -- ---- each of them
-
-  -- none of the packets between two addresses is refused, and there is something at the first
-  -- packet of each of their connections
-  pub record HasTheirs (IsPlace : ℕ → Type 0) (addresses : Addresses) : Type 0 where
-    pub segments : List Segment
-    pub taken : AreTaken (selection_of addresses port) 0 packets segments
-    pub each : (number : ℕ) → IsNumber segments number
-        → IsPlace (first_packet (connection_in segments number))
-
-  -- or at the first packet that is refused for them
-  pub record HasRefused (IsPlace : ℕ → Type 0) (addresses : Addresses) : Type 0 where
-    pub fault : PacketFault
-    pub place : ℕ
-    pub refused : IsRefusedAt port packets addresses fault place
-    pub is_place : IsPlace place
-
-  abbrev pub HasEach : (ℕ → Type 0) → Addresses → Type 0
-  HasEach IsPlace addresses = HasTheirs IsPlace addresses ⊎ HasRefused IsPlace addresses
-
-  abbrev pub HasAll : (ℕ → Type 0) → Type 0
-  HasAll IsPlace =
-      (addresses : Addresses) → AreOrdered addresses → HasEach IsPlace addresses

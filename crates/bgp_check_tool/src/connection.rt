@@ -11,7 +11,7 @@ ghost use Rattle.bgp_import.specs.ListText.{other_side};
 ghost use Rattle.bgp_import.specs.declared.refusal.Refusal.TheVariants.{Memory as OfMemory};
 ghost use Rattle.bgp_check_tool.specs.Blocks.{AreOne, HasRefresh, IsBlock, IsFirstRefresh};
 ghost use Rattle.bgp_check_tool.specs.Blocks.{IsUntold, block_of, octets_from};
-ghost use Rattle.bgp_check_tool.specs.Talks.{AreHeld};
+ghost use Rattle.bgp_connections.specs.Talks.{AreHeld};
 ghost use Rattle.bgp_check_tool.specs.Told.{IsEndTold, told_value};
 
 use crate::ending::{Told, told_by};

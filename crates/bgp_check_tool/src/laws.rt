@@ -1,8 +1,6 @@
 //! Laws of what is told of an end, each on a function that does nothing.
 
-ghost use Rattle.bgp_check_tool.specs.Alone.{ConnectionsStandAlone, EachConnectionIsTold};
-ghost use Rattle.bgp_check_tool.specs.Alone.{EachRefusalIsTold, NoneBeginsAtARefusal};
-ghost use Rattle.bgp_check_tool.specs.Alone.{RefusalsStandAlone};
+ghost use Rattle.bgp_check_tool.specs.Alone.{EachConnectionIsTold, EachRefusalIsTold};
 ghost use Rattle.bgp_check_tool.specs.Headline.{NoConfigurationHasARun, NothingIsVacuous};
 ghost use Rattle.bgp_check_tool.specs.Headline.{ToldNoHasNoRun, VerdictIsOverAll};
 
@@ -30,14 +28,10 @@ pub fn no_verdict_is_vacuous()
     ensures { NothingIsVacuous }
 {}
 
-/// No two connections in a recording begin at one packet, and none where a packet is refused; and
-/// that is refused for no two pairs of addresses. So [`check_recording`](crate::check_recording),
-/// which tells what stands at each of these packets, tells each connection, and each two addresses
-/// of whose connections none can be told; and that their packets rise says that it tells each once.
-pub fn each_stands_at_a_packet_of_its_own()
-    ensures connections { ConnectionsStandAlone }
-    ensures refusals { RefusalsStandAlone }
-    ensures neither { NoneBeginsAtARefusal }
+/// [`check_recording`](crate::check_recording), which tells what stands at each packet at which
+/// there is something to tell, tells each connection in a recording, and each two addresses of whose
+/// connections none can be told; and that their packets rise says that it tells each once.
+pub fn each_of_them_is_told()
     ensures told { EachConnectionIsTold }
     ensures refused { EachRefusalIsTold }
 {}

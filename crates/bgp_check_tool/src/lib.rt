@@ -14,20 +14,16 @@ mod connection;
 mod ending;
 mod laws;
 mod lines;
-mod listed;
 mod making;
 mod nothing;
 mod options;
-mod pairs;
 mod seen;
-mod talk;
-mod talks;
 mod tally;
 
 pub use checking::{CheckedRecording, check_recording};
 pub use laws::{
-    a_verdict_is_over_all_configurations, each_stands_at_a_packet_of_its_own,
-    no_configuration_has_a_run, no_verdict_is_vacuous,
+    a_verdict_is_over_all_configurations, each_of_them_is_told, no_configuration_has_a_run,
+    no_verdict_is_vacuous,
 };
 pub use nothing::NothingJudged;
 pub use options::CheckOptions;

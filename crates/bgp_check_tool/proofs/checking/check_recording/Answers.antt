@@ -7,8 +7,8 @@ use Rattle.bgp_text.proofs.Fresh.{IsFresh}
 use Rattle.bgp_text.proofs.Pieces.{Joins, and_nothing, and_then}
 use Rattle.bgp_check_tool.specs.declared.tally.Tally.{Tally}
 use Rattle.bgp_check_tool.specs.Checking.{nothing_by, with_file}
-use Rattle.bgp_check_tool.specs.Reading.{IsMemory, IsReadTo, TakesAll, cut_short_at, failures_of, looked_at}
-use Rattle.bgp_check_tool.specs.Talks.{HoldsEach, HoldsSome}
+use Rattle.bgp_connections.specs.Reading.{IsMemory, IsReadTo, TakesAll, cut_short_at, failures_of, looked_at}
+use Rattle.bgp_connections.specs.Talks.{HoldsEach, HoldsSome}
 use Rattle.bgp_import.specs.declared.refusal.Refusal.{Refusal}
 use Rattle.bgp_import.specs.declared.refusal.Refusal.TheVariants as refusals
 use Rattle.bgp_check_tool.proofs.Texts.{coded_as, told_as}

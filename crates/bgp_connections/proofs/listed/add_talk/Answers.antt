@@ -1,0 +1,16 @@
+use Rattle.std.proofs.Common.{inl}
+use Rattle.std.proofs.lemmas.Result.{on_ok_weaker}
+use Rattle.bgp_connections.proofs.ListedSoFar.{holds_all, listed_more, lists_refused}
+use Rattle.bgp_connections.proofs.listed.add_talk.Goals as goal
+
+pub returns-in_ok-insert-in-Some-clause-listed : goal.returns-in_ok-insert-in-Some-clause-listed
+returns-in_ok-insert-in-Some-clause-listed g c = λ port packets o h all.
+    listed_more port packets c.args.listed.now.entries _ c.in-Some.packet _ c.in_ok-insert-in-Some.ensures.entries
+    (lists_refused port packets c.args.addresses c.args.talk.now.connections c.args.talk.now.refusal c.in-Some.fault c.in-Some.packet c.in-Some.is o h) all
+
+pub returns-in-None-clause-adds : goal.returns-in-None-clause-adds
+returns-in-None-clause-adds g c = on_ok_weaker c.add_connections.result
+    (λ adds port packets h.
+    let all = holds_all port packets c.args.addresses c.args.talk.now.connections c.args.talk.now.refusal c.in-None.is h in
+    inl (record { segments = all.segments; taken = all.taken; each = adds all.segments all.holds }))
+    c.add_connections.ensures.adds

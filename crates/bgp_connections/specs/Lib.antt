@@ -1,0 +1,6 @@
+pub mod Pairs
+pub mod Talks
+pub mod Reading
+pub mod Places
+pub mod Listed
+pub mod Alone
