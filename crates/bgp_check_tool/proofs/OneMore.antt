@@ -11,7 +11,7 @@ use Rattle.bgp_text.specs.Lines.{Writes}
 use Rattle.bgp_text.specs.declared.lines.Lines.{Lines}
 use Rattle.bgp_text.proofs.Pieces.{Joins, and_then}
 use Rattle.bgp_check_tool.specs.declared.options.CheckOptions.{CheckOptions}
-use Rattle.bgp_check_tool.specs.declared.tally.Tally.{Tally}
+use Rattle.bgp_check_text.specs.declared.tally.Tally.{Tally}
 use Rattle.bgp_prefix.specs.declared.session.Session.{Session}
 use Rattle.segments.specs.declared.found.Addresses.{Addresses}
 use Rattle.streams.specs.Clock.{AreInOrder}
@@ -29,12 +29,13 @@ use Rattle.bgp_connections.specs.declared.talk.Talk.{Talk}
 use Rattle.bgp_check_tool.specs.Blocks.{Block, IsBlock, block_of, block_text}
 use Rattle.bgp_connections.specs.declared.talks.Talks.{Talks}
 use Rattle.bgp_check_tool.specs.Checking.{PutsAll, PutsBlock, blocks_text, tally_from}
-use Rattle.bgp_connections.specs.Listed.{AreListed, IsListed, IsPlaceOf, ListsOne}
+use Rattle.bgp_connections.specs.Listed.{AreListed, CanBeTold, IsListed, IsPlaceOf, ListsOne}
 use Rattle.bgp_connections.specs.Pairs.{selection_of}
 use Rattle.bgp_connections.specs.Places.{HasAll}
 use Rattle.bgp_check_tool.specs.Places.{IsToldAt}
 use Rattle.bgp_connections.specs.Talks.{HoldsEach}
-use Rattle.bgp_check_tool.specs.Tally.{no_tally, with_block}
+use Rattle.bgp_check_text.specs.Tally.{no_tally}
+use Rattle.bgp_check_tool.specs.Counted.{with_block}
 use Rattle.bgp_connections.proofs.ListedSoFar.{among_keys}
 
 text_of : (f : ℕ × Block → List ℕ) (blocks : List (ℕ × Block)) (one : ℕ × Block) → flat_map f blocks ++ f one ≡ flat_map f (blocks ++ one ∷ [])

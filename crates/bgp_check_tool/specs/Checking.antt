@@ -1,6 +1,6 @@
 -- What checking a recording writes and answers.
 use Rattle.std.specs.Prelude.{◌≡◌, ◌⊎◌, ◌+◌, ◌++◌, ℕ, Bool, true, false, List, [], ◌∷◌}
-use Rattle.std.specs.Prelude.{Option, None, Some, codes}
+use Rattle.std.specs.Prelude.{Option, None, Some, codes, if◌then◌else◌}
 use Rattle.std.specs.Fmt.{decimal}
 use Rattle.std.specs.List.{AllByRecursion, Contains, flat_map}
 use Rattle.std.specs.List.Sorted.{IsStrictlySortedBy}
@@ -16,17 +16,17 @@ use Rattle.bgp_import.specs.Refusals.{refusal_line}
 use Rattle.bgp_import.specs.declared.cut_short.CutShort.{CutShort}
 use Rattle.bgp_import.specs.declared.refusal.Refusal.{Refusal}
 use Rattle.bgp_import.specs.declared.refusal.Refusal.TheVariants as refusals
+use Rattle.bgp_check_text.specs.Tally.{has_verdict, is_empty, no_tally, status_of, tally_line}
+use Rattle.bgp_check_text.specs.declared.tally.Tally.{Tally}
 use Rattle.bgp_check_tool.specs.declared.nothing.NothingJudged.{NothingJudged}
 use Rattle.bgp_check_tool.specs.declared.options.CheckOptions.{CheckOptions}
 use Rattle.bgp_connections.specs.declared.talks.Talks.{Talks}
-use Rattle.bgp_check_tool.specs.declared.tally.Tally.{Tally}
 use Rattle.bgp_check_tool.specs.Blocks.{Block, block_text}
+use Rattle.bgp_check_tool.specs.Counted.{with_block, with_refused}
 use Rattle.bgp_connections.specs.Places.{HasAll}
 use Rattle.bgp_check_tool.specs.Places.{IsToldAt}
 use Rattle.bgp_connections.specs.Reading.{IsMemory, IsReadTo, cut_short_at, failures_of, looked_at}
 use Rattle.bgp_connections.specs.Talks.{HoldsEach}
-use Rattle.bgp_check_tool.specs.Tally.{has_verdict, no_tally, nothing_text, status_of, tally_line}
-use Rattle.bgp_check_tool.specs.Tally.{with_block, with_refusal}
 
 -- ---- the blocks, each with the packet at which it stands
 
@@ -82,7 +82,15 @@ cut_note (Some cut) =
 
 abbrev pub with_file : Tally → Option Refusal → Tally
 with_file tally None = tally
-with_file tally (Some refusal) = with_refusal tally refusal
+with_file tally (Some refusal) = with_refused tally refusal
+
+-- that no connection has this port, where nothing was told
+unfoldable pub nothing_line : ℕ → List ℕ
+nothing_line port = codes "not judged: no connection at port "
+    ++ (decimal port ++ codes " holds octets\n")
+
+abbrev pub nothing_text : ℕ → Tally → List ℕ
+nothing_text port tally = if is_empty tally then nothing_line port else []
 
 -- that no end is judged is told where the file was read to its end
 abbrev pub nothing_by : ℕ → Bool → Option Refusal → Option NothingJudged
@@ -94,8 +102,8 @@ nothing_by port false None = Some (record { port = port })
 -- from being read on; the source counts one failure more where that is a device that failed. Of
 -- them these blocks are told, in the order of their places: all, unless memory was refused. Then
 -- why the file can't be read on, if it can't; that there was no memory for a list of the blocks, if
--- there was none; that the file was cut short, if it was; and last how many ends there are of each verdict. All of that was
--- written, if the sink didn't fail.
+-- there was none; that the file was cut short, if it was; and last how many ends there are of each
+-- verdict. All of that was written, if the sink didn't fail.
 pub record ChecksRecording {S T : Type 0} (gives : S → S → List ℕ → Type 0) (has_ended : S → Bool)
     (takes : T → T → List ℕ → Type 0) (source_failures : S → ℕ) (failures : T → ℕ)
     (options : CheckOptions) (source source' : S) (sink sink' : T) (status : ℕ)

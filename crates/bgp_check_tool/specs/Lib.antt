@@ -3,7 +3,7 @@ pub mod Made
 pub mod Told
 pub mod Text
 pub mod Blocks
-pub mod Tally
+pub mod Counted
 pub mod Places
 pub mod Checking
 pub mod Headline

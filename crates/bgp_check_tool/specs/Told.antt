@@ -1,7 +1,6 @@
 -- What is told of one of a connection's two ends.
-use Rattle.std.specs.Prelude.{◌≡◌, ℕ, List, [], ◌∷◌, Option, None, max, option_map}
+use Rattle.std.specs.Prelude.{◌≡◌, ℕ, List, Option, None, option_map}
 use Rattle.std.specs.List.{slice_get}
-use Rattle.bgp_prefix.specs.Shown.{ShownRecord, Changed}
 use Rattle.bgp_prefix.specs.declared.session.Session.{Session}
 use Rattle.segments.specs.declared.found.Endpoint.{Endpoint}
 use Rattle.streams.specs.declared.connection.Connection.{Connection}
@@ -16,6 +15,7 @@ use Rattle.bgp_import.specs.ListText.{end_of}
 use Rattle.bgp_import.specs.Refreshes.{IsRefreshIn}
 use Rattle.bgp_check.specs.Answered.{AnswerValue, IsAnswerTo, JudgedAs, Unjudged, answer_value}
 use Rattle.bgp_check_reason.specs.Reason.{IsReasonTo, reason_text}
+use Rattle.bgp_check_text.specs.Highest.{highest_state}
 use Rattle.bgp_check_tool.specs.declared.ending.Told.{Told}
 use Rattle.bgp_check_tool.specs.Made.{IsMade}
 use Rattle.bgp_check_tool.specs.Seen.{seen_from, session_from}
@@ -47,16 +47,6 @@ told_value told = record {
   received = told.received;
   sent = told.sent;
 }
-
--- the number of the state to which a record changes: 0 where it is no change
-abbrev pub new_state : ShownRecord → ℕ
-new_state (Changed t old new) = new
-new_state shown = 0
-
--- that of the highest one that records tell
-abbrev pub highest_state : List ShownRecord → ℕ
-highest_state [] = 0
-highest_state (shown ∷ records) = max (new_state shown) (highest_state records)
 
 -- the packet that shows the first impossible record, where there is one
 abbrev pub packet_by : VerdictValue → List Entry → Option ℕ

@@ -5,12 +5,10 @@ ghost use Rattle.bgp_text.specs.Lines.{Writes};
 ghost use Rattle.bgp_check_tool.specs.Blocks.{block_of, block_text, both_text};
 ghost use Rattle.bgp_check_tool.specs.Blocks.{ends_text, neither_text, session_text};
 ghost use Rattle.bgp_check_tool.specs.Blocks.{turned_down_text};
-ghost use Rattle.bgp_check_tool.specs.Tally.{with_block};
 ghost use Rattle.bgp_check_tool.specs.Told.{told_value};
 
 use crate::connection::{BothTold, EndsTold};
 use crate::lines::{put_one_end, put_told};
-use crate::tally::Tally;
 use bgp_import::{Refusal, end_of, other_side, put_counts, put_opening, put_refused};
 use bgp_prefix::Session;
 use bgp_text::{Lines, put_address};
@@ -99,23 +97,5 @@ pub(crate) fn put_connection<W: Sink, A: Allocator>(
     match told {
         Ok(ends) => put_ends(lines, session, opening, ends, routes),
         Err(refusal) => put_turned_down(lines, *refusal),
-    }
-}
-
-/// The tally with a connection more.
-pub(crate) fn with_connection<A: Allocator>(
-    tally: Tally,
-    session: &Session,
-    opening: Opening,
-    told: &Result<EndsTold<A>, Refusal>,
-) -> Tally
-    ensures { result ≡ with_block tally (block_of session.now opening told.now) }
-{
-    match told {
-        Ok(EndsTold::Both(both)) => tally
-            .with_end(&both.opener.answer)
-            .with_end(&both.other.answer),
-        Ok(EndsTold::One(..)) => tally.with_unjudged().with_unjudged(),
-        Err(refusal) => tally.with_refusal(*refusal),
     }
 }

@@ -9,11 +9,12 @@ ghost use Rattle.bgp_connections.specs.Listed.{CanBeTold, IsListed};
 ghost use Rattle.bgp_connections.specs.Reading.{cut_short_at};
 ghost use Rattle.bgp_connections.specs.Talks.{HoldsSome};
 
-use crate::blocks::{put_connection, put_session, with_connection};
+use crate::blocks::{put_connection, put_session};
 use crate::connection::{Between, check_connection};
-use crate::nothing::NothingJudged;
+use crate::counted::{with_connection, with_refused};
+use crate::nothing::{NothingJudged, put_nothing};
 use crate::options::CheckOptions;
-use crate::tally::Tally;
+use bgp_check_text::Tally;
 use bgp_connections::{Listed, Talks, listed_in, selection_of, take_all};
 use bgp_import::{CutShort, Refusal, put_refusal, refused};
 use bgp_judge::Tracker;
@@ -65,7 +66,7 @@ fn put_listed<A: Allocator + Copy, T: Tracker<A>, W: Sink>(
         Listed::Refused(addresses, fault) => {
             let refusal = refused(fault, packet);
             put_session(lines, addresses, refusal);
-            tally.with_refusal(refusal)
+            with_refused(tally, refusal)
         }
     }
 }
@@ -114,7 +115,7 @@ fn put_file<W: Sink>(lines: &mut Lines<'_, W>, tally: Tally, refusal: Option<Ref
     match refusal {
         Some(refusal) => {
             put_refusal(lines, refusal);
-            tally.with_refusal(refusal)
+            with_refused(tally, refusal)
         }
         None => {
             lines.put(b"");
@@ -155,8 +156,8 @@ fn nothing_by(port: u16, judged: bool, refusal: Option<Refusal>) -> Option<Nothi
 /// told of both ends, first of that which opened it: the verdict, for which AS number of its peer
 /// it is told, and of a yes each possible end; or why it isn't judged. Then why the file can't be
 /// read on, if it can't, that memory was refused for a list of the connections, if it was, and that
-/// the file was cut short, if it was; last how many ends there are of each verdict. It answers the exit status over all ends, the
-/// first of 5, 4, 1, 3, 2, 0 for which there is something:
+/// the file was cut short, if it was; last how many ends there are of each verdict. It answers the
+/// exit status over all ends, the first of 5, 4, 1, 3, 2, 0 for which there is something:
 ///
 /// * 0: a yes.
 /// * 1: a no. What it is worth says
@@ -190,7 +191,7 @@ pub fn check_recording<A: Allocator + Copy, T: Tracker<A>, R: Source, W: Sink>(
     let tally = put_file(&mut lines, tally, lacking);
     put_cut_short(&mut lines, cut_short);
     let refusal = stopped.or(lacking);
-    tally.put_nothing(&mut lines, options.port);
+    put_nothing(&mut lines, tally, options.port);
     tally.put(&mut lines);
     let status = hand_over(&mut lines, tally.status());
     // No effect: it ends the loan of the sink.

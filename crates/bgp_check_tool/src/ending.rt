@@ -1,21 +1,21 @@
 //! What is told of one of a connection's two ends.
 
-ghost use Rattle.std.specs.Prelude.{◌≡◌, IfOk, map};
-ghost use Rattle.mrt.specs.Reader.{shown_of};
+ghost use Rattle.std.specs.Prelude.{◌≡◌, IfOk};
 ghost use Rattle.bgp_check.specs.Answered.{IsAnswerTo, answer_value};
 ghost use Rattle.bgp_check_reason.specs.Reason.{IsReasonTo, reason_text};
 ghost use Rattle.bgp_import.specs.Captures.{put_off};
 ghost use Rattle.bgp_recording.specs.Captured.{records_of};
-ghost use Rattle.bgp_check_tool.specs.Told.{highest_state, new_state, packet_of};
+ghost use Rattle.bgp_check_text.specs.Highest.{highest_state};
+ghost use Rattle.bgp_check_tool.specs.Told.{packet_of};
 
 use crate::making::records_of;
 use bgp_check::{Answer, check_end};
 use bgp_check_reason::{Reason, reason_of};
+use bgp_check_text::highest_state;
 use bgp_import::notes_on;
 use bgp_judge::{Tracker, Verdict};
 use bgp_prefix::Session;
 use bgp_recording::{Entry, Recording, Unshown};
-use mrt::Record;
 use segments::Endpoint;
 use std::alloc::{AllocError, Allocator};
 
@@ -37,27 +37,6 @@ pub(crate) struct Told<A: Allocator> {
     /// What of the octets that it received is in no record, and of those that it sent.
     pub(crate) received: Unshown,
     pub(crate) sent: Unshown,
-}
-
-/// The number of the state to which a record changes: 0 where it is no change.
-fn new_state(told: &Record<'_>) -> u16
-    ensures { result ≡ new_state (shown_of told.now) }
-{
-    match *told {
-        Record::Change(_, _, new) => new,
-        Record::In(..) | Record::Out(..) => 0,
-    }
-}
-
-/// That of the highest one that records tell.
-fn highest_state(records: &[Record<'_>]) -> u16
-    ensures { result ≡ highest_state (map shown_of records.now) }
-{
-    let mut highest = 0;
-    for record in records {
-        highest = highest.max(new_state(record));
-    }
-    highest
 }
 
 /// The packet that shows the first impossible record: of a no alone.

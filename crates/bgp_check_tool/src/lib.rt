@@ -11,6 +11,7 @@
 mod blocks;
 mod checking;
 mod connection;
+mod counted;
 mod ending;
 mod laws;
 mod lines;
@@ -18,7 +19,6 @@ mod making;
 mod nothing;
 mod options;
 mod seen;
-mod tally;
 
 pub use checking::{CheckedRecording, check_recording};
 pub use laws::{

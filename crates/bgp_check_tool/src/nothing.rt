@@ -1,5 +1,12 @@
 //! What is told where no end is judged.
 
+ghost use Rattle.std.specs.Prelude.{◌≡◌};
+ghost use Rattle.bgp_text.specs.Lines.{Writes};
+ghost use Rattle.bgp_check_tool.specs.Checking.{nothing_line, nothing_text};
+
+use bgp_check_text::Tally;
+use bgp_text::Lines;
+use mrt::Sink;
 use std::fmt;
 
 /// That no end in a recording is judged.
@@ -17,5 +24,25 @@ impl fmt::Display for NothingJudged {
              before the session begins, as tcpdump -i any -s 0 -w FILE 'tcp port {}' does",
             self.port
         )
+    }
+}
+
+/// The line of a recording that has no connection at this port.
+fn put_no_connection<W: Sink>(lines: &mut Lines<'_, W>, port: u16)
+    ensures { Writes lines.old lines.new (nothing_line port) }
+{
+    lines.put(b"not judged: no connection at port ");
+    lines.put_decimal(port);
+    lines.put(b" holds octets\n");
+}
+
+/// That there is no connection at this port, where nothing was told.
+pub(crate) fn put_nothing<W: Sink>(lines: &mut Lines<'_, W>, tally: Tally, port: u16)
+    ensures { Writes lines.old lines.new (nothing_text port tally) }
+{
+    if tally.is_empty() {
+        put_no_connection(lines, port);
+    } else {
+        lines.put(b"");
     }
 }

@@ -24,5 +24,5 @@ returns-in-Refused g c = λ packets told.
       block = AllRefused c.in-Refused.addresses c.refused-refusal.result;
       told = record { ordered = is.ordered; fault = c.in-Refused.fault; refused = is.refused; is = c.refused-refusal.ensures };
       wrote = c.put_session.ensures;
-      tallied = c.with_refusal.ensures;
+      tallied = c.with_refused.ensures;
     }

@@ -1,0 +1,3 @@
+pub mod Highest
+pub mod Text
+pub mod Tally

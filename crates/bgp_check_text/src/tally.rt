@@ -1,0 +1,174 @@
+//! How many ends there are of each verdict, and how many refusals.
+
+ghost use Rattle.std.specs.Prelude.{◌≡◌, ◌+◌, ◌<◌};
+ghost use Rattle.bgp_judge.specs.Verdict.{verdict_value};
+ghost use Rattle.bgp_text.specs.Lines.{Writes};
+ghost use Rattle.bgp_tool.specs.Status.{code_of};
+ghost use Rattle.bgp_check.specs.Answered.{answer_value};
+ghost use Rattle.bgp_check_text.specs.Tally.{has_verdict, is_empty, no_tally, one_more};
+ghost use Rattle.bgp_check_text.specs.Tally.{status_of, tally_line, with_end, with_refusal};
+ghost use Rattle.bgp_check_text.specs.Tally.{with_unjudged, with_verdict};
+
+use bgp_check::Answer;
+use bgp_judge::Verdict;
+use bgp_text::Lines;
+use bgp_tool::Status;
+use mrt::Sink;
+use std::alloc::Allocator;
+
+/// How many ends there are of each verdict, and how many refusals. No count goes beyond the
+/// greatest `u64`.
+#[derive(Clone, Copy)]
+pub struct Tally {
+    yes: u64,
+    no: u64,
+    unfinished: u64,
+    not_judged: u64,
+    refused: u64,
+    /// Memory was refused.
+    memory: bool,
+    /// A device failed.
+    device: bool,
+}
+
+/// One more.
+fn one_more(count: u64) -> u64
+    ensures { result ≡ one_more count }
+{
+    count.saturating_add(1)
+}
+
+impl Tally {
+    /// Of nothing.
+    pub fn new() -> Tally
+        ensures { result ≡ no_tally }
+    {
+        Tally {
+            yes: 0,
+            no: 0,
+            unfinished: 0,
+            not_judged: 0,
+            refused: 0,
+            memory: false,
+            device: false,
+        }
+    }
+
+    /// With an end more that isn't judged.
+    pub fn with_unjudged(self) -> Tally
+        ensures { result ≡ with_unjudged self }
+    {
+        Tally {
+            not_judged: one_more(self.not_judged),
+            ..self
+        }
+    }
+
+    /// With an end more, of which this is answered.
+    pub fn with_end<A: Allocator>(self, answer: &Answer<A>) -> Tally
+        ensures { result ≡ with_end self (answer_value answer.now) }
+    {
+        match answer {
+            Answer::NotJudged(_) => self.with_unjudged(),
+            Answer::Judged(judged) => self.with_verdict(&judged.verdict),
+        }
+    }
+
+    /// With a verdict more.
+    fn with_verdict<A: Allocator>(self, verdict: &Verdict<A>) -> Tally
+        ensures { result ≡ with_verdict self (verdict_value verdict.now) }
+    {
+        match verdict {
+            Verdict::Yes(_) => Tally {
+                yes: one_more(self.yes),
+                ..self
+            },
+            Verdict::No(_) => Tally {
+                no: one_more(self.no),
+                ..self
+            },
+            Verdict::Unfinished => Tally {
+                unfinished: one_more(self.unfinished),
+                ..self
+            },
+        }
+    }
+
+    /// With a refusal more, of a file or of a part of it, whose exit status by itself is this.
+    pub fn with_refusal(self, status: Status) -> Tally
+        ensures { result ≡ with_refusal self (code_of status) }
+    {
+        Tally {
+            refused: one_more(self.refused),
+            memory: self.memory || status.code() == Status::Memory.code(),
+            device: self.device || status.code() == Status::Device.code(),
+            ..self
+        }
+    }
+
+    /// How many ends there are.
+    fn ends(&self) -> u128
+        ensures { result ≡ self.now.yes + self.now.no + self.now.unfinished + self.now.not_judged }
+    {
+        u128::from(self.yes)
+            + u128::from(self.no)
+            + u128::from(self.unfinished)
+            + u128::from(self.not_judged)
+    }
+
+    /// Whether an end is judged.
+    pub fn has_verdict(&self) -> bool
+        ensures { result ≡ has_verdict self.now }
+    {
+        0 < self.yes || 0 < self.no || 0 < self.unfinished
+    }
+
+    /// Whether nothing is counted: no end, and no refusal.
+    pub fn is_empty(&self) -> bool
+        ensures { result ≡ is_empty self.now }
+    {
+        self.ends() == 0 && self.refused == 0
+    }
+
+    /// The exit status over all ends, the first of 5, 4, 1, 3, 2, 0 for which there is something:
+    /// where a device or memory failed, not all was judged; then a no, which nothing told of another
+    /// end hides; then a refusal. It is that of a refusal where no end is judged.
+    pub fn status(&self) -> Status
+        ensures { code_of result ≡ status_of self.now }
+    {
+        if self.device {
+            Status::Device
+        } else if self.memory {
+            Status::Memory
+        } else if 0 < self.no {
+            Status::No
+        } else if 0 < self.refused {
+            Status::Refused
+        } else if 0 < self.unfinished {
+            Status::Unfinished
+        } else if 0 < self.yes {
+            Status::Done
+        } else {
+            Status::Refused
+        }
+    }
+
+    /// Puts the last line: `ends 2: 2 yes, 0 no, 0 unfinished, 0 not judged; refused 0`.
+    pub fn put<W: Sink>(&self, lines: &mut Lines<'_, W>)
+        ensures { Writes lines.old lines.new (tally_line self.now) }
+    {
+        lines.put(b"ends ");
+        lines.put_decimal(self.ends());
+        lines.put(b": ");
+        lines.put_decimal(self.yes);
+        lines.put(b" yes, ");
+        lines.put_decimal(self.no);
+        lines.put(b" no, ");
+        lines.put_decimal(self.unfinished);
+        lines.put(b" unfinished, ");
+        lines.put_decimal(self.not_judged);
+        lines.put(b" not judged; refused ");
+        lines.put_decimal(self.refused);
+        lines.put(b"\n");
+    }
+}
