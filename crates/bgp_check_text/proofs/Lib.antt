@@ -1,1 +1,1 @@
-pub mod Highest
+pub mod OneHigher
