@@ -2,6 +2,7 @@ pub mod Alike
 pub mod Wider
 pub mod Stretch
 pub mod Opens
+pub mod Refresh
 pub mod Another
 pub mod Configurations
 pub mod Settings

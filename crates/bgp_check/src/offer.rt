@@ -1,10 +1,15 @@
 //! What an OPEN offers by its capabilities.
 
 ghost use Rattle.std.specs.Prelude.{◌≡◌, is_some, true};
+ghost use Rattle.bgp_open.specs.Capability.{capability_of};
 ghost use Rattle.bgp_open.specs.Offer.{as_number_of, families_of, offers_extended};
+ghost use Rattle.bgp_check.specs.Refresh.{is_route_refresh, offers_refresh};
 
-use bgp_open::{Config, ConfigParts, Families, Open, negotiate};
+use bgp_open::{Capability, Config, ConfigParts, Families, Open, negotiate};
 use bgp_prefix::{Address, RouteRefresh, Session};
+
+/// The Capability Code of route refresh (RFC 2918, 2).
+const ROUTE_REFRESH: u8 = 2;
 
 /// What a system offers by the capabilities of its OPEN.
 #[derive(Clone, Copy, Debug, PartialEq, Eq)]
@@ -15,6 +20,8 @@ pub struct Offer {
     pub as4: bool,
     /// Whether it can receive extended messages (RFC 8654, 4).
     pub extended: bool,
+    /// Whether it can receive ROUTE-REFRESH messages (RFC 2918, 2).
+    pub refresh: bool,
 }
 
 /// A system that offers whatever is known here: with it an OPEN settles what that OPEN offers.
@@ -44,16 +51,31 @@ fn offering_all() -> Config
     }
 }
 
+fn is_route_refresh(capability: Capability<'_>) -> bool
+    ensures { result ≡ is_route_refresh (capability_of capability.entry) }
+{
+    capability.code == ROUTE_REFRESH
+}
+
+/// Whether the OPEN offers route refresh.
+fn offers_refresh(message: &Open<'_>) -> bool
+    ensures { result ≡ offers_refresh message.now.capabilities }
+{
+    message.caps().any(is_route_refresh)
+}
+
 /// What the OPEN offers.
 pub fn offer_of(message: &Open<'_>) -> Offer
     ensures families { result.families ≡ families_of message.now.capabilities }
     ensures as4 { result.as4 ≡ is_some (as_number_of message.now.capabilities) }
     ensures extended { result.extended ≡ offers_extended message.now.capabilities }
+    ensures refresh { result.refresh ≡ offers_refresh message.now.capabilities }
 {
     let link = negotiate(&offering_all(), message);
     Offer {
         families: link.families,
         as4: link.as4,
         extended: link.extended,
+        refresh: offers_refresh(message),
     }
 }

@@ -1,13 +1,12 @@
 -- What the OPENs of a session offer of messages that aren't those of every session.
-use Rattle.std.specs.Prelude.{◌≡◌, ◌==◌, Bool, false, IsTrue, List, ℕ, Option, None, Some}
-use Rattle.std.specs.List.{list_any}
+use Rattle.std.specs.Prelude.{◌≡◌, Bool, false, IsTrue, List, ℕ, Option, None, Some}
 use Rattle.bgp_open.specs.Offer as offer
 use Rattle.bgp_open.specs.Open.{open_of}
 use Rattle.bgp_open.specs.OpenFault.{IsWellFormed}
-use Rattle.bgp_open.specs.Triplet.{Triplet}
 use Rattle.mrt.specs.Layout.{body_of, content_in, form_of, header_of}
 use Rattle.mrt.specs.declared.layout.Form.TheVariants as forms
 use Rattle.mrt_sessions.specs.File.{Located}
+use Rattle.bgp_check.specs.Refresh.{offers_refresh}
 
 -- ---- extended messages (RFC 8654)
 
@@ -29,15 +28,9 @@ HearsOffer named =
     (form_of (header_of named.octets).subtype ≡ Some forms.Received)
     × OffersExtended (content_of named)
 
--- ---- route refresh (RFC 2918, 2), capability 2
+-- ---- route refresh (RFC 2918, 2)
 
-abbrev pub is_route_refresh : Triplet → Bool
-is_route_refresh capability = capability.code == 2
-
-abbrev pub offers_refresh : List Triplet → Bool
-offers_refresh capabilities = list_any is_route_refresh capabilities
-
--- there is an OPEN, and it does
+-- there is an OPEN, and it offers that
 abbrev pub refresh_in : Option (List ℕ) → Bool
 refresh_in None = false
 refresh_in (Some octets) = offers_refresh (open_of octets).capabilities

@@ -2,19 +2,15 @@
 
 ghost use Rattle.std.specs.Prelude.{◌≡◌, ◌↔◌, IfSome, IsTrue, map, option_map};
 ghost use Rattle.bgp_machine.specs.Lists.{Has};
-ghost use Rattle.bgp_open.specs.Capability.{capability_of};
 ghost use Rattle.bgp_open.specs.OpenFault.{IsWellFormed};
 ghost use Rattle.mrt_sessions.specs.Located.{located};
 ghost use Rattle.bgp_check_capture.specs.Offers.{HearsOffer, OffersExtended, SendsOffer};
-ghost use Rattle.bgp_check_capture.specs.Offers.{is_route_refresh, offers_refresh, refresh_in};
+ghost use Rattle.bgp_check_capture.specs.Offers.{refresh_in};
 
 use bgp_check::offer_of;
-use bgp_open::{Capability, Open, read_open};
+use bgp_open::read_open;
 use mrt::{Form, form_of};
 use mrt_sessions::{ExtendedMessages, NamedRecord};
-
-/// The Capability Code of route refresh (RFC 2918, 2).
-const ROUTE_REFRESH: u8 = 2;
 
 /// Whether the octets are a whole and well-formed OPEN that offers extended messages (RFC 8654, 4).
 fn offers_extended(octets: &[u8]) -> bool
@@ -82,20 +78,7 @@ pub fn extended_messages(records: &[NamedRecord<'_>]) -> ExtendedMessages
     }
 }
 
-fn is_route_refresh(capability: Capability<'_>) -> bool
-    ensures { result ≡ is_route_refresh (capability_of capability.entry) }
-{
-    capability.code == ROUTE_REFRESH
-}
-
-/// Whether an OPEN offers route refresh (RFC 2918, 2).
-fn offers_refresh(message: &Open<'_>) -> bool
-    ensures { result ≡ offers_refresh message.now.capabilities }
-{
-    message.caps().any(is_route_refresh)
-}
-
-/// Whether there is an OPEN, and it offers route refresh.
+/// Whether there is an OPEN, and it offers route refresh (RFC 2918, 2).
 pub(crate) fn refresh_in(octets: Option<&[u8]>) -> bool
     requires { IfSome octets (λ o. IsWellFormed o.now) }
     ensures { result ≡ refresh_in (option_map (λ o. o.now) octets.entry) }
@@ -104,7 +87,7 @@ pub(crate) fn refresh_in(octets: Option<&[u8]>) -> bool
         return false;
     };
     match read_open(octets) {
-        Ok(message) => offers_refresh(&message),
+        Ok(message) => offer_of(&message).refresh,
         Err(_) => unreachable!(),
     }
 }

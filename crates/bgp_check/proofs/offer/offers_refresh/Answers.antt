@@ -2,8 +2,8 @@ use Rattle.std.proofs.Common.{rules}
 use Rattle.std.proofs.lemmas.Iterator.Search.{any_from_yields_List}
 use Rattle.std.proofs.lemmas.Iterator.Consumers.{YieldsList-from_first}
 use Rattle.bgp_open.specs.Capability.{capability_of}
-use Rattle.bgp_check_capture.specs.Offers.{is_route_refresh}
-use Rattle.bgp_check_capture.proofs.offers.offers_refresh.Goals as goal
+use Rattle.bgp_check.specs.Refresh.{is_route_refresh}
+use Rattle.bgp_check.proofs.offer.offers_refresh.Goals as goal
 
 pub returns : goal.returns
 returns c =
