@@ -20,9 +20,9 @@ pub(crate) struct Case {
     pub(crate) status: u8,
 }
 
-/// Reads a block of lines: `case` and what it teaches; `args` and the words of the command;
-/// `refresh`, where the session may have route refresh; `octets` and a piece of the capture; `>`
-/// and a line that is printed for it; `status` and a number.
+/// Reads a block of lines: `case` and what it teaches; `args` and the words of the command, which a
+/// stream has none of; `refresh`, where the session may have route refresh; `octets` and a piece of
+/// the capture; `>` and a line that is printed for it; `status` and a number.
 pub(crate) fn read_case(alloc: Global, block: &str) -> io::Result<Case> {
     let mut case = Case {
         session: Session {

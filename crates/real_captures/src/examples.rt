@@ -5,7 +5,7 @@ use bgp_judge::{PlainTracker, Tracker};
 use bgp_open::Config;
 use bgp_tool::{Command, command_line, judge_opened};
 use mrt::FromWrite;
-use std::alloc::Global;
+use std::alloc::{AllocError, Global};
 use std::rt::Files;
 use std::{fs, io};
 
@@ -54,20 +54,44 @@ fn is_answered<T: Tracker<Global>>(alloc: Global, example: &Example<'_>) -> bool
         && outcome.note.is_some() == (example.status == 3)
 }
 
-/// Whether the words of an example are a judging, and both trackers answer it as it says.
-fn is_so<R: Files + AllocGlobal>(rt: &R, name: &str, status: u8) -> io::Result<bool> {
-    let alloc = rt.alloc();
-    let capture = format!(in alloc; "judge/{name}")?;
-    let args = fs::read_to_string(rt, format!(in alloc; "judge/{name}.args")?.as_str())?;
-    let text = fs::read_to_string(rt, format!(in alloc; "judge/{name}.stdout")?.as_str())?;
+/// Whether both trackers answer an example so.
+fn is_answered_by_both(alloc: Global, example: &Example<'_>) -> bool {
+    is_answered::<PlainTracker<Global>>(alloc, example)
+        && is_answered::<CompactTracker<Global>>(alloc, example)
+}
+
+/// The configuration that the words name, one a line, if they are a judging of this file.
+fn config_of(alloc: Global, args: &str, file: &str) -> Result<Option<Config>, AllocError> {
     let mut words = Vec::new(alloc);
     words.push("bgp")?;
     for word in args.lines() {
-        words.push(if word == "{}" { capture.as_str() } else { word })?;
+        words.push(if word == "{}" { file } else { word })?;
     }
-    let Ok(Command::Judge { config, file, .. }) = command_line(alloc, words.as_slice()) else {
+    match command_line(alloc, words.as_slice()) {
+        Ok(
+            Command::Judge {
+                config,
+                file: named,
+                ..
+            },
+        ) if named == file => Ok(Some(config)),
+        _ => Ok(None),
+    }
+}
+
+/// What lies beside an example's capture, with this behind its name.
+fn beside<R: Files + AllocGlobal>(rt: &R, file: &str, end: &str) -> io::Result<String> {
+    let path = format!(in rt.alloc(); "{file}.{end}")?;
+    Ok(fs::read_to_string(rt, path.as_str())?)
+}
+
+/// Whether the words beside a file are a judging of it, and both trackers answer it so.
+fn is_judged<R: Files + AllocGlobal>(rt: &R, file: &str, status: u8) -> io::Result<bool> {
+    let args = beside(rt, file, "args")?;
+    let Some(config) = config_of(rt.alloc(), args.as_str(), file)? else {
         return Ok(false);
     };
+    let text = beside(rt, file, "stdout")?;
     let octets = fs::read(rt, file)?;
     let example = Example {
         config,
@@ -76,10 +100,13 @@ fn is_so<R: Files + AllocGlobal>(rt: &R, name: &str, status: u8) -> io::Result<b
         text: text.as_str(),
         status,
     };
-    Ok(
-        is_answered::<PlainTracker<Global>>(alloc, &example)
-            && is_answered::<CompactTracker<Global>>(alloc, &example),
-    )
+    Ok(is_answered_by_both(rt.alloc(), &example))
+}
+
+/// Whether the words of an example are a judging, and both trackers answer it as it says.
+fn is_so<R: Files + AllocGlobal>(rt: &R, name: &str, status: u8) -> io::Result<bool> {
+    let file = format!(in rt.alloc(); "judge/{name}")?;
+    is_judged(rt, file.as_str(), status)
 }
 
 /// Prints each example that is not so, and then how many there were. Answers whether all are so.

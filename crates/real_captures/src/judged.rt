@@ -136,10 +136,16 @@ fn answer_to<T: Tracker<Global>>(
     Ok((sink.into_octets(), status))
 }
 
-/// Whether a capture is judged as the case says.
-fn is_judged<T: Tracker<Global>>(alloc: Global, case: &Judged) -> Result<bool, AllocError> {
-    let (written, status) = answer_to::<T>(alloc, case, Failing::Nothing)?;
-    Ok(written.as_slice() == case.text.as_bytes() && status == case.status)
+/// Whether judging a case with a tracker writes this text and answers this status.
+fn answers<T: Tracker<Global>>(
+    alloc: Global,
+    case: &Judged,
+    failing: Failing,
+    text: &[u8],
+    status: u8,
+) -> Result<bool, AllocError> {
+    let (written, answered) = answer_to::<T>(alloc, case, failing)?;
+    Ok(written.as_slice() == text && answered == status)
 }
 
 /// Whether a source is told that fails behind the capture, if it isn't refused before.
@@ -147,24 +153,18 @@ fn is_source_told<T: Tracker<Global>>(alloc: Global, case: &Judged) -> Result<bo
     if case.status > 2 {
         return Ok(true);
     }
-    let (written, status) = answer_to::<T>(alloc, case, Failing::Source)?;
     let length = case.capture.len();
     let text = format!(in alloc; "capture refused: 9 Device at {length}\n")?;
-    Ok(written.as_slice() == text.as_bytes() && status == 5)
-}
-
-/// Whether a sink is told that fails.
-fn is_sink_told<T: Tracker<Global>>(alloc: Global, case: &Judged) -> Result<bool, AllocError> {
-    let (written, status) = answer_to::<T>(alloc, case, Failing::Sink)?;
-    Ok(written.is_empty() && status == 5)
+    answers::<T>(alloc, case, Failing::Source, text.as_bytes(), 5)
 }
 
 /// Whether a case is so with a tracker.
 fn is_so<T: Tracker<Global>>(alloc: Global, case: &Judged) -> Result<bool, AllocError> {
+    let text = case.text.as_bytes();
     Ok(
-        is_judged::<T>(alloc, case)?
+        answers::<T>(alloc, case, Failing::Nothing, text, case.status)?
             && is_source_told::<T>(alloc, case)?
-            && is_sink_told::<T>(alloc, case)?,
+            && answers::<T>(alloc, case, Failing::Sink, b"", 5)?,
     )
 }
 
@@ -183,10 +183,19 @@ pub(crate) fn common_answer(
     alloc: Global,
     case: &Judged,
 ) -> Result<Option<(Vec<u8>, u8)>, AllocError> {
-    let (plain, status) = answer_to::<PlainTracker<Global>>(alloc, case, Failing::Nothing)?;
-    let (compact, other) = answer_to::<CompactTracker<Global>>(alloc, case, Failing::Nothing)?;
-    let is_alike = plain.as_slice() == compact.as_slice() && status == other;
-    Ok(is_alike.then_some((plain, status)))
+    let plain = answer_to::<PlainTracker<Global>>(alloc, case, Failing::Nothing)?;
+    let is_alike = is_compact_so(alloc, case, &plain)?;
+    Ok(is_alike.then_some(plain))
+}
+
+/// Whether the compact tracker writes and answers this, too.
+fn is_compact_so(
+    alloc: Global,
+    case: &Judged,
+    (text, status): &(Vec<u8>, u8),
+) -> Result<bool, AllocError> {
+    let nothing = Failing::Nothing;
+    answers::<CompactTracker<Global>>(alloc, case, nothing, text.as_slice(), *status)
 }
 
 /// Alters a case's capture. Answers whether both trackers answer it alike.
@@ -211,6 +220,21 @@ fn are_altered_alike<R: Files + AllocGlobal>(
     Ok(is_first && is_second)
 }
 
+/// Alters the capture of a case twice, up to so many, and prints the case if the trackers don't
+/// answer each alike. Answers whether they do.
+fn compare_altered_case<R: Files + Print + AllocGlobal>(
+    rt: &R,
+    captures: u64,
+    block: &str,
+    random: &mut Pcg32,
+) -> io::Result<bool> {
+    let are_alike = are_altered_alike(rt, block, random)?;
+    if !are_alike {
+        println!(rt; "altered to {captures}, it isn't judged alike:\n{block}")?;
+    }
+    Ok(are_alike)
+}
+
 /// Alters each capture of a table twice, and prints each case for which the trackers don't answer
 /// alike, and then how many captures there were. Answers whether all are so. The changes are the
 /// same in each run.
@@ -228,10 +252,7 @@ pub(crate) fn compare_altered<R: Files + Print + AllocGlobal>(
             continue;
         }
         captures = captures.saturating_add(2);
-        if !are_altered_alike(rt, block, &mut random)? {
-            println!(rt; "{name}: altered to {captures}, it isn't judged alike:\n{block}")?;
-            all = false;
-        }
+        all &= compare_altered_case(rt, captures, block, &mut random)?;
     }
     println!(rt; "{name}: {captures} altered captures")?;
     Ok(all)

@@ -17,7 +17,8 @@
 //!
 //! Then the streams of real routers are decoded, whose UPDATEs are clean; and the outcomes of
 //! UPDATEs and the texts of addresses are compared with tables that other programs made, and those
-//! of UPDATEs with one that was worked out by hand (docs/UPDATE-ERRORS.md), too.
+//! of UPDATEs with one that was worked out by hand (docs/UPDATE-ERRORS.md), too. So were the lines
+//! of the streams in `streams-by-hand.txt`, and what is found in the OPENs of `opens-by-hand.txt`.
 #![tactic(auto)]
 
 mod addresses;
@@ -26,8 +27,10 @@ mod case;
 mod chance;
 mod examples;
 mod judged;
+mod lines;
 mod messages;
 mod moves;
+mod opens;
 mod recordings;
 mod runs;
 mod sessions;
@@ -61,11 +64,23 @@ fn main(rt: HostRuntime) -> ExitCode {
 /// Goes through all. Answers whether all is as it is known.
 fn run<R: Files + Print + AllocGlobal>(rt: &R) -> io::Result<bool> {
     print_captures(rt)?;
+    let captures = compare_captures(rt)?;
+    let others = compare_others(rt)?;
+    Ok(captures && others)
+}
+
+/// Goes through the tables, and judges altered captures and the examples.
+fn compare_captures<R: Files + Print + AllocGlobal>(rt: &R) -> io::Result<bool> {
     let tables = compare_tables(rt)?;
     let altered = compare_altered(rt, "judged.txt")?;
     let examples = compare_examples(rt)?;
+    Ok(tables && altered && examples)
+}
+
+/// Goes through the streams, the addresses and sessions by chance.
+fn compare_others<R: Files + Print + AllocGlobal>(rt: &R) -> io::Result<bool> {
     let streams = print_streams(rt)?;
     let addresses = compare_addresses(rt)?;
     let sessions = judge_sessions(rt)?;
-    Ok(tables && altered && examples && streams && addresses && sessions)
+    Ok(streams && addresses && sessions)
 }

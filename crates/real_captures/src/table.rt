@@ -1,6 +1,8 @@
 //! Tables of blocks of lines, each of which tells a case and its answer.
 
 use crate::judged::is_judged_by_both;
+use crate::lines::is_stream;
+use crate::opens::is_open;
 use crate::runs::is_decoded;
 use crate::updates::is_outcome;
 use std::rt::Files;
@@ -17,10 +19,14 @@ enum Told {
     Verdict,
     /// The outcomes of an UPDATE.
     Outcomes,
+    /// A stream's lines.
+    StreamLines,
+    /// What is found in an OPEN.
+    Open,
 }
 
 /// The tables, and what their cases tell of.
-static TABLES: [(&str, Told); 13] = [
+static TABLES: [(&str, Told); 15] = [
     ("cases.txt", Told::Lines),
     ("rules.txt", Told::LinesAnywhere),
     ("cases-extended.txt", Told::Lines),
@@ -34,6 +40,8 @@ static TABLES: [(&str, Told); 13] = [
     ("updates.txt", Told::Outcomes),
     ("updates-large.txt", Told::Outcomes),
     ("updates-by-hand.txt", Told::Outcomes),
+    ("streams-by-hand.txt", Told::StreamLines),
+    ("opens-by-hand.txt", Told::Open),
 ];
 
 /// Goes through the tables. Answers whether all their cases are so.
@@ -57,13 +65,24 @@ fn compare<R: Files + Print + AllocGlobal>(rt: &R, name: &str, told: Told) -> io
             continue;
         }
         cases = cases.saturating_add(1);
-        if !is_so(rt, block, told)? {
-            println!(rt; "{name}: case {cases} is not so:\n{block}")?;
-            all = false;
-        }
+        all &= compare_case(rt, cases, block, told)?;
     }
     println!(rt; "{name}: {cases} cases")?;
     Ok(all)
+}
+
+/// Prints a case of this number if it is not so. Answers whether it is so.
+fn compare_case<R: Files + Print + AllocGlobal>(
+    rt: &R,
+    number: u64,
+    block: &str,
+    told: Told,
+) -> io::Result<bool> {
+    let is_so = is_so(rt, block, told)?;
+    if !is_so {
+        println!(rt; "case {number} is not so:\n{block}")?;
+    }
+    Ok(is_so)
 }
 
 /// Whether a case is so.
@@ -73,5 +92,7 @@ fn is_so<R: Files + AllocGlobal>(rt: &R, block: &str, told: Told) -> io::Result<
         Told::LinesAnywhere => is_decoded(rt.alloc(), block, true),
         Told::Verdict => is_judged_by_both(rt, block),
         Told::Outcomes => is_outcome(rt.alloc(), block),
+        Told::StreamLines => is_stream(rt.alloc(), block),
+        Told::Open => is_open(rt.alloc(), block),
     }
 }

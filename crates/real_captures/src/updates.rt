@@ -37,22 +37,31 @@ const SECOND_AFI: usize = 40;
 
 /// Whether a case is so.
 pub(crate) fn is_outcome(alloc: Global, block: &str) -> io::Result<bool> {
-    let Some((link, rest)) = given_in(block).split_once('\n') else {
-        return Ok(false);
-    };
-    let (digits, told) = rest.split_once('\n').unwrap_or((rest, ""));
-    let (Some(link), Some(digits)) = (link_of(link), digits.strip_prefix("octets ")) else {
+    let Some((link, digits, told)) = parts_of(block) else {
         return Ok(false);
     };
     let octets = octets_of(alloc, digits)?;
-    let outcomes = read_update(alloc, &link, octets.as_slice())?;
+    has_outcomes(alloc, &link, octets.as_slice(), told)
+}
+
+/// The link, the digits of the UPDATE and the lines that a block tells.
+fn parts_of(block: &str) -> Option<(Link, &str, &str)> {
+    let (link, rest) = given_in(block).split_once('\n')?;
+    let (digits, told) = rest.split_once('\n').unwrap_or((rest, ""));
+    Some((link_of(link)?, digits.strip_prefix("octets ")?, told))
+}
+
+/// Whether an UPDATE has the outcomes that are told.
+fn has_outcomes(alloc: Global, link: &Link, octets: &[u8], told: &str) -> io::Result<bool> {
+    let outcomes = read_update(alloc, link, octets)?;
     let mut text = String::new(alloc);
     push_outcomes(alloc, &mut text, &outcomes)?;
-    text.push_str(if is_clean(&link, octets.as_slice()) {
+    let clean = if is_clean(link, octets) {
         "clean yes"
     } else {
         "clean no"
-    })?;
+    };
+    text.push_str(clean)?;
     Ok(is_ordered(&outcomes) && text.as_str() == told)
 }
 
@@ -90,17 +99,40 @@ fn link_of(line: &str) -> Option<Link> {
     let mut words = line.split(' ').skip(1);
     let as4 = words.next()? == "4";
     let is_internal = words.next()? == "internal";
-    let families = words.next()?;
-    let has_v4 = families == "v4" || families == "v4,v6";
-    let has_v6 = families == "v6" || families == "v4,v6";
-    let parts = ConfigParts {
+    let used = families_of(words.next()?);
+    let config = config_of(as4, is_internal, used)?;
+    let octets = open_of(used);
+    let open = read_open(&octets).ok()?;
+    Some(negotiate(&config, &open))
+}
+
+/// The families that are named.
+pub(crate) fn families_of(names: &str) -> Families {
+    Families {
+        v4: names == "v4" || names == "v4,v6",
+        v6: names == "v6" || names == "v4,v6",
+    }
+}
+
+/// The peer's OPEN where these families are used.
+fn open_of(used: Families) -> [u8; 49] {
+    let mut open = OPEN;
+    if !used.v6 {
+        open[SECOND_AFI] = 3;
+    }
+    open
+}
+
+/// A configuration by which these families are used.
+fn config_of(as4: bool, is_internal: bool, used: Families) -> Option<Config> {
+    Config::new(ConfigParts {
         local_as: if is_internal { 65002 } else { 65001 },
         peer_as: 65002,
         local_id: 0xc000_0201,
         hold: 90,
         families: Families {
-            v4: has_v4,
-            v6: has_v6 || !has_v4,
+            v4: used.v4,
+            v6: used.v6 || !used.v4,
         },
         as4,
         delay_open: false,
@@ -111,13 +143,7 @@ fn link_of(line: &str) -> Option<Link> {
             refresh: RouteRefresh::NotOffered,
             extended: false,
         },
-    };
-    let mut open = OPEN;
-    if !has_v6 {
-        open[SECOND_AFI] = 3;
-    }
-    let message = read_open(&open).ok()?;
-    Some(negotiate(&Config::new(parts)?, &message))
+    })
 }
 
 /// Appends the lines of the outcomes.

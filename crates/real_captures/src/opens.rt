@@ -1,0 +1,164 @@
+//! OPENs, and what a system that is configured so finds in them, against what was worked out by
+//! hand.
+//!
+//! A line of `case` says what a block teaches, `config` gives the configuration and `octets` the
+//! OPEN. Each line behind them tells one thing: whether there is such a configuration
+//! (`configured`), whether it may send the OPEN itself (`own`), the subcodes that a peer's has to be
+//! refused with and those that it may be (`must`, `may`), and what a peer's settles (`link`).
+
+use crate::case::{malformed, octets_of};
+use crate::updates::families_of;
+use bgp_open::{
+    Config, ConfigParts, Families, Link, OpenSubcodes, is_own_open, negotiate, open_faults,
+    read_open,
+};
+use bgp_prefix::{Address, RouteRefresh, Session, read_address};
+use std::alloc::{AllocError, Global};
+use std::io;
+
+/// Whether each line of a block is so.
+pub(crate) fn is_open(alloc: Global, block: &str) -> io::Result<bool> {
+    let (_, rest) = first_line(block);
+    let (config, rest) = first_line(rest);
+    let (octets, told) = first_line(rest);
+    let words: Vec<&str> = config.split(' ').collect(alloc)?;
+    let (Some(parts), Some(digits)) = (parts_of(words.as_slice()), octets.strip_prefix("octets "))
+    else {
+        return Err(malformed());
+    };
+    let octets = octets_of(alloc, digits)?;
+    are_told(alloc, &parts, octets.as_slice(), told)
+}
+
+/// A text's first line, and the others.
+fn first_line(text: &str) -> (&str, &str) {
+    text.split_once('\n').unwrap_or((text, ""))
+}
+
+/// The session of these words: both addresses, `refresh` if a ROUTE-REFRESH may come, and
+/// `extended` if longer messages are offered.
+fn session_of(words: &[&str]) -> Option<Session> {
+    let [local, peer, refresh, limit] = words else {
+        return None;
+    };
+    Some(Session {
+        peer: read_address(peer)?,
+        local: read_address(local)?,
+        refresh: RouteRefresh::with_offer(*refresh == "refresh"),
+        extended: *limit == "extended",
+    })
+}
+
+/// The identifier that is written as an address.
+fn id_of(word: &str) -> Option<u32> {
+    match read_address(word)? {
+        Address::V4(id) => Some(id),
+        Address::V6(_) => None,
+    }
+}
+
+/// What the words of a line of `config` are: the AS numbers, the identifier, the Hold Time, the
+/// families, the octets of an AS number, the first HoldTimer, and the session.
+fn parts_of(words: &[&str]) -> Option<ConfigParts> {
+    let [
+        _,
+        local_as,
+        peer_as,
+        id,
+        hold,
+        families,
+        width,
+        large_hold,
+        session @ ..,
+    ] = words
+    else {
+        return None;
+    };
+    Some(ConfigParts {
+        local_as: local_as.parse::<u32>().ok()?,
+        peer_as: peer_as.parse::<u32>().ok()?,
+        local_id: id_of(id)?,
+        hold: hold.parse::<u16>().ok()?,
+        families: families_of(families),
+        as4: *width == "4",
+        delay_open: false,
+        large_hold: large_hold.parse::<u32>().ok()?,
+        session: session_of(session)?,
+    })
+}
+
+/// Whether each of these lines is so of these parts and an OPEN.
+fn are_told(alloc: Global, parts: &ConfigParts, octets: &[u8], told: &str) -> io::Result<bool> {
+    let Some(config) = Config::new(*parts) else {
+        return Ok(told == "configured no");
+    };
+    for line in told.split('\n') {
+        if !is_told(alloc, &config, octets, line)? {
+            return Ok(false);
+        }
+    }
+    Ok(config.parts == *parts)
+}
+
+/// Whether a line is so of a configuration and an OPEN.
+fn is_told(alloc: Global, config: &Config, octets: &[u8], line: &str) -> io::Result<bool> {
+    let (word, told) = line.split_once(' ').unwrap_or((line, ""));
+    match word {
+        "configured" => Ok(told == "yes"),
+        "own" => Ok(is_own_open(config, octets) == (told == "yes")),
+        "must" => Ok(are_subcodes(alloc, &open_faults(config, octets).must, told)?),
+        "may" => Ok(are_subcodes(alloc, &open_faults(config, octets).may, told)?),
+        "link" => Ok(is_settled(alloc, config, octets, told)?),
+        _ => Err(malformed()),
+    }
+}
+
+/// Whether these are the subcodes of a set, in ascending order, each with the data that it wants.
+fn are_subcodes(alloc: Global, set: &OpenSubcodes, told: &str) -> Result<bool, AllocError> {
+    let mut text = String::new(alloc);
+    for subcode in 0..=255u8 {
+        if set.contains(subcode, &[0x00, 0x04]) {
+            let is_free = set.contains(subcode, &[]);
+            let data = if is_free { "" } else { ":0004" };
+            text.push_str(format!(in alloc; "{subcode}{data} ")?.as_str())?;
+        }
+    }
+    Ok(set.is_empty() == told.is_empty() && text.as_str().trim_end() == told)
+}
+
+/// How a set of families is told.
+fn name_of(families: Families) -> &'static str {
+    match (families.v4, families.v6) {
+        (false, false) => "-",
+        (true, false) => "v4",
+        (false, true) => "v6",
+        (true, true) => "v4,v6",
+    }
+}
+
+/// How a link is told: the Hold Time, the octets of an AS number, the families, the peer, and
+/// whether it offers extended messages.
+fn link_text(alloc: Global, link: &Link) -> Result<String, AllocError> {
+    let (hold, families) = (link.hold, name_of(link.families));
+    let width = if link.as4 { 4 } else { 2 };
+    let peer = if link.internal {
+        "internal"
+    } else {
+        "external"
+    };
+    let limit = if link.extended { "extended" } else { "plain" };
+    format!(in alloc; "{hold} {width} {families} {peer} {limit}")
+}
+
+/// Whether a configuration and an OPEN settle that.
+fn is_settled(
+    alloc: Global,
+    config: &Config,
+    octets: &[u8],
+    told: &str,
+) -> Result<bool, AllocError> {
+    match read_open(octets) {
+        Ok(open) => Ok(link_text(alloc, &negotiate(config, &open))?.as_str() == told),
+        Err(_) => Ok(false),
+    }
+}
