@@ -1,4 +1,5 @@
-//! Streams whose lines were worked out by hand, devices that fail in mid-stream, refused memory.
+//! Devices that fail in mid-stream, and refused memory. (The lines of streams are compared by the
+//! program `real_captures`.)
 
 mod announcing;
 mod captures;
@@ -9,20 +10,17 @@ mod judging;
 mod opened;
 mod passing;
 mod speaking;
-mod updates;
 
 use bgp_tool::*;
 use bgp_wire::Limit;
 use bgp_wire::vectors::{
-    ADMINISTRATIVE_SHUTDOWN, ANNOUNCES_10, BAD_LENGTH_18, KEEPALIVE, KEEPALIVE_OF_18, OPEN_B,
-    OPEN_WITH_ROUTE_REFRESH, OPEN_WITHOUT_PARAMETERS,
+    ADMINISTRATIVE_SHUTDOWN, ANNOUNCES_10, KEEPALIVE, KEEPALIVE_OF_18, OPEN_B,
 };
 use linked_list_allocator::LocalHeap;
 use mrt::{MemSink, MemSource, SinkUpset, SourceUpset};
 use std::alloc::{AllocError, Allocator, Global};
+use std::fmt;
 use std::num::NonZeroUsize;
-use std::process::Abort;
-use std::test::Fail;
 
 /// An OPEN of another version (RFC 4271, 6.2: Unsupported Version Number).
 const OPEN_OF_VERSION_3: [u8; 29] = [
@@ -36,41 +34,11 @@ const OPEN_OF_VERSION_3: [u8; 29] = [
     0x00, // Optional Parameters Length: 0
 ];
 
-/// An OPEN with a parameter that isn't known (RFC 4271, 6.2: Unsupported Optional Parameter).
-const OPEN_WITH_PARAMETER_1: [u8; 31] = [
-    255, 255, 255, 255, 255, 255, 255, 255, 255, 255, 255, 255, 255, 255, 255, 255, // marker
-    0x00, 0x1f, // Length: 31
-    0x01, // Type: OPEN
-    0x04, // version 4
-    0xfd, 0xea, // My Autonomous System: 65002
-    0x00, 0x5a, // Hold Time: 90
-    0xc0, 0x00, 0x02, 0x02, // BGP Identifier: 192.0.2.2
-    0x02, // Optional Parameters Length: 2
-    0x01, 0x00, // a parameter of type 1, empty
-];
-
-/// An OPEN with a capability that has no length (RFC 4271, 6.2: malformed).
-const OPEN_WITH_HALF_A_CAPABILITY: [u8; 32] = [
-    255, 255, 255, 255, 255, 255, 255, 255, 255, 255, 255, 255, 255, 255, 255, 255, // marker
-    0x00, 0x20, // Length: 32
-    0x01, // Type: OPEN
-    0x04, // version 4
-    0xfd, 0xea, // My Autonomous System: 65002
-    0x00, 0x5a, // Hold Time: 90
-    0xc0, 0x00, 0x02, 0x02, // BGP Identifier: 192.0.2.2
-    0x03, // Optional Parameters Length: 3
-    0x02, 0x01, // Capabilities, 1 octet
-    0x41, // four-octet AS number, cut short
-];
-
 /// The front of a message: part of its marker.
 const TEN_OCTETS: [u8; 10] = [255; 10];
 
 /// The front of a message: part of its marker.
 const FIVE_OCTETS: [u8; 5] = [255; 5];
-
-/// A header with no field as it should be.
-const ZEROS: [u8; 19] = [0; 19];
 
 /// A session's opening and end, and the front of a message that never came whole.
 const SESSION: [&[u8]; 4] = [&OPEN_B, &ADMINISTRATIVE_SHUTDOWN, &KEEPALIVE, &FIVE_OCTETS];
@@ -86,6 +54,14 @@ rest 5
 /// Whether that was written and answered.
 fn same(written: &[u8], answer: u8, text: &[u8], status: u8) -> bool {
     written == text && answer == status
+}
+
+/// Whether what is told has these words.
+fn has_words<T: fmt::Display>(alloc: Global, told: &T, words: &str) -> bool {
+    match format!(in alloc; "{told}") {
+        Ok(text) => text.as_str() == words,
+        Err(_) => false,
+    }
 }
 
 /// Messages as a stream, one after another.
@@ -165,68 +141,10 @@ fn are_decoded(
     same(&written, answer, text, status)
 }
 
-/// Whether messages in memory have this text and this status.
-fn have_text(alloc: Global, messages: &[&[u8]], text: &[u8], status: u8) -> bool {
-    let Ok(octets) = joined(alloc, messages) else {
-        return false;
-    };
-    let (written, answer) = text_and_status(Limit::Plain, alloc, octets);
-    same(&written, answer, text, status)
-}
-
 /// The line of [`ANNOUNCES_10`].
 const ANNOUNCES_10_LINE: &str = "\
 update - | 64.1:00 64.2:02010000fdea 64.3:c0000202 | 10.0.0.0/8
 ";
-
-/// Streams, their text, and the exit status.
-static STREAMS: [(&[&[u8]], &str, u8); 13] = [
-    (&SESSION, SESSION_TEXT, 2),
-    (&[], "", 0),
-    (&[&TEN_OCTETS], "rest 10\n", 2),
-    (
-        &[&KEEPALIVE, &KEEPALIVE_OF_18],
-        "keepalive\nfault at 19 1/2\n",
-        3,
-    ),
-    (&[&KEEPALIVE_OF_18, &KEEPALIVE], "fault at 0 1/2\n", 3),
-    (&[&ZEROS], "fault at 0 1/1 1/2 1/3\n", 3),
-    (
-        &[&OPEN_WITHOUT_PARAMETERS],
-        "open as 65002 hold 90 id 192.0.2.2 caps -\n",
-        0,
-    ),
-    (
-        &[&OPEN_WITH_ROUTE_REFRESH],
-        "open as 65002 hold 90 id 192.0.2.2 caps 2:-\n",
-        0,
-    ),
-    (&[&OPEN_OF_VERSION_3], "open malformed 1\n", 0),
-    (&[&OPEN_WITH_PARAMETER_1], "open malformed 4\n", 0),
-    (&[&OPEN_WITH_HALF_A_CAPABILITY], "open malformed 0\n", 0),
-    (&[&ANNOUNCES_10], ANNOUNCES_10_LINE, 0),
-    (&[&BAD_LENGTH_18], "notification 1/2 0012\n", 0),
-];
-
-#[test]
-fn each_stream_has_its_lines_and_its_status(rt: HostRuntime) {
-    for (messages, text, status) in &STREAMS {
-        let wanted = text.as_bytes();
-        let is_so = are_decoded(rt.alloc(), messages, WHOLE, wanted, *status)
-            && are_decoded(rt.alloc(), messages, SLOW_SOURCE, wanted, *status);
-        assert!(rt; is_so, "{text}");
-    }
-}
-
-#[test]
-fn octets_in_memory_have_their_text_and_their_status(rt: HostRuntime) {
-    for (messages, text, status) in &STREAMS {
-        assert!(rt;
-            have_text(rt.alloc(), messages, text.as_bytes(), *status),
-            "{text}"
-        );
-    }
-}
 
 /// The lines of [`SESSION`], and the read, of one octet, that ends the message behind each.
 static LINES: [(u64, &str); 4] = [
@@ -341,21 +259,33 @@ fn decoded_on(
     Ok(decoded(&heap, alloc, octets, handling))
 }
 
-#[test]
-fn a_refused_growth_leaves_a_beginning_of_the_text(rt: HostRuntime) -> Result<(), Fail> {
+/// What came of [`SHUTDOWN_BEFORE_OPEN`] on a heap of this size: its text, or memory was refused
+/// behind a beginning of it that is so long. It is `None` where something else was written.
+fn told_on(alloc: Global, size: usize) -> Option<Result<(), usize>> {
+    let (written, answer) = decoded_on(alloc, size, &SHUTDOWN_BEFORE_OPEN, SLOW_SOURCE).ok()?;
     let text = SHUTDOWN_BEFORE_OPEN_TEXT.as_bytes();
+    if answer == 4 {
+        return text.starts_with(&written).then_some(Err(written.len()));
+    }
+    same(&written, answer, text, 2).then_some(Ok(()))
+}
+
+/// Whether memory is refused, at last behind some octets, until a heap is large enough.
+fn is_told_on_some(alloc: Global) -> bool {
     let mut longest = 0;
     for size in (16usize..1 << 16).step_by(16) {
-        let (written, answer) = decoded_on(rt.alloc(), size, &SHUTDOWN_BEFORE_OPEN, SLOW_SOURCE)?;
-        if answer != 4 {
-            let is_so = 0 < longest && same(&written, answer, text, 2);
-            assert!(rt; is_so, "on a heap of {size}, behind {longest} octets");
-            return Ok(());
+        match told_on(alloc, size) {
+            Some(Ok(())) => return 0 < longest,
+            Some(Err(length)) => longest = length.max(longest),
+            None => return false,
         }
-        assert!(rt; text.starts_with(&written), "on a heap of {size}");
-        longest = written.len().max(longest);
     }
-    Err(Fail::new("no heap was large enough"))
+    false
+}
+
+#[test]
+fn a_refused_growth_leaves_a_beginning_of_the_text(rt: HostRuntime) {
+    assert!(rt; is_told_on_some(rt.alloc()));
 }
 
 /// The status of a message in memory, where there is room for it.
@@ -366,46 +296,55 @@ fn status_on(heap: &LocalHeap, message: &[u8]) -> Option<u8> {
     Some(answer)
 }
 
-/// Memory is refused to the splitter first, and where that has enough to the text.
-#[test]
-fn refused_memory_has_the_status_of_what_wanted_it(rt: HostRuntime) -> Result<(), Fail> {
+/// The same of a KEEPALIVE, with a heap of this size.
+fn status_with(alloc: Global, size: usize) -> Option<u8> {
+    let heap = LocalHeap::new(alloc, size).ok()?;
+    status_on(&heap, &KEEPALIVE)
+}
+
+/// Whether the statuses of a KEEPALIVE, with larger and larger heaps, are these.
+fn are_statuses(alloc: Global, statuses: &[u8]) -> bool {
     let (mut count, mut last) = (0usize, None);
     for size in (16usize..1 << 13).step_by(16) {
-        let heap = LocalHeap::new(rt.alloc(), size)?;
-        let answer = status_on(&heap, &KEEPALIVE);
+        let answer = status_with(alloc, size);
         if answer.is_some() && answer != last {
-            assert!(rt;
-                [4, 5, 0].get(count) == answer.as_ref(),
-                "on a heap of {size}"
-            );
+            if statuses.get(count) != answer.as_ref() {
+                return false;
+            }
             count = count.saturating_add(1);
             last = answer;
         }
     }
-    assert!(rt; count == 3);
-    Ok(())
+    count == statuses.len()
 }
 
+/// Memory is refused to the splitter first, and where that has enough to the text.
 #[test]
-fn memory_does_not_grow_with_the_stream(rt: HostRuntime) -> Result<(), Fail> {
-    let mut octets = Vec::new(rt.alloc());
-    for _ in 0..10_000 {
-        octets.extend_from_slice(&ANNOUNCES_10)?;
+fn refused_memory_has_the_status_of_what_wanted_it(rt: HostRuntime) {
+    assert!(rt; are_statuses(rt.alloc(), &[4, 5, 0]));
+}
+
+/// So many copies of a message.
+fn copies_of(alloc: Global, message: &[u8], count: usize) -> Result<Vec<u8>, AllocError> {
+    let mut octets = Vec::new(alloc);
+    for _ in 0..count {
+        octets.extend_from_slice(message)?;
     }
-    let heap = LocalHeap::new(rt.alloc(), 1 << 19)?;
-    let (written, answer) = decoded(&heap, rt.alloc(), octets, WHOLE);
-    assert!(rt; answer == 0 && written.len() == 10_000 * ANNOUNCES_10_LINE.len());
-    Ok(())
+    Ok(octets)
 }
 
-/// The calls that may want memory, with enough of it.
+/// How much text a stream of 10,000 UPDATEs has on a heap, if its status is 0.
+fn length_on(alloc: Global, size: usize) -> Result<Option<usize>, AllocError> {
+    let octets = copies_of(alloc, &ANNOUNCES_10, 10_000)?;
+    let heap = LocalHeap::new(alloc, size)?;
+    let (written, answer) = decoded(&heap, alloc, octets, WHOLE);
+    Ok((answer == 0).then_some(written.len()))
+}
+
 #[test]
-fn ample_memory(rt: HostRuntime) {
-    let messages: [&[u8]; 2] = [&ADMINISTRATIVE_SHUTDOWN, &KEEPALIVE];
-    let text = b"notification 6/2 -\nkeepalive\n".as_slice();
-    let is_so = are_decoded(rt.alloc(), &messages, WHOLE, text, 0)
-        && have_text(rt.alloc(), &messages, text, 0);
-    assert!(rt; is_so);
+fn memory_does_not_grow_with_the_stream(rt: HostRuntime) {
+    let length = 10_000 * ANNOUNCES_10_LINE.len();
+    assert!(rt; length_on(rt.alloc(), 1 << 19) == Ok(Some(length)));
 }
 
 /// Each status, and its number.

@@ -63,9 +63,8 @@ static WORDS: [&str; 19] = [
     "session.mrt",
 ];
 
-/// What is said of the prefix that the words name, nothing where there is nothing to say: `None`
-/// where they are no command to speak.
-fn said_of(alloc: Global, words: &[&str]) -> Result<Option<String>, AllocError> {
+/// Whether words are a command to speak of whose prefix this is said, or nothing where it is empty.
+fn is_said(alloc: Global, words: &[&str], sentence: &str) -> bool {
     let Ok(
         Command::Speak {
             config,
@@ -74,32 +73,32 @@ fn said_of(alloc: Global, words: &[&str]) -> Result<Option<String>, AllocError> 
         },
     ) = command_line(alloc, words)
     else {
-        return Ok(None);
+        return false;
     };
     match announce_note(config.parts.families, &speaking) {
-        Some(note) => Ok(Some(format!(in alloc; "{note}")?)),
-        None => Ok(Some(String::new(alloc))),
+        Some(note) => has_words(alloc, &note, sentence),
+        None => sentence.is_empty(),
+    }
+}
+
+/// Whether the words with these families and this prefix are such a command.
+fn is_said_of(
+    alloc: Global,
+    (families, prefix, sentence): &(&'static str, &'static str, &'static str),
+) -> Result<bool, AllocError> {
+    let mut words = Vec::from_slice(alloc, &WORDS)?;
+    words.extend_from_slice(&["--families", *families, "--announce", *prefix])?;
+    Ok(is_said(alloc, words.as_slice(), sentence))
+}
+
+#[test]
+fn what_is_said_of_a_prefix(rt: HostRuntime) {
+    for row in &PREFIXES {
+        assert!(rt; is_said_of(rt.alloc(), row) == Ok(true), "{}", row.1);
     }
 }
 
 #[test]
-fn what_is_said_of_a_prefix(rt: HostRuntime) -> Result<(), Fail> {
-    for (families, prefix, sentence) in &PREFIXES {
-        let mut words = Vec::from_slice(rt.alloc(), &WORDS)?;
-        words.extend_from_slice(&["--families", *families, "--announce", *prefix])?;
-        let Some(said) = said_of(rt.alloc(), words.as_slice())? else {
-            return Err(Fail::new("no command to speak"));
-        };
-        assert!(rt; said.as_str() == *sentence, "{prefix}: {said}");
-    }
-    Ok(())
-}
-
-#[test]
-fn nothing_is_said_where_no_prefix_is_named(rt: HostRuntime) -> Result<(), Fail> {
-    let Some(said) = said_of(rt.alloc(), &WORDS)? else {
-        return Err(Fail::new("no command to speak"));
-    };
-    assert!(rt; said.is_empty(), "{said}");
-    Ok(())
+fn nothing_is_said_where_no_prefix_is_named(rt: HostRuntime) {
+    assert!(rt; is_said(rt.alloc(), &WORDS, ""));
 }

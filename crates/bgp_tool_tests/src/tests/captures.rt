@@ -75,28 +75,35 @@ fn decoded<A: Allocator + Copy>(
     })
 }
 
-#[test]
-fn a_failing_source_is_told(rt: HostRuntime) -> Result<(), Fail> {
+/// Whether the failure of a source is told, and the reader has answered.
+fn is_source_told(alloc: Global) -> Result<bool, AllocError> {
     let handling = Handling {
         source: Some((2, SourceUpset::Fail)),
         ..WHOLE
     };
-    let answer = decoded(rt.alloc(), rt.alloc(), 2, handling)?;
+    let answer = decoded(alloc, alloc, 2, handling)?;
     let text = b"@100 change 1 2\ncapture refused: 9 Device at 36\n";
-    assert!(rt; same(&answer.text, answer.status, text, 5) && answer.has_answered);
-    Ok(())
+    Ok(same(&answer.text, answer.status, text, 5) && answer.has_answered)
 }
 
 #[test]
-fn a_failing_sink_ends_the_reading(rt: HostRuntime) -> Result<(), Fail> {
+fn a_failing_source_is_told(rt: HostRuntime) {
+    assert!(rt; is_source_told(rt.alloc()) == Ok(true));
+}
+
+/// Whether the failure of a sink is told, and not all was read.
+fn is_sink_told(alloc: Global) -> Result<bool, AllocError> {
     let handling = Handling {
         sink: Some((0, SinkUpset::Fail)),
         ..WHOLE
     };
-    let answer = decoded(rt.alloc(), rt.alloc(), 5000, handling)?;
-    let whole = 5000 * CHANGE.len();
-    assert!(rt; same(&answer.text, answer.status, b"", 5) && answer.given < whole);
-    Ok(())
+    let answer = decoded(alloc, alloc, 5000, handling)?;
+    Ok(same(&answer.text, answer.status, b"", 5) && answer.given < 5000 * CHANGE.len())
+}
+
+#[test]
+fn a_failing_sink_ends_the_reading(rt: HostRuntime) {
+    assert!(rt; is_sink_told(rt.alloc()) == Ok(true));
 }
 
 /// Sizes of heaps, and the status and the text of a change that is decoded with one.
@@ -106,15 +113,19 @@ static SIZES: [(usize, u8, &str); 3] = [
     (1 << 17, 0, "@100 change 1 2\n"),
 ];
 
+/// Whether a change is decoded so with a heap of this size.
+fn is_told_on(alloc: Global, size: usize, status: u8, text: &str) -> Result<bool, AllocError> {
+    let heap = LocalHeap::new(alloc, size)?;
+    let answer = decoded(&heap, alloc, 1, WHOLE)?;
+    Ok(same(&answer.text, answer.status, text.as_bytes(), status))
+}
+
 #[test]
-fn refused_memory_is_told_and_ample_memory_is_not(rt: HostRuntime) -> Result<(), Fail> {
+fn refused_memory_is_told_and_ample_memory_is_not(rt: HostRuntime) {
     for (size, status, text) in &SIZES {
-        let heap = LocalHeap::new(rt.alloc(), *size)?;
-        let answer = decoded(&heap, rt.alloc(), 1, WHOLE)?;
-        let is_so = same(&answer.text, answer.status, text.as_bytes(), *status);
+        let is_so = is_told_on(rt.alloc(), *size, *status, text) == Ok(true);
         assert!(rt; is_so, "on a heap of {size}");
     }
-    Ok(())
 }
 
 /// [`SESSION`] as its other end names it.

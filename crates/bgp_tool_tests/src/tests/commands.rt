@@ -3,9 +3,8 @@
 
 use super::captures::{FIRST, SESSION};
 use super::devices::{Given, giving};
-use super::opened::{Task, config_of, done, ends, ends_so, file_of};
+use super::opened::{Task, done, ends, ends_so, file_of};
 use super::*;
-use bgp_open::Config;
 use mrt::{CaptureFault, FaultKind};
 use std::io::ErrorKind;
 
@@ -274,25 +273,26 @@ static FORMS: [(Note<'static>, &str); 16] = [
 ];
 
 /// Whether each note of a table has its words.
-fn have_words(alloc: Global, notes: &[(Note<'static>, &str)]) -> Result<bool, Fail> {
+fn have_words(alloc: Global, notes: &[(Note<'static>, &str)]) -> bool {
     for (note, words) in notes {
-        let told = format!(in alloc; "{note}")?;
-        if told.as_str() != *words {
-            return Ok(false);
+        if !has_words(alloc, note, words) {
+            return false;
         }
     }
-    Ok(true)
+    true
 }
 
 #[test]
-fn each_note_has_its_words(rt: HostRuntime) -> Result<(), Fail> {
-    assert!(rt; have_words(rt.alloc(), &NOTES)?);
-    assert!(rt; have_words(rt.alloc(), &FORMS)?);
-    Ok(())
+fn each_note_has_its_words(rt: HostRuntime) {
+    assert!(rt; have_words(rt.alloc(), &NOTES));
+    assert!(rt; have_words(rt.alloc(), &FORMS));
 }
 
+/// Why a capture is refused, at which octet, what was met before, and the words.
+type Refused = (FaultKind, u64, Option<Unmet>, &'static str);
+
 /// What is told of a capture that is refused at an octet, for each cause.
-static REFUSALS: [(FaultKind, u64, Option<Unmet>, &str); 12] = [
+static REFUSALS: [Refused; 12] = [
     (
         FaultKind::Truncated,
         36,
@@ -378,22 +378,25 @@ static REFUSALS: [(FaultKind, u64, Option<Unmet>, &str); 12] = [
     ),
 ];
 
+/// Whether a refusal has its words.
+fn is_refusal_told(alloc: Global, (kind, offset, unmet, words): &Refused) -> bool {
+    let fault = CaptureFault {
+        kind: *kind,
+        offset: *offset,
+    };
+    let note = Note::Refused {
+        file: "a.mrt",
+        fault,
+        unmet: *unmet,
+    };
+    has_words(alloc, &note, words)
+}
+
 #[test]
-fn each_refusal_has_its_sentence(rt: HostRuntime) -> Result<(), Fail> {
-    for (kind, offset, unmet, words) in &REFUSALS {
-        let fault = CaptureFault {
-            kind: *kind,
-            offset: *offset,
-        };
-        let note = Note::Refused {
-            file: "a.mrt",
-            fault,
-            unmet: *unmet,
-        };
-        let told = format!(in rt.alloc(); "{note}")?;
-        assert!(rt; told.as_str() == *words, "{words}");
+fn each_refusal_has_its_sentence(rt: HostRuntime) {
+    for refused in &REFUSALS {
+        assert!(rt; is_refusal_told(rt.alloc(), refused), "{}", refused.3);
     }
-    Ok(())
 }
 
 /// Streams, their text, and the exit status.
@@ -403,24 +406,18 @@ static STATUSES: [(&[u8], &str, u8); 3] = [
     (&KEEPALIVE_OF_18, "fault at 0 1/2\n", 3),
 ];
 
+/// Whether a stream has this text and status, and nothing is told.
+fn is_untold(alloc: Global, (octets, text, status): &(&[u8], &str, u8)) -> bool {
+    let ended = (*status, None);
+    let octets = Ok(giving(octets));
+    ends(alloc, alloc, Task::Decode, SESSION, octets, text, ended)
+}
+
 #[test]
-fn a_stream_has_its_status_and_nothing_is_told(rt: HostRuntime) -> Result<(), Fail> {
-    let config = config_of(SESSION)?;
-    for (octets, text, status) in &STATUSES {
-        let ended = (*status, None);
-        let octets = Ok(giving(octets));
-        let is_so = ends(
-            rt.alloc(),
-            rt.alloc(),
-            Task::Decode,
-            &config,
-            octets,
-            text,
-            ended,
-        );
-        assert!(rt; is_so, "{text}");
+fn a_stream_has_its_status_and_nothing_is_told(rt: HostRuntime) {
+    for stream in &STATUSES {
+        assert!(rt; is_untold(rt.alloc(), stream), "{}", stream.1);
     }
-    Ok(())
 }
 
 /// The 20 octets of a file, and what they are: what follows its front is zeros, or more of it. The
@@ -488,28 +485,33 @@ static FRONTS: [(&[u8; 20], Option<Form>); 17] = [
     (b"ffffffffffffff\x00fffff", None),
 ];
 
+/// Octets that are given one by one.
+fn slowly(octets: &[u8]) -> Given<'_> {
+    Given {
+        octets,
+        most: 1,
+        error: None,
+    }
+}
+
 /// Whether these octets are decoded to a fault at once, and it is told what they are.
-fn are_told(alloc: Global, config: &Config, octets: Given<'_>, form: Option<Form>) -> bool {
-    let (outcome, written) = done(alloc, alloc, Task::Decode, config, Ok(octets), None);
+fn are_told(alloc: Global, octets: Given<'_>, form: Option<Form>) -> bool {
+    let Some((outcome, written)) = done(alloc, alloc, Task::Decode, SESSION, Ok(octets), None)
+    else {
+        return false;
+    };
     let file = file_of(Task::Decode);
     let note = form.map(|form| Note::NoStream { file, form });
     ends_so(&outcome, (3, note)) && written.starts_with(b"fault at 0 1/1")
 }
 
 #[test]
-fn a_file_that_is_no_stream_is_told_by_its_front(rt: HostRuntime) -> Result<(), Fail> {
-    let config = config_of(SESSION)?;
+fn a_file_that_is_no_stream_is_told_by_its_front(rt: HostRuntime) {
     for (octets, form) in &FRONTS {
-        let one_by_one = Given {
-            octets: octets.as_slice(),
-            most: 1,
-            error: None,
-        };
-        let is_so = are_told(rt.alloc(), &config, giving(octets.as_slice()), *form)
-            && are_told(rt.alloc(), &config, one_by_one, *form);
+        let is_so = are_told(rt.alloc(), giving(octets.as_slice()), *form)
+            && are_told(rt.alloc(), slowly(octets.as_slice()), *form);
         assert!(rt; is_so, "{octets:?}");
     }
-    Ok(())
 }
 
 /// The front of a raw stream: a KEEPALIVE, and the first octet of another message.
@@ -542,41 +544,30 @@ fn refused_note(task: Task, form: Option<Form>) -> Note<'static> {
 }
 
 /// Whether a command of captures refuses these octets, and it is told what they are, or why.
-fn are_refused(
-    alloc: Global,
-    task: Task,
-    config: &Config,
-    octets: Given<'_>,
-    form: Option<Form>,
-) -> bool {
-    let (outcome, written) = done(alloc, alloc, task, config, Ok(octets), None);
+fn are_refused(alloc: Global, task: Task, octets: Given<'_>, form: Option<Form>) -> bool {
+    let Some((outcome, written)) = done(alloc, alloc, task, SESSION, Ok(octets), None) else {
+        return false;
+    };
     let note = Some(refused_note(task, form));
     ends_so(&outcome, (3, note)) && written.starts_with(b"capture refused: 1 Truncated at")
+}
+
+/// Whether it does so where they are given at once, and one by one.
+fn are_refused_alike(alloc: Global, task: Task, octets: &[u8], form: Option<Form>) -> bool {
+    are_refused(alloc, task, giving(octets), form) && are_refused(alloc, task, slowly(octets), form)
 }
 
 /// The commands of captures.
 static OF_CAPTURES: [Task; 3] = [Task::DecodeCapture, Task::JudgePlain, Task::JudgeCompact];
 
 #[test]
-fn a_file_that_is_no_capture_is_told_by_its_front(rt: HostRuntime) -> Result<(), Fail> {
-    let config = config_of(SESSION)?;
+fn a_file_that_is_no_capture_is_told_by_its_front(rt: HostRuntime) {
     for task in &OF_CAPTURES {
         for (octets, form) in &FRONTS {
-            let one_by_one = Given {
-                octets: octets.as_slice(),
-                most: 1,
-                error: None,
-            };
-            let whole = giving(octets.as_slice());
-            let is_so = are_refused(rt.alloc(), *task, &config, whole, *form)
-                && are_refused(rt.alloc(), *task, &config, one_by_one, *form);
+            let is_so = are_refused_alike(rt.alloc(), *task, octets.as_slice(), *form);
             assert!(rt; is_so, "{task:?}: {octets:?}");
         }
-        let stream = giving(&STREAM);
-        assert!(rt;
-            are_refused(rt.alloc(), *task, &config, stream, Some(Form::Stream)),
-            "{task:?}"
-        );
+        let is_so = are_refused_alike(rt.alloc(), *task, &STREAM, Some(Form::Stream));
+        assert!(rt; is_so, "{task:?}");
     }
-    Ok(())
 }

@@ -103,17 +103,10 @@ fn answer_of<A: Allocator + Copy>(
 }
 
 /// What judging [`RECORDS`] with this memory writes and answers.
-fn judged<A: Allocator + Copy>(
-    judge: Judge,
-    alloc: Global,
-    memory: A,
-) -> Result<(Vec<u8>, u8), Fail> {
-    match (Config::new(PARTS_A), capture_of(alloc, &RECORDS)) {
-        (Some(config), Some(capture)) => {
-            Ok(answer_of(judge, alloc, memory, &config, capture, (NEVER, NEVER)))
-        }
-        _ => Err(Fail::new("no configuration, or no capture")),
-    }
+fn judged<A: Allocator + Copy>(judge: Judge, alloc: Global, memory: A) -> Option<(Vec<u8>, u8)> {
+    let config = Config::new(PARTS_A)?;
+    let capture = capture_of(alloc, &RECORDS)?;
+    Some(answer_of(judge, alloc, memory, &config, capture, (NEVER, NEVER)))
 }
 
 /// The number of no call.
@@ -147,85 +140,87 @@ fn a_failing_source_or_sink_is_told(rt: HostRuntime) {
     }
 }
 
-#[test]
-fn ample_memory(rt: HostRuntime) -> Result<(), Fail> {
-    for judge in BOTH {
-        let (written, answer) = judged(judge, rt.alloc(), rt.alloc())?;
-        assert!(rt; same(&written, answer, TEXT.as_bytes(), 0));
+/// Whether judging [`RECORDS`] writes the verdict.
+fn is_judged(alloc: Global, judge: Judge) -> bool {
+    match judged(judge, alloc, alloc) {
+        Some((written, answer)) => same(&written, answer, TEXT.as_bytes(), 0),
+        None => false,
     }
-    Ok(())
+}
+
+#[test]
+fn ample_memory(rt: HostRuntime) {
+    for judge in BOTH {
+        assert!(rt; is_judged(rt.alloc(), judge));
+    }
 }
 
 /// The refusal for memory at the octet where these records end.
-fn refusal_at(alloc: Global, records: &[Record<'_>]) -> Result<String, Fail> {
-    let Some(capture) = capture_of(alloc, records) else {
-        return Err(Fail::new("no capture"));
-    };
-    let place = capture.len();
-    Ok(format!(in alloc; "capture refused: 10 Memory at {place}\n")?)
+fn refusal_at(alloc: Global, records: &[Record<'_>]) -> Option<String> {
+    let place = capture_of(alloc, records)?.len();
+    format!(in alloc; "capture refused: 10 Memory at {place}\n").ok()
 }
 
 /// The refusals for memory at the octets where a record begins, or the capture ends.
-fn refusals(alloc: Global) -> Result<Vec<String>, Fail> {
+fn refusals(alloc: Global) -> Option<Vec<String>> {
     let mut refusals = Vec::new(alloc);
     for count in 0..=RECORDS.len() {
-        refusals.push(refusal_at(alloc, &RECORDS[..count])?)?;
+        refusals.push(refusal_at(alloc, &RECORDS[..count])?).ok()?;
     }
-    Ok(refusals)
+    Some(refusals)
 }
 
-/// With this memory: the place of the record or end at which it was refused, or `None` where there
-/// is a verdict.
-fn refused_at(
-    rt: &impl Abort,
-    alloc: Global,
-    judge: Judge,
-    heap: &LocalHeap,
-    refusals: &[String],
-) -> Result<Option<usize>, Fail> {
-    let (written, answer) = judged(judge, alloc, heap)?;
-    let place = refusals
+/// The place of a refusal.
+fn place_of(refusals: &[String], written: &[u8]) -> Option<usize> {
+    refusals
         .iter()
-        .position(|refusal| refusal.as_bytes() == written.as_slice());
-    let is_so = match place {
-        Some(_) => answer == 4,
-        None => same(&written, answer, TEXT.as_bytes(), 0),
-    };
-    assert!(rt; is_so, "refused at {place:?}, with status {answer}");
-    Ok(place)
+        .position(|refusal| refusal.as_bytes() == written)
 }
 
-/// With each size of heap, from one that has no room for the reader's buffer of 65583 octets:
-/// status 4, and memory was refused at such an octet; until the heap is large enough for the
-/// verdict.
-fn is_refused_until_ample(
-    rt: &impl Abort,
+/// With a heap of this size: the place of the record or end at which memory was refused, or that
+/// there is a verdict. It is `None` where something else is answered.
+fn refused_at(
     alloc: Global,
     judge: Judge,
+    size: usize,
     refusals: &[String],
-) -> Result<(), Fail> {
+) -> Option<Option<usize>> {
+    let heap = LocalHeap::new(alloc, size).ok()?;
+    let (written, answer) = judged(judge, alloc, &heap)?;
+    if answer == 4 {
+        return Some(Some(place_of(refusals, &written)?));
+    }
+    same(&written, answer, TEXT.as_bytes(), 0).then_some(None)
+}
+
+/// Whether with each size of heap, from one that has no room for the reader's buffer of 65583
+/// octets, memory is refused at such an octet, until the heap is large enough for the verdict.
+fn is_refused_until_ample(alloc: Global, judge: Judge, refusals: &[String]) -> bool {
     let (mut first, mut last) = (None, None);
     for size in (57_392usize..1 << 17).step_by(16) {
-        let heap = LocalHeap::new(alloc, size)?;
-        let place = refused_at(rt, alloc, judge, &heap, refusals)?;
-        if place.is_none() {
-            assert!(rt;
-                first == Some(0) && last > Some(0),
-                "refused at {first:?} to {last:?}"
-            );
-            return Ok(());
+        match refused_at(alloc, judge, size, refusals) {
+            Some(None) => return first == Some(0) && last > Some(0),
+            Some(place) => {
+                first = first.or(place);
+                last = place;
+            }
+            None => return false,
         }
-        first = first.or(place);
-        last = place;
     }
-    Err(Fail::new("no heap was large enough"))
+    false
+}
+
+/// The same, of the refusals of [`RECORDS`].
+fn is_refused(alloc: Global, judge: Judge) -> bool {
+    match refusals(alloc) {
+        Some(refusals) => is_refused_until_ample(alloc, judge, &refusals),
+        None => false,
+    }
 }
 
 #[test]
-fn a_refused_growth_has_no_verdict(rt: HostRuntime) -> Result<(), Fail> {
-    let refusals = refusals(rt.alloc())?;
+fn a_refused_growth_has_no_verdict(rt: HostRuntime) {
     for judge in BOTH {
-        is_refused_until_ample(&rt, rt.alloc(), judge, &refusals)?;
+        assert!(rt; is_refused(rt.alloc(), judge));
     }
-    Ok(())
 }

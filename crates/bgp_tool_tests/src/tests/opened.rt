@@ -46,23 +46,17 @@ pub(super) fn file_of(task: Task) -> &'static str {
     }
 }
 
-/// Router A's configuration, in a session.
-pub(super) fn config_of(session: Session) -> Result<Config, Fail> {
-    match Config::new(ConfigParts { session, ..PARTS_A }) {
-        Some(config) => Ok(config),
-        None => Err(Fail::new("no configuration")),
-    }
-}
-
-/// How a task ends with this memory, and what is written: all, or five octets and then this error.
+/// How a task about a session of router A ends with this memory, and what is written: all, or five
+/// octets and then this error.
 pub(super) fn done<A: Allocator + Copy>(
     memory: A,
     alloc: Global,
     task: Task,
-    config: &Config,
+    session: Session,
     opened: io::Result<Given<'_>>,
     full: Option<ErrorKind>,
-) -> (Outcome<'static>, Vec<u8>) {
+) -> Option<(Outcome<'static>, Vec<u8>)> {
+    let config = &Config::new(ConfigParts { session, ..PARTS_A })?;
     let file = file_of(task);
     let mut sink = FromWrite::new(Paper::new(alloc, full));
     let outcome = match task {
@@ -77,7 +71,7 @@ pub(super) fn done<A: Allocator + Copy>(
             judge_opened::<A, CompactTracker<A>, _, _>(memory, config, file, opened, &mut sink)
         }
     };
-    (outcome, sink.into_inner().written)
+    Some((outcome, sink.into_inner().written))
 }
 
 /// The status with which a task ends, and what is told then.
@@ -94,49 +88,40 @@ pub(super) fn ends<A: Allocator + Copy>(
     memory: A,
     alloc: Global,
     task: Task,
-    config: &Config,
+    session: Session,
     opened: io::Result<Given<'_>>,
     text: &str,
     ended: Ended<'_>,
 ) -> bool {
-    let (outcome, written) = done(memory, alloc, task, config, opened, None);
-    ends_so(&outcome, ended) && written.as_slice() == text.as_bytes()
+    match done(memory, alloc, task, session, opened, None) {
+        Some((outcome, written)) => {
+            ends_so(&outcome, ended) && written.as_slice() == text.as_bytes()
+        }
+        None => false,
+    }
 }
 
 /// Whether a file that can't be opened for this cause has this status, and this is told of it.
-fn is_unopened(
-    alloc: Global,
-    task: Task,
-    config: &Config,
-    error: ErrorKind,
-    status: u8,
-    note: Note<'_>,
-) -> bool {
+fn is_unopened(alloc: Global, task: Task, error: ErrorKind, status: u8, note: Note<'_>) -> bool {
     let ended = (status, Some(note));
     let opened = Err(io::Error::from(error));
-    ends(alloc, alloc, task, config, opened, "", ended)
+    ends(alloc, alloc, task, SESSION, opened, "", ended)
+}
+
+/// Whether it is told of a file that isn't there, and of one that lacks memory.
+fn is_told_unopened(alloc: Global, task: Task) -> bool {
+    let (file, error) = (file_of(task), ErrorKind::NotFound);
+    let absent = Note::Unopened { file, error };
+    let refused = Note::OutOfMemory { file, octet: 0 };
+    is_unopened(alloc, task, error, 5, absent)
+        && is_unopened(alloc, task, ErrorKind::OutOfMemory, 4, refused)
 }
 
 #[test]
-fn a_file_that_cannot_be_opened_is_told(rt: HostRuntime) -> Result<(), Fail> {
-    let config = config_of(SESSION)?;
+fn a_file_that_cannot_be_opened_is_told(rt: HostRuntime) {
     for task in &TASKS {
-        let (task, file) = (*task, file_of(*task));
-        let error = ErrorKind::NotFound;
-        let absent = Note::Unopened { file, error };
-        let refused = Note::OutOfMemory { file, octet: 0 };
-        let is_so = is_unopened(rt.alloc(), task, &config, error, 5, absent)
-            && is_unopened(
-                rt.alloc(),
-                task,
-                &config,
-                ErrorKind::OutOfMemory,
-                4,
-                refused,
-            );
-        assert!(rt; is_so, "{task:?}");
+        assert!(rt; is_told_unopened(rt.alloc(), *task), "{task:?}");
     }
-    Ok(())
 }
 
 /// Errors of a writer that takes five octets, and what is told of each.
@@ -162,23 +147,36 @@ static TEXTS: [(Task, &[u8], bool); 7] = [
     (Task::JudgeCompact, &CHANGE_CUT, true),
 ];
 
+/// Whether that is told where a task writes to a writer that takes five octets and then answers
+/// this error.
+fn is_full_told(
+    alloc: Global,
+    (error, note): &(ErrorKind, Option<Note<'static>>),
+    (task, octets, fails): &(Task, &[u8], bool),
+) -> bool {
+    let reader = if *fails {
+        breaking(octets)
+    } else {
+        giving(octets)
+    };
+    match done(alloc, alloc, *task, SESSION, Ok(reader), Some(*error)) {
+        Some((outcome, _)) => outcome.status == 5 && outcome.note == *note,
+        None => false,
+    }
+}
+
 #[test]
-fn a_full_disk_is_told_and_a_closed_pipe_is_not(rt: HostRuntime) -> Result<(), Fail> {
-    let config = config_of(SESSION)?;
-    for (error, note) in &FULL {
-        for (task, octets, fails) in &TEXTS {
-            let reader = if *fails {
-                breaking(octets)
-            } else {
-                giving(octets)
-            };
-            let full = Some(*error);
-            let (outcome, _) = done(rt.alloc(), rt.alloc(), *task, &config, Ok(reader), full);
-            let is_so = outcome.status == 5 && outcome.note == *note;
-            assert!(rt; is_so, "{task:?}: {error:?}");
+fn a_full_disk_is_told_and_a_closed_pipe_is_not(rt: HostRuntime) {
+    for full in &FULL {
+        for text in &TEXTS {
+            assert!(rt;
+                is_full_told(rt.alloc(), full, text),
+                "{:?}: {:?}",
+                text.0,
+                full.0
+            );
         }
     }
-    Ok(())
 }
 
 /// What is done with a message, or with three changes, up to the octet at which a reader fails, and
@@ -213,26 +211,39 @@ static FAILURES: [(Task, usize, &str); 15] = [
     (Task::JudgeCompact, 50, "capture refused: 9 Device at 36\n"),
 ];
 
-#[test]
-fn a_failing_reader_is_told_with_its_place(rt: HostRuntime) -> Result<(), Fail> {
-    let config = config_of(SESSION)?;
-    let capture = changes(rt.alloc(), 3)?;
-    for (task, octet, text) in &FAILURES {
-        let whole = match task {
-            Task::Decode => KEEPALIVE.as_slice(),
-            _ => capture.as_slice(),
-        };
-        let reader = Ok(breaking(whole.get(..*octet).unwrap_or(whole)));
-        let note = Note::Unread {
-            file: file_of(*task),
-            octet: *octet as u64,
-            error: Some(ErrorKind::TimedOut),
-        };
-        let ended = (5, Some(note));
-        let is_so = ends(rt.alloc(), rt.alloc(), *task, &config, reader, text, ended);
-        assert!(rt; is_so, "{task:?}: at octet {octet}");
+/// Whether it is told of a reader of these octets that fails behind so many.
+fn is_failure_told(alloc: Global, task: Task, whole: &[u8], octet: usize, text: &str) -> bool {
+    let reader = Ok(breaking(whole.get(..octet).unwrap_or(whole)));
+    let note = Note::Unread {
+        file: file_of(task),
+        octet: octet as u64,
+        error: Some(ErrorKind::TimedOut),
+    };
+    let ended = (5, Some(note));
+    ends(alloc, alloc, task, SESSION, reader, text, ended)
+}
+
+/// The same of a row: a message, or three changes.
+fn is_row_told(alloc: Global, (task, octet, text): &(Task, usize, &str)) -> bool {
+    if let Task::Decode = task {
+        return is_failure_told(alloc, *task, &KEEPALIVE, *octet, text);
     }
-    Ok(())
+    match changes(alloc, 3) {
+        Ok(capture) => is_failure_told(alloc, *task, &capture, *octet, text),
+        Err(_) => false,
+    }
+}
+
+#[test]
+fn a_failing_reader_is_told_with_its_place(rt: HostRuntime) {
+    for row in &FAILURES {
+        assert!(rt;
+            is_row_told(rt.alloc(), row),
+            "{:?}: at octet {}",
+            row.0,
+            row.1
+        );
+    }
 }
 
 /// The verdict on [`CHANGE`] alone.
@@ -359,35 +370,38 @@ fn note_by(task: Task, tells: Tells) -> Option<Note<'static>> {
 }
 
 /// Whether a task ends as it is told.
-fn is_told(alloc: Global, task: Task, told: &Told) -> Result<bool, Fail> {
+fn is_told(alloc: Global, task: Task, told: &Told) -> bool {
     let (session, parts, text, status, tells) = *told;
-    let (octets, config) = (joined(alloc, parts)?, config_of(session)?);
+    let Ok(octets) = joined(alloc, parts) else {
+        return false;
+    };
     let note = note_by(task, tells);
     let ended = (status, note);
-    Ok(ends(
+    ends(
         alloc,
         alloc,
         task,
-        &config,
+        session,
         Ok(giving(&octets)),
         text,
         ended,
-    ))
+    )
 }
 
 #[test]
-fn a_refusal_and_a_missing_session_are_told(rt: HostRuntime) -> Result<(), Fail> {
+fn a_refusal_and_a_missing_session_are_told(rt: HostRuntime) {
     for told in &DECODED {
-        let is_so = is_told(rt.alloc(), Task::DecodeCapture, told)?;
-        assert!(rt; is_so, "decoded: {}", told.2);
+        assert!(rt;
+            is_told(rt.alloc(), Task::DecodeCapture, told),
+            "decoded: {}",
+            told.2
+        );
     }
     for told in &JUDGED {
         for task in &JUDGES {
-            let is_so = is_told(rt.alloc(), *task, told)?;
-            assert!(rt; is_so, "{task:?}: {}", told.2);
+            assert!(rt; is_told(rt.alloc(), *task, told), "{task:?}: {}", told.2);
         }
     }
-    Ok(())
 }
 
 /// Memory was refused at the first record.
@@ -411,27 +425,35 @@ static SIZES: [(Task, usize, &str, Option<u64>); 7] = [
     (Task::JudgeCompact, 1 << 17, CONNECT, None),
 ];
 
-#[test]
-fn refused_memory_is_told_and_ample_memory_is_not(rt: HostRuntime) -> Result<(), Fail> {
-    let config = config_of(SESSION)?;
-    for (task, size, text, refused) in &SIZES {
-        let heap = LocalHeap::new(rt.alloc(), *size)?;
-        let file = file_of(*task);
-        let octets = match task {
-            Task::Decode => giving(&KEEPALIVE),
-            _ => giving(&CHANGE),
-        };
-        let ended = match refused {
-            Some(octet) => {
-                let octet = *octet;
-                (4, Some(Note::OutOfMemory { file, octet }))
-            }
-            None => (0, note_by(*task, Tells::NothingDone(LEFT_IDLE))),
-        };
-        let is_so = ends(&heap, rt.alloc(), *task, &config, Ok(octets), text, ended);
-        assert!(rt; is_so, "{task:?}: on a heap of {size}");
+/// How such a task ends, where memory is refused at this octet or isn't.
+fn ended_with(task: Task, refused: Option<u64>) -> Ended<'static> {
+    let file = file_of(task);
+    match refused {
+        Some(octet) => (4, Some(Note::OutOfMemory { file, octet })),
+        None => (0, note_by(task, Tells::NothingDone(LEFT_IDLE))),
     }
-    Ok(())
+}
+
+/// Whether it ends so with a heap of this size.
+fn ends_on(
+    alloc: Global,
+    (task, size, text, refused): &(Task, usize, &str, Option<u64>),
+) -> Result<bool, AllocError> {
+    let heap = LocalHeap::new(alloc, *size)?;
+    let octets = match task {
+        Task::Decode => giving(&KEEPALIVE),
+        _ => giving(&CHANGE),
+    };
+    let ended = ended_with(*task, *refused);
+    Ok(ends(&heap, alloc, *task, SESSION, Ok(octets), text, ended))
+}
+
+#[test]
+fn refused_memory_is_told_and_ample_memory_is_not(rt: HostRuntime) {
+    for row in &SIZES {
+        let is_so = ends_on(rt.alloc(), row) == Ok(true);
+        assert!(rt; is_so, "{:?}: on a heap of {}", row.0, row.1);
+    }
 }
 
 /// No change left Idle, and no message was sent.
@@ -462,36 +484,36 @@ static SHOWN: [(&[Record<'static>], u8, Tells); 8] = [
 ];
 
 /// Whether judging a capture of these records ends so.
-fn is_shown(
-    alloc: Global,
-    task: Task,
-    config: &Config,
-    records: &[Record<'_>],
-    status: u8,
-    tells: Tells,
-) -> bool {
-    match capture_of(alloc, records) {
-        Some(octets) => {
-            let (outcome, _) = done(alloc, alloc, task, config, Ok(giving(&octets)), None);
-            ends_so(&outcome, (status, note_by(task, tells)))
-        }
+fn is_shown(alloc: Global, task: Task, records: &[Record<'_>], status: u8, tells: Tells) -> bool {
+    let Some(octets) = capture_of(alloc, records) else {
+        return false;
+    };
+    let note = note_by(task, tells);
+    match done(
+        alloc,
+        alloc,
+        task,
+        PARTS_A.session,
+        Ok(giving(&octets)),
+        None,
+    ) {
+        Some((outcome, _)) => ends_so(&outcome, (status, note)),
         None => false,
     }
 }
 
 #[test]
-fn a_yes_that_says_nothing_of_the_router_is_told(rt: HostRuntime) -> Result<(), Fail> {
-    let config = config_of(PARTS_A.session)?;
+fn a_yes_that_says_nothing_of_the_router_is_told(rt: HostRuntime) {
     for task in &JUDGES {
         for (records, status, tells) in &SHOWN {
             assert!(rt;
-                is_shown(rt.alloc(), *task, &config, records, *status, *tells),
+                is_shown(rt.alloc(), *task, records, *status, *tells),
                 "{task:?}: {records:?}"
             );
         }
-        let tells = Tells::Nothing;
-        let is_so = is_shown(rt.alloc(), *task, &config, &RECORDS, 0, tells);
-        assert!(rt; is_so, "{task:?}");
+        assert!(rt;
+            is_shown(rt.alloc(), *task, &RECORDS, 0, Tells::Nothing),
+            "{task:?}"
+        );
     }
-    Ok(())
 }

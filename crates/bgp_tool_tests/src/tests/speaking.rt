@@ -50,10 +50,9 @@ fn spoken<A: Allocator + Copy>(
     alloc: Global,
     capture_fails: u64,
     output_fails: u64,
-) -> Result<(Vec<u8>, usize, u8), Fail> {
-    let (Some(config), Some(own)) = (Config::new(PARTS_A), read_prefix("10.1.0.0/16")) else {
-        return Err(Fail::new("no configuration, or no prefix"));
-    };
+) -> Option<(Vec<u8>, usize, u8)> {
+    let config = Config::new(PARTS_A)?;
+    let own = read_prefix("10.1.0.0/16")?;
     let mut wire = MemWire::new(alloc, &READS, &SECONDS);
     let mut capture = MemSink::new(alloc).upset_at(capture_fails, SinkUpset::Fail);
     let mut output = MemSink::new(alloc).upset_at(output_fails, SinkUpset::Fail);
@@ -69,15 +68,27 @@ fn spoken<A: Allocator + Copy>(
         &mut output,
         5,
     );
-    Ok((output.into_octets(), capture.into_octets().len(), status))
+    Some((output.into_octets(), capture.into_octets().len(), status))
+}
+
+/// Whether this is printed, the capture is whole or isn't, and the status is this, where these
+/// writes of the capture's sink and of the output's fail.
+fn is_spoken(
+    alloc: Global,
+    (capture_fails, output_fails, text, whole, status): &(u64, u64, &str, bool, u8),
+) -> bool {
+    match spoken(alloc, alloc, *capture_fails, *output_fails) {
+        Some((written, captured, answer)) => {
+            same(&written, answer, text.as_bytes(), *status) && (captured == CAPTURED) == *whole
+        }
+        None => false,
+    }
 }
 
 /// With enough memory.
 #[test]
-fn ample_memory(rt: HostRuntime) -> Result<(), Fail> {
-    let (written, captured, answer) = spoken(rt.alloc(), rt.alloc(), u64::MAX, u64::MAX)?;
-    assert!(rt; same(&written, answer, REPORT.as_bytes(), 0) && captured == CAPTURED);
-    Ok(())
+fn ample_memory(rt: HostRuntime) {
+    assert!(rt; is_spoken(rt.alloc(), &(u64::MAX, u64::MAX, REPORT, true, 0)));
 }
 
 /// Which write of the capture's sink and which of the output's fails, what is printed, whether the
@@ -89,63 +100,52 @@ static TALKS: [(u64, u64, &str, bool, u8); 3] = [
 ];
 
 #[test]
-fn a_talk_is_not_reported_where_a_sink_fails(rt: HostRuntime) -> Result<(), Fail> {
-    for (capture_fails, output_fails, text, whole, status) in &TALKS {
-        let (written, captured, answer) = spoken(
-            rt.alloc(),
-            rt.alloc(),
-            *capture_fails,
-            *output_fails,
-        )?;
-        let is_so = same(&written, answer, text.as_bytes(), *status)
-            && (captured == CAPTURED) == *whole;
-        assert!(rt; is_so, "{text}");
+fn a_talk_is_not_reported_where_a_sink_fails(rt: HostRuntime) {
+    for talk in &TALKS {
+        assert!(rt; is_spoken(rt.alloc(), talk), "{} {}", talk.0, talk.1);
     }
-    Ok(())
+}
+
+/// Whether there is a report with a heap of this size, or memory is refused and nothing printed:
+/// `None` where neither is so.
+fn is_reported_on(alloc: Global, size: usize) -> Option<bool> {
+    let heap = LocalHeap::new(alloc, size).ok()?;
+    let (written, _, answer) = spoken(&heap, alloc, u64::MAX, u64::MAX)?;
+    if answer == 4 {
+        return written.is_empty().then_some(false);
+    }
+    same(&written, answer, REPORT.as_bytes(), 0).then_some(true)
+}
+
+/// Whether memory is refused until a heap is large enough.
+fn is_refused_until_ample(alloc: Global) -> bool {
+    let mut is_refused = false;
+    for size in (16usize..1 << 16).step_by(64) {
+        match is_reported_on(alloc, size) {
+            Some(true) => return is_refused,
+            Some(false) => is_refused = true,
+            None => return false,
+        }
+    }
+    false
 }
 
 #[test]
-fn a_talk_without_memory_is_not_reported(rt: HostRuntime) -> Result<(), Fail> {
-    let mut refusals = 0u64;
-    for size in (16usize..1 << 16).step_by(64) {
-        let heap = LocalHeap::new(rt.alloc(), size)?;
-        let (written, _, answer) = spoken(&heap, rt.alloc(), u64::MAX, u64::MAX)?;
-        if answer != 4 {
-            let is_so = 0 < refusals && same(&written, answer, REPORT.as_bytes(), 0);
-            assert!(rt; is_so, "on a heap of {size}");
-            return Ok(());
-        }
-        assert!(rt; written.is_empty(), "on a heap of {size}");
-        refusals = refusals.saturating_add(1);
-    }
-    Err(Fail::new("no heap was large enough"))
+fn a_talk_without_memory_is_not_reported(rt: HostRuntime) {
+    assert!(rt; is_refused_until_ample(rt.alloc()));
 }
 
-/// The capture of so many of a session's first records.
-fn first_of(alloc: Global, count: usize) -> Result<Vec<u8>, Fail> {
-    match capture_of(alloc, &RECORDS[..count.min(RECORDS.len())]) {
-        Some(capture) => Ok(capture),
-        None => Err(Fail::new("no capture")),
-    }
-}
-
-/// What judging both captures writes and answers, each of so many of a session's first records.
-fn judged_pair(
-    alloc: Global,
-    left: usize,
-    right: usize,
-    fails: u64,
-) -> Result<(Vec<u8>, u8), Fail> {
-    let Some(config) = Config::new(PARTS_A) else {
-        return Err(Fail::new("no configuration"));
-    };
-    let mut left = MemSource::new(first_of(alloc, left)?);
-    let mut right = MemSource::new(first_of(alloc, right)?);
+/// What judging both captures writes and answers, each of so many of a session's first records,
+/// where this write of the sink fails.
+fn judged_pair(alloc: Global, left: usize, right: usize, fails: u64) -> Option<(Vec<u8>, u8)> {
+    let config = Config::new(PARTS_A)?;
+    let mut left = MemSource::new(capture_of(alloc, RECORDS.get(..left)?)?);
+    let mut right = MemSource::new(capture_of(alloc, RECORDS.get(..right)?)?);
     let mut sink = MemSink::new(alloc).upset_at(fails, SinkUpset::Fail);
     let status = judge_pair::<Global, CompactTracker<Global>, _, _, _>(
         alloc, &config, &mut left, &config, &mut right, &mut sink,
     );
-    Ok((sink.into_octets(), status))
+    Some((sink.into_octets(), status))
 }
 
 /// How many records the left capture has and the right one, the write that fails, the text, and the
@@ -176,13 +176,22 @@ static PAIRS: [(usize, usize, u64, &str, u8); 4] = [
     (0, 0, 0, "", 5),
 ];
 
-#[test]
-fn each_end_of_a_pair_is_judged(rt: HostRuntime) -> Result<(), Fail> {
-    for (left, right, fails, text, status) in &PAIRS {
-        let (written, answer) = judged_pair(rt.alloc(), *left, *right, *fails)?;
-        assert!(rt; same(&written, answer, text.as_bytes(), *status), "{text}");
+/// Whether a pair is judged so.
+fn is_pair_judged(
+    alloc: Global,
+    (left, right, fails, text, status): &(usize, usize, u64, &str, u8),
+) -> bool {
+    match judged_pair(alloc, *left, *right, *fails) {
+        Some((written, answer)) => same(&written, answer, text.as_bytes(), *status),
+        None => false,
     }
-    Ok(())
+}
+
+#[test]
+fn each_end_of_a_pair_is_judged(rt: HostRuntime) {
+    for pair in &PAIRS {
+        assert!(rt; is_pair_judged(rt.alloc(), pair), "{}", pair.3);
+    }
 }
 
 /// What a pair gave up for, and what is told of it.
@@ -202,15 +211,14 @@ static FAULTS: [(PairFault, &str); 4] = [
     (PairFault::Memory, "memory was refused"),
 ];
 
+/// Whether this is told of a pair that gave up.
+fn is_fault_told(alloc: Global, fault: PairFault, sentence: &str) -> bool {
+    has_words(alloc, &Note::Pair { file: "-", fault }, sentence)
+}
+
 #[test]
-fn what_a_pair_gave_up_for_is_told(rt: HostRuntime) -> Result<(), Fail> {
+fn what_a_pair_gave_up_for_is_told(rt: HostRuntime) {
     for (fault, sentence) in &FAULTS {
-        let note = Note::Pair {
-            file: "-",
-            fault: *fault,
-        };
-        let told = format!(in rt.alloc(); "{note}")?;
-        assert!(rt; told.as_str() == *sentence, "{sentence}");
+        assert!(rt; is_fault_told(rt.alloc(), *fault, sentence), "{sentence}");
     }
-    Ok(())
 }
