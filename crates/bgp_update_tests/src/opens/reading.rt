@@ -1,11 +1,8 @@
-//! Messages are read.
+//! Messages are read. (What an OPEN says is compared by the program `real_captures`, as a line.)
 
 use super::*;
 use bgp_open::{Capability, Notification, read_notification};
-use bgp_wire::vectors::{
-    ADMINISTRATIVE_SHUTDOWN, BAD_LENGTH_18, KEEPALIVE, OPEN_A, OPEN_B, OPEN_WITH_ROUTE_REFRESH,
-    OPEN_WITHOUT_PARAMETERS,
-};
+use bgp_wire::vectors::{ADMINISTRATIVE_SHUTDOWN, BAD_LENGTH_18, KEEPALIVE, OPEN_A};
 
 pub(super) const IPV4_UNICAST: Capability<'static> = Capability {
     code: 1,
@@ -23,40 +20,6 @@ pub(super) const AS_65001: Capability<'static> = Capability {
     value: &[0x00, 0x00, 0xfd, 0xe9],
 };
 
-/// Four-octet AS numbers, and the sender's is 65002.
-const AS_65002: Capability<'static> = Capability {
-    code: 65,
-    value: &[0x00, 0x00, 0xfd, 0xea],
-};
-
-const ROUTE_REFRESH: Capability<'static> = Capability {
-    code: 2,
-    value: &[],
-};
-
-const ENHANCED_ROUTE_REFRESH: Capability<'static> = Capability {
-    code: 70,
-    value: &[],
-};
-
-/// An OPEN whose three parameters are of type 2, and the second empty.
-const OPEN_WITH_THREE_PARAMETERS: [u8; 45] = [
-    255, 255, 255, 255, 255, 255, 255, 255, 255, 255, 255, 255, 255, 255, 255, 255, // marker
-    0x00, 0x2d, // Length: 45
-    0x01, // Type: OPEN
-    0x04, // version 4
-    0xfd, 0xea, // My Autonomous System: 65002
-    0x00, 0x5a, // Hold Time: 90
-    0xc0, 0x00, 0x02, 0x02, // BGP Identifier: 192.0.2.2
-    0x10, // Optional Parameters Length: 16
-    0x02, 0x06, // Capabilities, 6 octets
-    0x01, 0x04, 0x00, 0x01, 0x00, 0x01, // multiprotocol: IPv4 unicast
-    0x02, 0x00, // Capabilities, none
-    0x02, 0x04, // Capabilities, 4 octets
-    0x02, 0x00, // route refresh, no value
-    0x46, 0x00, // enhanced route refresh, no value
-];
-
 /// [`OPEN_B`] without its last octet.
 const B_CUT_SHORT: &[u8] = message![
     49, 1, 4, 0xfd, 0xea, 0x00, 0x5a, 192, 0, 2, 2, 20, 2, 18, 1, 4, 0, 1, 0, 1, 1, 4, 0, 2, 0, 1,
@@ -65,9 +28,6 @@ const B_CUT_SHORT: &[u8] = message![
 
 /// My Autonomous System, Hold Time and BGP Identifier.
 type Fields = (u16, u16, u32);
-
-/// Router B's.
-const FIELDS_B: Fields = (65002, 90, 0xc000_0202);
 
 /// Whether the octets are an OPEN with these fields and capabilities.
 pub(super) fn reads_as(octets: &[u8], fields: Fields, capabilities: &[Capability<'_>]) -> bool {
@@ -82,115 +42,8 @@ pub(super) fn reads_as(octets: &[u8], fields: Fields, capabilities: &[Capability
     is_same && read.next().is_none()
 }
 
-static READ: [(&str, &[u8], Fields, &[Capability<'static>]); 5] = [
-    (
-        "OPEN A",
-        &OPEN_A,
-        (65001, 90, 0xc000_0201),
-        &[IPV4_UNICAST, IPV6_UNICAST, AS_65001],
-    ),
-    (
-        "OPEN B",
-        &OPEN_B,
-        FIELDS_B,
-        &[IPV4_UNICAST, IPV6_UNICAST, AS_65002],
-    ),
-    ("no parameters", &OPEN_WITHOUT_PARAMETERS, FIELDS_B, &[]),
-    (
-        "route refresh",
-        &OPEN_WITH_ROUTE_REFRESH,
-        FIELDS_B,
-        &[ROUTE_REFRESH],
-    ),
-    (
-        "three parameters",
-        &OPEN_WITH_THREE_PARAMETERS,
-        FIELDS_B,
-        &[IPV4_UNICAST, ROUTE_REFRESH, ENHANCED_ROUTE_REFRESH],
-    ),
-];
-
-#[test]
-fn fields_and_capabilities_are_those_of_the_octets(rt: HostRuntime) {
-    for (lesson, octets, fields, capabilities) in &READ {
-        assert_row(&rt, reads_as(octets, *fields, capabilities), lesson);
-    }
-}
-
-/// Octets that are no OPEN, and the number of their fault: the version comes first, and then the
-/// least number.
-static FAULTY: [(&str, &[u8], u8); 19] = [
-    (
-        "version 3",
-        message![29, 1, 3, 0xfd, 0xea, 0x00, 0x5a, 192, 0, 2, 2, 0],
-        1,
-    ),
-    (
-        "version 3, and a parameter of type 1",
-        message![32, 1, 3, 0xfd, 0xea, 0x00, 0x5a, 192, 0, 2, 2, 3, 1, 1, 0],
-        1,
-    ),
-    (
-        "version 3, and a parameter that runs over",
-        message![31, 1, 3, 0xfd, 0xea, 0x00, 0x5a, 192, 0, 2, 2, 2, 2, 1],
-        1,
-    ),
-    (
-        "a parameter of type 1",
-        message![32, 1, 4, 0xfd, 0xea, 0x00, 0x5a, 192, 0, 2, 2, 3, 1, 1, 0],
-        4,
-    ),
-    (
-        "what it holds isn't looked into",
-        message![32, 1, 4, 0xfd, 0xea, 0x00, 0x5a, 192, 0, 2, 2, 3, 1, 1, 65],
-        4,
-    ),
-    (
-        "a parameter of type 1 behind one of type 2",
-        message![
-            35, 1, 4, 0xfd, 0xea, 0x00, 0x5a, 192, 0, 2, 2, 6, 2, 2, 2, 0, 1, 0
-        ],
-        4,
-    ),
-    (
-        "a capability without a length",
-        message![32, 1, 4, 0xfd, 0xea, 0x00, 0x5a, 192, 0, 2, 2, 3, 2, 1, 65],
-        0,
-    ),
-    (
-        "and a parameter of type 1",
-        message![
-            35, 1, 4, 0xfd, 0xea, 0x00, 0x5a, 192, 0, 2, 2, 6, 1, 1, 65, 2, 1, 65
-        ],
-        0,
-    ),
-    (
-        "a capability that runs over",
-        message![
-            33, 1, 4, 0xfd, 0xea, 0x00, 0x5a, 192, 0, 2, 2, 4, 2, 2, 65, 4
-        ],
-        0,
-    ),
-    (
-        "a parameter that runs over",
-        message![31, 1, 4, 0xfd, 0xea, 0x00, 0x5a, 192, 0, 2, 2, 2, 2, 1],
-        0,
-    ),
-    (
-        "a parameter without a length",
-        message![30, 1, 4, 0xfd, 0xea, 0x00, 0x5a, 192, 0, 2, 2, 1, 2],
-        0,
-    ),
-    (
-        "fewer parameters than their length",
-        message![31, 1, 4, 0xfd, 0xea, 0x00, 0x5a, 192, 0, 2, 2, 3, 2, 0],
-        0,
-    ),
-    (
-        "more parameters than their length",
-        message![31, 1, 4, 0xfd, 0xea, 0x00, 0x5a, 192, 0, 2, 2, 0, 2, 0],
-        0,
-    ),
+/// Octets that are no OPEN, and no whole message of its length, and the number of their fault.
+static FAULTY: [(&str, &[u8], u8); 6] = [
     ("nothing", &[], 0),
     ("a KEEPALIVE", &KEEPALIVE, 0),
     ("an OPEN cut short", B_CUT_SHORT, 0),
@@ -216,7 +69,7 @@ static FAULTY: [(&str, &[u8], u8); 19] = [
 ];
 
 #[test]
-fn the_version_comes_first_and_then_the_least_fault(rt: HostRuntime) {
+fn what_is_no_message_is_no_open(rt: HostRuntime) {
     for (lesson, octets, number) in &FAULTY {
         let is_told = match read_open(octets) {
             Ok(_) => false,
