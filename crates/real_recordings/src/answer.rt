@@ -4,10 +4,12 @@ ghost use Rattle.std.specs.Prelude.{◌<◌, ◌^◌, IfOk};
 ghost use Rattle.mrt.specs.MemSource.{source_state};
 
 use crate::case::{Case, malformed};
-use crate::words::{config_of, import_of, options_of, port_of, session_of};
+use crate::words::{config_of, has_flag, import_of, options_of, port_of, session_of};
 use bgp_compact::CompactTracker;
+use bgp_explain::explain_capture;
 use bgp_import::{Cause, Refusal, Stopped, import_recording, list_recording};
 use bgp_judge::{PlainTracker, Tracker};
+use bgp_open::Config;
 use bgp_recording_tool::{Judged, decode_recording, judge_recording};
 use mrt::{MemSink, MemSource};
 use std::alloc::{AllocError, Global};
@@ -15,15 +17,15 @@ use std::fmt::Write;
 use std::io;
 use std::num::NonZeroUsize;
 
-/// A case's recording, which is read so many octets at a time at the most.
+/// A case's file, which is read so many octets at a time at the most.
 fn source_of(alloc: Global, case: &Case<'_>, most: NonZeroUsize) -> io::Result<MemSource>
     ensures { IfOk result (λ source. source.failures < 2 ^ 63) }
 {
-    let recording = Vec::from_slice(alloc, case.recording.as_slice())?;
-    Ok(MemSource::new(recording).in_pieces_of(most))
+    let file = Vec::from_slice(alloc, case.file.as_slice())?;
+    Ok(MemSource::new(file).in_pieces_of(most))
 }
 
-/// The lines of the answer to a case, whose recording is read so many octets at a time at the most.
+/// The lines of the answer to a case, whose file is read so many octets at a time at the most.
 pub(crate) fn answer_to(alloc: Global, case: &Case<'_>, most: NonZeroUsize) -> io::Result<String> {
     let mut source = source_of(alloc, case, most)?;
     match case.words.split(' ').next() {
@@ -31,9 +33,9 @@ pub(crate) fn answer_to(alloc: Global, case: &Case<'_>, most: NonZeroUsize) -> i
         Some("list") => list(alloc, case.words, &mut source),
         Some("decode") => decode(alloc, case.words, &mut source),
         Some("judge") => {
-            let plain = judge::<PlainTracker<Global>>(alloc, case.words, &mut source)?;
+            let plain = judged_by::<PlainTracker<Global>>(alloc, case.words, &mut source)?;
             let mut source = source_of(alloc, case, most)?;
-            let compact = judge::<CompactTracker<Global>>(alloc, case.words, &mut source)?;
+            let compact = judged_by::<CompactTracker<Global>>(alloc, case.words, &mut source)?;
             if plain.as_str() == compact.as_str() {
                 Ok(compact)
             } else {
@@ -42,6 +44,45 @@ pub(crate) fn answer_to(alloc: Global, case: &Case<'_>, most: NonZeroUsize) -> i
         }
         _ => Err(malformed()),
     }
+}
+
+/// What `bgp judge` answers by a tracker: of a recording, or with `--explain` of a capture.
+fn judged_by<T: Tracker<Global>>(
+    alloc: Global,
+    words: &str,
+    source: &mut MemSource,
+) -> io::Result<String>
+    requires { (source_state source.old).failures < 2 ^ 63 }
+{
+    let Some(config) = config_of(words) else {
+        return Err(malformed());
+    };
+    if has_flag(words, "--explain") {
+        explain::<T>(alloc, &config, source)
+    } else {
+        judge::<T>(alloc, words, &config, source)
+    }
+}
+
+/// The status and the lines of a capture that a tracker explains.
+pub(crate) fn explain<T: Tracker<Global>>(
+    alloc: Global,
+    config: &Config,
+    source: &mut MemSource,
+) -> io::Result<String>
+    requires { (source_state source.old).failures < 2 ^ 63 }
+{
+    let mut sink = MemSink::new(alloc);
+    let status = explain_capture::<Global, T, MemSource, MemSink>(alloc, config, source, &mut sink);
+    printed(alloc, status, sink.into_octets())
+}
+
+/// The status, and the lines that were printed.
+pub(crate) fn printed(alloc: Global, status: u8, octets: Vec<u8>) -> io::Result<String> {
+    let mut text = String::new(alloc);
+    add(&mut text, "status ")?;
+    add(&mut text, status)?;
+    add_lines(text, octets)
 }
 
 /// The exit status of a recording that is refused.
@@ -175,20 +216,21 @@ fn add_lines(mut text: String, octets: Vec<u8>) -> io::Result<String> {
     Ok(text)
 }
 
-/// What `bgp judge` answers, by a tracker.
+/// What `bgp judge` answers of a recording, by a tracker.
 fn judge<T: Tracker<Global>>(
     alloc: Global,
     words: &str,
+    config: &Config,
     source: &mut MemSource,
 ) -> io::Result<String>
     requires { (source_state source.old).failures < 2 ^ 63 }
 {
-    let (Some(config), Some(options)) = (config_of(words), options_of(words)) else {
+    let Some(options) = options_of(words) else {
         return Err(malformed());
     };
     let mut sink = MemSink::new(alloc);
     let judged = judge_recording::<Global, T, MemSource, MemSink>(
-        alloc, &config, &options, source, &mut sink,
+        alloc, config, &options, source, &mut sink,
     );
     told(alloc, &judged, sink.into_octets())
 }

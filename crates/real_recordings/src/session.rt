@@ -14,7 +14,7 @@ use std::{fs, io};
 
 /// The recordings that lie in `sessions/`, each with the status of judging it from the ends a and
 /// b.
-const SESSIONS: [(&str, u8, u8); 12] = [
+pub(crate) const SESSIONS: [(&str, u8, u8); 12] = [
     ("bad-as-bird", 0, 0),
     ("bad-as-trans", 1, 0),
     ("bird-frr-plain", 0, 0),
@@ -98,6 +98,39 @@ fn print_other<R: Print>(rt: &R, name: &str, answer: &Answer) -> io::Result<()> 
     )
 }
 
+/// Reads how an end of a session is judged.
+pub(crate) fn read_settings<R: Files + AllocGlobal>(
+    rt: &R,
+    name: &str,
+    end: &str,
+) -> io::Result<(Config, RecordingOptions)> {
+    let alloc = rt.alloc();
+    let path = format!(in alloc; "sessions/{name}.{end}.args")?;
+    let lines = fs::read_to_string(rt, path.as_str())?;
+    let mut words = String::new(alloc);
+    for word in lines.lines() {
+        words.push_str(word)?;
+        words.push_str(" ")?;
+    }
+    let words = words.as_str().trim_end();
+    match (config_of(words), options_of(words)) {
+        (Some(config), Some(options)) => Ok((config, options)),
+        _ => Err(malformed()),
+    }
+}
+
+/// Reads the recording of a session.
+pub(crate) fn read_recording<R: Files + AllocGlobal>(rt: &R, name: &str) -> io::Result<Vec<u8>> {
+    let path = format!(in rt.alloc(); "sessions/{name}.pcap")?;
+    Ok(fs::read(rt, path.as_str())?)
+}
+
+/// Reads a text of a session.
+fn read_text<R: Files + AllocGlobal>(rt: &R, name: &str, suffix: &str) -> io::Result<String> {
+    let path = format!(in rt.alloc(); "sessions/{name}.{suffix}")?;
+    Ok(fs::read_to_string(rt, path.as_str())?)
+}
+
 /// Reads what lies in `sessions/` of one end.
 fn read_end<R: Files + AllocGlobal>(
     rt: &R,
@@ -106,26 +139,13 @@ fn read_end<R: Files + AllocGlobal>(
     status: u8,
 ) -> io::Result<Known> {
     let alloc = rt.alloc();
-    let file = |suffix: &str| -> io::Result<String> {
-        let path = format!(in alloc; "sessions/{name}.{end}.{suffix}")?;
-        Ok(fs::read_to_string(rt, path.as_str())?)
-    };
-    let mut words = String::new(alloc);
-    for word in file("args")?.lines() {
-        words.push_str(word)?;
-        words.push_str(" ")?;
-    }
-    let words = words.as_str().trim_end();
-    let (Some(options), Some(config)) = (options_of(words), config_of(words)) else {
-        return Err(malformed());
-    };
-    let path = format!(in alloc; "sessions/{name}.pcap")?;
+    let (config, options) = read_settings(rt, name, end)?;
     Ok(Known {
         options,
         config,
-        recording: fs::read(rt, path.as_str())?,
-        text: file("stdout")?,
-        notes: file("stderr")?,
+        recording: read_recording(rt, name)?,
+        text: read_text(rt, name, format!(in alloc; "{end}.stdout")?.as_str())?,
+        notes: read_text(rt, name, format!(in alloc; "{end}.stderr")?.as_str())?,
         status,
     })
 }
@@ -153,9 +173,8 @@ fn compare_end<R: Files + Print + AllocGlobal>(
 /// Prints a session's list if it is not so. Answers whether it is.
 fn compare_list<R: Files + Print + AllocGlobal>(rt: &R, name: &str) -> io::Result<bool> {
     let alloc = rt.alloc();
-    let path = format!(in alloc; "sessions/{name}.pcap")?;
-    let known = fs::read_to_string(rt, format!(in alloc; "{path}.list.stdout")?.as_str())?;
-    let mut source = MemSource::new(fs::read(rt, path.as_str())?);
+    let known = read_text(rt, name, "pcap.list.stdout")?;
+    let mut source = MemSource::new(read_recording(rt, name)?);
     let mut sink = MemSink::new(alloc);
     let listed = list_recording(alloc, 179, &mut source, &mut sink);
     let is_whole = listed.is_ok_and(|listed| listed.refusal.is_none());
@@ -163,7 +182,7 @@ fn compare_list<R: Files + Print + AllocGlobal>(rt: &R, name: &str) -> io::Resul
         return Ok(true);
     }
     let text = std::str::from_utf8(sink.octets()).unwrap_or("?");
-    println!(rt; "{path}: the list is not so:\n{text}")?;
+    println!(rt; "{name}: the list is not so:\n{text}")?;
     Ok(false)
 }
 

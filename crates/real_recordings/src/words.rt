@@ -86,10 +86,16 @@ pub(crate) fn import_of(words: &str) -> Option<Import>
     ensures { IfSome result (λ it. family_of it.selection.session.peer
         ≡ family_of it.selection.session.local) }
 {
-    let session = session_of(words)?;
-    let options = options_of(words)?;
+    import_between(&session_of(words)?, &options_of(words)?)
+}
+
+/// What is imported of a session between two addresses of one family.
+pub(crate) fn import_between(session: &Session, options: &RecordingOptions) -> Option<Import>
+    ensures { IfSome result (λ it. family_of it.selection.session.peer
+        ≡ family_of it.selection.session.local) }
+{
     if session.peer.family() == session.local.family() {
-        Some(bgp_recording_tool::import_of(&session, &options))
+        Some(bgp_recording_tool::import_of(session, options))
     } else {
         None
     }

@@ -1,35 +1,19 @@
 //! Recordings of real sessions, explained as the captures that are made of them.
 
-ghost use Rattle.std.specs.Prelude.{◌≡◌, IfSome};
-ghost use Rattle.bgp_prefix.specs.Address.{family_of};
-
-use crate::{explained_capture, line_of, malformed};
+use crate::answer::{explain, printed};
+use crate::case::malformed;
+use crate::session::{SESSIONS, read_recording, read_settings};
+use crate::words::import_between;
 use bgp_compact::CompactTracker;
-use bgp_import::{Import, import_recording};
+use bgp_import::import_recording;
 use bgp_judge::{PlainTracker, Tracker};
 use bgp_open::{Config, ConfigParts};
 use bgp_recording_explain::explain_recording;
-use bgp_recording_tool::{RecordingOptions, import_of};
+use bgp_recording_tool::RecordingOptions;
 use mrt::{MemSink, MemSource};
 use std::alloc::Global;
+use std::io;
 use std::rt::Files;
-use std::{fs, io};
-
-/// The recordings that lie in `sessions/`, which are judged from the ends a and b.
-const SESSIONS: [&str; 12] = [
-    "bad-as-bird",
-    "bad-as-trans",
-    "bird-frr-plain",
-    "collision",
-    "delayopen",
-    "flap",
-    "hold-expiry-openbgpd",
-    "maxprefix",
-    "nocaps",
-    "retries",
-    "transport6",
-    "v4only",
-];
 
 /// How many connections of a recording are looked at.
 const CONNECTIONS: usize = 4;
@@ -42,22 +26,10 @@ struct Talk<'a> {
     recording: &'a [u8],
 }
 
-/// What is imported of a session between two addresses of one family.
-fn meant(talk: &Talk<'_>) -> Option<Import>
-    ensures { IfSome result (λ it. family_of it.selection.session.peer
-        ≡ family_of it.selection.session.local) }
-{
-    let session = &talk.config.parts.session;
-    if session.peer.family() == session.local.family() {
-        Some(import_of(session, &talk.options))
-    } else {
-        None
-    }
-}
-
 /// The capture that is made of the connection, if there is such a one.
 fn capture_of(alloc: Global, talk: &Talk<'_>) -> io::Result<Option<Vec<u8>>> {
-    let Some(import) = meant(talk) else {
+    let session = &talk.config.parts.session;
+    let Some(import) = import_between(session, &talk.options) else {
         return Err(malformed());
     };
     let mut source = MemSource::new(Vec::from_slice(alloc, talk.recording)?);
@@ -68,8 +40,8 @@ fn capture_of(alloc: Global, talk: &Talk<'_>) -> io::Result<Option<Vec<u8>>> {
     }
 }
 
-/// What explaining the connection with a tracker writes and answers.
-fn explained<T: Tracker<Global>>(alloc: Global, talk: &Talk<'_>) -> io::Result<(String, u8)> {
+/// The status and the lines of the connection that a tracker explains.
+fn explained<T: Tracker<Global>>(alloc: Global, talk: &Talk<'_>) -> io::Result<String> {
     let mut source = MemSource::new(Vec::from_slice(alloc, talk.recording)?);
     let mut sink = MemSink::new(alloc);
     let judged = explain_recording::<Global, T, MemSource, MemSink>(
@@ -79,13 +51,12 @@ fn explained<T: Tracker<Global>>(alloc: Global, talk: &Talk<'_>) -> io::Result<(
         &mut source,
         &mut sink,
     );
-    let text = String::from_utf8(sink.into_octets()).map_err(|_| malformed())?;
-    Ok((text, judged.status))
+    printed(alloc, judged.status, sink.into_octets())
 }
 
 /// The line without the packet that shows its record.
 fn without_packet(line: &str) -> &str {
-    if line.starts_with("record ") || line.starts_with("last received ") {
+    if line.starts_with("> record ") || line.starts_with("> last received ") {
         match line.rsplit_once(", packet ") {
             Some((front, _)) => front,
             None => line,
@@ -109,7 +80,7 @@ fn without_packets(alloc: Global, text: &str) -> io::Result<String> {
 fn without_skipped(alloc: Global, text: &str) -> io::Result<String> {
     let mut lines = String::new(alloc);
     for line in text.lines() {
-        if !line.starts_with("skipped ") {
+        if !line.starts_with("> skipped ") {
             lines.push_str(line)?;
             lines.push_str("\n")?;
         }
@@ -124,15 +95,14 @@ fn compare_talk<R: Print + AllocGlobal>(rt: &R, talk: &Talk<'_>) -> io::Result<O
     let Some(capture) = capture_of(alloc, talk)? else {
         return Ok(None);
     };
-    let (known, known_status) = explained_capture(alloc, talk.config, capture)?;
-    let (plain, plain_status) = explained::<PlainTracker<Global>>(alloc, talk)?;
-    let (compact, compact_status) = explained::<CompactTracker<Global>>(alloc, talk)?;
+    let mut source = MemSource::new(capture);
+    let known = explain::<CompactTracker<Global>>(alloc, talk.config, &mut source)?;
+    let plain = explained::<PlainTracker<Global>>(alloc, talk)?;
+    let compact = explained::<CompactTracker<Global>>(alloc, talk)?;
     let is_so = plain == compact
-        && without_packets(alloc, plain.as_str())? == without_skipped(alloc, known.as_str())?
-        && plain_status == known_status
-        && compact_status == known_status;
+        && without_packets(alloc, plain.as_str())? == without_skipped(alloc, known.as_str())?;
     if !is_so {
-        println!(rt; "{plain}but\n{known}")?;
+        println!(rt; "{plain}\nbut\n{known}")?;
     }
     Ok(Some(is_so))
 }
@@ -172,13 +142,8 @@ fn compare_end<R: Files + Print + AllocGlobal>(
     name: &str,
     end: &str,
 ) -> io::Result<(u64, bool)> {
-    let alloc = rt.alloc();
-    let words = fs::read_to_string(
-        rt,
-        format!(in alloc; "sessions/{name}.{end}.args")?.as_str(),
-    )?;
-    let recording = fs::read(rt, format!(in alloc; "sessions/{name}.pcap")?.as_str())?;
-    let (config, options) = line_of(alloc, words.as_str().trim_end(), '\n')?;
+    let recording = read_recording(rt, name)?;
+    let (config, options) = read_settings(rt, name, end)?;
     let parts = config.parts;
     let mut count = 0u64;
     let mut all = true;
@@ -201,10 +166,10 @@ fn compare_end<R: Files + Print + AllocGlobal>(
 }
 
 /// Prints each connection that is not so, and then how many there were. Answers whether all are so.
-pub(crate) fn compare_sessions<R: Files + Print + AllocGlobal>(rt: &R) -> io::Result<bool> {
+pub(crate) fn compare_explained<R: Files + Print + AllocGlobal>(rt: &R) -> io::Result<bool> {
     let mut count = 0u64;
     let mut all = true;
-    for name in SESSIONS {
+    for (name, _, _) in SESSIONS {
         for end in ["a", "b"] {
             let (some, are_so) = compare_end(rt, name, end)?;
             count = count.saturating_add(some);
