@@ -1,7 +1,7 @@
-//! Tests of `bgp_recording_tool`: several connections, devices that fail, refused memory, and files
-//! that are recordings or captures. Of `bgp_recording`: connections and the records that are made
-//! of them. And of `bgp_import`: each refusal of a file that was made by hand, each read that fails,
-//! and refused memory.
+//! Tests of `bgp_recording_tool`: devices that fail, refused memory, and files that are recordings or
+//! captures. Of `bgp_recording` and `bgp_import`: each read that fails, and refused memory.
+//! (Recordings, what is made of them, and each refusal are compared by the program
+//! `real_recordings`.)
 //!
 //! They stand in a crate of their own, since a crate with tests is proved twice.
 #![tactic(auto)]

@@ -1,10 +1,8 @@
-//! Connections by hand, packet by packet, and their records.
+//! Growths that are refused while records are made, and the rules of framing of each direction.
+//! (Connections and the records that are made of them are compared by the program
+//! `real_recordings`.)
 
-mod endings;
-mod extended;
-mod memory;
 mod refresh;
-mod rows;
 
 ghost use Rattle.std.specs.Prelude.{◌≡◌, IfSome, IsTrue};
 ghost use Rattle.std.specs.List.{AllByRecursion};
@@ -13,32 +11,62 @@ ghost use Rattle.bgp_recording.specs.Gathered.{IsCovered};
 
 use bgp_recording::{Entry, Framing, Framings, Rest, make_records};
 use bgp_wire::Limit;
+use bgp_wire::vectors::{ANNOUNCES_10, KEEPALIVE, OPEN_A, OPEN_B};
+use linked_list_allocator::LocalHeap;
 use mrt::Record;
 use std::alloc::{AllocError, Allocator, Global};
-use streams::{Connection, End, Run, Side, Stream};
+use streams::{Connection, Run, Side, Stream};
 
-/// One direction: its pieces, and who gave its octets.
-struct Way {
-    pieces: &'static [&'static [u8]],
-    runs: &'static [Run],
-}
+/// An OPEN, a KEEPALIVE and an UPDATE of 45 octets that came.
+static RECEIVED: [Run; 3] = [
+    Run {
+        count: 49,
+        packet: 4,
+        second: 100,
+    },
+    Run {
+        count: 19,
+        packet: 7,
+        second: 101,
+    },
+    Run {
+        count: 45,
+        packet: 8,
+        second: 102,
+    },
+];
 
-/// A connection whose first packet is of second 100, and what is made of it.
-struct Row {
-    name: &'static str,
-    opened_by: Side,
-    received: Way,
-    sent: Way,
-    end: Option<End>,
-    records: &'static [Record<'static>],
-    received_rest: Rest,
-    sent_rest: Rest,
-}
+/// An OPEN and a KEEPALIVE that were sent, in two packets of one second.
+static SENT: [Run; 2] = [
+    Run {
+        count: 49,
+        packet: 5,
+        second: 100,
+    },
+    Run {
+        count: 19,
+        packet: 6,
+        second: 100,
+    },
+];
 
-/// The octets of a direction.
-fn joined(alloc: Global, way: &Way) -> Result<Vec<u8>, AllocError> {
+/// A session that comes up, and announces a route.
+static RECORDS: [Record<'static>; 9] = [
+    Record::Change(100, 1, 3),
+    Record::Out(100, &OPEN_A),
+    Record::Change(100, 3, 4),
+    Record::In(100, &OPEN_B),
+    Record::Out(100, &KEEPALIVE),
+    Record::Change(100, 4, 5),
+    Record::In(101, &KEEPALIVE),
+    Record::Change(101, 5, 6),
+    Record::In(102, &ANNOUNCES_10),
+];
+
+/// The octets of pieces, one after another.
+fn joined(alloc: Global, pieces: &[&[u8]]) -> Result<Vec<u8>, AllocError> {
     let mut octets = Vec::new(alloc);
-    for piece in way.pieces {
+    for piece in pieces {
         octets.extend_from_slice(piece)?;
     }
     Ok(octets)
@@ -68,12 +96,12 @@ fn is_covered(stream: &Stream<'_>) -> bool
     }
 }
 
-/// Whether the records are these, in their order.
-fn are_records(entries: &[Entry<'_>], records: &[Record<'static>]) -> bool {
-    if entries.len() != records.len() {
+/// Whether the records are those, in their order.
+fn are_records(entries: &[Entry<'_>]) -> bool {
+    if entries.len() != RECORDS.len() {
         return false;
     }
-    for (entry, record) in entries.iter().zip(records) {
+    for (entry, record) in entries.iter().zip(&RECORDS) {
         if entry.record != *record {
             return false;
         }
@@ -81,50 +109,67 @@ fn are_records(entries: &[Entry<'_>], records: &[Record<'static>]) -> bool {
     true
 }
 
-/// The row's connection, whose streams have these octets.
-fn connection_of<'a>(row: &Row, received: &'a [u8], sent: &'a [u8]) -> Connection<'a> {
+/// The connection, whose streams have these octets.
+fn connection_of<'a>(received: &'a [u8], sent: &'a [u8]) -> Connection<'a> {
     Connection {
         number: 1,
         local_port: 179,
         peer_port: 40000,
-        opened_by: row.opened_by,
+        opened_by: Side::Peer,
         packet: 1,
         second: 100,
         received: Stream {
             octets: received,
-            runs: row.received.runs,
+            runs: &RECEIVED,
         },
         sent: Stream {
             octets: sent,
-            runs: row.sent.runs,
+            runs: &SENT,
         },
-        end: row.end,
+        end: None,
     }
 }
 
-/// Both directions framed at this limit, and no ROUTE-REFRESH passed over.
-fn framed_at(limit: Limit) -> Framings {
-    Framings::alike(Framing {
-        limit,
-        skips_refresh: false,
-    })
-}
-
-/// Whether what is made of a connection, at this limit and within ten seconds, is what the row
-/// says: no answer where memory was refused.
-fn is_made<A: Allocator + Copy>(
-    alloc: A,
-    connection: &Connection<'_>,
-    limit: Limit,
-    row: &Row,
-) -> Option<bool> {
+/// Whether what is made of a connection is those records, and nothing is left: no answer where
+/// memory was refused.
+fn is_made<A: Allocator + Copy>(alloc: A, connection: &Connection<'_>) -> Option<bool> {
     if !is_covered(&connection.received) || !is_covered(&connection.sent) {
         return Some(false);
     }
-    let made = make_records(alloc, connection, framed_at(limit), 10).ok()?;
-    Some(
-        are_records(&made.entries, row.records)
-            && made.received.rest == row.received_rest
-            && made.sent.rest == row.sent_rest,
-    )
+    let framings = Framings::alike(Framing {
+        limit: Limit::Plain,
+        skips_refresh: false,
+    });
+    let made = make_records(alloc, connection, framings, 10).ok()?;
+    let nothing = Rest::Short { count: 0 };
+    Some(are_records(&made.entries) && made.received.rest == nothing && made.sent.rest == nothing)
+}
+
+/// Whether memory is refused by small heaps, and larger ones make the records.
+fn is_refused_by_some(alloc: Global, connection: &Connection<'_>) -> bool {
+    let (mut refused, mut done) = (false, false);
+    for step in 1..256 {
+        let Ok(heap) = LocalHeap::new(alloc, 16 * step) else {
+            return false;
+        };
+        match is_made(&heap, connection) {
+            Some(true) => done = true,
+            Some(false) => return false,
+            None => refused = true,
+        }
+    }
+    refused && done
+}
+
+/// Whether the records are made, and growths are refused.
+fn is_made_or_refused(alloc: Global) -> Result<bool, AllocError> {
+    let received = joined(alloc, &[&OPEN_B, &KEEPALIVE, &ANNOUNCES_10])?;
+    let sent = joined(alloc, &[&OPEN_A, &KEEPALIVE])?;
+    let connection = connection_of(&received, &sent);
+    Ok(is_made(alloc, &connection) == Some(true) && is_refused_by_some(alloc, &connection))
+}
+
+#[test]
+fn records_are_made_and_growths_may_be_refused(rt: HostRuntime) {
+    assert!(rt; is_made_or_refused(rt.alloc()) == Ok(true));
 }

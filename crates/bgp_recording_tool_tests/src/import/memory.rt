@@ -6,7 +6,7 @@ use linked_list_allocator::LocalHeap;
 /// What importing a recording answers with a heap of this size, and how many octets it writes.
 fn imported_over(alloc: Global, size: usize) -> Option<(Result<Notes, Stopped>, usize)> {
     let heap = LocalHeap::new(alloc, size).ok()?;
-    let mut source = MemSource::new(joined(alloc, &super::refusals::WHOLE).ok()?);
+    let mut source = MemSource::new(recording(alloc).ok()?);
     let mut sink = MemSink::new(alloc);
     let imported = import_recording(&heap, &IMPORT, &mut source, &mut sink);
     Some((imported.ended, sink.octets().len()))

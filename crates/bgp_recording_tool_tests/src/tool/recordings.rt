@@ -9,63 +9,6 @@ use segments::PacketFault;
 use std::num::NonZeroUsize;
 use std::test::Fail;
 
-/// Whether the recording is judged so with these options.
-fn is_judged(alloc: Global, options: &RecordingOptions, text: &str, status: u8) -> bool {
-    let Ok(octets) = recording(alloc) else {
-        return false;
-    };
-    match judged(alloc, alloc, options, &mut MemSource::new(octets)) {
-        Some((written, judged)) => written.as_slice() == text.as_bytes() && judged.status == status,
-        None => false,
-    }
-}
-
-#[test]
-fn each_connection_is_judged_under_its_line(rt: HostRuntime) {
-    assert!(rt; is_judged(rt.alloc(), &OPTIONS, JUDGED, 3));
-    let first = RecordingOptions {
-        connection: Some(1),
-        ..OPTIONS
-    };
-    assert!(rt; is_judged(rt.alloc(), &first, "yes\nend Idle disabled -\n", 0));
-}
-
-/// What decoding the recording prints, and its status.
-fn decoded(alloc: Global, options: &RecordingOptions) -> Option<(Vec<u8>, u8)> {
-    let mut source = MemSource::new(recording(alloc).ok()?);
-    let mut sink = MemSink::new(alloc);
-    let decoded = decode_recording(alloc, &SESSION, options, &mut source, &mut sink);
-    Some((sink.into_octets(), decoded.status))
-}
-
-/// Whether decoding the recording prints what begins so, and answers this status.
-fn is_decoded(alloc: Global, options: &RecordingOptions, front: &str, status: u8) -> bool {
-    match decoded(alloc, options) {
-        Some((text, answered)) => {
-            text.as_slice().starts_with(front.as_bytes()) && answered == status
-        }
-        None => false,
-    }
-}
-
-#[test]
-fn one_connection_is_decoded(rt: HostRuntime) {
-    let several = "recording refused: 11 Several at packet 4\n";
-    assert!(rt; is_decoded(rt.alloc(), &OPTIONS, several, 3));
-    let first = RecordingOptions {
-        connection: Some(1),
-        ..OPTIONS
-    };
-    assert!(rt;
-        is_decoded(
-            rt.alloc(),
-            &first,
-            "@100 change 1 3\n@100 received open ",
-            0
-        )
-    );
-}
-
 /// What judging the recording answers where the read of this number fails: whether that is told, or
 /// `None` where something else is answered.
 fn fails_at(alloc: Global, call: u64) -> Option<bool> {
