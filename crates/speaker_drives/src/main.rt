@@ -8,19 +8,24 @@
 //!
 //! What a drive or a talk shows is judged, too, by the plain tracker and by the compact one: yes,
 //! with the state and the routes of its end among the ends. So are a thousand drives by chance.
+//!
+//! Then both ends of a session speak over a real loopback connection (`sockets`), and what they
+//! print is stored.
 #![tactic(auto)]
 
 mod case;
 mod chance;
 mod drive;
 mod judging;
+mod sockets;
 mod talk;
 
 use chance::drive_by_chance;
 use drive::{is_drive, is_drive_each_way};
 use std::alloc::Global;
+use std::net::Net;
 use std::process::ExitCode;
-use std::rt::Files;
+use std::rt::{Clock, Files};
 use std::{fs, io};
 use talk::is_talk;
 
@@ -52,13 +57,16 @@ fn main(rt: HostRuntime) -> ExitCode {
     }
 }
 
-/// Prints what is not so, and how much was compared. Answers whether all is so.
-fn compare_all<R: Files + Print + AllocGlobal>(rt: &R) -> io::Result<bool> {
+/// Prints what is not so, and how much was compared, and what is done over sockets. Answers whether
+/// all is so.
+fn compare_all<R: Net + Files + Clock + Print + AllocGlobal>(rt: &R) -> io::Result<bool> {
     let mut all = true;
     for (file, name, told) in &TABLES {
         all = compare(rt, file, name, *told)? && all;
     }
-    Ok(drive_by_chance(rt)? && all)
+    all = drive_by_chance(rt)? && all;
+    sockets::show(rt)?;
+    Ok(all)
 }
 
 /// Prints each block of a table that is not so, and then how many there were. Answers whether all

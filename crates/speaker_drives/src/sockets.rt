@@ -2,7 +2,6 @@
 //! and answers, and what is told where its captures can't be made. Then what is shown of these
 //! captures while they are written, as `bgp speak` does, and what a pair prints whose ends hear
 //! noise. And a wire over such a connection, call by call.
-#![tactic(auto)]
 
 mod noise;
 mod watching;
@@ -15,19 +14,11 @@ use noise::Noisy;
 use std::alloc::Global;
 use std::io;
 use std::net::Net;
-use std::process::ExitCode;
 use std::rt::{Clock, Files};
-
-fn main(rt: HostRuntime) -> ExitCode {
-    match run(&rt) {
-        Ok(()) => ExitCode::SUCCESS,
-        Err(_) => ExitCode::FAILURE,
-    }
-}
 
 /// Two pairs: one whose captures can be made, and one whose folder isn't there. Then what is shown
 /// of the captures of the first, a pair whose ends hear noise, and a wire.
-fn run<R: Net + Files + Clock + Print + AllocGlobal>(rt: &R) -> io::Result<()> {
+pub(crate) fn show<R: Net + Files + Clock + Print + AllocGlobal>(rt: &R) -> io::Result<()> {
     pair(rt, "pair.mrt")?;
     pair(rt, "no_folder/pair.mrt")?;
     watching::show(rt, "pair.mrt", "pair.mrt.right")?;

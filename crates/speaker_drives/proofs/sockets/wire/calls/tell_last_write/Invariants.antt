@@ -1,6 +1,6 @@
 use Rattle.std.proofs.Common.{◌≡◌}
 use Rattle.bgp_talk.specs.declared.wire.Connection.TheVariants.{Stands}
-use Rattle.socket_pair.proofs.wire.calls.tell_last_write.Given as goal
+use Rattle.speaker_drives.proofs.sockets.wire.calls.tell_last_write.Given as goal
 
 abbrev pub invariant-loop : goal.invariant-loop
 invariant-loop g l = record {
