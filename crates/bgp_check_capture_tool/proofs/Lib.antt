@@ -1,0 +1,6 @@
+pub mod Passing
+pub mod Fronts
+pub mod ToldSoFar
+pub mod WholeSession
+pub mod Blocks
+pub mod Statuses

@@ -1,0 +1,28 @@
+use Rattle.std.proofs.Common.{◌∙◌, List, ℕ, Bool, subst, ap, rules}
+use Rattle.bgp_tool.proofs.CaptureJudged.{is_written}
+use Rattle.bgp_text.proofs.Fresh.{IsFresh}
+use Rattle.bgp_text.proofs.Pieces.{Joins, and_nothing, and_then}
+use Rattle.bgp_check_capture_tool.specs.Checking.{Tells, nothing_by}
+use Rattle.bgp_check_capture_tool.proofs.Statuses.{coded_as, told_as}
+use Rattle.bgp_check_capture_tool.proofs.checking.check_capture.Goals as goal
+
+pub returns : goal.returns
+returns g c =
+    let law : Joins g.W.Sink = record { joined = g.met.W.Sink.joined } in
+    let fresh : IsFresh c.new-lines.result = record { empty = c.new-lines.ensures.empty; calm = c.new-lines.ensures.fresh } in
+    let puts = c.put_file-fault.ensures in
+    let wrote = and_nothing law (and_then law puts.wrote (and_then law c.put_fault.ensures (and_then law c.put_nothing.ensures c.put.ensures))) c.hand_over-status.ensures.writes in
+    record {
+      octets = c.hold-held.result.octets.items;
+      ending = c.hold-held.result.ending;
+      held = c.hold-held.ensures.held;
+      counted = c.hold-held.ensures.failures;
+      text = puts.text;
+      of_sessions = c.put_file-fault.result.0;
+      tells = subst (λ (o : List ℕ). Tells c.args.routes o c.hold-held.result.ending puts.text c.put_file-fault.result.0 c.put_file-fault.result.1) c.as_slice.ensures.value puts.tells;
+      tally = c.with_fault-tally.result;
+      counts = c.with_fault-tally.ensures;
+      is_nothing = c.nothing_by.ensures ∙ ap (λ (b : Bool). nothing_by b c.put_file-fault.result.1) c.has_verdict.ensures;
+      written = is_written c.new-lines.result c.hand_over-status.new.lines c.args.sink.now _ fresh c.new-lines.ensures.now (search rules)
+          _ _ _ wrote c.hand_over-status.ensures.none (coded_as _ _ _ _ c.code.ensures (told_as _ _ _ _ c.hand_over-status.ensures.told c.status.ensures));
+    }

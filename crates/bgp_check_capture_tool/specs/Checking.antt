@@ -1,0 +1,121 @@
+-- What checking a capture writes and answers.
+use Rattle.std.specs.Prelude.{◌≡◌, ◌⊎◌, ◌+◌, ◌++◌, ℕ, Bool, true, false, List, [], ◌∷◌, map}
+use Rattle.std.specs.Prelude.{Option, None, Some, codes, if◌then◌else◌}
+use Rattle.std.specs.List.{AllByRecursion, flat_map}
+use Rattle.mrt.specs.declared.fault.CaptureFault.{CaptureFault}
+use Rattle.mrt.specs.declared.fault.FaultKind.{FaultKind}
+use Rattle.mrt.specs.declared.sink.Sink as sinks
+use Rattle.mrt_sessions.specs.File.{HasRecords, Located, fault_by}
+use Rattle.mrt_sessions.specs.Held.{IsHeld, failures_by}
+use Rattle.mrt_sessions.specs.Sessions.{records_between, sessions_in}
+use Rattle.mrt_sessions.specs.declared.addresses.Addresses.{Addresses}
+use Rattle.mrt_sessions.specs.declared.holding.Ending.{Ending}
+use Rattle.bgp_text.specs.Lines.{Writes}
+use Rattle.bgp_text.specs.declared.lines.Lines.{Lines}
+use Rattle.bgp_tool.specs.Answer.{IsWritten}
+use Rattle.bgp_capture_list.specs.Listing.{no_memory}
+use Rattle.bgp_capture_list.specs.Text.{fault_text, session_line}
+use Rattle.bgp_check_text.specs.Tally.{has_verdict, is_empty, no_tally, status_of, tally_line}
+use Rattle.bgp_check_text.specs.declared.tally.Tally.{Tally}
+use Rattle.bgp_check_capture_tool.specs.Counted.{with_ends, with_fault}
+use Rattle.bgp_check_capture_tool.specs.Ends.{End, IsSessionTold}
+use Rattle.bgp_check_capture_tool.specs.Text.{ends_text}
+
+-- ---- the blocks, one a session
+
+-- what is told of a session, and why not all of its records are read, if they aren't
+pub record Block : Type 0 where
+  pub addresses : Addresses
+  pub ends : List End
+  pub fault : Option CaptureFault
+
+-- of the sessions of these records
+abbrev pub IsBlock : List Located → Block → Type 0
+IsBlock named block =
+    IsSessionTold block.addresses (records_between block.addresses named) block.ends block.fault
+
+abbrev pub block_text : Bool → List Located → Block → List ℕ
+block_text routes named block =
+    session_line block.addresses (records_between block.addresses named)
+    ++ (ends_text routes block.addresses.local block.ends ++ fault_text block.fault)
+
+abbrev pub blocks_text : Bool → List Located → List Block → List ℕ
+blocks_text routes named blocks = flat_map (block_text routes named) blocks
+
+abbrev pub with_block : Tally → Block → Tally
+with_block tally block = with_fault (with_ends tally block.ends) block.fault
+
+abbrev pub tally_from : Tally → List Block → Tally
+tally_from tally [] = tally
+tally_from tally (block ∷ blocks) = tally_from (with_block tally block) blocks
+
+-- Blocks of these sessions were put, and are counted.
+pub record PutsBlocks {T : Type 0} {sink : sinks.Ghosts T} (routes : Bool) (named : List Located)
+    (sessions : List Addresses) (lines lines' : Lines T sink) (tally tally' : Tally) : Type 0 where
+  pub blocks : List Block
+  pub are : map (λ b. b.addresses) blocks ≡ sessions
+  pub told : AllByRecursion (IsBlock named) blocks
+  pub wrote : Writes lines lines' (blocks_text routes named blocks)
+  pub tallied : tally' ≡ tally_from tally blocks
+
+-- ---- the file
+
+-- The sessions whose records these octets have are told, in the order of their first ones, and
+-- then why the file isn't read to its end, if it isn't.
+pub record TellsAll (routes : Bool) (octets : List ℕ) (ending : Ending) (text : List ℕ)
+    (tally : Tally) (fault : Option CaptureFault) : Type 0 where
+  pub named : List Located
+  pub offset : ℕ
+  pub refusal : Option FaultKind
+  pub has : HasRecords octets named offset refusal
+  pub blocks : List Block
+  pub are : map (λ b. b.addresses) blocks ≡ sessions_in named
+  pub told : AllByRecursion (IsBlock named) blocks
+  pub is_text : text ≡ blocks_text routes named blocks
+  pub is_tally : tally ≡ tally_from no_tally blocks
+  pub is_fault : fault ≡ fault_by ending refusal offset
+
+-- or only that there was no memory for a list of the records
+abbrev pub Tells : Bool → List ℕ → Ending → List ℕ → Tally → Option CaptureFault → Type 0
+Tells routes octets ending text tally fault =
+    TellsAll routes octets ending text tally fault
+    ⊎ ((text ≡ []) × (tally ≡ no_tally) × (fault ≡ Some no_memory))
+
+pub record PutsFile {T : Type 0} {sink : sinks.Ghosts T} (routes : Bool) (octets : List ℕ)
+    (ending : Ending) (lines lines' : Lines T sink) (tally : Tally)
+    (fault : Option CaptureFault) : Type 0 where
+  pub text : List ℕ
+  pub wrote : Writes lines lines' text
+  pub tells : Tells routes octets ending text tally fault
+
+-- that there is no session, where nothing was told
+abbrev pub nothing_text : Tally → List ℕ
+nothing_text tally =
+    if is_empty tally then codes "not judged: no record of a session\n" else []
+
+-- that no end is judged is told where the file was read to its end
+abbrev pub nothing_by : Bool → Option CaptureFault → Bool
+nothing_by true fault = false
+nothing_by false (Some fault) = false
+nothing_by false None = true
+
+-- A source is held, and its sessions are told, and why it isn't read to its end; then that there is
+-- none, if so, and last how many ends there are of each verdict. All of that was written, if the
+-- sink didn't fail.
+pub record ChecksCapture {S T : Type 0} (gives : S → S → List ℕ → Type 0) (has_ended : S → Bool)
+    (takes : T → T → List ℕ → Type 0) (source_failures : S → ℕ) (failures : T → ℕ)
+    (routes : Bool) (source source' : S) (sink sink' : T) (status : ℕ)
+    (fault : Option CaptureFault) (nothing : Bool) : Type 0 where
+  pub octets : List ℕ
+  pub ending : Ending
+  pub held : IsHeld gives has_ended source source' octets ending
+  pub counted : source_failures source' ≡ source_failures source + failures_by ending
+  pub text : List ℕ
+  pub of_sessions : Tally
+  pub tells : Tells routes octets ending text of_sessions fault
+  pub tally : Tally
+  pub counts : tally ≡ with_fault of_sessions fault
+  pub is_nothing : nothing ≡ nothing_by (has_verdict tally) fault
+  pub written : IsWritten takes failures
+      (text ++ (fault_text fault ++ (nothing_text tally ++ tally_line tally)))
+      (status_of tally) sink sink' status

@@ -1,0 +1,212 @@
+//! What is told of a session, end by end.
+
+ghost use Rattle.std.specs.Prelude.{◌≡◌, ◌↔◌, Bool, IsTrue, map};
+ghost use Rattle.mrt.specs.Reader.{shown_of};
+ghost use Rattle.mrt_sessions.specs.Located.{located};
+ghost use Rattle.mrt_sessions.specs.Sessions.{records_between};
+ghost use Rattle.bgp_check.specs.NotJudged.{SendsSome};
+ghost use Rattle.bgp_text.specs.Lines.{Writes};
+ghost use Rattle.bgp_check_capture.specs.Told.{told_value};
+ghost use Rattle.bgp_check_capture_tool.specs.Counted.{with_ends, with_one};
+ghost use Rattle.bgp_check_capture_tool.specs.Ends.{IsSessionTold, Stretch, front_ends};
+ghost use Rattle.bgp_check_capture_tool.specs.Ends.{session_of, silent_ends};
+ghost use Rattle.bgp_check_capture_tool.specs.Putting.{Puts, RecordsUpTo, StretchesUpTo};
+ghost use Rattle.bgp_check_capture_tool.specs.Text.{end_text, ends_text};
+
+use crate::cutting::{first_of, first_stretch};
+use crate::lines::{put_silent, put_staying, put_stretch};
+use crate::part::Part;
+use bgp_check_capture::{StretchTold, before_leaving, check_stretch, extended_messages};
+use bgp_check_text::{Tally, highest_state};
+use bgp_judge::Tracker;
+use bgp_prefix::{Address, RouteRefresh, Session};
+use bgp_text::Lines;
+use mrt::{CaptureFault, FaultKind, Record, Sink};
+use mrt_sessions::{Addresses, NamedRecord, read_session};
+use std::alloc::Allocator;
+
+/// That there is no memory for what is to be told.
+pub(crate) const NO_MEMORY: CaptureFault = CaptureFault {
+    kind: FaultKind::Memory,
+    offset: 0,
+};
+
+/// The session between these addresses, whatever its OPENs offer.
+fn session_of(addresses: Addresses) -> Session
+    ensures { result ≡ session_of addresses }
+{
+    Session {
+        peer: addresses.peer,
+        local: addresses.local,
+        refresh: RouteRefresh::NotOffered,
+        extended: false,
+    }
+}
+
+/// Whether a message is sent.
+fn sends_some(records: &[Record<'_>]) -> bool
+    ensures { IsTrue result ↔ SendsSome (map shown_of records.now) }
+{
+    for record in records {
+        match record {
+            Record::Out(..) => return true,
+            Record::In(..) | Record::Change(..) => {}
+        }
+    }
+    false
+}
+
+/// Puts what is told of all records of a session in which no message is sent, if there are some,
+/// and answers the tally with it.
+fn put_all_silent<W: Sink>(
+    lines: &mut Lines<'_, W>,
+    local: Address,
+    records: &[Record<'_>],
+    tally: Tally,
+) -> Tally
+    ensures wrote { (routes : Bool) → Writes lines.old lines.new
+        (ends_text routes local (silent_ends (map shown_of records.now))) }
+    ensures tallied { result ≡ with_ends tally (silent_ends (map shown_of records.now)) }
+{
+    if records.is_empty() {
+        lines.put(b"");
+        return tally;
+    }
+    let part = Part {
+        before: 0,
+        count: records.len(),
+    };
+    put_silent(lines, local, part);
+    tally.with_unjudged()
+}
+
+/// Puts what is told of the records before the first that leaves Idle, if there are some, and
+/// answers the tally with it.
+fn put_front<W: Sink>(
+    lines: &mut Lines<'_, W>,
+    local: Address,
+    records: &[Record<'_>],
+    tally: Tally,
+) -> Tally
+    ensures wrote { (routes : Bool) → Writes lines.old lines.new
+        (ends_text routes local (front_ends (map shown_of records.now))) }
+    ensures tallied { result ≡ with_ends tally (front_ends (map shown_of records.now)) }
+{
+    if records.is_empty() {
+        lines.put(b"");
+        return tally;
+    }
+    let part = Part {
+        before: 0,
+        count: records.len(),
+    };
+    put_staying(lines, local, part);
+    tally.with_unjudged()
+}
+
+/// Puts what is told of a stretch, and answers the tally with it.
+fn put_told<W: Sink, A: Allocator>(
+    lines: &mut Lines<'_, W>,
+    local: Address,
+    part: Part,
+    told: StretchTold<A>,
+    highest: u16,
+    routes: bool,
+    tally: Tally,
+) -> Tally
+    ensures wrote { Writes lines.old lines.new
+        (end_text routes local (Stretch part (told_value told) highest)) }
+    ensures tallied { result ≡ with_one tally (Stretch part (told_value told) highest) }
+{
+    put_stretch(lines, local, part, &told, highest, routes);
+    tally.with_end(&told.answer)
+}
+
+/// Puts what is told of the stretches of these records and of what stands before them, and answers
+/// the tally with it, and whether that is all: it isn't where memory was refused.
+fn put_stretches<A: Allocator + Copy, T: Tracker<A>, W: Sink>(
+    alloc: A,
+    session: &Session,
+    records: &[Record<'_>],
+    routes: bool,
+    lines: &mut Lines<'_, W>,
+    tally: Tally,
+) -> (Tally, bool)
+    ensures { Puts routes session.now.local lines.old lines.new tally result.0
+        (StretchesUpTo session.now (map shown_of records.now) result.1) }
+{
+    let (front, mut rest) = records.split_at(before_leaving(records));
+    let mut tally = put_front(lines, session.local, front, tally);
+    let mut before = front.len();
+    while !rest.is_empty() {
+        let (stretch, behind) = first_stretch(rest);
+        let leaving = first_of(behind);
+        let Ok(told) = check_stretch::<A, T>(alloc, session, stretch, leaving) else {
+            return (tally, false);
+        };
+        let part = Part {
+            before,
+            count: stretch.len(),
+        };
+        let highest = highest_state(stretch);
+        tally = put_told(lines, session.local, part, told, highest, routes, tally);
+        before = records.len() - behind.len();
+        rest = behind;
+    }
+    (tally, true)
+}
+
+/// Puts what is told of all of these records, and answers the tally with it, and whether that is
+/// all.
+fn put_records<A: Allocator + Copy, T: Tracker<A>, W: Sink>(
+    alloc: A,
+    session: &Session,
+    records: &[Record<'_>],
+    routes: bool,
+    lines: &mut Lines<'_, W>,
+    tally: Tally,
+) -> (Tally, bool)
+    ensures { Puts routes session.now.local lines.old lines.new tally result.0
+        (RecordsUpTo session.now (map shown_of records.now) result.1) }
+{
+    if sends_some(records) {
+        put_stretches::<A, T, W>(alloc, session, records, routes, lines, tally)
+    } else {
+        (put_all_silent(lines, session.local, records, tally), true)
+    }
+}
+
+/// Puts what is told of the session that has these records in a file, and answers the tally with
+/// it, and why not all of them are read, if they aren't.
+pub(crate) fn put_ends<A: Allocator + Copy, T: Tracker<A>, W: Sink>(
+    alloc: A,
+    addresses: Addresses,
+    named: &[NamedRecord<'_>],
+    routes: bool,
+    lines: &mut Lines<'_, W>,
+    tally: Tally,
+) -> (Tally, Option<CaptureFault>)
+    requires mine { records_between addresses (map located named.now) ≡ map located named.now }
+    ensures { Puts routes addresses.local lines.old lines.new tally result.0
+        (λ ends. IsSessionTold addresses (map located named.now) ends result.1) }
+{
+    let extended = extended_messages(named);
+    let Ok(read) = read_session(alloc, addresses, extended, named) else {
+        lines.put(b"");
+        return (tally, Some(NO_MEMORY));
+    };
+    let session = session_of(addresses);
+    let (tally, is_all) = put_records::<A, T, W>(
+        alloc,
+        &session,
+        &read.records,
+        routes,
+        lines,
+        tally,
+    );
+    if is_all {
+        (tally, read.fault)
+    } else {
+        (tally, Some(NO_MEMORY))
+    }
+}
