@@ -36,7 +36,7 @@ of_decode rows file (Capture session recording name) is also =
 of_decode rows file (Judge config recording explain name) is also = absurd (two_names (codes "decode") (codes "judge") (λ e. omega (arith, e)) also.0)
 of_decode rows file (Import session recording name out) is also = absurd (two_names (codes "decode") (codes "import") (λ e. omega (arith, e)) also.0)
 of_decode rows file (Listing port name) is also = absurd (two_names (codes "decode") (codes "list") (λ e. omega (arith, e)) also.0)
-of_decode rows file (Check port within routes name) is also = absurd (two_names (codes "decode") (codes "check") (λ e. omega (arith, e)) also.0)
+of_decode rows file (Check port within routes settings name) is also = absurd (two_names (codes "decode") (codes "check") (λ e. omega (arith, e)) also.0)
 of_decode rows file (Speak config speaking name) is also = absurd (two_names (codes "decode") (codes "speak") (λ e. omega (arith, e)) also.0)
 of_decode rows file (Pair name) is also = absurd (two_names (codes "decode") (codes "pair") (λ e. omega (arith, e)) also.0)
 
@@ -55,7 +55,7 @@ none_decoded rows stream capture (Capture session recording file) is = capture s
 none_decoded rows stream capture (Judge config recording explain file) is = two_names (codes "decode") (codes "judge") (λ e. omega (arith, e)) is.0
 none_decoded rows stream capture (Import session recording file out) is = two_names (codes "decode") (codes "import") (λ e. omega (arith, e)) is.0
 none_decoded rows stream capture (Listing port file) is = two_names (codes "decode") (codes "list") (λ e. omega (arith, e)) is.0
-none_decoded rows stream capture (Check port within routes file) is = two_names (codes "decode") (codes "check") (λ e. omega (arith, e)) is.0
+none_decoded rows stream capture (Check port within routes settings file) is = two_names (codes "decode") (codes "check") (λ e. omega (arith, e)) is.0
 none_decoded rows stream capture (Speak config speaking file) is = two_names (codes "decode") (codes "speak") (λ e. omega (arith, e)) is.0
 none_decoded rows stream capture (Pair file) is = two_names (codes "decode") (codes "pair") (λ e. omega (arith, e)) is.0
 
@@ -67,7 +67,7 @@ none_judged rows none (Capture session recording file) is = two_names (codes "ju
 none_judged rows none (Judge config recording explain file) is = none config recording explain file.now is.1
 none_judged rows none (Import session recording file out) is = two_names (codes "judge") (codes "import") (λ e. omega (arith, e)) is.0
 none_judged rows none (Listing port file) is = two_names (codes "judge") (codes "list") (λ e. omega (arith, e)) is.0
-none_judged rows none (Check port within routes file) is = two_names (codes "judge") (codes "check") (λ e. omega (arith, e)) is.0
+none_judged rows none (Check port within routes settings file) is = two_names (codes "judge") (codes "check") (λ e. omega (arith, e)) is.0
 none_judged rows none (Speak config speaking file) is = two_names (codes "judge") (codes "speak") (λ e. omega (arith, e)) is.0
 none_judged rows none (Pair file) is = two_names (codes "judge") (codes "pair") (λ e. omega (arith, e)) is.0
 
@@ -79,7 +79,7 @@ none_spoken rows none (Capture session recording file) is = two_names (codes "sp
 none_spoken rows none (Judge config recording explain file) is = two_names (codes "speak") (codes "judge") (λ e. omega (arith, e)) is.0
 none_spoken rows none (Import session recording file out) is = two_names (codes "speak") (codes "import") (λ e. omega (arith, e)) is.0
 none_spoken rows none (Listing port file) is = two_names (codes "speak") (codes "list") (λ e. omega (arith, e)) is.0
-none_spoken rows none (Check port within routes file) is = two_names (codes "speak") (codes "check") (λ e. omega (arith, e)) is.0
+none_spoken rows none (Check port within routes settings file) is = two_names (codes "speak") (codes "check") (λ e. omega (arith, e)) is.0
 none_spoken rows none (Speak config speaking file) is = none config speaking file.now is.1
 none_spoken rows none (Pair file) is = two_names (codes "speak") (codes "pair") (λ e. omega (arith, e)) is.0
 
@@ -91,7 +91,7 @@ none_imported rows none (Capture session recording file) is = two_names (codes "
 none_imported rows none (Judge config recording explain file) is = two_names (codes "import") (codes "judge") (λ e. omega (arith, e)) is.0
 none_imported rows none (Import session recording file out) is = none session recording file.now out.now is.1
 none_imported rows none (Listing port file) is = two_names (codes "import") (codes "list") (λ e. omega (arith, e)) is.0
-none_imported rows none (Check port within routes file) is = two_names (codes "import") (codes "check") (λ e. omega (arith, e)) is.0
+none_imported rows none (Check port within routes settings file) is = two_names (codes "import") (codes "check") (λ e. omega (arith, e)) is.0
 none_imported rows none (Speak config speaking file) is = two_names (codes "import") (codes "speak") (λ e. omega (arith, e)) is.0
 none_imported rows none (Pair file) is = two_names (codes "import") (codes "pair") (λ e. omega (arith, e)) is.0
 
@@ -103,19 +103,19 @@ none_listed rows none (Capture session recording file) is = two_names (codes "li
 none_listed rows none (Judge config recording explain file) is = two_names (codes "list") (codes "judge") (λ e. omega (arith, e)) is.0
 none_listed rows none (Import session recording file out) is = two_names (codes "list") (codes "import") (λ e. omega (arith, e)) is.0
 none_listed rows none (Listing port file) is = none port file.now is.1
-none_listed rows none (Check port within routes file) is = two_names (codes "list") (codes "check") (λ e. omega (arith, e)) is.0
+none_listed rows none (Check port within routes settings file) is = two_names (codes "list") (codes "check") (λ e. omega (arith, e)) is.0
 none_listed rows none (Speak config speaking file) is = two_names (codes "list") (codes "speak") (λ e. omega (arith, e)) is.0
 none_listed rows none (Pair file) is = two_names (codes "list") (codes "pair") (λ e. omega (arith, e)) is.0
 
 -- and of `check`
-pub none_checked : (rows : List Row) → ((port within : ℕ) (routes : Bool) (file : Text) → IsChecking port within routes file rows → ⊥)
+pub none_checked : (rows : List Row) → ((port within : ℕ) (routes settings : Bool) (file : Text) → IsChecking port within routes settings file rows → ⊥)
     → (command : Command) → NamesBy (codes "check") rows command → ⊥
 none_checked rows none (Decode extended file) is = two_names (codes "check") (codes "decode") (λ e. omega (arith, e)) is.0
 none_checked rows none (Capture session recording file) is = two_names (codes "check") (codes "decode") (λ e. omega (arith, e)) is.0
 none_checked rows none (Judge config recording explain file) is = two_names (codes "check") (codes "judge") (λ e. omega (arith, e)) is.0
 none_checked rows none (Import session recording file out) is = two_names (codes "check") (codes "import") (λ e. omega (arith, e)) is.0
 none_checked rows none (Listing port file) is = two_names (codes "check") (codes "list") (λ e. omega (arith, e)) is.0
-none_checked rows none (Check port within routes file) is = none port within routes file.now is.1
+none_checked rows none (Check port within routes settings file) is = none port within routes settings file.now is.1
 none_checked rows none (Speak config speaking file) is = two_names (codes "check") (codes "speak") (λ e. omega (arith, e)) is.0
 none_checked rows none (Pair file) is = two_names (codes "check") (codes "pair") (λ e. omega (arith, e)) is.0
 
@@ -138,7 +138,7 @@ can_by p (Capture session recording file) is = tt
 can_by p (Judge config recording explain file) is = tt
 can_by p (Import session recording file out) is = tt
 can_by p (Listing port file) is = tt
-can_by p (Check port within routes file) is = tt
+can_by p (Check port within routes settings file) is = tt
 can_by p (Speak config speaking file) is = (is.1.1, few_turns (first_of (codes "turns") p.1) speaking.turns is.1.2.turns)
 can_by p (Pair file) is = tt
 
@@ -153,7 +153,7 @@ can_import_by p (Capture session recording file) is = tt
 can_import_by p (Judge config recording explain file) is = tt
 can_import_by p (Import session recording file out) is = (is.1.1, is.1.3)
 can_import_by p (Listing port file) is = tt
-can_import_by p (Check port within routes file) is = tt
+can_import_by p (Check port within routes settings file) is = tt
 can_import_by p (Speak config speaking file) is = tt
 can_import_by p (Pair file) is = tt
 

@@ -49,6 +49,6 @@ IsDecodeOf text (Capture session recording file) = ⊥
 IsDecodeOf text (Judge config recording explain file) = ⊥
 IsDecodeOf text (Import session recording file out) = ⊥
 IsDecodeOf text (Listing port file) = ⊥
-IsDecodeOf text (Check port within routes file) = ⊥
+IsDecodeOf text (Check port within routes settings file) = ⊥
 IsDecodeOf text (Speak config speaking file) = ⊥
 IsDecodeOf text (Pair file) = ⊥

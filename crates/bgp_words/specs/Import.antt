@@ -31,13 +31,14 @@ abbrev pub IsListing : ℕ → Text → List Row → Type 0
 IsListing port file rows =
     IsValue IsPortText (codes "port") rows port × (first_of (codes "FILE") rows ≡ Some file)
 
--- the values of `check`: the port of the connections, the patience, whether routes are wanted, and
--- a file
-abbrev pub IsChecking : ℕ → ℕ → Bool → Text → List Row → Type 0
-IsChecking port within routes file rows =
+-- the values of `check`: the port of the connections, the patience, whether routes and settings are
+-- wanted, and a file
+abbrev pub IsChecking : ℕ → ℕ → Bool → Bool → Text → List Row → Type 0
+IsChecking port within routes settings file rows =
     IsValue IsPortText (codes "port") rows port
     × IsValue IsSecondsText (codes "within") rows within
-    × (routes ≡ is_given (codes "routes") rows) × (first_of (codes "FILE") rows ≡ Some file)
+    × (routes ≡ is_given (codes "routes") rows) × (settings ≡ is_given (codes "settings") rows)
+    × (first_of (codes "FILE") rows ≡ Some file)
 
 -- a command to import can be done: its session is of one family, and its ends can be told apart
 abbrev pub CanImport : Command → Type 0
@@ -47,6 +48,6 @@ CanImport (Judge config recording explain file) = Unit {0}
 CanImport (Import session recording file out) =
     IsOfOneFamily session × AreApart session recording.local_port
 CanImport (Listing port file) = Unit {0}
-CanImport (Check port within routes file) = Unit {0}
+CanImport (Check port within routes settings file) = Unit {0}
 CanImport (Speak config speaking file) = Unit {0}
 CanImport (Pair file) = Unit {0}

@@ -56,6 +56,6 @@ IsJudgeOf words (Judge config recording explain file) =
     × (explain ≡ false)
 IsJudgeOf words (Import session recording file out) = ⊥
 IsJudgeOf words (Listing port file) = ⊥
-IsJudgeOf words (Check port within routes file) = ⊥
+IsJudgeOf words (Check port within routes settings file) = ⊥
 IsJudgeOf words (Speak config speaking file) = ⊥
 IsJudgeOf words (Pair file) = ⊥

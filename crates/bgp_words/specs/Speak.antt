@@ -47,7 +47,7 @@ CanSpeak (Capture session recording file) = Unit {0}
 CanSpeak (Judge config recording explain file) = Unit {0}
 CanSpeak (Import session recording file out) = Unit {0}
 CanSpeak (Listing port file) = Unit {0}
-CanSpeak (Check port within routes file) = Unit {0}
+CanSpeak (Check port within routes settings file) = Unit {0}
 CanSpeak (Speak config speaking file) =
     IsOfOneFamily config.parts.session × (speaking.turns < 2 ^ 63)
 CanSpeak (Pair file) = Unit {0}

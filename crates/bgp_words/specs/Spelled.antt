@@ -35,7 +35,7 @@ name_of (Capture session recording file) = codes "decode"
 name_of (Judge config recording explain file) = codes "judge"
 name_of (Import session recording file out) = codes "import"
 name_of (Listing port file) = codes "list"
-name_of (Check port within routes file) = codes "check"
+name_of (Check port within routes settings file) = codes "check"
 name_of (Speak config speaking file) = codes "speak"
 name_of (Pair file) = codes "pair"
 
@@ -46,7 +46,7 @@ AreValuesOf (Capture session recording file) = IsCapture session recording file.
 AreValuesOf (Judge config recording explain file) = IsJudge config recording explain file.now
 AreValuesOf (Import session recording file out) = IsImport session recording file.now out.now
 AreValuesOf (Listing port file) = IsListing port file.now
-AreValuesOf (Check port within routes file) = IsChecking port within routes file.now
+AreValuesOf (Check port within routes settings file) = IsChecking port within routes settings file.now
 AreValuesOf (Speak config speaking file) = IsSpeak config speaking file.now
 AreValuesOf (Pair file) = IsPair file.now
 

@@ -87,11 +87,11 @@ import_words =
 abbrev pub list_words : App
 list_words = with_rule (with_file (codes "list")) port_word
 
--- `check FILE`, with the port, the patience and the wish for routes, or without
+-- `check FILE`, with the port, the patience and the wishes for routes and settings, or without
 abbrev pub check_words : App
 check_words =
-    with_rule (with_rule (with_rule (with_file (codes "check")) port_word) within_word)
-    (flag_word (codes "routes"))
+    with_rule (with_rule (with_rule (with_rule (with_file (codes "check")) port_word) within_word)
+    (flag_word (codes "routes"))) (flag_word (codes "settings"))
 
 -- the options of `speak` that `judge` hasn't
 abbrev pub with_speaking : App → App

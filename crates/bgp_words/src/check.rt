@@ -8,7 +8,7 @@ ghost use Rattle.bgp_words.specs.Import.{IsChecking};
 ghost use Rattle.bgp_words.specs.Spelled.{NamesBy};
 
 use crate::misfit::Misfit;
-use crate::options::{READ, Word, with_word};
+use crate::options::{READ, Word, with_words};
 use crate::recording::{PORT, WITHIN};
 use crate::values::{has_flag, port_of, seconds_of, value_of};
 use crate::words::Command;
@@ -17,10 +17,12 @@ use std::alloc::{AllocError, Global};
 
 /// What help tells after the words of `check`: what it prints, and the statuses.
 const CHECKED: &str = "\
-check says of both ends of each connection at --port whether they kept to the standard, without a
-setting. FILE is a packet capture, as tcpdump -w writes it (pcap or pcapng). What is configured is
-read off the OPEN that an end sent; what an OPEN doesn't say is left free.
+check says of both ends of each session in a file whether they kept to the standard, without a
+setting. FILE is a recording, a packet capture as tcpdump -w writes it (pcap or pcapng), or a
+capture of MRT records. What is configured is read off the OPEN that an end sent; what an OPEN
+doesn't say is left free.
 
+Of each connection at --port in a recording:
   connection 1 from 192.0.2.2 40000 to 192.0.2.1 179 at 1500000000 octets 114 84
                         as bgp list prints it; its two ends follow, first that which opened it
   yes: 192.0.2.2 40000 as 65002, peer as 65001
@@ -33,25 +35,47 @@ read off the OPEN that an end sent; what an OPEN doesn't say is left free.
                         it still owes something
   not judged: 192.0.2.1 179, no sent message
                         why nothing can be said of it
+of each session in a capture:
+  session peer 192.0.2.2 local 192.0.2.1: 3 received, 2 sent, 4 changes, @1500000000 to @1500000060
+                        as bgp list prints it; the answers on its local end follow, one for each
+                        part of its records that begins with a change from Idle:
+  yes: 192.0.2.1 as 65001, peer as 65002, records 1 to 9
+                        or another as above, and which records of the session it is about
 and last:
   ends 2: 1 yes, 0 no, 0 unfinished, 1 not judged; refused 0
+
+After a no and an unfinished the reason follows, in lines that are set in, as judge --explain tells
+it; and after these, and with --settings after a yes too, a line
+    judge --local-as 65001 --peer-as 65002 --local-id 192.0.2.1 ..
+with options for which judge says the same of FILE, where there are such. They are the widest
+configuration that the OPEN allows, and not the router's own.
+
+A no of a recording is about one order of the messages that the packets allow. ROUTE-REFRESH
+messages that their receiver's OPEN offers to read are passed over, and a note counts them. Where a
+connection, a session or the file can't be read, a line says so, as those of bgp list do.
 
 Exit status, the first of 5, 4, 1, 3, 2, 0 for which there is something:
   0   a yes; or help was asked for
   1   a no
   2   an end is unfinished
-  3   the recording or a connection is refused, or no end is judged
+  3   the file, a connection or a session is refused, or no end is judged
   4   memory was refused
   5   a file can't be opened or read, or output can't be written
   64  the command line is none that the program knows
 
-A no is about one order of the messages that the packets allow. A connection with a ROUTE-REFRESH is
-refused; captures (MRT) are for bgp judge.
-
 The manual is docs/bgp.1.md, at the top of the repository.";
 
-/// The flag that asks for routes.
-const ROUTES: Word<'static> = Word::Flag("routes", "Prints the routes of each possible end");
+/// The words after `check`.
+static WORDS: [Word<'static>; 5] = [
+    READ,
+    PORT,
+    WITHIN,
+    Word::Flag("routes", "Prints the routes of each possible end"),
+    Word::Flag(
+        "settings",
+        "Prints the options with which judge says the same of an end, after a yes too",
+    ),
+];
 
 /// What the words of `check` may be.
 pub(crate) fn check_words<'a>(alloc: Global) -> Result<clap::Command<'a>, AllocError>
@@ -59,29 +83,28 @@ pub(crate) fn check_words<'a>(alloc: Global) -> Result<clap::Command<'a>, AllocE
     ensures local { IfOk result (λ check. (fields_of check).has_globals ≡ false) }
 {
     let check = clap::Command::new(alloc, "check")
-        .about("Says of both ends of each session in a recording whether they kept to the standard")
+        .about("Says whether the ends of each session in a file kept to the standard")
         .after_help(CHECKED);
-    let check = with_word(alloc, check, READ)?;
-    let check = with_word(alloc, check, PORT)?;
-    let check = with_word(alloc, check, WITHIN)?;
-    with_word(alloc, check, ROUTES)
+    with_words(alloc, check, &WORDS)
 }
 
 /// The command that the values of `check` are.
 pub(crate) fn check_of<'a>(check: &ArgMatches<'a>) -> Result<Command<'a>, Misfit<'a>>
     ensures ok { IfOk result (NamesBy (codes "check") (rows_of (found_of check.now))) }
     ensures err { IsErr result →
-        (port within : ℕ) (routes : Bool) (file : List ℕ) →
-        IsChecking port within routes file (rows_of (found_of check.now)) → ⊥ }
+        (port within : ℕ) (routes settings : Bool) (file : List ℕ) →
+        IsChecking port within routes settings file (rows_of (found_of check.now)) → ⊥ }
 {
     let port = port_of(check, "port")?;
     let within = seconds_of(check, "within")?;
     let routes = has_flag(check, "routes");
+    let settings = has_flag(check, "settings");
     let file = value_of(check, "FILE")?;
     Ok(Command::Check {
         port,
         within,
         routes,
+        settings,
         file,
     })
 }

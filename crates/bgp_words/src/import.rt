@@ -31,8 +31,11 @@ On standard error it says what isn't in the capture:
   bgp: recording refused: 14 Missing at packet 7 received octet 49
                         no capture can be made: the reason's number and name, the packet's number
                         from 1, and the octet's place in the stream from 0
+  bgp: received ROUTE-REFRESH messages passed over: 3
+                        with --skip-refresh: so many are in no record
   bgp: received: the last 10 octets are no whole message
   bgp: sent: 30 octets behind the faulty header at octet 112 are not read
+  bgp: sent: 30 octets behind the ROUTE-REFRESH at octet 112 are not read: --skip-refresh ..
                         octets that are in no record
   bgp: received messages put off: 3
                         how many stand after a message that was sent when they had come

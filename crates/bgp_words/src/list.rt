@@ -17,9 +17,10 @@ use std::alloc::{AllocError, Global};
 
 /// What help says after the words of `list`: what it prints, and the statuses.
 const LISTED: &str = "\
-list prints the connections at --port in a recording, for whoever doesn't know the addresses. FILE
-is a packet capture, as tcpdump -w writes it (pcap or pcapng). A line is one of these, in the order
-of first packets:
+list prints the connections at --port in a recording, or the sessions in a capture, for whoever
+doesn't know the addresses. FILE is a recording, a packet capture as tcpdump -w writes it (pcap or
+pcapng), or a capture of MRT records. A line of a recording is one of these, in the order of first
+packets:
   connection 1 from 192.0.2.2 40000 to 192.0.2.1 179 at 1500000000 octets 114 84
                         its number between its two addresses, which --connection of judge, decode
                         and import takes; who opened it, from which port; to whom, at which port;
@@ -28,16 +29,23 @@ of first packets:
                         its octets aren't whole: the reason's number and name, and the packet's
                         number from 1
   session 192.0.2.1 192.0.2.2 refused 7 Fragment at packet 4
-                        a packet between two addresses can't be read, and doesn't tell its ports:
-                        a fragment, or 8 Cut where it was cut before them. It may be of any of
-                        their connections, so none of these is listed
+                        a packet between two addresses can't be read: a fragment, or 8 Cut where not
+                        all of its headers were kept. It may be of any of their connections, so none
+                        of these is listed
 and last, where the file can't be read on:
-  recording refused: 2 Truncated at packet 9
+  recording refused: 4 Block at packet 9
                         the reason's number and name, and the packet's number
+A line of a capture, in the order of first records:
+  session peer 192.0.2.2 local 192.0.2.1: 3 received, 2 sent, 4 changes, @1500000000 to @1500000060
+                        the addresses, which --peer and --local of judge and decode take; how many
+                        messages and changes of state; the seconds of its first and last record
+and last, where the file can't be read on:
+  capture refused: 1 Truncated at 36
+                        the reason's number and name, and the offset of the record
 
 Exit status:
-  0   the recording was read to its end; or help was asked for
-  3   the recording is refused
+  0   the file was read to its end; or help was asked for
+  3   the file is refused
   4   memory was refused
   5   a file can't be opened or read, or output can't be written
   64  the command line is none that the program knows
@@ -50,7 +58,7 @@ pub(crate) fn list_words<'a>(alloc: Global) -> Result<clap::Command<'a>, AllocEr
     ensures local { IfOk result (λ list. (fields_of list).has_globals ≡ false) }
 {
     let list = clap::Command::new(alloc, "list")
-        .about("Lists the connections in a recording of packets")
+        .about("Lists the connections in a recording, or the sessions in a capture")
         .after_help(LISTED);
     let list = with_word(alloc, list, READ)?;
     with_word(alloc, list, PORT)

@@ -73,14 +73,15 @@ pub enum Command<'a> {
         /// The path of the capture to write, or `-` for standard output.
         out: &'a str,
     },
-    /// Print the connections in a recording, one a line.
+    /// Print the connections in a recording, or the sessions in a capture, one a line.
     List {
         /// The port of the connections, which isn't 0.
         port: u16,
-        /// The recording's path, or `-` for standard input.
+        /// The file's path, or `-` for standard input.
         file: &'a str,
     },
-    /// Check both ends of each connection in a recording, whose settings aren't known.
+    /// Check both ends of each connection in a recording, or of each session in a capture, whose
+    /// settings aren't known.
     Check {
         /// The port of the connections, which isn't 0.
         port: u16,
@@ -88,7 +89,9 @@ pub enum Command<'a> {
         within: u16,
         /// Whether the routes of each possible end are printed.
         routes: bool,
-        /// The recording's path, or `-` for standard input.
+        /// Whether the options of `judge` that say the same of an end are printed after a yes too.
+        settings: bool,
+        /// The file's path, or `-` for standard input.
         file: &'a str,
     },
     /// Speak with a peer over TCP, and write down the session as a capture.
@@ -145,16 +148,15 @@ fn with_readers<'a>(
     ensures { IfOk result (λ it. app_of it ≡ with_readers (app_of program.entry)) }
 {
     let decode = decode_words(alloc)?;
+    let program = program.subcommand(decode)?;
     let judge = judge_words(alloc)?;
+    let program = program.subcommand(judge)?;
     let import = import_words(alloc)?;
+    let program = program.subcommand(import)?;
     let list = list_words(alloc)?;
+    let program = program.subcommand(list)?;
     let check = check_words(alloc)?;
-    program
-        .subcommand(decode)?
-        .subcommand(judge)?
-        .subcommand(import)?
-        .subcommand(list)?
-        .subcommand(check)
+    program.subcommand(check)
 }
 
 /// The program with the commands that speak.
@@ -165,8 +167,9 @@ fn with_speakers<'a>(
     ensures { IfOk result (λ it. app_of it ≡ with_speakers (app_of program.entry)) }
 {
     let speak = speak_words(alloc)?;
+    let program = program.subcommand(speak)?;
     let pair = pair_words(alloc)?;
-    program.subcommand(speak)?.subcommand(pair)
+    program.subcommand(pair)
 }
 
 /// The command that the words spell, the program's own name first.

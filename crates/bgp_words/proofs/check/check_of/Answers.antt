@@ -8,6 +8,7 @@ returns-clause-ok c = (
     (c.in_ok-port.ensures c.in_ok-port.port).0 refl,
     (c.in_ok-within.ensures c.in_ok-within.within).0 refl,
     c.has_flag-routes.ensures,
+    c.has_flag-settings.ensures,
     c.in_ok-file.ensures.ok,
   ),
 )
