@@ -2,11 +2,13 @@
 use Rattle.std.proofs.Common.{◌≡◌, ◌∙◌, ◌⊎◌, ℕ, true, false, List, [], Option, None, Some, is_some, refl, sym, ap, subst, inl, inr}
 use Rattle.std.specs.BTreeMap.{UpdatesBy, is_at}
 use Rattle.std.specs.Map.{lookup}
+use Rattle.packets.specs.Packet.{Recorded}
 use Rattle.segments.specs.contracts.found.AddressesOrd.TheImpl as order
 use Rattle.segments.specs.declared.found.Addresses.{Addresses}
 use Rattle.bgp_connections.specs.Talks.{Changes, HoldsEach, IsFresh, IsSameTalk, KeepsOthers, talk_at}
 use Rattle.bgp_connections.specs.declared.talk.Talk.{Talk}
 use Rattle.bgp_connections.specs.declared.talks.Talks.{Talks}
+use Rattle.bgp_connections.specs.declared.wrapped.Wrapped.{Wrapped}
 
 some_false : {X : Type 0} (o : Option X) → is_some o ≡ false → o ≡ None
 some_false None e = refl
@@ -28,6 +30,11 @@ none_yet {Z} port talks its empty = record {
   };
   none = λ q o is. refl;
 }
+
+-- how many packets are wrapped is no part of it
+pub recounted : {Z : Type 0} (port : ℕ) (packets : List Recorded) (talks : Talks Z) (wrapped : Wrapped) → HoldsEach port packets talks
+    → HoldsEach port packets (record talks { wrapped = wrapped })
+recounted port packets talks wrapped h = record { right = record { is_port = h.right.is_port; each = h.right.each }; none = h.none }
 
 -- ---- these addresses are held
 

@@ -1,3 +1,4 @@
+pub mod Counted
 pub mod AddressOrder
 pub mod Changed
 pub mod TakenSoFar

@@ -14,11 +14,15 @@ use Rattle.bgp_import.specs.declared.refusal.Refusal.{Refusal}
 use Rattle.bgp_import.specs.declared.refusal.Refusal.TheVariants as refusals
 use Rattle.bgp_connections.specs.Reading.{AreKnown, Begins, TakesAll}
 use Rattle.bgp_connections.specs.Talks.{HoldsEach, IsLinkKnown, TakesPacket}
+use Rattle.bgp_connections.specs.Wrapped.{AreCounted}
 use Rattle.bgp_connections.specs.declared.talks.Talks.{Talks}
 
 all_with : {X : Type 0} (P : X → Type 0) (xs : List X) (one : X) → AllByRecursion P xs → P one → AllByRecursion P (xs ++ one ∷ [])
 all_with P [] one all p = (p, tt)
 all_with P (x ∷ xs) one all p = (all.0, all_with P xs one all.1 p)
+
+some_none : (r : Refusal) → Some r ≡ None → ⊥
+some_none r e = cc
 
 -- what was read, and then more
 then_read : (from mid to : Context) (a b : List ℕ) (p q : List Recorded) → HasRead from a p mid → HasRead mid b q to → HasRead from (a ++ b) (p ++ q) to
@@ -58,19 +62,21 @@ module _ {S : Type 0} (gives : S → S → List ℕ → Type 0) (has_ended : S �
     pub read : HasRead Start octets packets state.context
     pub known : AreKnown packets
     pub held : HoldsEach port packets talks
+    pub wrapped : AreCounted packets talks.wrapped
     pub many : state.number ≡ length packets
     pub calm : state.fault ≡ None
     pub going : state.is_ended ≡ false
 
-  pub nothing_read : {Z : Type 0} (state : ReaderState) (talks : Talks Z) → state ≡ fresh_reader → HoldsEach port [] talks → gives source source []
+  pub nothing_read : {Z : Type 0} (state : ReaderState) (talks : Talks Z) → state ≡ fresh_reader → HoldsEach port [] talks → AreCounted [] talks.wrapped → gives source source []
       → SoFar source state talks
-  nothing_read state talks fresh empty nothing = record {
+  nothing_read state talks fresh empty none nothing = record {
     octets = [];
     packets = [];
     gave = nothing;
     read = subst (λ (k : Context). HasRead Start [] [] k) (sym (ap (λ (s : ReaderState). s.context) fresh)) (λ more later ending is. is);
     known = tt;
     held = empty;
+    wrapped = none;
     many = ap (λ (s : ReaderState). s.number) fresh;
     calm = ap (λ (s : ReaderState). s.fault) fresh;
     going = ap (λ (s : ReaderState). s.is_ended) fresh;
@@ -89,8 +95,9 @@ module _ {S : Type 0} (gives : S → S → List ℕ → Type 0) (has_ended : S �
 
   -- a packet more
   pub taken_on : {Z : Type 0} (now next : S) (state after : ReaderState) (talks held : Talks Z) (packet : Packet) (so : SoFar now state talks)
-      → IsAnswer gives has_ended now next state after (Ok (Some packet)) → TakesPacket port so.packets (recorded_of packet) (Ok tt) held → SoFar next after held
-  taken_on now next state after talks held packet so answer (known, holds) =
+      → IsAnswer gives has_ended now next state after (Ok (Some packet)) → TakesPacket port so.packets (recorded_of packet) (Ok tt) held
+      → AreCounted (so.packets ++ recorded_of packet ∷ []) held.wrapped → SoFar next after held
+  taken_on now next state after talks held packet so answer (known, holds) counts =
       let longer = length-append so.packets (recorded_of packet ∷ []) in
       let counted = ap (λ (s : ReaderState). s.number) answer.0.stands in
       record {
@@ -100,6 +107,7 @@ module _ {S : Type 0} (gives : S → S → List ℕ → Type 0) (has_ended : S �
         read = then_read Start state.context after.context so.octets answer.0.octets so.packets _ so.read answer.0.told;
         known = all_with IsLinkKnown so.packets (recorded_of packet) so.known known;
         held = holds;
+        wrapped = counts;
         many = omega (arith, longer, counted, so.many);
         calm = ap (λ (s : ReaderState). s.fault) answer.0.stands ∙ so.calm;
         going = ap (λ (s : ReaderState). s.is_ended) answer.0.stands ∙ so.going;
@@ -124,6 +132,7 @@ module _ {S : Type 0} (gives : S → S → List ℕ → Type 0) (has_ended : S �
     some = so.held.right;
     all = λ ample. so.held;
     many = ap (λ (s : ReaderState). s.number) ends.stands ∙ so.many;
+    wrapped = λ none. so.wrapped;
   }
 
   -- a fault of the file, or a device that failed, or no memory
@@ -155,6 +164,7 @@ module _ {S : Type 0} (gives : S → S → List ℕ → Type 0) (has_ended : S �
         some = so.held.right;
         all = λ ample. so.held;
         many = ap (λ (s : ReaderState). s.number) fails.stands ∙ so.many;
+        wrapped = λ none. absurd (some_none (refusals.File fault) none);
       }
 
   -- a packet that isn't taken
@@ -190,6 +200,7 @@ module _ {S : Type 0} (gives : S → S → List ℕ → Type 0) (has_ended : S �
     some = holds.right;
     all = λ ample. holds;
     many = ap (λ (s : ReaderState). s.number) answer.0.stands ∙ omega (arith, so.many, is);
+    wrapped = λ none. absurd (some_none (refusals.Packet fault number) none);
   }
   packet_refused now next state after talks held packet (refusals.Memory number) so answer (is, holds) = record {
     packets = so.packets;
@@ -202,6 +213,7 @@ module _ {S : Type 0} (gives : S → S → List ℕ → Type 0) (has_ended : S �
     some = holds;
     all = λ ample. absurd (ample tt);
     many = ap (λ (s : ReaderState). s.number) answer.0.stands ∙ omega (arith, so.many, is);
+    wrapped = λ none. absurd (some_none (refusals.Memory number) none);
   }
 
 -- it is no failure of the source

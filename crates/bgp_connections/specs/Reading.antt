@@ -17,6 +17,7 @@ use Rattle.bgp_import.specs.declared.cut_short.CutShort.{CutShort}
 use Rattle.bgp_import.specs.declared.refusal.Refusal.{Refusal}
 use Rattle.bgp_import.specs.declared.refusal.Refusal.TheVariants as refusals
 use Rattle.bgp_connections.specs.Talks.{HoldsEach, HoldsSome, IsLinkKnown}
+use Rattle.bgp_connections.specs.Wrapped.{AreCounted}
 use Rattle.bgp_connections.specs.declared.talks.Talks.{Talks}
 
 -- these octets begin with these packets
@@ -98,7 +99,7 @@ abbrev pub failures_of : Option Refusal → ℕ
 failures_of None = 0
 failures_of (Some refusal) = failures_by refusal
 
--- what taking all packets comes to
+-- What taking all packets comes to. How many are wrapped is told where they were read to the end.
 pub record TakesAll {S Z : Type 0} (gives : S → S → List ℕ → Type 0) (has_ended : S → Bool)
     (port : ℕ) (old new : S) (talks : Talks Z) (count : ℕ) (short : Bool)
     (taken : Result (Unit {0}) Refusal) : Type 0 where
@@ -107,3 +108,4 @@ pub record TakesAll {S Z : Type 0} (gives : S → S → List ℕ → Type 0) (ha
   pub some : HoldsSome port packets talks
   pub all : ¬ IsMemory (result_err taken) → HoldsEach port packets talks
   pub many : count ≡ looked_at packets (result_err taken)
+  pub wrapped : result_err taken ≡ None → AreCounted packets talks.wrapped

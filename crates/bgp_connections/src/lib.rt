@@ -15,12 +15,16 @@
 
 mod laws;
 mod listed;
+mod octets;
 mod pairs;
 mod talk;
 mod talks;
+mod wrapped;
 
 pub use laws::each_stands_at_a_packet_of_its_own;
 pub use listed::{Listed, listed_in};
+pub use octets::octets_from;
 pub use pairs::selection_of;
 pub use talk::Talk;
-pub use talks::{Talks, take_all};
+pub use talks::{Talks, cut_short_at, take_all};
+pub use wrapped::{NotLookedInto, Wrapped};

@@ -8,13 +8,15 @@ ghost use Rattle.segments.specs.Found.{found_in};
 ghost use Rattle.segments.specs.Segment.{finding_of};
 ghost use Rattle.streams.specs.Passed.{segment_of};
 ghost use Rattle.bgp_connections.specs.Pairs.{IsBetween};
-ghost use Rattle.bgp_connections.specs.Reading.{TakesAll, failures_of};
+ghost use Rattle.bgp_connections.specs.Reading.{TakesAll, cut_short_at, failures_of};
 ghost use Rattle.bgp_connections.specs.Talks.{Changes, HoldsEach, IsRefusedBy, IsSameTalk};
 ghost use Rattle.bgp_connections.specs.Talks.{KeepsOthers, TakesPacket, TakesSegment};
+ghost use Rattle.bgp_connections.specs.Wrapped.{AreCounted};
 
 use crate::pairs::{addresses_of, ordered, selection_of};
 use crate::talk::Talk;
-use bgp_import::{Refusal, passed, refused};
+use crate::wrapped::Wrapped;
+use bgp_import::{CutShort, Refusal, passed, refused};
 use mrt::Source;
 use packets::{Packet, Reader};
 use segments::{Addresses, Found, PacketFault, read_segment, segment_between};
@@ -30,23 +32,28 @@ pub struct Talks<A: Allocator> {
     pub port: u16,
     /// The connections between two addresses, of which the lesser one is the first.
     pub by_addresses: BTreeMap<Addresses, Talk<A>, A>,
+    /// How many packets are wrapped in something that isn't looked into.
+    pub wrapped: Wrapped,
 }
 
 impl<A: Allocator + Copy> Talks<A> {
     /// None yet.
     pub fn new(alloc: A, port: u16) -> Talks<A>
-        ensures { HoldsEach port [] result }
+        ensures holds { HoldsEach port [] result }
+        ensures wrapped { AreCounted [] result.wrapped }
     {
         Talks {
             alloc,
             port,
             by_addresses: BTreeMap::new(alloc),
+            wrapped: Wrapped::none(),
         }
     }
 
     /// Holds connections between these addresses, of which there may be none yet.
     fn hold(&mut self, addresses: Addresses) -> Result<(), AllocError>
         ensures port { self.new.port ≡ self.old.port }
+        ensures wrapped { self.new.wrapped ≡ self.old.wrapped }
         ensures ok { OnOk result (Changes IsSameTalk self.old self.new addresses) }
         ensures err { OnErr result (KeepsOthers self.old self.new addresses) }
     {
@@ -64,6 +71,7 @@ impl<A: Allocator + Copy> Talks<A> {
         addresses: Addresses,
     ) -> Result<(), AllocError>
         ensures port { self.new.port ≡ self.old.port }
+        ensures wrapped { self.new.wrapped ≡ self.old.wrapped }
         ensures ok { OnOk result (Changes (IsRefusedBy fault packet) self.old self.new addresses) }
         ensures err { OnErr result (KeepsOthers self.old self.new addresses) }
     {
@@ -80,6 +88,7 @@ impl<A: Allocator + Copy> Talks<A> {
     /// Takes a segment between these addresses.
     fn take_passed(&mut self, passed: &Passed<'_>, addresses: Addresses) -> Result<(), AllocError>
         ensures port { self.new.port ≡ self.old.port }
+        ensures wrapped { self.new.wrapped ≡ self.old.wrapped }
         ensures ok { OnOk result
             (Changes (TakesSegment (segment_of passed.now)) self.old self.new addresses) }
         ensures err { OnErr result (KeepsOthers self.old self.new addresses) }
@@ -104,6 +113,7 @@ impl<A: Allocator + Copy> Talks<A> {
         requires found { finding_of found ≡ found_in packet.now.link_type packet.now.octets.now }
         requires between { IsBetween (finding_of found) addresses }
         ensures port { self.new.port ≡ self.old.port }
+        ensures wrapped { self.new.wrapped ≡ self.old.wrapped }
         ensures ok { OnOk result ((port : ℕ) (packets : List Recorded)
             → packet.now.number ≡ length packets + 1 → HoldsEach port packets self.old
             → HoldsEach port (packets ++ recorded_of packet.now ∷ []) self.new) }
@@ -123,10 +133,13 @@ impl<A: Allocator + Copy> Talks<A> {
     /// Takes what a packet has of a connection. Refused for memory, none are held between its
     /// addresses.
     fn take(&mut self, packet: &Packet<'_>) -> Result<(), Refusal>
-        ensures { (port : ℕ) (packets : List Recorded) → packet.now.number ≡ length packets + 1
-            → HoldsEach port packets self.old
+        ensures takes { (port : ℕ) (packets : List Recorded)
+            → packet.now.number ≡ length packets + 1 → HoldsEach port packets self.old
             → TakesPacket port packets (recorded_of packet.now) result self.new }
+        ensures wrapped { (packets : List Recorded) → AreCounted packets self.old.wrapped
+            → AreCounted (packets ++ recorded_of packet.now ∷ []) self.new.wrapped }
     {
+        self.wrapped.take(packet);
         let found = read_segment(packet.link_type, packet.octets);
         if let Found::UnknownLink(link_type) = found {
             return Err(refused(PacketFault::Link(link_type), packet.number));
@@ -158,6 +171,7 @@ pub fn take_all<A: Allocator + Copy, R: Source>(
     requires fresh { reader.old ≡ fresh_reader }
     requires failures { R.failures source.old < u64.MAX }
     requires empty { HoldsEach talks.old.port [] talks.old }
+    requires none { AreCounted [] talks.old.wrapped }
     ensures takes { TakesAll R.gives R.has_ended talks.old.port source.old source.new talks.new
         reader.new.number reader.new.is_cut result }
     ensures failures { R.failures source.new
@@ -173,5 +187,15 @@ pub fn take_all<A: Allocator + Copy, R: Source>(
             Ok(()) => {}
             Err(refusal) => return Err(refusal),
         }
+    }
+}
+
+/// That the file was cut short after so many packets, where it was and was read so far.
+pub fn cut_short_at(packets: u64, is_cut_short: bool, stopped: Option<Refusal>) -> Option<CutShort>
+    ensures { result ≡ cut_short_at packets is_cut_short stopped }
+{
+    match stopped {
+        None => CutShort::told(is_cut_short, packets),
+        Some(_) => None,
     }
 }

@@ -9,7 +9,7 @@ pub loop-packet-init : goal.loop-packet-init
 loop-packet-init g c =
     let number = ap (λ (s : ReaderState). s.number) c.requires.fresh in record {
       so_far = nothing_read g.R.Source.gives g.R.Source.has_ended g.met.R.Source.joined c.args.talks.now.port c.args.source.now c.args.reader.now c.args.talks.now c.requires.fresh
-          c.requires.empty (g.met.R.Source.nothing c.args.source.now);
+          c.requires.empty c.requires.none (g.met.R.Source.nothing c.args.source.now);
       one_source = omega (arith, number);
       calm = refl;
     }
@@ -38,7 +38,7 @@ returns-in-Err-taken-clause-takes g c =
     let is = rw (c.in-Ok-Some.is, c.in-Ok-Some.field-0-is) at answer in
     let number = number_is g.R.Source.gives g.R.Source.has_ended g.met.R.Source.joined c.args.talks.now.port c.args.source.now _ _ _ _ c.loop-packet.talks c.in-Ok-Some.packet so is in
     packet_refused g.R.Source.gives g.R.Source.has_ended g.met.R.Source.joined c.args.talks.now.port c.args.source.now _ _ _ _ c.loop-packet.talks _ c.in-Ok-Some.packet c.in-Err-taken.refusal so is
-    (c.in-Err-taken.ensures c.args.talks.now.port so.packets number so.held)
+    (c.in-Err-taken.ensures.takes c.args.talks.now.port so.packets number so.held)
 
 pub returns-in-Err-clause-failures : goal.returns-in-Err-clause-failures
 returns-in-Err-clause-failures g c =
@@ -55,7 +55,7 @@ returns-in-Err-taken-clause-failures g c =
     let is = rw (c.in-Ok-Some.is, c.in-Ok-Some.field-0-is) at answer in
     let number = number_is g.R.Source.gives g.R.Source.has_ended g.met.R.Source.joined c.args.talks.now.port c.args.source.now _ _ _ _ c.loop-packet.talks c.in-Ok-Some.packet so is in
     let failures = rw (c.in-Ok-Some.is) at c.next_packet.ensures.failures in
-    let none = no_failure c.args.talks.now.port so.packets (recorded_of c.in-Ok-Some.packet) c.take-taken.new.self c.in-Err-taken.refusal (c.in-Err-taken.ensures c.args.talks.now.port so.packets number so.held) in
+    let none = no_failure c.args.talks.now.port so.packets (recorded_of c.in-Ok-Some.packet) c.take-taken.new.self c.in-Err-taken.refusal (c.in-Err-taken.ensures.takes c.args.talks.now.port so.packets number so.held) in
     omega (arith, failures, none, c.loop-packet.invariant.calm)
 
 pub loop-packet-smaller : goal.loop-packet-smaller
@@ -76,7 +76,7 @@ loop-packet-preserved g c =
     let number = number_is g.R.Source.gives g.R.Source.has_ended g.met.R.Source.joined c.args.talks.now.port c.args.source.now _ _ _ _ c.loop-packet.talks c.in-Ok-Some.packet so is in
     record {
       so_far = taken_on g.R.Source.gives g.R.Source.has_ended g.met.R.Source.joined c.args.talks.now.port c.args.source.now _ _ _ _ c.loop-packet.talks _ c.in-Ok-Some.packet so is
-          (c.in-Ok.ensures c.args.talks.now.port so.packets number so.held);
+          (c.in-Ok.ensures.takes c.args.talks.now.port so.packets number so.held) (c.take-taken.ensures.wrapped so.packets so.wrapped);
       one_source = c.next_packet.follows.holds-at-none.1;
       calm = omega (arith, failures, c.loop-packet.invariant.calm);
     }
