@@ -7,8 +7,9 @@ use crate::devices::{buffered, open, tell, tell_cut_short, tell_note};
 use crate::made_file::MadeFile;
 use bgp_check_tool::{CheckOptions, check_recording};
 use bgp_compact::CompactTracker;
-use bgp_import::{Cause, Import, Imported, Refusal, Stopped, import_recording, list_recording};
+use bgp_import::{Cause, Import, Imported, Refusal, Stopped, import_recording};
 use bgp_prefix::Session;
+use bgp_recording_list::list_recording;
 use bgp_recording_tool::{RecordingOptions, import_of};
 use bgp_tool::{ErrorWords, Note, Status, unopened, unwritten};
 use mrt::{FromRead, FromWrite, Sink};
@@ -166,12 +167,13 @@ fn list_from<R: Print + Eprint + AllocGlobal, F: Read + Drop>(
         Err(error) => return tell_unopened(rt, file, &error),
     };
     let mut sink = FromWrite::new(io::writer(rt));
-    let Ok(listed) = list_recording(rt.alloc(), port, &mut source, &mut sink) else {
+    let listed = list_recording(rt.alloc(), port, &mut source, &mut sink);
+    if sink.failures() > 0 {
         tell_unwritten(rt, &sink);
-        return Status::Device.code();
-    };
+        return listed.status;
+    }
     tell_cut_short(rt, listed.cut_short);
-    for refusal in &listed.refusals {
+    for refusal in listed.refusals.iter().flatten() {
         tell_help(rt, *refusal);
     }
     if let Some(nothing) = listed.nothing() {
@@ -180,10 +182,10 @@ fn list_from<R: Print + Eprint + AllocGlobal, F: Read + Drop>(
             let _ = eprintln!(rt; "bgp: {not_looked_into}");
         }
     }
-    match listed.refusal {
-        Some(refusal) => tell_cause(rt, file, &source, refusal),
-        None => Status::Done.code(),
+    if let Some(refusal) = listed.refusal {
+        tell_cause(rt, file, &source, refusal);
     }
+    listed.status
 }
 
 /// Tells what helps against a refusal, if anything does.

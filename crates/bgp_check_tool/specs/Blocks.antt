@@ -1,7 +1,7 @@
 -- What is told of a recording: connection by connection, and of two addresses at once where none of
 -- their connections can be told.
 use Rattle.std.specs.Prelude.{◌≡◌, ◌⊎◌, ◌++◌, ℕ, Bool, List, Option, None, Some, Result, Ok, Err}
-use Rattle.std.specs.Prelude.{codes, length}
+use Rattle.std.specs.Prelude.{codes}
 use Rattle.bgp_prefix.specs.Text.{address_text}
 use Rattle.bgp_prefix.specs.declared.session.Session.{Session}
 use Rattle.segments.specs.declared.found.Addresses.{Addresses}
@@ -19,6 +19,7 @@ use Rattle.bgp_import.specs.ListText.{end_of, octets_text, opening_text, other_s
 use Rattle.bgp_import.specs.Refreshes.{IsRefreshIn}
 use Rattle.bgp_import.specs.declared.refusal.Refusal.{Refusal}
 use Rattle.bgp_import.specs.declared.refusal.Refusal.TheVariants as refusals
+use Rattle.bgp_connections.specs.Octets.{octets_from}
 use Rattle.bgp_check_tool.specs.declared.connection.EndsTold.{EndsTold}
 use Rattle.bgp_check_tool.specs.declared.connection.EndsTold.TheVariants as ends
 use Rattle.bgp_check_tool.specs.declared.connection.Untold.{Untold}
@@ -70,11 +71,6 @@ block_text routes (Refused session opening refusal) =
 block_text routes (AllRefused addresses refusal) = session_text addresses refusal
 
 -- ---- what is told of a connection
-
--- how many octets this system sent
-abbrev pub octets_from : Side → Connection → ℕ
-octets_from Local connection = length connection.sent.octets.now
-octets_from Peer connection = length connection.received.octets.now
 
 -- its two ends are one address and one port, so that its packets don't say who sent what
 abbrev pub AreOne : Session → Opening → Type 0

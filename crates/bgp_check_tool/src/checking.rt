@@ -6,7 +6,6 @@ ghost use Rattle.bgp_text.specs.Lines.{Writes};
 ghost use Rattle.bgp_check_tool.specs.Checking.{ChecksRecording, PutsAll, PutsBlock, file_text};
 ghost use Rattle.bgp_check_tool.specs.Checking.{cut_note, nothing_by, with_file};
 ghost use Rattle.bgp_connections.specs.Listed.{CanBeTold, IsListed};
-ghost use Rattle.bgp_connections.specs.Reading.{cut_short_at};
 ghost use Rattle.bgp_connections.specs.Talks.{HoldsSome};
 
 use crate::blocks::{put_connection, put_session};
@@ -15,7 +14,7 @@ use crate::counted::{with_connection, with_refused};
 use crate::nothing::{NothingJudged, put_nothing};
 use crate::options::CheckOptions;
 use bgp_check_text::Tally;
-use bgp_connections::{Listed, Talks, listed_in, selection_of, take_all};
+use bgp_connections::{Listed, Talks, cut_short_at, listed_in, selection_of, take_all};
 use bgp_import::{CutShort, Refusal, put_refusal, refused};
 use bgp_judge::Tracker;
 use bgp_text::Lines;
@@ -95,16 +94,6 @@ fn put_all<A: Allocator + Copy, T: Tracker<A>, W: Sink>(
         tally = put_listed::<A, T, W>(alloc, options, last_packet, *packet, one, lines, tally);
     }
     (tally, None)
-}
-
-/// That the file was cut short after so many packets, where it was and was read so far.
-fn cut_short_at(packets: u64, is_cut_short: bool, stopped: Option<Refusal>) -> Option<CutShort>
-    ensures { result ≡ cut_short_at packets is_cut_short stopped }
-{
-    match stopped {
-        None => CutShort::told(is_cut_short, packets),
-        Some(_) => None,
-    }
 }
 
 /// Puts why the file is refused, if it is, and answers the tally with that.

@@ -10,13 +10,15 @@ ghost use Rattle.bgp_recording.specs.Gathered.{IsClocked, IsCovered};
 ghost use Rattle.bgp_import.specs.ListText.{other_side};
 ghost use Rattle.bgp_import.specs.declared.refusal.Refusal.TheVariants.{Memory as OfMemory};
 ghost use Rattle.bgp_check_tool.specs.Blocks.{AreOne, HasRefresh, IsBlock, IsFirstRefresh};
-ghost use Rattle.bgp_check_tool.specs.Blocks.{IsUntold, block_of, octets_from};
+ghost use Rattle.bgp_check_tool.specs.Blocks.{IsUntold, block_of};
+ghost use Rattle.bgp_connections.specs.Octets.{octets_from};
 ghost use Rattle.bgp_connections.specs.Talks.{AreHeld};
 ghost use Rattle.bgp_check_tool.specs.Told.{IsEndTold, told_value};
 
 use crate::ending::{Told, told_by};
 use crate::making::made_of;
 use crate::seen::{seen_from, session_from};
+use bgp_connections::octets_from;
 use bgp_import::{Refusal, end_of, other_side, refresh_in};
 use bgp_judge::Tracker;
 use bgp_prefix::Session;
@@ -85,16 +87,6 @@ fn check_side<A: Allocator + Copy, T: Tracker<A>>(
     match told_by::<A, T>(alloc, &session, end, &made) {
         Ok(told) => Ok(told),
         Err(AllocError) => Err(Untold::NoMemory),
-    }
-}
-
-/// How many octets this system sent.
-fn octets_from(side: Side, connection: &Connection<'_>) -> usize
-    ensures { result ≡ octets_from side connection.now }
-{
-    match side {
-        Side::Local => connection.sent.octets.len(),
-        Side::Peer => connection.received.octets.len(),
     }
 }
 

@@ -7,9 +7,10 @@ use crate::case::{Case, malformed};
 use crate::words::{config_of, has_flag, import_of, options_of, port_of, session_of};
 use bgp_compact::CompactTracker;
 use bgp_explain::explain_capture;
-use bgp_import::{Cause, Refusal, Stopped, import_recording, list_recording};
+use bgp_import::{Cause, Refusal, Stopped, import_recording};
 use bgp_judge::{PlainTracker, Tracker};
 use bgp_open::Config;
+use bgp_recording_list::list_recording;
 use bgp_recording_tool::{Judged, decode_recording, judge_recording};
 use mrt::{MemSink, MemSource};
 use std::alloc::{AllocError, Global};
@@ -172,17 +173,15 @@ fn list(alloc: Global, words: &str, source: &mut MemSource) -> io::Result<String
         return Err(malformed());
     };
     let mut sink = MemSink::new(alloc);
-    let Ok(listed) = list_recording(alloc, port, source, &mut sink) else {
-        return Err(malformed());
-    };
+    let listed = list_recording(alloc, port, source, &mut sink);
+    let nothing = listed.nothing();
     let mut text = String::new(alloc);
     add(&mut text, "status ")?;
-    add(&mut text, listed.refusal.map_or(0, refused_status))?;
+    add(&mut text, listed.status)?;
     add_note(&mut text, listed.cut_short)?;
-    for refusal in &listed.refusals {
+    for refusal in listed.refusals.iter().flatten() {
         add_note(&mut text, refusal.help())?;
     }
-    let nothing = listed.nothing();
     add_note(&mut text, nothing)?;
     if nothing.is_some() {
         for not_looked_into in listed.wrapped.in_order() {

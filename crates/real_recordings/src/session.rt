@@ -3,9 +3,9 @@
 use crate::case::malformed;
 use crate::words::{config_of, options_of};
 use bgp_compact::CompactTracker;
-use bgp_import::list_recording;
 use bgp_judge::{PlainTracker, Tracker};
 use bgp_open::Config;
+use bgp_recording_list::list_recording;
 use bgp_recording_tool::{Judged, RecordingOptions, judge_recording};
 use mrt::{MemSink, MemSource};
 use std::alloc::Global;
@@ -177,8 +177,7 @@ fn compare_list<R: Files + Print + AllocGlobal>(rt: &R, name: &str) -> io::Resul
     let mut source = MemSource::new(read_recording(rt, name)?);
     let mut sink = MemSink::new(alloc);
     let listed = list_recording(alloc, 179, &mut source, &mut sink);
-    let is_whole = listed.is_ok_and(|listed| listed.refusal.is_none());
-    if is_whole && sink.octets() == known.as_bytes() {
+    if listed.status == 0 && sink.octets() == known.as_bytes() {
         return Ok(true);
     }
     let text = std::str::from_utf8(sink.octets()).unwrap_or("?");

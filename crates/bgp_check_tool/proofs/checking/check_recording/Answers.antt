@@ -16,19 +16,19 @@ use Rattle.bgp_check_tool.proofs.AllTold.{as_many, nothing_lacks}
 use Rattle.bgp_check_tool.proofs.checking.check_recording.Goals as goal
 
 pub take_all-requires-clause-empty : goal.take_all-requires-clause-empty
-take_all-requires-clause-empty g c = subst (λ (p : ℕ). HoldsEach p [] c.new-talks.result) (sym c.new-talks.ensures.right.is_port) c.new-talks.ensures
+take_all-requires-clause-empty g c = subst (λ (p : ℕ). HoldsEach p [] c.new-talks.result) (sym c.new-talks.ensures.holds.right.is_port) c.new-talks.ensures.holds
 
 pub put_all-lacking-requires : goal.put_all-lacking-requires
 put_all-lacking-requires g c =
     let taken = c.take_all.ensures.takes in
-    (taken.packets, subst (λ (p : ℕ). HoldsSome p taken.packets c.take_all.new.talks) c.new-talks.ensures.right.is_port taken.some)
+    (taken.packets, subst (λ (p : ℕ). HoldsSome p taken.packets c.take_all.new.talks) c.new-talks.ensures.holds.right.is_port taken.some)
 
 pub returns : goal.returns
 returns g c =
     let law : Joins g.W.Sink = record { joined = g.met.W.Sink.joined } in
     let fresh : IsFresh c.new-lines.result = record { empty = c.new-lines.ensures.empty; calm = c.new-lines.ensures.fresh } in
     let taken = subst (λ (p : ℕ). TakesAll g.R.Source.gives g.R.Source.has_ended p c.args.source.now c.take_all.new.source c.take_all.new.talks c.take_all.new.reader.number c.take_all.new.reader.is_cut c.take_all.result)
-    c.new-talks.ensures.right.is_port c.take_all.ensures.takes in
+    c.new-talks.ensures.holds.right.is_port c.take_all.ensures.takes in
     let all = c.put_all-lacking.ensures taken.packets taken.some in
     let puts = all.puts in
     let wrote = and_nothing law (and_then law puts.wrote (and_then law c.put_file-tally.ensures.wrote (and_then law c.put_file-tally-2.ensures.wrote (and_then law c.put_cut_short.ensures (and_then law c.put_nothing.ensures c.put.ensures))))) c.hand_over-status.ensures.writes in

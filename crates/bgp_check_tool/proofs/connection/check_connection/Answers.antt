@@ -1,6 +1,6 @@
 use Rattle.std.proofs.Common.{◌≡◌, ◌∙◌, true, false, Some, ap, inl, inr, refl, sym}
 use Rattle.streams.specs.declared.passed.Side.{Side}
-use Rattle.bgp_check_tool.specs.Blocks.{octets_from}
+use Rattle.bgp_connections.specs.Octets.{octets_from}
 use Rattle.streams.specs.Connections.{numbered}
 use Rattle.bgp_import.proofs.Telling.{are_covered, is_clocked}
 use Rattle.bgp_check_tool.proofs.connection.check_connection.Goals as goal

@@ -1,0 +1,4 @@
+pub mod Apart
+pub mod PutSoFar
+pub mod AllListed
+pub mod Each
