@@ -1,6 +1,5 @@
 pub mod Entries
 pub mod Refreshed
-pub mod Goes
 pub mod AllImported
 pub mod InOrder
 pub mod SoFar
