@@ -6,3 +6,4 @@ pub mod SoFar
 pub mod Taken
 pub mod Telling
 pub mod Once
+pub mod OneAnswer

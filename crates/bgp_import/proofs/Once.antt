@@ -49,7 +49,7 @@ one_answer Holds wanted a b (inl h) (inr k) = absurd (k.0 h.0)
 one_answer Holds wanted a b (inr h) (inl k) = absurd (h.0 k.0)
 one_answer Holds wanted a b (inr h) (inr k) = h.1 ∙ sym k.1
 
-one_selected : (conversation : Conversation) (finding : Finding) (a b : Answer) → IsSelected conversation finding a → IsSelected conversation finding b → a ≡ b
+pub one_selected : (conversation : Conversation) (finding : Finding) (a b : Answer) → IsSelected conversation finding a → IsSelected conversation finding b → a ≡ b
 one_selected conversation Nothing a b h k = h ∙ sym k
 one_selected conversation (UnknownLink link_type) a b h k = h ∙ sym k
 one_selected conversation (Fragment addresses) a b h k = one_answer _ _ a b h k
@@ -84,7 +84,7 @@ same_part selection number packet a b h k =
     let same : h.found ≡ k.found = found_is h.found k.found (one_selected _ (found_in packet.link_type packet.octets) (Ok h.found) (Ok k.found) h.is_found k.is_found) in
     one_part selection number packet.second k.found a b (subst (λ (f : Option TcpSegment). IsPart selection number packet.second f a) same h.is_part) k.is_part
 
-same_taken : (selection : Selection) (before : ℕ) (packets : List Recorded) (a b : List Segment) → AreTaken selection before packets a → AreTaken selection before packets b → a ≡ b
+pub same_taken : (selection : Selection) (before : ℕ) (packets : List Recorded) (a b : List Segment) → AreTaken selection before packets a → AreTaken selection before packets b → a ≡ b
 same_taken selection before [] a b h k = h ∙ sym k
 same_taken selection before (packet ∷ later) a b (part, others, has, rest, is) (part', others', has', rest', is') =
     is ∙ ap (λ (p : List Segment). p ++ others) (same_part selection (before + 1) packet part part' has has')

@@ -8,6 +8,7 @@ pub mod Notes
 pub mod ListText
 pub mod Importing
 pub mod Once
+pub mod OneAnswer
 pub mod Gathers
 pub mod Taking
 pub mod Imports

@@ -31,7 +31,7 @@ pub use cut_short::CutShort;
 pub use gathering::{Gathered, gather, refused};
 pub use help::Help;
 pub use importing::{Import, Imported, Stopped, import_recording, records_of};
-pub use laws::recordings_are_made_once;
+pub use laws::{recordings_are_answered_once, recordings_are_made_once};
 pub use listing::{end_of, other_side, put_counts, put_end, put_opening, put_refusal, put_refused};
 pub use note::{Note, Notes};
 pub use refresh::refresh_in;
