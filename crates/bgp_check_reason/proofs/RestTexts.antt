@@ -1,8 +1,18 @@
--- The notes on what is left of a direction's octets.
+-- The notes on what is passed over of a direction, and on what is left of its octets.
 use Rattle.std.proofs.Common.{◌≡◌, ◌<◌, ◌≤◌, ◌++◌, ℕ, zero, suc, Bool, List, [], arith, codes, refl}
 use Rattle.std.proofs.lemmas.Bool.{lt-ltb}
 use Rattle.std.specs.Fmt.{decimal}
-use Rattle.bgp_check_reason.specs.Unshown.{behind_note, end_name, short_note}
+use Rattle.bgp_check_reason.specs.Unshown.{behind_note, end_name, passed_note, short_note}
+
+pub some_passed : (way : List ℕ) (count : ℕ) → 0 < count
+    → passed_note way count ≡ codes "  note " ++ (way ++ (codes " ROUTE-REFRESH messages passed over: " ++ (decimal count ++ codes "\n")))
+unfolding passed_note
+some_passed way count some = rw (lt-ltb 0 count some) refl
+
+pub none_passed : (way : List ℕ) (count : ℕ) → count ≤ 0 → passed_note way count ≡ []
+unfolding passed_note
+none_passed way zero none = refl
+none_passed way (suc count) none = absurd (omega (arith, none))
 
 pub some_short : (way : List ℕ) (count : ℕ) → 0 < count
     → short_note way count ≡ codes "  note " ++ (way ++ (codes ": the last " ++ (decimal count ++ codes " octets are no whole message\n")))

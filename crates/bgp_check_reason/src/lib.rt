@@ -20,4 +20,4 @@ mod unshown;
 pub use laws::the_verdict_is_told_under_one;
 pub use own_faults::OwnFaults;
 pub use reason::{Reason, put_reason, reason_of};
-pub use unshown::put_unshown;
+pub use unshown::{put_passed_over, put_unshown};

@@ -1,13 +1,37 @@
-//! What of the octets of a connection is in no message.
+//! What of the octets of a connection is in no message that is judged.
 
 ghost use Rattle.std.specs.Prelude.{◌≡◌};
 ghost use Rattle.bgp_text.specs.Lines.{Writes};
-ghost use Rattle.bgp_check_reason.specs.Unshown.{behind_note, end_name, rest_note, short_note};
-ghost use Rattle.bgp_check_reason.specs.Unshown.{unshown_notes};
+ghost use Rattle.bgp_check_reason.specs.Unshown.{behind_note, end_name, passed_note, passed_notes};
+ghost use Rattle.bgp_check_reason.specs.Unshown.{rest_note, short_note, unshown_notes};
 
 use bgp_recording::{Rest, Unshown};
 use bgp_text::Lines;
 use mrt::Sink;
+
+/// How many ROUTE-REFRESH messages of a direction are passed over, where some are.
+fn put_passed<W: Sink>(lines: &mut Lines<'_, W>, way: &[u8], count: usize)
+    ensures { Writes lines.old lines.new (passed_note way.now count) }
+{
+    if 0 < count {
+        lines.put(b"  note ");
+        lines.put(way);
+        lines.put(b" ROUTE-REFRESH messages passed over: ");
+        lines.put_decimal(count);
+        lines.put(b"\n");
+    } else {
+        lines.put(b"");
+    }
+}
+
+/// Puts how many ROUTE-REFRESH messages (RFC 2918) are passed over of those that were received, and
+/// of those that were sent, where some are.
+pub fn put_passed_over<W: Sink>(lines: &mut Lines<'_, W>, received: usize, sent: usize)
+    ensures { Writes lines.old lines.new (passed_notes received sent) }
+{
+    put_passed(lines, b"received", received);
+    put_passed(lines, b"sent", sent);
+}
 
 /// That the last octets of a direction are no whole message, where some are.
 fn put_short<W: Sink>(lines: &mut Lines<'_, W>, way: &[u8], count: usize)
@@ -74,11 +98,13 @@ fn put_rest<W: Sink>(lines: &mut Lines<'_, W>, way: &[u8], rest: Rest)
     }
 }
 
-/// Puts what of the octets of both directions is in no message, where something is: those that were
-/// received, and those that were sent.
+/// Puts what of the octets of both directions is in no message that is judged, where something is:
+/// how many ROUTE-REFRESH messages are passed over, and then what is left of those that were
+/// received, and of those that were sent.
 pub fn put_unshown<W: Sink>(lines: &mut Lines<'_, W>, received: Unshown, sent: Unshown)
     ensures { Writes lines.old lines.new (unshown_notes received sent) }
 {
+    put_passed_over(lines, received.passed_over, sent.passed_over);
     put_rest(lines, b"received", received.rest);
     put_rest(lines, b"sent", sent.rest);
 }
