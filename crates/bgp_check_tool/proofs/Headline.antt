@@ -16,7 +16,6 @@ use Rattle.bgp_check.specs.Over.{HasVerdictOver}
 use Rattle.bgp_check.specs.WidestMade.{IsFaultless}
 use Rattle.bgp_check.proofs.Answered.{one_own}
 use Rattle.bgp_check_tool.specs.Headline.{IsToldOfSide, NoConfigurationHasARun, NothingIsVacuous, ToldNoHasNoRun, VerdictIsOverAll}
-use Rattle.bgp_check_tool.specs.Made.{framed_at}
 use Rattle.bgp_check_tool.specs.Seen.{seen_from, session_from}
 use Rattle.bgp_check_tool.specs.Told.{EndTold, IsEndTold}
 use Rattle.bgp_check_tool.proofs.Stretch.{stretch_of}
@@ -26,7 +25,7 @@ over_all within session opening connection side told number peer verdict own end
     let its = session_from side session in
     let records = records_of end.entries in
     let answer : IsAnswerTo its records (JudgedAs number peer verdict) = subst (λ (a : AnswerValue). IsAnswerTo its records a) is end.answers in
-    let stretch = stretch_of (framed_at end.made.limit) within (seen_from side connection) end.entries end.received_unshown end.sent_unshown end.made.recorded.told in
+    let stretch = stretch_of end.made.framings within (seen_from side connection) end.entries end.received_unshown end.sent_unshown end.made.recorded.told in
     let same = one_own records own answer.own has answer.has_own in
     subst (λ (o : Option (List ℕ)). HasVerdictOver (IsOf its o) records verdict) (sym same)
     (answer.over stretch (subst (λ (o : Option (List ℕ)). IsFaultless o) same faultless))
@@ -36,7 +35,7 @@ no_run law within session opening connection side told number peer count own con
     let its = session_from side session in
     let records = records_of end.entries in
     let answer : IsAnswerTo its records (JudgedAs number peer (No count)) = subst (λ (a : AnswerValue). IsAnswerTo its records a) is end.answers in
-    let stretch = stretch_of (framed_at end.made.limit) within (seen_from side connection) end.entries end.received_unshown end.sent_unshown end.made.recorded.told in
+    let stretch = stretch_of end.made.framings within (seen_from side connection) end.entries end.received_unshown end.sent_unshown end.made.recorded.told in
     law its records number peer count own config stretch answer has of
 
 sends_by : (sends extended : Bool) (own told : Option OpenFields) → None ≡ why_not sends extended own told → IsTrue sends
@@ -51,7 +50,7 @@ not_vacuous within session opening connection side told number peer verdict end 
     let its = session_from side session in
     let records = records_of end.entries in
     let answer : IsAnswerTo its records (JudgedAs number peer verdict) = subst (λ (a : AnswerValue). IsAnswerTo its records a) is end.answers in (
-      stretch_of (framed_at end.made.limit) within (seen_from side connection) end.entries end.received_unshown end.sent_unshown end.made.recorded.told,
+      stretch_of end.made.framings within (seen_from side connection) end.entries end.received_unshown end.sent_unshown end.made.recorded.told,
       sends_some records answer.none,
     )
 

@@ -13,19 +13,12 @@ use Rattle.streams.specs.declared.connection.Opening.{Opening}
 use Rattle.streams.specs.declared.fault.Fault.{Fault}
 use Rattle.streams.specs.declared.passed.Side.{Side}
 use Rattle.streams.specs.declared.passed.Side.TheVariants.{Local, Peer}
-use Rattle.bgp_recording.specs.declared.entry.Entry.{Entry}
-use Rattle.bgp_recording.specs.declared.framing.Unshown.{Unshown}
 use Rattle.bgp_import.specs.ListText.{end_of, octets_text, opening_text, other_side, refused_text}
-use Rattle.bgp_import.specs.Refreshes.{IsRefreshIn}
 use Rattle.bgp_import.specs.declared.refusal.Refusal.{Refusal}
 use Rattle.bgp_import.specs.declared.refusal.Refusal.TheVariants as refusals
 use Rattle.bgp_connections.specs.Octets.{octets_from}
 use Rattle.bgp_check_tool.specs.declared.connection.EndsTold.{EndsTold}
 use Rattle.bgp_check_tool.specs.declared.connection.EndsTold.TheVariants as ends
-use Rattle.bgp_check_tool.specs.declared.connection.Untold.{Untold}
-use Rattle.bgp_check_tool.specs.declared.connection.Untold.TheVariants as untold
-use Rattle.bgp_check_tool.specs.Made.{IsMade}
-use Rattle.bgp_check_tool.specs.Seen.{seen_from}
 use Rattle.bgp_check_tool.specs.Text.{one_end_line, told_lines}
 use Rattle.bgp_check_tool.specs.Told.{EndTold, IsEndTold, told_value}
 
@@ -76,22 +69,6 @@ block_text routes (AllRefused addresses refusal) = session_text addresses refusa
 abbrev pub AreOne : Session → Opening → Type 0
 AreOne session opening = end_of Local session opening ≡ end_of Peer session opening
 
--- the refusal for the first ROUTE-REFRESH as this of its ends has the messages, if there is one
-pub record HasRefresh (within : ℕ) (connection : Connection) (side : Side)
-    (refusal : Option Refusal) : Type 0 where
-  pub entries : List Entry
-  pub received_unshown : Unshown
-  pub sent_unshown : Unshown
-  pub made : IsMade within (seen_from side connection) entries received_unshown sent_unshown
-  pub is : IsRefreshIn entries received_unshown.rest sent_unshown.rest refusal
-
--- as the end has it that opened the connection; where that has none, as the other end does
-abbrev pub IsFirstRefresh : ℕ → Connection → Side → Refusal → Type 0
-IsFirstRefresh within connection opener refusal =
-    HasRefresh within connection opener (Some refusal)
-    ⊎ (HasRefresh within connection opener None
-    × HasRefresh within connection (other_side opener) (Some refusal))
-
 -- The connection of these segments, told from the last one back to the first, that was opened so;
 -- in a recording whose last packet has this number.
 module _ (within last_packet : ℕ) (segments : List Segment) (session : Session)
@@ -114,7 +91,7 @@ module _ (within last_packet : ℕ) (segments : List Segment) (session : Session
     pub is_first : first ≡ octets_from opening.opened_by connection
     pub is_second : second ≡ octets_from (other_side opening.opened_by) connection
 
-  -- or its segments spell no two streams; or there is a ROUTE-REFRESH, or memory was refused
+  -- or its segments spell no two streams; or memory was refused
   pub record IsSpoilt (refusal : Refusal) : Type 0 where
     pub fault : Fault
     pub refused : IsRefused (Some opening.number) last_packet (numbered segments) fault
@@ -124,8 +101,7 @@ module _ (within last_packet : ℕ) (segments : List Segment) (session : Session
     pub connection : Connection
     pub chosen : IsAnswered (Some opening.number) last_packet (numbered segments) connection
     pub are_two : ¬ AreOne session opening
-    pub why : IsFirstRefresh within connection opening.opened_by refusal
-        ⊎ (refusal ≡ refusals.Memory last_packet)
+    pub is : refusal ≡ refusals.Memory last_packet
 
 -- this block is told of it
 abbrev pub IsBlock : ℕ → ℕ → List Segment → Session → Opening → Block → Type 0
@@ -143,11 +119,6 @@ IsBlock within last_packet segments session opening (Refused its its_opening ref
 IsBlock within last_packet segments session opening (AllRefused addresses refusal) = ⊥
 
 -- ---- what is answered
-
--- an end isn't told of, for want of memory or for a refusal that is such
-abbrev pub IsUntold : (Refusal → Type 0) → Untold → Type 0
-IsUntold Is untold.NoMemory = Unit {0}
-IsUntold Is (untold.Refresh refusal) = Is refusal
 
 abbrev pub ends_block : {X : Type 0} → Session → Opening → EndsTold X → Block
 ends_block session opening (ends.Both both) =

@@ -1,48 +1,60 @@
 -- The records that are made of a connection for one of its ends, whose settings aren't known.
-use Rattle.std.specs.Prelude.{◌≡◌, ◌||◌, Bool, false, ℕ, List, Option, None, Some}
+use Rattle.std.specs.Prelude.{◌≡◌, true, false, ℕ, List, Option, None, Some}
 use Rattle.bgp_prefix.specs.Shown.{ShownRecord}
 use Rattle.bgp_wire.specs.Header.{limit_with}
-use Rattle.bgp_wire.specs.declared.header.Limit.{Limit}
-use Rattle.bgp_wire.specs.declared.header.Limit.TheVariants.{Plain}
+use Rattle.bgp_wire.specs.declared.header.Limit.TheVariants.{Extended, Plain}
 use Rattle.bgp_open.specs.Offer.{offers_extended}
 use Rattle.bgp_open.specs.Open.{open_of}
+use Rattle.bgp_open.specs.Triplet.{Triplet}
 use Rattle.streams.specs.declared.connection.Connection.{Connection}
 use Rattle.bgp_recording.specs.Captured.{records_of}
 use Rattle.bgp_recording.specs.Recorded.{IsRecordedInOrder}
 use Rattle.bgp_recording.specs.declared.entry.Entry.{Entry}
+use Rattle.bgp_recording.specs.declared.framing.Framing.{Framing}
 use Rattle.bgp_recording.specs.declared.framing.Framings.{Framings}
 use Rattle.bgp_recording.specs.declared.framing.Unshown.{Unshown}
 use Rattle.bgp_recording.specs.Pieces.{alike}
 use Rattle.bgp_check.specs.Opens.{HasHeardOpen, HasOwnOpen}
+use Rattle.bgp_check.specs.Refresh.{offers_refresh}
 
--- there is an OPEN, and it offers extended messages (RFC 8654, 4)
-abbrev pub is_extended : Option (List ℕ) → Bool
-is_extended None = false
-is_extended (Some octets) = offers_extended (open_of octets).capabilities
+-- How what comes to a system is framed: that may come which its OPEN offers, extended messages
+-- (RFC 8654, 4), and ROUTE-REFRESHes (RFC 2918, 2), which are passed over.
+abbrev pub framing_with : List Triplet → Framing
+framing_with capabilities = record {
+  limit = limit_with (offers_extended capabilities);
+  skips_refresh = offers_refresh capabilities;
+}
 
--- how long messages may be: extended where one of both offers that, the first well-formed OPEN that
--- was sent and the first that was received; so it is the same for either end
-pub record HasLimit (records : List ShownRecord) (limit : Limit) : Type 0 where
+-- where it sent none, neither may
+abbrev pub framing_by : Option (List ℕ) → Framing
+framing_by None = record { limit = Plain; skips_refresh = false }
+framing_by (Some octets) = framing_with (open_of octets).capabilities
+
+-- as if both systems offered both
+abbrev pub with_both_offers : Framings
+with_both_offers = alike record { limit = Extended; skips_refresh = true }
+
+-- Either direction is framed by what its receiver offers: the first well-formed OPEN that was sent
+-- says what may be received, and the first that was received what may be sent.
+pub record AreOffered (records : List ShownRecord) (framings : Framings) : Type 0 where
   pub own : Option (List ℕ)
   pub heard : Option (List ℕ)
   pub has_own : HasOwnOpen records own
   pub has_heard : HasHeardOpen records heard
-  pub is : limit ≡ limit_with (is_extended own || is_extended heard)
+  pub received : framings.received ≡ framing_by own
+  pub sent : framings.sent ≡ framing_by heard
 
--- both directions framed at this limit, and no ROUTE-REFRESH passed over
-abbrev pub framed_at : Limit → Framings
-framed_at limit = alike record { limit = limit; skips_refresh = false }
-
--- These entries tell the connection in the made order, its messages as long as both OPENs allow:
--- these are the ones in the records that are made at the plain limit.
+-- These entries tell the connection in the made order, either direction framed by what its receiver
+-- offers. The OPENs that say so are looked for in the records that are made as if both systems
+-- offered both.
 pub record IsMade (within : ℕ) (connection : Connection) (entries : List Entry)
     (received_unshown sent_unshown : Unshown) : Type 0 where
-  pub plain : List Entry
-  pub plain_received : Unshown
-  pub plain_sent : Unshown
-  pub is_plain : IsRecordedInOrder (framed_at Plain) within connection plain plain_received
-      plain_sent
-  pub limit : Limit
-  pub is_limit : HasLimit (records_of plain) limit
-  pub recorded : IsRecordedInOrder (framed_at limit) within connection entries received_unshown
+  pub looked_in : List Entry
+  pub looked_in_received : Unshown
+  pub looked_in_sent : Unshown
+  pub is_looked_in : IsRecordedInOrder with_both_offers within connection looked_in
+      looked_in_received looked_in_sent
+  pub framings : Framings
+  pub are_offered : AreOffered (records_of looked_in) framings
+  pub recorded : IsRecordedInOrder framings within connection entries received_unshown
       sent_unshown

@@ -12,7 +12,6 @@ use Rattle.bgp_recording.specs.declared.entry.Entry.{Entry}
 use Rattle.bgp_recording.specs.declared.framing.Unshown.{Unshown}
 use Rattle.bgp_import.specs.Captures.{put_off}
 use Rattle.bgp_import.specs.ListText.{end_of}
-use Rattle.bgp_import.specs.Refreshes.{IsRefreshIn}
 use Rattle.bgp_check.specs.Answered.{AnswerValue, IsAnswerTo, JudgedAs, Unjudged, answer_value}
 use Rattle.bgp_check_reason.specs.Reason.{IsReasonTo, reason_text}
 use Rattle.bgp_check_text.specs.Highest.{highest_state}
@@ -60,14 +59,13 @@ packet_of (Unjudged why) entries = None
 packet_of (JudgedAs number peer verdict) entries = packet_by verdict entries
 
 -- This is told of that end of the connection: what is answered of the records that are made of it
--- as this end has it. None of them is a ROUTE-REFRESH.
+-- as this end has it.
 pub record IsEndTold (within : ℕ) (session : Session) (opening : Opening) (connection : Connection)
     (side : Side) (told : EndTold) : Type 0 where
   pub entries : List Entry
   pub received_unshown : Unshown
   pub sent_unshown : Unshown
   pub made : IsMade within (seen_from side connection) entries received_unshown sent_unshown
-  pub calm : IsRefreshIn entries received_unshown.rest sent_unshown.rest None
   pub is_end : told.end ≡ end_of side session opening
   pub answers : IsAnswerTo (session_from side session) (records_of entries) told.answer
   pub is_packet : told.packet ≡ packet_of told.answer entries

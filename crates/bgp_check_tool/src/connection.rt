@@ -1,6 +1,6 @@
 //! What is told of one connection: its two ends, or why it is refused.
 
-ghost use Rattle.std.specs.Prelude.{◌≡◌, ◌⊎◌, ◌↔◌, IfErr, IfOk, IsTrue, List, Some, MatchResult};
+ghost use Rattle.std.specs.Prelude.{◌≡◌, ◌⊎◌, ◌↔◌, IfOk, IsTrue, List, MatchResult};
 ghost use Rattle.streams.specs.Choice.{IsAnswered};
 ghost use Rattle.streams.specs.Clock.{AreInOrder};
 ghost use Rattle.streams.specs.Connections.{numbered};
@@ -9,8 +9,7 @@ ghost use Rattle.streams.specs.Passed.{Segment};
 ghost use Rattle.bgp_recording.specs.Gathered.{IsClocked, IsCovered};
 ghost use Rattle.bgp_import.specs.ListText.{other_side};
 ghost use Rattle.bgp_import.specs.declared.refusal.Refusal.TheVariants.{Memory as OfMemory};
-ghost use Rattle.bgp_check_tool.specs.Blocks.{AreOne, HasRefresh, IsBlock, IsFirstRefresh};
-ghost use Rattle.bgp_check_tool.specs.Blocks.{IsUntold, block_of};
+ghost use Rattle.bgp_check_tool.specs.Blocks.{AreOne, IsBlock, block_of};
 ghost use Rattle.bgp_connections.specs.Octets.{octets_from};
 ghost use Rattle.bgp_connections.specs.Talks.{AreHeld};
 ghost use Rattle.bgp_check_tool.specs.Told.{IsEndTold, told_value};
@@ -19,19 +18,11 @@ use crate::ending::{Told, told_by};
 use crate::making::made_of;
 use crate::seen::{seen_from, session_from};
 use bgp_connections::octets_from;
-use bgp_import::{Refusal, end_of, other_side, refresh_in};
+use bgp_import::{Refusal, end_of, other_side};
 use bgp_judge::Tracker;
 use bgp_prefix::Session;
 use std::alloc::{AllocError, Allocator};
 use streams::{Connection, Connections, Opening, Side};
-
-/// Why an end isn't told of.
-pub(crate) enum Untold {
-    /// There was no memory.
-    NoMemory,
-    /// A ROUTE-REFRESH is among its messages.
-    Refresh(Refusal),
-}
 
 /// Both ends of a connection, first that of whoever opened it; and how many octets each sent.
 #[derive(Drop)]
@@ -68,26 +59,17 @@ fn check_side<A: Allocator + Copy, T: Tracker<A>>(
     opening: Opening,
     connection: &Connection<'_>,
     side: Side,
-) -> Result<Told<A>, Untold>
+) -> Result<Told<A>, AllocError>
     requires received { IsCovered connection.now.received }
     requires sent { IsCovered connection.now.sent }
-    ensures ok { IfOk result (λ told. IsClocked connection.now → IsEndTold between.now.within
+    ensures { IfOk result (λ told. IsClocked connection.now → IsEndTold between.now.within
         between.now.session opening connection.now side (told_value told)) }
-    ensures err { IfErr result (λ untold. IsClocked connection.now → IsUntold
-        (λ refusal. HasRefresh between.now.within connection.now side (Some refusal)) untold) }
 {
-    let Ok(made) = made_of(alloc, &seen_from(connection, side), between.within) else {
-        return Err(Untold::NoMemory);
-    };
-    if let Some(refusal) = refresh_in(&made) {
-        return Err(Untold::Refresh(refusal));
-    }
+    let made = made_of(alloc, &seen_from(connection, side), between.within)?;
     let end = end_of(side, &between.session, opening);
     let session = session_from(&between.session, side);
-    match told_by::<A, T>(alloc, &session, end, &made) {
-        Ok(told) => Ok(told),
-        Err(AllocError) => Err(Untold::NoMemory),
-    }
+    let told = told_by::<A, T>(alloc, &session, end, &made)?;
+    Ok(told)
 }
 
 /// What is told of both ends of a connection.
@@ -96,7 +78,7 @@ fn check_both<A: Allocator + Copy, T: Tracker<A>>(
     between: &Between,
     opening: Opening,
     connection: &Connection<'_>,
-) -> Result<BothTold<A>, Untold>
+) -> Result<BothTold<A>, AllocError>
     requires received { IsCovered connection.now.received }
     requires sent { IsCovered connection.now.sent }
     ensures opener { IfOk result (λ both. IsClocked connection.now → IsEndTold
@@ -109,8 +91,6 @@ fn check_both<A: Allocator + Copy, T: Tracker<A>>(
         both.opener_octets ≡ octets_from opening.opened_by connection.now) }
     ensures other_octets { IfOk result (λ both.
         both.other_octets ≡ octets_from (other_side opening.opened_by) connection.now) }
-    ensures err { IfErr result (λ untold. IsClocked connection.now → IsUntold
-        (IsFirstRefresh between.now.within connection.now opening.opened_by) untold) }
 {
     let from = opening.opened_by;
     let opener = check_side::<A, T>(alloc, between, opening, connection, from)?;
@@ -156,8 +136,7 @@ pub(crate) fn check_connection<A: Allocator + Copy, T: Tracker<A>>(
     }
     match check_both::<A, T>(alloc, between, opening, &connection) {
         Ok(both) => Ok(EndsTold::Both(both)),
-        Err(Untold::Refresh(refusal)) => Err(refusal),
-        Err(Untold::NoMemory) => Err(Refusal::Memory {
+        Err(AllocError) => Err(Refusal::Memory {
             packet: between.last_packet,
         }),
     }

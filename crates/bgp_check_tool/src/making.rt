@@ -1,14 +1,15 @@
 //! The records that are made of a connection for one of its ends.
 
-ghost use Rattle.std.specs.Prelude.{◌≡◌, IfOk, IfSome, map, option_map};
+ghost use Rattle.std.specs.Prelude.{◌≡◌, ◌↔◌, IfOk, IfSome, IsTrue, map, option_map};
 ghost use Rattle.bgp_open.specs.OpenFault.{IsWellFormed};
 ghost use Rattle.mrt.specs.Reader.{shown_of};
 ghost use Rattle.bgp_recording.specs.Captured.{records_of};
 ghost use Rattle.bgp_recording.specs.Gathered.{IsClocked, IsCovered};
-ghost use Rattle.bgp_check_tool.specs.Made.{HasLimit, IsMade, framed_at, is_extended};
+ghost use Rattle.bgp_check_tool.specs.Made.{AreOffered, IsMade, framing_by, framing_with};
+ghost use Rattle.bgp_check_tool.specs.Made.{with_both_offers};
 
 use bgp_check::{heard_open, offer_of, own_open};
-use bgp_open::read_open;
+use bgp_open::{Open, read_open};
 use bgp_recording::{Entry, Framing, Framings, Recording, make_records};
 use bgp_wire::Limit;
 use mrt::Record;
@@ -29,41 +30,63 @@ pub(crate) fn records_of<'a, A: Allocator + Copy>(
     Ok(records)
 }
 
-/// Whether there is an OPEN, and it offers extended messages (RFC 8654, 4).
-fn is_extended(octets: Option<&[u8]>) -> bool
+/// By which rules what comes to a system is framed that sent this OPEN.
+fn framing_with(message: &Open<'_>) -> Framing
+    ensures { result ≡ framing_with message.now.capabilities }
+{
+    let offer = offer_of(message);
+    Framing {
+        limit: Limit::with_extended(offer.extended),
+        skips_refresh: offer.refresh,
+    }
+}
+
+/// By which rules what comes to a system is framed that sent this OPEN, or none.
+fn framing_by(octets: Option<&[u8]>) -> Framing
     requires { IfSome octets (λ o. IsWellFormed o.now) }
-    ensures { result ≡ is_extended (option_map (λ o. o.now) octets.entry) }
+    ensures { result ≡ framing_by (option_map (λ o. o.now) octets.entry) }
 {
     let Some(octets) = octets else {
-        return false;
+        return Framing {
+            limit: Limit::Plain,
+            skips_refresh: false,
+        };
     };
     match read_open(octets) {
-        Ok(message) => offer_of(&message).extended,
+        Ok(message) => framing_with(&message),
         Err(_) => unreachable!(),
     }
 }
 
-/// How long the messages of a connection may be: extended where one of both OPENs offers that, the
-/// first well-formed one of either system.
-fn limit_of(records: &[Record<'_>]) -> Limit
-    ensures { HasLimit (map shown_of records.now) result }
-{
-    let mine = is_extended(own_open(records));
-    let its = is_extended(heard_open(records));
-    Limit::with_extended(mine || its)
-}
-
-/// Both directions framed at this limit, and no ROUTE-REFRESH passed over.
-fn framed_at(limit: Limit) -> Framings
-    ensures { result ≡ framed_at limit }
+/// Both directions as if both systems offered extended messages and route refresh.
+fn with_both_offers() -> Framings
+    ensures { result ≡ with_both_offers }
 {
     Framings::alike(Framing {
-        limit,
-        skips_refresh: false,
+        limit: Limit::Extended,
+        skips_refresh: true,
     })
 }
 
-/// The records that tell a connection, its messages as long as both OPENs allow.
+/// Whether a system offers both.
+fn has_both_offers(framing: Framing) -> bool
+    ensures { IsTrue result ↔ (framing ≡ with_both_offers.received) }
+{
+    matches!(framing.limit, Limit::Extended) && framing.skips_refresh
+}
+
+/// Both directions by what the receiver of either offers in the first well-formed OPEN that it
+/// sent.
+fn offered_in(records: &[Record<'_>]) -> Framings
+    ensures { AreOffered (map shown_of records.now) result }
+{
+    Framings {
+        received: framing_by(own_open(records)),
+        sent: framing_by(heard_open(records)),
+    }
+}
+
+/// The records that tell a connection, either direction framed by what its receiver offers.
 pub(crate) fn made_of<'a, A: Allocator + Copy>(
     alloc: A,
     connection: &Connection<'a>,
@@ -75,10 +98,11 @@ pub(crate) fn made_of<'a, A: Allocator + Copy>(
     ensures { IfOk result (λ made. IsClocked connection.now → IsMade within connection.now
         made.entries.items made.received made.sent) }
 {
-    let plain = make_records(alloc, connection, framed_at(Limit::Plain), within)?;
-    let records = records_of(alloc, plain.entries.as_slice())?;
-    match limit_of(&records) {
-        Limit::Plain => Ok(plain),
-        Limit::Extended => make_records(alloc, connection, framed_at(Limit::Extended), within),
+    let looked_in = make_records(alloc, connection, with_both_offers(), within)?;
+    let records = records_of(alloc, looked_in.entries.as_slice())?;
+    let framings = offered_in(&records);
+    if has_both_offers(framings.received) && has_both_offers(framings.sent) {
+        return Ok(looked_in);
     }
+    make_records(alloc, connection, framings, within)
 }

@@ -4,8 +4,6 @@
 //! `checked.txt` has worked rows, recordings of real sessions between five daemons, and random ones
 //! with planted oddities. Each is checked by the plain tracker and by the compact one.
 //!
-//! No case has a message of type 5. That program passes over a ROUTE-REFRESH that was offered, and
-//! tells another one a fault of the header; a connection with either is refused here, by 18.
 //! Of its lines those are left out that tell the settings as options.
 #![tactic(auto)]
 

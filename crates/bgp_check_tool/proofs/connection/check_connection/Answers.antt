@@ -34,18 +34,9 @@ returns-in-Ok-check_both g c = λ segments holds order.
       },
     )
 
-pub returns-in-Err-Refresh : goal.returns-in-Err-Refresh
-returns-in-Err-Refresh g c = λ segments holds order.
-    let chosen = c.in-Ok.ensures segments holds in
-    let clock = is_clocked segments (Some c.args.opening.number) c.args.between.now.last_packet c.in-Ok.connection order chosen in (
-      refl,
-      refl,
-      inr (record { connection = c.in-Ok.connection; chosen = chosen; are_two = λ one. false_true (sym c.if-are_one.false ∙ c.are_one.ensures.1 one); why = inl (rw c.in-Err-Refresh.field-0-is at (c.in-Err-Refresh.ensures.err clock)) }),
-    )
-
-pub returns-in-Err-NoMemory : goal.returns-in-Err-NoMemory
-returns-in-Err-NoMemory g c = λ segments holds order.
-    (refl, refl, inr (record { connection = c.in-Ok.connection; chosen = c.in-Ok.ensures segments holds; are_two = λ one. false_true (sym c.if-are_one.false ∙ c.are_one.ensures.1 one); why = inr refl }))
+pub returns-in-Err-check_both : goal.returns-in-Err-check_both
+returns-in-Err-check_both g c = λ segments holds order.
+    (refl, refl, inr (record { connection = c.in-Ok.connection; chosen = c.in-Ok.ensures segments holds; are_two = λ one. false_true (sym c.if-are_one.false ∙ c.are_one.ensures.1 one); is = refl }))
 
 pub returns-then-are_one : goal.returns-then-are_one
 returns-then-are_one g c = λ segments holds order. (

@@ -9,30 +9,17 @@ use Rattle.bgp_check_tool.specs.Made.{IsMade}
 use Rattle.bgp_check_tool.proofs.OtherEnd.{clocked}
 use Rattle.bgp_check_tool.proofs.connection.check_side.Goals as goal
 
-pub returns-in-Some-clause-err : goal.returns-in-Some-clause-err
-returns-in-Some-clause-err g c = λ clock.
-    let made = c.in-Ok.made in
+pub returns : goal.returns
+returns g c = λ clock.
+    let made = c.in_ok-made.made in
+    let told = c.in_ok-told.told in
+    let is = c.in_ok-told.ensures in
     record {
       entries = made.entries.items;
       received_unshown = made.received;
       sent_unshown = made.sent;
       made = subst (λ (v : Connection). IsMade c.args.between.now.within v made.entries.items made.received made.sent) c.seen_from.ensures
-          (c.in-Ok.ensures (subst (λ (v : Connection). IsClocked v) (sym c.seen_from.ensures) (clocked c.args.side c.args.connection.now clock)));
-      is = c.in-Some.ensures.is;
-    }
-
-pub returns-in-Ok-told_by-clause-ok : goal.returns-in-Ok-told_by-clause-ok
-returns-in-Ok-told_by-clause-ok g c = λ clock.
-    let made = c.in-Ok.made in
-    let told = c.in-Ok-told_by.told in
-    let is = c.in-Ok-told_by.ensures in
-    record {
-      entries = made.entries.items;
-      received_unshown = made.received;
-      sent_unshown = made.sent;
-      made = subst (λ (v : Connection). IsMade c.args.between.now.within v made.entries.items made.received made.sent) c.seen_from.ensures
-          (c.in-Ok.ensures (subst (λ (v : Connection). IsClocked v) (sym c.seen_from.ensures) (clocked c.args.side c.args.connection.now clock)));
-      calm = c.in_default-refresh_in.ensures.is;
+          (c.in_ok-made.ensures (subst (λ (v : Connection). IsClocked v) (sym c.seen_from.ensures) (clocked c.args.side c.args.connection.now clock)));
       is_end = is.end ∙ c.end_of-end.ensures;
       answers = subst (λ (v : Session). IsAnswerTo v (records_of made.entries.items) (answer_value told.answer)) c.session_from-session.ensures is.answers;
       is_packet = is.packet;
