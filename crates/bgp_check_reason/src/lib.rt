@@ -20,4 +20,5 @@ mod unshown;
 pub use laws::the_verdict_is_told_under_one;
 pub use own_faults::OwnFaults;
 pub use reason::{Reason, put_reason, reason_of};
+pub use under::told_configuration;
 pub use unshown::{put_passed_over, put_unshown};

@@ -1,6 +1,6 @@
 //! What an OPEN that was sent says that no configuration has.
 
-ghost use Rattle.std.specs.Prelude.{◌≡◌, ◌∷◌, [], IfSome, IfNone, Some};
+ghost use Rattle.std.specs.Prelude.{◌≡◌, ◌↔◌, ◌∷◌, [], IfSome, IfNone, IsTrue, Some};
 ghost use Rattle.bgp_open.specs.Open.{open_of};
 ghost use Rattle.bgp_open.specs.OpenFault.{IsWellFormed};
 ghost use Rattle.bgp_check.specs.Configurations.{as_of, own_faults};
@@ -49,6 +49,20 @@ pub(crate) fn own_faults_of(own: &[u8], number: u32) -> Option<OwnFaults>
         id,
         hold: hold.then_some(message.hold()),
     })
+}
+
+/// Whether an OPEN has no own fault, so that it is some configuration's own.
+pub(crate) fn is_faultless(own: &[u8]) -> bool
+    requires { IsWellFormed own.now }
+    ensures { IsTrue result ↔ ((fault : AnOwnFault) → ¬ own_faults (open_of own.now) fault) }
+{
+    if has_own_fault(own, OwnFault::AsNumber) {
+        return false;
+    }
+    if has_own_fault(own, OwnFault::Identifier) {
+        return false;
+    }
+    !has_own_fault(own, OwnFault::Hold)
 }
 
 /// Puts the AS numbers, after a separator. Answers the next one, as that below.
