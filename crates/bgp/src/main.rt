@@ -70,6 +70,7 @@ fn run<R: Files + Net + Clock + Env + Input + Print + Eprint + AllocGlobal, E: P
                 port,
                 within,
                 routes,
+                settings,
                 file,
             },
         ) => {
@@ -77,6 +78,7 @@ fn run<R: Files + Net + Clock + Env + Input + Print + Eprint + AllocGlobal, E: P
                 port,
                 within,
                 routes,
+                settings,
             };
             recordings::check(rt, &options, file)
         }

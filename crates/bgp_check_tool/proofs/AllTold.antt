@@ -3,17 +3,18 @@ use Rattle.std.proofs.Common.{◌≡◌, ℕ, List, Option, None, subst}
 use Rattle.std.specs.List.{AllByRecursion, Contains}
 use Rattle.packets.specs.Packet.{Recorded}
 use Rattle.bgp_import.specs.declared.refusal.Refusal.{Refusal}
+use Rattle.bgp_check_tool.specs.declared.options.CheckOptions.{CheckOptions}
 use Rattle.bgp_check_tool.specs.Blocks.{Block}
 use Rattle.bgp_connections.specs.Places.{HasAll}
 use Rattle.bgp_check_tool.specs.Places.{IsToldAt}
 use Rattle.bgp_connections.specs.Reading.{IsMemory}
 
 -- the number of the last packet that was looked at
-pub as_many : (port within last many : ℕ) (packets : List Recorded) (blocks : List (ℕ × Block)) → last ≡ many
-    → AllByRecursion (λ (b : ℕ × Block). IsToldAt port packets within last b.0 b.1) blocks
-    → AllByRecursion (λ (b : ℕ × Block). IsToldAt port packets within many b.0 b.1) blocks
-as_many port within last many packets blocks same all =
-    subst (λ (n : ℕ). AllByRecursion (λ (b : ℕ × Block). IsToldAt port packets within n b.0 b.1) blocks) same all
+pub as_many : (options : CheckOptions) (last many : ℕ) (packets : List Recorded) (blocks : List (ℕ × Block)) → last ≡ many
+    → AllByRecursion (λ (b : ℕ × Block). IsToldAt options packets last b.0 b.1) blocks
+    → AllByRecursion (λ (b : ℕ × Block). IsToldAt options packets many b.0 b.1) blocks
+as_many options last many packets blocks same all =
+    subst (λ (n : ℕ). AllByRecursion (λ (b : ℕ × Block). IsToldAt options packets n b.0 b.1) blocks) same all
 
 -- no block lacks, unless memory was refused
 pub nothing_lacks : (port : ℕ) (packets : List Recorded) (places places' : List ℕ) (Each : Type 0) (lacking stopped : Option Refusal) → places ≡ places'

@@ -19,6 +19,7 @@ use Rattle.bgp_connections.specs.Talks.{IsRefusedAt}
 use Rattle.bgp_connections.proofs.Alone.{alone, apart, none_at_refusal, one_place, refused_alone, same_taken, taken_not_refused}
 use Rattle.bgp_connections.proofs.ListedSoFar.{place_of}
 use Rattle.bgp_check_tool.specs.Alone.{EachConnectionIsTold, EachRefusalIsTold, HasBlockOf}
+use Rattle.bgp_check_tool.specs.declared.options.CheckOptions.{CheckOptions}
 use Rattle.bgp_check_tool.specs.Blocks.{AllRefused, Block, BothEnds, OneEnd, Refused}
 use Rattle.bgp_check_tool.specs.Places.{IsToldAt, IsToldOfOne}
 
@@ -42,15 +43,15 @@ keyed (e ∷ es) (suc k) place lt is =
 
 -- ---- all are told
 
-module _ (port within last_packet : ℕ) (packets : List Recorded) (blocks : List (ℕ × Block)) (known : AreKnown packets) where
+module _ (options : CheckOptions) (last_packet : ℕ) (packets : List Recorded) (blocks : List (ℕ × Block)) (known : AreKnown packets) where
   -- a connection and the block at its first packet
   block_of_one : (q : Addresses) (segments : List Segment) (number place : ℕ) (session : Session) (opening : Opening) (block : Block) → AreOrdered q
-      → AreTaken (selection_of q port) 0 packets segments → IsNumber segments number → place ≡ first_packet (connection_in segments number)
-      → IsToldOfOne port packets within last_packet place session opening block
+      → AreTaken (selection_of q options.port) 0 packets segments → IsNumber segments number → place ≡ first_packet (connection_in segments number)
+      → IsToldOfOne options packets last_packet place session opening block
       → (opening.number ≡ number) × OpensAs (connection_in segments number) opening × (session ≡ session_of q)
   block_of_one q segments number place session opening block is taken is_number there told =
       let its = place_of told.segments opening.number opening refl told.has.opens in
-      let same = alone port packets told.addresses q told.segments segments opening.number number told.has.ordered is told.has.taken taken told.has.number is_number
+      let same = alone options.port packets told.addresses q told.segments segments opening.number number told.has.ordered is told.has.taken taken told.has.number is_number
       (sym its ∙ sym told.is_place ∙ there) in (
         same.2,
         subst (λ (n : ℕ). OpensAs (connection_in segments n) opening) same.2
@@ -58,9 +59,9 @@ module _ (port within last_packet : ℕ) (packets : List Recorded) (blocks : Lis
         told.is_session ∙ ap session_of same.0,
       )
 
-  has_block : (q : Addresses) (segments : List Segment) (number place : ℕ) (block : Block) → AreOrdered q → AreTaken (selection_of q port) 0 packets segments
+  has_block : (q : Addresses) (segments : List Segment) (number place : ℕ) (block : Block) → AreOrdered q → AreTaken (selection_of q options.port) 0 packets segments
       → IsNumber segments number → place ≡ first_packet (connection_in segments number) → Contains blocks (place, block)
-      → IsToldAt port packets within last_packet place block → HasBlockOf blocks q segments number
+      → IsToldAt options packets last_packet place block → HasBlockOf blocks q segments number
   has_block q segments number place (BothEnds session opening first second opener other) is taken is_number there among told =
       let (same, opens, its) = block_of_one q segments number place session opening _ is taken is_number there told in
       record { place = place; block = _; among = among; opening = opening; is_number = same; opens = opens; is = (its, refl) }
@@ -71,45 +72,45 @@ module _ (port within last_packet : ℕ) (packets : List Recorded) (blocks : Lis
       let (same, opens, its) = block_of_one q segments number place session opening _ is taken is_number there told in
       record { place = place; block = _; among = among; opening = opening; is_number = same; opens = opens; is = (its, refl) }
   has_block q segments number place (AllRefused addresses refusal) is taken is_number there among told =
-      absurd (apart port packets known q addresses segments number place told.fault is told.ordered taken is_number told.refused (sym there))
+      absurd (apart options.port packets known q addresses segments number place told.fault is told.ordered taken is_number told.refused (sym there))
 
   -- a connection doesn't begin where a packet is refused
-  not_one : (q : Addresses) (fault : PacketFault) (place : ℕ) (session : Session) (opening : Opening) (block : Block) → AreOrdered q → IsRefusedAt port packets q fault place
-      → IsToldOfOne port packets within last_packet place session opening block → ⊥
+  not_one : (q : Addresses) (fault : PacketFault) (place : ℕ) (session : Session) (opening : Opening) (block : Block) → AreOrdered q → IsRefusedAt options.port packets q fault place
+      → IsToldOfOne options packets last_packet place session opening block → ⊥
   not_one q fault place session opening block is refused told =
-      none_at_refusal port place packets told.addresses q told.segments opening fault known is told.has refused (sym told.is_place)
+      none_at_refusal options.port place packets told.addresses q told.segments opening fault known is told.has refused (sym told.is_place)
 
-  refused_block : (q : Addresses) (fault : PacketFault) (place : ℕ) (block : Block) → AreOrdered q → IsRefusedAt port packets q fault place
-      → IsToldAt port packets within last_packet place block → block ≡ AllRefused q (refusals.Packet fault place)
+  refused_block : (q : Addresses) (fault : PacketFault) (place : ℕ) (block : Block) → AreOrdered q → IsRefusedAt options.port packets q fault place
+      → IsToldAt options packets last_packet place block → block ≡ AllRefused q (refusals.Packet fault place)
   refused_block q fault place (BothEnds session opening first second opener other) is refused told = absurd (not_one q fault place session opening _ is refused told)
   refused_block q fault place (OneEnd session opening first second) is refused told = absurd (not_one q fault place session opening _ is refused told)
   refused_block q fault place (Refused session opening refusal) is refused told = absurd (not_one q fault place session opening _ is refused told)
   refused_block q fault place (AllRefused addresses refusal) is refused told =
-      let same = refused_alone port packets known addresses q told.fault fault place told.ordered is told.refused refused in
+      let same = refused_alone options.port packets known addresses q told.fault fault place told.ordered is told.refused refused in
       ap (λ (r : Refusal). AllRefused addresses r) (told.is ∙ ap (λ (f : PacketFault). refusals.Packet f place) same.1)
       ∙ ap (λ (a : Addresses). AllRefused a (refusals.Packet fault place)) same.0
 
 pub each_connection : EachConnectionIsTold
-each_connection port within last_packet packets blocks known told all q segments number is taken is_number = elim (all q is) [
+each_connection options last_packet packets blocks known told all q segments number is taken is_number = elim (all q is) [
   | inl theirs ↦
-      let same : theirs.segments ≡ segments = same_taken (selection_of q port) 0 packets theirs.segments segments theirs.taken taken in
+      let same : theirs.segments ≡ segments = same_taken (selection_of q options.port) 0 packets theirs.segments segments theirs.taken taken in
       let there = theirs.each number (subst (λ (s : List Segment). IsNumber s number) (sym same) is_number) in
       let place = first_packet (connection_in theirs.segments number) in
       let (block, among) = keyed blocks there.0 place there.1 there.2 in
-      has_block port within last_packet packets blocks known q segments number place block is taken is_number
+      has_block options last_packet packets blocks known q segments number place block is taken is_number
       (ap (λ (s : List Segment). first_packet (connection_in s number)) same) among
-      (of_one (λ (b : ℕ × Block). IsToldAt port packets within last_packet b.0 b.1) blocks (place, block) told among)
-  | inr refused ↦ absurd (taken_not_refused (selection_of q port) refused.refused.front refused.refused.later packets refused.refused.packet segments refused.fault
+      (of_one (λ (b : ℕ × Block). IsToldAt options packets last_packet b.0 b.1) blocks (place, block) told among)
+  | inr refused ↦ absurd (taken_not_refused (selection_of q options.port) refused.refused.front refused.refused.later packets refused.refused.packet segments refused.fault
       refused.refused.whole taken refused.refused.refused)
 ]
 
 pub each_refusal : EachRefusalIsTold
-each_refusal port within last_packet packets blocks known told all q fault place is refused = elim (all q is) [
-  | inl theirs ↦ absurd (taken_not_refused (selection_of q port) refused.front refused.later packets refused.packet theirs.segments fault refused.whole theirs.taken refused.refused)
+each_refusal options last_packet packets blocks known told all q fault place is refused = elim (all q is) [
+  | inl theirs ↦ absurd (taken_not_refused (selection_of q options.port) refused.front refused.later packets refused.packet theirs.segments fault refused.whole theirs.taken refused.refused)
   | inr theirs ↦
-      let same : theirs.place ≡ place = one_place port packets q theirs.fault fault theirs.place place theirs.refused refused in
+      let same : theirs.place ≡ place = one_place options.port packets q theirs.fault fault theirs.place place theirs.refused refused in
       let there : Contains (keys_of blocks) place = subst (λ (n : ℕ). Contains (keys_of blocks) n) same theirs.is_place in
       let (block, among) = keyed blocks there.0 place there.1 there.2 in
-      let its = of_one (λ (b : ℕ × Block). IsToldAt port packets within last_packet b.0 b.1) blocks (place, block) told among in
-      subst (λ (b : Block). Contains blocks (place, b)) (refused_block port within last_packet packets blocks known q fault place block is refused its) among
+      let its = of_one (λ (b : ℕ × Block). IsToldAt options packets last_packet b.0 b.1) blocks (place, block) told among in
+      subst (λ (b : Block). Contains blocks (place, b)) (refused_block options last_packet packets blocks known q fault place block is refused its) among
 ]

@@ -1,5 +1,5 @@
 -- What a verdict on an end is worth.
-use Rattle.std.proofs.Common.{◌≡◌, Bool, true, false, IsTrue, ℕ, List, Option, None, option_map, inl, inr, refl, sym, subst}
+use Rattle.std.proofs.Common.{◌≡◌, Bool, true, false, IsTrue, ℕ, List, Option, None, option_map, inl, inr, refl, reverse, sym, subst}
 use Rattle.bgp_prefix.specs.Shown.{ShownRecord}
 use Rattle.bgp_prefix.specs.declared.session.Session.{Session}
 use Rattle.bgp_open.specs.Open.{OpenFields, open_of}
@@ -15,27 +15,31 @@ use Rattle.bgp_check.specs.NotJudged.{IsWhyNot, SendsSome, why_not}
 use Rattle.bgp_check.specs.Over.{HasVerdictOver}
 use Rattle.bgp_check.specs.WidestMade.{IsFaultless}
 use Rattle.bgp_check.proofs.Answered.{one_own}
+use Rattle.bgp_judge_line.specs.Asked.{asked_of}
+use Rattle.bgp_judge_line.specs.declared.options.Asked.{Asked}
+use Rattle.streams.specs.Connections.{numbered}
+use Rattle.bgp_check_tool.specs.declared.options.CheckOptions.{CheckOptions}
 use Rattle.bgp_check_tool.specs.Headline.{IsToldOfSide, NoConfigurationHasARun, NothingIsVacuous, ToldNoHasNoRun, VerdictIsOverAll}
 use Rattle.bgp_check_tool.specs.Seen.{seen_from, session_from}
 use Rattle.bgp_check_tool.specs.Told.{EndTold, IsEndTold}
 use Rattle.bgp_check_tool.proofs.Stretch.{stretch_of}
 
 pub over_all : VerdictIsOverAll
-over_all within session opening connection side told number peer verdict own end is has faultless =
+over_all options asked session opening connection side told number peer verdict own end is has faultless =
     let its = session_from side session in
     let records = records_of end.entries in
     let answer : IsAnswerTo its records (JudgedAs number peer verdict) = subst (λ (a : AnswerValue). IsAnswerTo its records a) is end.answers in
-    let stretch = stretch_of end.made.framings within (seen_from side connection) end.entries end.received_unshown end.sent_unshown end.made.recorded.told in
+    let stretch = stretch_of end.made.framings options.within (seen_from side connection) end.entries end.received_unshown end.sent_unshown end.made.recorded.told in
     let same = one_own records own answer.own has answer.has_own in
     subst (λ (o : Option (List ℕ)). HasVerdictOver (IsOf its o) records verdict) (sym same)
     (answer.over stretch (subst (λ (o : Option (List ℕ)). IsFaultless o) same faultless))
 
 pub no_run : NoConfigurationExplains → NoConfigurationHasARun
-no_run law within session opening connection side told number peer count own config end is has of =
+no_run law options asked session opening connection side told number peer count own config end is has of =
     let its = session_from side session in
     let records = records_of end.entries in
     let answer : IsAnswerTo its records (JudgedAs number peer (No count)) = subst (λ (a : AnswerValue). IsAnswerTo its records a) is end.answers in
-    let stretch = stretch_of end.made.framings within (seen_from side connection) end.entries end.received_unshown end.sent_unshown end.made.recorded.told in
+    let stretch = stretch_of end.made.framings options.within (seen_from side connection) end.entries end.received_unshown end.sent_unshown end.made.recorded.told in
     law its records number peer count own config stretch answer has of
 
 sends_by : (sends extended : Bool) (own told : Option OpenFields) → None ≡ why_not sends extended own told → IsTrue sends
@@ -46,30 +50,32 @@ sends_some : (records : List ShownRecord) → IsWhyNot records None → SendsSom
 sends_some records none = none.is_sends.0 (sends_by none.sends none.extended (option_map open_of none.own) none.told none.is_why)
 
 pub not_vacuous : NothingIsVacuous
-not_vacuous within session opening connection side told number peer verdict end is =
+not_vacuous options asked session opening connection side told number peer verdict end is =
     let its = session_from side session in
     let records = records_of end.entries in
     let answer : IsAnswerTo its records (JudgedAs number peer verdict) = subst (λ (a : AnswerValue). IsAnswerTo its records a) is end.answers in (
-      stretch_of end.made.framings within (seen_from side connection) end.entries end.received_unshown end.sent_unshown end.made.recorded.told,
+      stretch_of end.made.framings options.within (seen_from side connection) end.entries end.received_unshown end.sent_unshown end.made.recorded.told,
       sends_some records answer.none,
     )
 
 -- ---- of a no that is told of a recording
 
-side_told : (within : ℕ) (session : Session) (opening : Opening) (connection : Connection) (opener other told : EndTold) (side : Side)
-    → IsEndTold within session opening connection opening.opened_by opener → IsEndTold within session opening connection (other_side opening.opened_by) other
-    → IsToldOfSide opening opener other side told → IsEndTold within session opening connection side told
-side_told within session opening connection opener other told side is_opener is_other (inl (here, same)) =
-    subst (λ (s : Side). IsEndTold within session opening connection s told) (sym here)
-    (subst (λ (t : EndTold). IsEndTold within session opening connection opening.opened_by t) (sym same) is_opener)
-side_told within session opening connection opener other told side is_opener is_other (inr (here, same)) =
-    subst (λ (s : Side). IsEndTold within session opening connection s told) (sym here)
-    (subst (λ (t : EndTold). IsEndTold within session opening connection (other_side opening.opened_by) t) (sym same) is_other)
+side_told : (options : CheckOptions) (asked : Side → Asked) (session : Session) (opening : Opening) (connection : Connection) (opener other told : EndTold) (side : Side)
+    → IsEndTold options (asked opening.opened_by) session opening connection opening.opened_by opener
+    → IsEndTold options (asked (other_side opening.opened_by)) session opening connection (other_side opening.opened_by) other
+    → IsToldOfSide opening opener other side told → IsEndTold options (asked side) session opening connection side told
+side_told options asked session opening connection opener other told side is_opener is_other (inl (here, same)) =
+    subst (λ (s : Side). IsEndTold options (asked s) session opening connection s told) (sym here)
+    (subst (λ (t : EndTold). IsEndTold options (asked opening.opened_by) session opening connection opening.opened_by t) (sym same) is_opener)
+side_told options asked session opening connection opener other told side is_opener is_other (inr (here, same)) =
+    subst (λ (s : Side). IsEndTold options (asked s) session opening connection s told) (sym here)
+    (subst (λ (t : EndTold). IsEndTold options (asked (other_side opening.opened_by)) session opening connection (other_side opening.opened_by) t) (sym same) is_other)
 
 pub told_no : NoConfigurationExplains → ToldNoHasNoRun
-told_no law port within last_packet place packets session opening first second opener other told side number peer count block of_side is =
+told_no law options last_packet place packets session opening first second opener other told side number peer count block of_side is =
     let both = block.is_block.2 in
-    let end = side_told within session opening both.connection opener other told side both.is_opener both.is_other of_side in
+    let asked = λ (s : Side). asked_of options.port options.within session (numbered (reverse block.segments)) opening s in
+    let end = side_told options asked session opening both.connection opener other told side both.is_opener both.is_other of_side in
     record {
       addresses = block.addresses;
       segments = block.segments;
@@ -81,5 +87,5 @@ told_no law port within last_packet place packets session opening first second o
       received_unshown = end.received_unshown;
       sent_unshown = end.sent_unshown;
       made = end.made;
-      none = λ own config has of. (no_run law within session opening both.connection side told number peer count own config end is has of).0;
+      none = λ own config has of. (no_run law options (asked side) session opening both.connection side told number peer count own config end is has of).0;
     }

@@ -3,6 +3,7 @@ pub mod OneMore
 pub mod AllTold
 pub mod Stretch
 pub mod Headline
+pub mod Repeated
 pub mod Texts
 pub mod Lists
 pub mod Alone

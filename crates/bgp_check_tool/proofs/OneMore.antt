@@ -58,7 +58,7 @@ keys_with (x ∷ xs) one rest = ap (λ (ks : List ℕ). x.0 ∷ ks) (keys_with x
 pub record PutsFront {T Z : Type 0} {sink : sinks.Ghosts T} (options : CheckOptions) (packets : List Recorded) (last_packet : ℕ) (entries rest : List (ℕ × Listed Z))
     (lines lines' : Lines T sink) (tally : Tally) : Type 0 where
   pub blocks : List (ℕ × Block)
-  pub told : AllByRecursion (λ (b : ℕ × Block). IsToldAt options.port packets options.within last_packet b.0 b.1) blocks
+  pub told : AllByRecursion (λ (b : ℕ × Block). IsToldAt options packets last_packet b.0 b.1) blocks
   pub places : keys_of blocks ++ keys_of rest ≡ keys_of entries
   pub left : AreListed options.port packets rest
   pub wrote : Writes lines lines' (blocks_text options.routes blocks)
@@ -76,7 +76,7 @@ one_more {T} {Z} law options packets last_packet place one entries before rest l
     subst (λ (es : List (ℕ × Listed Z)). keys_of so_far.blocks ++ keys_of es ≡ keys_of entries) is so_far.places in
     record {
       blocks = so_far.blocks ++ (place, put.block) ∷ [];
-      told = all_of (λ (b : ℕ × Block). IsToldAt options.port packets options.within last_packet b.0 b.1) so_far.blocks (place, put.block) so_far.told put.told;
+      told = all_of (λ (b : ℕ × Block). IsToldAt options packets last_packet b.0 b.1) so_far.blocks (place, put.block) so_far.told put.told;
       places = keys_with so_far.blocks (place, put.block) (keys_of rest) ∙ places;
       left = left.1;
       wrote = subst (λ (text : List ℕ). Writes lines lines' text) (text_of (λ (b : ℕ × Block). block_text options.routes b.1) so_far.blocks (place, put.block)) (and_then law so_far.wrote put.wrote);
@@ -88,34 +88,34 @@ pub one_listed : {Z : Type 0} (port : ℕ) (packets : List Recorded) (place : �
 one_listed {Z} port packets place one before rest is all = (subst (λ (es : List (ℕ × Listed Z)). AreListed port packets es) is all).0
 
 -- what is told of a connection
-pub is_told : {X Z : Type 0} (port : ℕ) (packets : List Recorded) (within last_packet place : ℕ) (addresses : Addresses) (talk : Talk Z) (opening : Opening)
-    (session : Session) (answer : Result (EndsTold X) Refusal) → session ≡ (selection_of addresses port).session
-    → (is : ListsOne port packets place addresses talk opening)
-    → ((segments : List Segment) → HoldsConnections segments talk.connections → AreInOrder segments → IsBlock within last_packet segments session opening (block_of session opening answer))
-    → IsToldAt port packets within last_packet place (block_of session opening answer)
-is_told port packets within last_packet place addresses talk opening session (Ok (Both both)) its is told = record {
+pub is_told : {X Z : Type 0} (options : CheckOptions) (packets : List Recorded) (last_packet place : ℕ) (addresses : Addresses) (talk : Talk Z) (opening : Opening)
+    (session : Session) (answer : Result (EndsTold X) Refusal) → session ≡ (selection_of addresses options.port).session
+    → (is : ListsOne options.port packets place addresses talk opening)
+    → ((segments : List Segment) → HoldsConnections segments talk.connections → AreInOrder segments → IsBlock options last_packet segments session opening (block_of session opening answer))
+    → IsToldAt options packets last_packet place (block_of session opening answer)
+is_told options packets last_packet place addresses talk opening session (Ok (Both both)) its is told = record {
   addresses = addresses;
   segments = is.segments;
   has = is.has;
   is_session = its;
   is_place = is.is_place;
-  is_block = told _ is.holds (in_order (selection_of addresses port) packets is.segments is.has.taken);
+  is_block = told _ is.holds (in_order (selection_of addresses options.port) packets is.segments is.has.taken);
 }
-is_told port packets within last_packet place addresses talk opening session (Ok (One first second)) its is told = record {
+is_told options packets last_packet place addresses talk opening session (Ok (One first second)) its is told = record {
   addresses = addresses;
   segments = is.segments;
   has = is.has;
   is_session = its;
   is_place = is.is_place;
-  is_block = told _ is.holds (in_order (selection_of addresses port) packets is.segments is.has.taken);
+  is_block = told _ is.holds (in_order (selection_of addresses options.port) packets is.segments is.has.taken);
 }
-is_told port packets within last_packet place addresses talk opening session (Err refusal) its is told = record {
+is_told options packets last_packet place addresses talk opening session (Err refusal) its is told = record {
   addresses = addresses;
   segments = is.segments;
   has = is.has;
   is_session = its;
   is_place = is.is_place;
-  is_block = told _ is.holds (in_order (selection_of addresses port) packets is.segments is.has.taken);
+  is_block = told _ is.holds (in_order (selection_of addresses options.port) packets is.segments is.has.taken);
 }
 
 some_none : (r : Refusal) → Some r ≡ None → ⊥

@@ -12,6 +12,7 @@ use Rattle.streams.specs.declared.connection.Opening.{Opening}
 use Rattle.bgp_prefix.specs.declared.session.Session.{Session}
 use Rattle.bgp_import.specs.Selecting.{AreTaken}
 use Rattle.bgp_import.specs.declared.refusal.Refusal.TheVariants as refusals
+use Rattle.bgp_check_tool.specs.declared.options.CheckOptions.{CheckOptions}
 use Rattle.bgp_check_tool.specs.Blocks.{AllRefused, Block, BothEnds, OneEnd, Refused}
 use Rattle.bgp_check_tool.specs.Places.{IsToldAt}
 use Rattle.bgp_connections.specs.Pairs.{AreOrdered, selection_of, session_of}
@@ -44,22 +45,22 @@ pub record HasBlockOf (blocks : List (ℕ × Block)) (addresses : Addresses)
 -- and one of each two addresses for which a packet is refused.
 abbrev pub EachConnectionIsTold : Type 0
 EachConnectionIsTold =
-    (port within last_packet : ℕ) (packets : List Recorded) (blocks : List (ℕ × Block))
+    (options : CheckOptions) (last_packet : ℕ) (packets : List Recorded) (blocks : List (ℕ × Block))
     → AreKnown packets
     → AllByRecursion
-    (λ (b : ℕ × Block). IsToldAt port packets within last_packet b.0 b.1) blocks
-    → HasAll port packets (Contains (keys_of blocks)) → (addresses : Addresses)
+    (λ (b : ℕ × Block). IsToldAt options packets last_packet b.0 b.1) blocks
+    → HasAll options.port packets (Contains (keys_of blocks)) → (addresses : Addresses)
     (segments : List Segment) (number : ℕ) → AreOrdered addresses
-    → AreTaken (selection_of addresses port) 0 packets segments → IsNumber segments number
+    → AreTaken (selection_of addresses options.port) 0 packets segments → IsNumber segments number
     → HasBlockOf blocks addresses segments number
 
 abbrev pub EachRefusalIsTold : Type 0
 EachRefusalIsTold =
-    (port within last_packet : ℕ) (packets : List Recorded) (blocks : List (ℕ × Block))
+    (options : CheckOptions) (last_packet : ℕ) (packets : List Recorded) (blocks : List (ℕ × Block))
     → AreKnown packets
     → AllByRecursion
-    (λ (b : ℕ × Block). IsToldAt port packets within last_packet b.0 b.1) blocks
-    → HasAll port packets (Contains (keys_of blocks)) → (addresses : Addresses)
+    (λ (b : ℕ × Block). IsToldAt options packets last_packet b.0 b.1) blocks
+    → HasAll options.port packets (Contains (keys_of blocks)) → (addresses : Addresses)
     (fault : PacketFault) (place : ℕ) → AreOrdered addresses
-    → IsRefusedAt port packets addresses fault place
+    → IsRefusedAt options.port packets addresses fault place
     → Contains blocks (place, AllRefused addresses (refusals.Packet fault place))

@@ -17,8 +17,11 @@ use Rattle.bgp_import.specs.ListText.{end_of, octets_text, opening_text, other_s
 use Rattle.bgp_import.specs.declared.refusal.Refusal.{Refusal}
 use Rattle.bgp_import.specs.declared.refusal.Refusal.TheVariants as refusals
 use Rattle.bgp_connections.specs.Octets.{octets_from}
+use Rattle.bgp_judge_line.specs.Asked.{asked_of}
+use Rattle.bgp_judge_line.specs.declared.options.Asked.{Asked}
 use Rattle.bgp_check_tool.specs.declared.connection.EndsTold.{EndsTold}
 use Rattle.bgp_check_tool.specs.declared.connection.EndsTold.TheVariants as ends
+use Rattle.bgp_check_tool.specs.declared.options.CheckOptions.{CheckOptions}
 use Rattle.bgp_check_tool.specs.Text.{one_end_line, told_lines}
 use Rattle.bgp_check_tool.specs.Told.{EndTold, IsEndTold, told_value}
 
@@ -70,9 +73,14 @@ abbrev pub AreOne : Session → Opening → Type 0
 AreOne session opening = end_of Local session opening ≡ end_of Peer session opening
 
 -- The connection of these segments, told from the last one back to the first, that was opened so;
--- in a recording whose last packet has this number.
-module _ (within last_packet : ℕ) (segments : List Segment) (session : Session)
+-- in a recording whose last packet has this number, and which is checked so.
+module _ (options : CheckOptions) (last_packet : ℕ) (segments : List Segment) (session : Session)
     (opening : Opening) where
+  -- how an end of it is asked for
+  abbrev pub asked_as : Side → Asked
+  asked_as side =
+      asked_of options.port options.within session (numbered segments) opening side
+
   -- it isn't refused, and this is told of its ends
   pub record TellsBoth (first second : ℕ) (opener other : EndTold) : Type 0 where
     pub connection : Connection
@@ -80,8 +88,10 @@ module _ (within last_packet : ℕ) (segments : List Segment) (session : Session
     pub are_two : ¬ AreOne session opening
     pub is_first : first ≡ octets_from opening.opened_by connection
     pub is_second : second ≡ octets_from (other_side opening.opened_by) connection
-    pub is_opener : IsEndTold within session opening connection opening.opened_by opener
-    pub is_other : IsEndTold within session opening connection (other_side opening.opened_by) other
+    pub is_opener : IsEndTold options (asked_as opening.opened_by) session opening connection
+        opening.opened_by opener
+    pub is_other : IsEndTold options (asked_as (other_side opening.opened_by)) session opening
+        connection (other_side opening.opened_by) other
 
   -- or its ends are one
   pub record TellsNeither (first second : ℕ) : Type 0 where
@@ -104,19 +114,19 @@ module _ (within last_packet : ℕ) (segments : List Segment) (session : Session
     pub is : refusal ≡ refusals.Memory last_packet
 
 -- this block is told of it
-abbrev pub IsBlock : ℕ → ℕ → List Segment → Session → Opening → Block → Type 0
-IsBlock within last_packet segments session opening
+abbrev pub IsBlock : CheckOptions → ℕ → List Segment → Session → Opening → Block → Type 0
+IsBlock options last_packet segments session opening
     (BothEnds its its_opening first second opener other) =
     (its ≡ session) × (its_opening ≡ opening)
-    × TellsBoth within last_packet segments session opening first second opener other
-IsBlock within last_packet segments session opening (OneEnd its its_opening first second) =
+    × TellsBoth options last_packet segments session opening first second opener other
+IsBlock options last_packet segments session opening (OneEnd its its_opening first second) =
     (its ≡ session) × (its_opening ≡ opening)
-    × TellsNeither within last_packet segments session opening first second
-IsBlock within last_packet segments session opening (Refused its its_opening refusal) =
+    × TellsNeither options last_packet segments session opening first second
+IsBlock options last_packet segments session opening (Refused its its_opening refusal) =
     (its ≡ session) × (its_opening ≡ opening)
-    × (IsSpoilt within last_packet segments session opening refusal
-    ⊎ IsUncheckable within last_packet segments session opening refusal)
-IsBlock within last_packet segments session opening (AllRefused addresses refusal) = ⊥
+    × (IsSpoilt options last_packet segments session opening refusal
+    ⊎ IsUncheckable options last_packet segments session opening refusal)
+IsBlock options last_packet segments session opening (AllRefused addresses refusal) = ⊥
 
 -- ---- what is answered
 

@@ -42,7 +42,7 @@ pub record PutsBlock {T : Type 0} {sink : sinks.Ghosts T} (options : CheckOption
     (packets : List Recorded) (last_packet place : ℕ) (lines lines' : Lines T sink)
     (tally tally' : Tally) : Type 0 where
   pub block : Block
-  pub told : IsToldAt options.port packets options.within last_packet place block
+  pub told : IsToldAt options packets last_packet place block
   pub wrote : Writes lines lines' (block_text options.routes block)
   pub tallied : tally' ≡ with_block tally block
 
@@ -52,7 +52,7 @@ pub record PutsBlocks {T : Type 0} {sink : sinks.Ghosts T} (options : CheckOptio
     (tally tally' : Tally) : Type 0 where
   pub blocks : List (ℕ × Block)
   pub told : AllByRecursion
-      (λ (b : ℕ × Block). IsToldAt options.port packets options.within last_packet b.0 b.1) blocks
+      (λ (b : ℕ × Block). IsToldAt options packets last_packet b.0 b.1) blocks
   pub are_places : keys_of blocks ≡ places
   pub wrote : Writes lines lines' (blocks_text options.routes blocks)
   pub tallied : tally' ≡ tally_from tally blocks
@@ -120,7 +120,7 @@ pub record ChecksRecording {S T : Type 0} (gives : S → S → List ℕ → Type
       ⊎ (lacking ≡ Some (refusals.Memory (looked_at packets stopped)))
   pub is_refusal : refusal ≡ option_or stopped lacking
   pub blocks : List (ℕ × Block)
-  pub told : AllByRecursion (λ (b : ℕ × Block). IsToldAt options.port packets options.within
+  pub told : AllByRecursion (λ (b : ℕ × Block). IsToldAt options packets
       (looked_at packets stopped) b.0 b.1) blocks
   pub rise : IsStrictlySortedBy nat_cmp (keys_of blocks)
   pub all : lacking ≡ None → ¬ IsMemory stopped

@@ -24,6 +24,8 @@ use Rattle.bgp_check.specs.Over.{HasVerdictOver}
 use Rattle.bgp_check.specs.Stretch.{IsStretch}
 use Rattle.bgp_check.specs.WidestMade.{IsFaultless}
 use Rattle.bgp_check.specs.declared.peer_as.PeerAs.{PeerAs}
+use Rattle.bgp_judge_line.specs.declared.options.Asked.{Asked}
+use Rattle.bgp_check_tool.specs.declared.options.CheckOptions.{CheckOptions}
 use Rattle.bgp_check_tool.specs.Blocks.{BothEnds}
 use Rattle.bgp_check_tool.specs.Made.{IsMade}
 use Rattle.bgp_connections.specs.Pairs.{session_of}
@@ -36,9 +38,9 @@ use Rattle.bgp_check_tool.specs.Told.{EndTold, IsEndTold}
 -- configurations under which the OPEN that the end sent is its own, where that has no own fault.
 abbrev pub VerdictIsOverAll : Type 0
 VerdictIsOverAll =
-    (within : ℕ) (session : Session) (opening : Opening) (connection : Connection) (side : Side)
-    (told : EndTold) (number : Option ℕ) (peer : PeerAs) (verdict : VerdictValue)
-    (own : Option (List ℕ)) (end : IsEndTold within session opening connection side told)
+    (options : CheckOptions) (asked : Asked) (session : Session) (opening : Opening)
+    (connection : Connection) (side : Side) (told : EndTold) (number : Option ℕ) (peer : PeerAs) (verdict : VerdictValue)
+    (own : Option (List ℕ)) (end : IsEndTold options asked session opening connection side told)
     → told.answer ≡ JudgedAs number peer verdict → HasOwnOpen (records_of end.entries) own
     → IsFaultless own
     → HasVerdictOver (IsOf (session_from side session) own) (records_of end.entries) verdict
@@ -47,9 +49,9 @@ VerdictIsOverAll =
 -- has a run that shows these and one more; nor one, then, that shows all of the records.
 abbrev pub NoConfigurationHasARun : Type 0
 NoConfigurationHasARun =
-    (within : ℕ) (session : Session) (opening : Opening) (connection : Connection) (side : Side)
-    (told : EndTold) (number : Option ℕ) (peer : PeerAs) (count : ℕ) (own : Option (List ℕ))
-    (config : Config) (end : IsEndTold within session opening connection side told)
+    (options : CheckOptions) (asked : Asked) (session : Session) (opening : Opening)
+    (connection : Connection) (side : Side) (told : EndTold) (number : Option ℕ) (peer : PeerAs) (count : ℕ) (own : Option (List ℕ))
+    (config : Config) (end : IsEndTold options asked session opening connection side told)
     → told.answer ≡ JudgedAs number peer (No count) → HasOwnOpen (records_of end.entries) own
     → IsOf (session_from side session) own config
     → (¬ Begins config (take (count + 1) (records_of end.entries)))
@@ -58,9 +60,9 @@ NoConfigurationHasARun =
 -- A verdict is told only of records with a sent message, the first of which leaves Idle.
 abbrev pub NothingIsVacuous : Type 0
 NothingIsVacuous =
-    (within : ℕ) (session : Session) (opening : Opening) (connection : Connection) (side : Side)
-    (told : EndTold) (number : Option ℕ) (peer : PeerAs) (verdict : VerdictValue)
-    (end : IsEndTold within session opening connection side told)
+    (options : CheckOptions) (asked : Asked) (session : Session) (opening : Opening)
+    (connection : Connection) (side : Side) (told : EndTold) (number : Option ℕ) (peer : PeerAs) (verdict : VerdictValue)
+    (end : IsEndTold options asked session opening connection side told)
     → told.answer ≡ JudgedAs number peer verdict
     → IsStretch (records_of end.entries) × SendsSome (records_of end.entries)
 
@@ -95,10 +97,10 @@ pub record NoneHasARun (port : ℕ) (packets : List Recorded) (within last_packe
 -- that is what a no says that is told of an end, in a block of a recording
 abbrev pub ToldNoHasNoRun : Type 0
 ToldNoHasNoRun =
-    (port within last_packet place : ℕ) (packets : List Recorded) (session : Session)
+    (options : CheckOptions) (last_packet place : ℕ) (packets : List Recorded) (session : Session)
     (opening : Opening) (first second : ℕ) (opener other told : EndTold) (side : Side)
     (number : Option ℕ) (peer : PeerAs) (count : ℕ)
-    → IsToldAt port packets within last_packet place
+    → IsToldAt options packets last_packet place
     (BothEnds session opening first second opener other)
     → IsToldOfSide opening opener other side told → told.answer ≡ JudgedAs number peer (No count)
-    → NoneHasARun port packets within last_packet session opening side count
+    → NoneHasARun options.port packets options.within last_packet session opening side count

@@ -1,5 +1,6 @@
 pub mod Seen
 pub mod Made
+pub mod Judging
 pub mod Told
 pub mod Text
 pub mod Blocks
@@ -7,4 +8,5 @@ pub mod Counted
 pub mod Places
 pub mod Checking
 pub mod Headline
+pub mod Repeated
 pub mod Alone

@@ -12,35 +12,36 @@ use Rattle.bgp_import.specs.declared.refusal.Refusal.TheVariants as refusals
 use Rattle.bgp_connections.specs.Pairs.{AreOrdered, session_of}
 use Rattle.bgp_connections.specs.Places.{HasConnection}
 use Rattle.bgp_connections.specs.Talks.{IsRefusedAt}
+use Rattle.bgp_check_tool.specs.declared.options.CheckOptions.{CheckOptions}
 use Rattle.bgp_check_tool.specs.Blocks.{Block, BothEnds, IsBlock, OneEnd, Refused, AllRefused}
 
--- The packets of a recording, for a port.
-module _ (port : ℕ) (packets : List Recorded) where
+-- The packets of a recording, which is checked so.
+module _ (options : CheckOptions) (packets : List Recorded) where
   -- The block is told of it, at its first packet; in a recording whose last packet has this number.
-  pub record IsToldOfOne (within last_packet place : ℕ) (session : Session) (opening : Opening)
+  pub record IsToldOfOne (last_packet place : ℕ) (session : Session) (opening : Opening)
       (block : Block) : Type 0 where
     pub addresses : Addresses
     pub segments : List Segment
-    pub has : HasConnection port packets addresses segments opening
+    pub has : HasConnection options.port packets addresses segments opening
     pub is_session : session ≡ session_of addresses
     pub is_place : place ≡ opening.packet
-    pub is_block : IsBlock within last_packet (reverse segments) session opening block
+    pub is_block : IsBlock options last_packet (reverse segments) session opening block
 
   -- or of two addresses, at the first packet that is refused for them
   pub record IsToldOfAll (place : ℕ) (addresses : Addresses) (refusal : Refusal) : Type 0 where
     pub ordered : AreOrdered addresses
     pub fault : PacketFault
-    pub refused : IsRefusedAt port packets addresses fault place
+    pub refused : IsRefusedAt options.port packets addresses fault place
     pub is : refusal ≡ refusals.Packet fault place
 
-  abbrev pub IsToldAt : ℕ → ℕ → ℕ → Block → Type 0
-  IsToldAt within last_packet place (BothEnds session opening first second opener other) =
-      IsToldOfOne within last_packet place session opening
+  abbrev pub IsToldAt : ℕ → ℕ → Block → Type 0
+  IsToldAt last_packet place (BothEnds session opening first second opener other) =
+      IsToldOfOne last_packet place session opening
       (BothEnds session opening first second opener other)
-  IsToldAt within last_packet place (OneEnd session opening first second) =
-      IsToldOfOne within last_packet place session opening
+  IsToldAt last_packet place (OneEnd session opening first second) =
+      IsToldOfOne last_packet place session opening
       (OneEnd session opening first second)
-  IsToldAt within last_packet place (Refused session opening refusal) =
-      IsToldOfOne within last_packet place session opening (Refused session opening refusal)
-  IsToldAt within last_packet place (AllRefused addresses refusal) =
+  IsToldAt last_packet place (Refused session opening refusal) =
+      IsToldOfOne last_packet place session opening (Refused session opening refusal)
+  IsToldAt last_packet place (AllRefused addresses refusal) =
       IsToldOfAll place addresses refusal

@@ -10,6 +10,7 @@ use Rattle.bgp_check.specs.declared.peer_as.PeerAs.{PeerAs}
 use Rattle.bgp_check.specs.Answered.{AnswerValue, JudgedAs, Unjudged}
 use Rattle.bgp_check_reason.specs.Unshown.{unshown_notes}
 use Rattle.bgp_check_text.specs.Text.{as_text, ending_text, no_text, peer_text, why_text}
+use Rattle.bgp_check_tool.specs.Judging.{judge_text}
 use Rattle.bgp_check_tool.specs.Told.{EndTold}
 
 -- ---- an end that isn't judged
@@ -40,13 +41,16 @@ note_line count =
 abbrev pub verdict_text : Bool → EndTold → Option ℕ → PeerAs → VerdictValue → List ℕ
 verdict_text routes told number peer (Yes ends) =
     codes "yes" ++ (whose_text told.end number peer
-    ++ (flat_map (ending_text routes told.highest) ends ++ unshown_notes told.received told.sent))
+    ++ (flat_map (ending_text routes told.highest) ends
+    ++ (unshown_notes told.received told.sent ++ judge_text told.judge)))
 verdict_text routes told number peer (No count) =
     no_text count told.packet ++ (whose_text told.end number peer
-    ++ (told.reason ++ (unshown_notes told.received told.sent ++ note_line told.put_off)))
+    ++ (told.reason ++ (unshown_notes told.received told.sent
+    ++ (note_line told.put_off ++ judge_text told.judge))))
 verdict_text routes told number peer Unfinished =
     codes "unfinished" ++ (whose_text told.end number peer
-    ++ (told.reason ++ (unshown_notes told.received told.sent ++ note_line told.put_off)))
+    ++ (told.reason ++ (unshown_notes told.received told.sent
+    ++ (note_line told.put_off ++ judge_text told.judge))))
 
 abbrev pub answer_text : Bool → EndTold → AnswerValue → List ℕ
 answer_text routes told (Unjudged why) = not_judged_line told.end why

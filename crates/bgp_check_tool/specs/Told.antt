@@ -16,6 +16,10 @@ use Rattle.bgp_check.specs.Answered.{AnswerValue, IsAnswerTo, JudgedAs, Unjudged
 use Rattle.bgp_check_reason.specs.Reason.{IsReasonTo, reason_text}
 use Rattle.bgp_check_text.specs.Highest.{highest_state}
 use Rattle.bgp_check_tool.specs.declared.ending.Told.{Told}
+use Rattle.bgp_judge_line.specs.declared.options.Asked.{Asked}
+use Rattle.bgp_judge_line.specs.declared.options.JudgeOptions.{JudgeOptions}
+use Rattle.bgp_check_tool.specs.declared.options.CheckOptions.{CheckOptions}
+use Rattle.bgp_check_tool.specs.Judging.{AreOptionsTo}
 use Rattle.bgp_check_tool.specs.Made.{IsMade}
 use Rattle.bgp_check_tool.specs.Seen.{seen_from, session_from}
 
@@ -34,6 +38,8 @@ pub record EndTold : Type 0 where
   -- what of the octets that it received is in no record, and of those that it sent
   pub received : Unshown
   pub sent : Unshown
+  -- how `bgp judge` gives the verdict, where it does and that is told
+  pub judge : Option JudgeOptions
 
 abbrev pub told_value : {X : Type 0} → Told X → EndTold
 told_value told = record {
@@ -45,6 +51,7 @@ told_value told = record {
   reason = reason_text told.reason;
   received = told.received;
   sent = told.sent;
+  judge = told.judge;
 }
 
 -- the packet that shows the first impossible record, where there is one
@@ -59,13 +66,13 @@ packet_of (Unjudged why) entries = None
 packet_of (JudgedAs number peer verdict) entries = packet_by verdict entries
 
 -- This is told of that end of the connection: what is answered of the records that are made of it
--- as this end has it.
-pub record IsEndTold (within : ℕ) (session : Session) (opening : Opening) (connection : Connection)
-    (side : Side) (told : EndTold) : Type 0 where
+-- as this end has it. How the connection is asked for is told of `bgp judge`.
+pub record IsEndTold (options : CheckOptions) (asked : Asked) (session : Session)
+    (opening : Opening) (connection : Connection) (side : Side) (told : EndTold) : Type 0 where
   pub entries : List Entry
   pub received_unshown : Unshown
   pub sent_unshown : Unshown
-  pub made : IsMade within (seen_from side connection) entries received_unshown sent_unshown
+  pub made : IsMade options.within (seen_from side connection) entries received_unshown sent_unshown
   pub is_end : told.end ≡ end_of side session opening
   pub answers : IsAnswerTo (session_from side session) (records_of entries) told.answer
   pub is_packet : told.packet ≡ packet_of told.answer entries
@@ -74,3 +81,6 @@ pub record IsEndTold (within : ℕ) (session : Session) (opening : Opening) (con
   pub explains : IsReasonTo (session_from side session) entries told.answer told.reason
   pub is_received : told.received ≡ received_unshown
   pub is_sent : told.sent ≡ sent_unshown
+  pub judges : AreOptionsTo options.within asked (session_from side session)
+      (seen_from side connection) entries received_unshown sent_unshown options.settings
+      told.answer told.judge

@@ -55,7 +55,7 @@ fn put_listed<A: Allocator + Copy, T: Tracker<A>, W: Sink>(
         Listed::Connection(addresses, talk, opening) => {
             let between = Between {
                 session: selection_of(addresses, options.port).session,
-                within: options.within,
+                options: *options,
                 last_packet,
             };
             let told = check_connection::<A, T>(alloc, &between, &talk.connections, opening);

@@ -8,18 +8,21 @@ ghost use Rattle.streams.specs.Held.{HoldsConnections};
 ghost use Rattle.streams.specs.Passed.{Segment};
 ghost use Rattle.bgp_recording.specs.Gathered.{IsClocked, IsCovered};
 ghost use Rattle.bgp_import.specs.ListText.{other_side};
+ghost use Rattle.bgp_judge_line.specs.Asked.{asked_of};
 ghost use Rattle.bgp_import.specs.declared.refusal.Refusal.TheVariants.{Memory as OfMemory};
 ghost use Rattle.bgp_check_tool.specs.Blocks.{AreOne, IsBlock, block_of};
 ghost use Rattle.bgp_connections.specs.Octets.{octets_from};
 ghost use Rattle.bgp_connections.specs.Talks.{AreHeld};
 ghost use Rattle.bgp_check_tool.specs.Told.{IsEndTold, told_value};
 
-use crate::ending::{Told, told_by};
+use crate::ending::{Told, Viewed, told_by};
 use crate::making::made_of;
+use crate::options::CheckOptions;
 use crate::seen::{seen_from, session_from};
 use bgp_connections::octets_from;
 use bgp_import::{Refusal, end_of, other_side};
 use bgp_judge::Tracker;
+use bgp_judge_line::{Asked, asked_of};
 use bgp_prefix::Session;
 use std::alloc::{AllocError, Allocator};
 use streams::{Connection, Connections, Opening, Side};
@@ -46,46 +49,53 @@ pub(crate) enum EndsTold<A: Allocator> {
 #[derive(Clone, Copy)]
 pub(crate) struct Between {
     pub(crate) session: Session,
-    /// How many seconds after it came a message is handled at the latest.
-    pub(crate) within: u16,
+    pub(crate) options: CheckOptions,
     /// The number of the recording's last packet.
     pub(crate) last_packet: u64,
 }
 
-/// What is told of this end of a connection.
+/// What is told of this end of a connection, for which `bgp judge` is asked so.
 fn check_side<A: Allocator + Copy, T: Tracker<A>>(
     alloc: A,
     between: &Between,
     opening: Opening,
     connection: &Connection<'_>,
     side: Side,
+    asked: Asked,
 ) -> Result<Told<A>, AllocError>
     requires received { IsCovered connection.now.received }
     requires sent { IsCovered connection.now.sent }
-    ensures { IfOk result (λ told. IsClocked connection.now → IsEndTold between.now.within
+    ensures { IfOk result (λ told. IsClocked connection.now → IsEndTold between.now.options asked
         between.now.session opening connection.now side (told_value told)) }
 {
-    let made = made_of(alloc, &seen_from(connection, side), between.within)?;
-    let end = end_of(side, &between.session, opening);
-    let session = session_from(&between.session, side);
-    let told = told_by::<A, T>(alloc, &session, end, &made)?;
+    let viewed = Viewed {
+        end: end_of(side, &between.session, opening),
+        session: session_from(&between.session, side),
+        connection: seen_from(connection, side),
+        asked,
+        options: between.options,
+    };
+    let made = made_of(alloc, &viewed.connection, between.options.within)?;
+    let told = told_by::<A, T>(alloc, &viewed, &made)?;
     Ok(told)
 }
 
-/// What is told of both ends of a connection.
+/// What is told of both ends of a connection, first of that which opened it; and how `bgp judge` is
+/// asked for them.
 fn check_both<A: Allocator + Copy, T: Tracker<A>>(
     alloc: A,
     between: &Between,
     opening: Opening,
     connection: &Connection<'_>,
+    asked: (Asked, Asked),
 ) -> Result<BothTold<A>, AllocError>
     requires received { IsCovered connection.now.received }
     requires sent { IsCovered connection.now.sent }
     ensures opener { IfOk result (λ both. IsClocked connection.now → IsEndTold
-        between.now.within between.now.session opening connection.now opening.opened_by
+        between.now.options asked.0 between.now.session opening connection.now opening.opened_by
         (told_value both.opener)) }
     ensures other { IfOk result (λ both. IsClocked connection.now → IsEndTold
-        between.now.within between.now.session opening connection.now
+        between.now.options asked.1 between.now.session opening connection.now
         (other_side opening.opened_by) (told_value both.other)) }
     ensures opener_octets { IfOk result (λ both.
         both.opener_octets ≡ octets_from opening.opened_by connection.now) }
@@ -93,13 +103,14 @@ fn check_both<A: Allocator + Copy, T: Tracker<A>>(
         both.other_octets ≡ octets_from (other_side opening.opened_by) connection.now) }
 {
     let from = opening.opened_by;
-    let opener = check_side::<A, T>(alloc, between, opening, connection, from)?;
-    let other = check_side::<A, T>(alloc, between, opening, connection, other_side(from))?;
+    let to = other_side(from);
+    let opener = check_side::<A, T>(alloc, between, opening, connection, from, asked.0)?;
+    let other = check_side::<A, T>(alloc, between, opening, connection, to, asked.1)?;
     Ok(BothTold {
         opener,
         other,
         opener_octets: octets_from(from, connection),
-        other_octets: octets_from(other_side(from), connection),
+        other_octets: octets_from(to, connection),
     })
 }
 
@@ -108,6 +119,47 @@ fn are_one(session: &Session, opening: Opening) -> bool
     ensures { IsTrue result ↔ AreOne session.now opening }
 {
     end_of(Side::Local, session, opening) == end_of(Side::Peer, session, opening)
+}
+
+/// How `bgp judge` is asked for this end of the connection of these that was opened so.
+fn asked_from<A: Allocator + Copy>(
+    between: &Between,
+    connections: &Connections<A>,
+    opening: Opening,
+    side: Side,
+) -> Asked
+    ensures { (segments : List Segment) → HoldsConnections segments connections.now
+        → result ≡ asked_of between.now.options.port between.now.options.within
+        between.now.session (numbered segments) opening side }
+{
+    let options = between.options;
+    asked_of(
+        options.port,
+        options.within,
+        &between.session,
+        connections,
+        opening,
+        side,
+    )
+}
+
+/// How it is asked for both, first that which opened the connection.
+fn asked_both<A: Allocator + Copy>(
+    between: &Between,
+    connections: &Connections<A>,
+    opening: Opening,
+) -> (Asked, Asked)
+    ensures opener { (segments : List Segment) → HoldsConnections segments connections.now
+        → result.0 ≡ asked_of between.now.options.port between.now.options.within
+        between.now.session (numbered segments) opening opening.opened_by }
+    ensures other { (segments : List Segment) → HoldsConnections segments connections.now
+        → result.1 ≡ asked_of between.now.options.port between.now.options.within
+        between.now.session (numbered segments) opening (other_side opening.opened_by) }
+{
+    let opener = asked_from(between, connections, opening, opening.opened_by);
+    let side = other_side(opening.opened_by);
+    let other = asked_from(between, connections, opening, side);
+    (opener, other)
 }
 
 /// What is told of the connection of these that was opened so, or why it is refused.
@@ -120,7 +172,7 @@ pub(crate) fn check_connection<A: Allocator + Copy, T: Tracker<A>>(
     requires { AreHeld connections.now }
     ensures { (segments : List Segment) → HoldsConnections segments connections.now
         → AreInOrder segments
-        → IsBlock between.now.within between.now.last_packet segments between.now.session opening
+        → IsBlock between.now.options between.now.last_packet segments between.now.session opening
         (block_of between.now.session opening result) }
 {
     let connection = match connections.choose(Some(opening.number), between.last_packet) {
@@ -134,7 +186,8 @@ pub(crate) fn check_connection<A: Allocator + Copy, T: Tracker<A>>(
             octets_from(other_side(from), &connection),
         ));
     }
-    match check_both::<A, T>(alloc, between, opening, &connection) {
+    let asked = asked_both(between, connections, opening);
+    match check_both::<A, T>(alloc, between, opening, &connection, asked) {
         Ok(both) => Ok(EndsTold::Both(both)),
         Err(AllocError) => Err(Refusal::Memory {
             packet: between.last_packet,

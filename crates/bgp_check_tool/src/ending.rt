@@ -5,19 +5,39 @@ ghost use Rattle.bgp_check.specs.Answered.{IsAnswerTo, answer_value};
 ghost use Rattle.bgp_check_reason.specs.Reason.{IsReasonTo, reason_text};
 ghost use Rattle.bgp_import.specs.Captures.{put_off};
 ghost use Rattle.bgp_recording.specs.Captured.{records_of};
+ghost use Rattle.bgp_recording.specs.Gathered.{IsClocked, IsCovered};
 ghost use Rattle.bgp_check_text.specs.Highest.{highest_state};
+ghost use Rattle.bgp_check_tool.specs.Judging.{AreOptionsTo};
 ghost use Rattle.bgp_check_tool.specs.Told.{packet_of};
 
+use crate::judging::options_to;
 use crate::making::records_of;
+use crate::options::CheckOptions;
 use bgp_check::{Answer, check_end};
 use bgp_check_reason::{Reason, reason_of};
 use bgp_check_text::highest_state;
 use bgp_import::notes_on;
 use bgp_judge::{Tracker, Verdict};
+use bgp_judge_line::{Asked, JudgeOptions};
 use bgp_prefix::Session;
 use bgp_recording::{Entry, Recording, Unshown};
 use segments::Endpoint;
 use std::alloc::{AllocError, Allocator};
+use streams::Connection;
+
+/// An end of a connection, and how it is checked.
+#[derive(Clone, Copy)]
+pub(crate) struct Viewed<'a> {
+    /// Its address and port.
+    pub(crate) end: Endpoint,
+    /// Its session: it is the local system.
+    pub(crate) session: Session,
+    /// The connection, as it has that.
+    pub(crate) connection: Connection<'a>,
+    /// How `bgp judge` is asked for the connection.
+    pub(crate) asked: Asked,
+    pub(crate) options: CheckOptions,
+}
 
 /// What is told of an end.
 #[derive(Drop)]
@@ -37,6 +57,8 @@ pub(crate) struct Told<A: Allocator> {
     /// What of the octets that it received is in no record, and of those that it sent.
     pub(crate) received: Unshown,
     pub(crate) sent: Unshown,
+    /// How `bgp judge` gives the verdict, where it does and that is told.
+    pub(crate) judge: Option<JudgeOptions>,
 }
 
 /// The packet that shows the first impossible record: of a no alone.
@@ -55,32 +77,39 @@ fn packet_of<A: Allocator>(answer: &Answer<A>, entries: &[Entry<'_>]) -> Option<
     }
 }
 
-/// What is told of the end of this session whose records these are.
+/// What is told of an end of whose connection these records were made.
 pub(crate) fn told_by<A: Allocator + Copy, T: Tracker<A>>(
     alloc: A,
-    session: &Session,
-    end: Endpoint,
+    viewed: &Viewed<'_>,
     made: &Recording<'_, A>,
 ) -> Result<Told<A>, AllocError>
-    ensures end { IfOk result (λ told. told.end ≡ end) }
-    ensures answers { IfOk result (λ told. IsAnswerTo session.now
+    requires received { IsCovered viewed.now.connection.received }
+    requires sent { IsCovered viewed.now.connection.sent }
+    ensures end { IfOk result (λ told. told.end ≡ viewed.now.end) }
+    ensures answers { IfOk result (λ told. IsAnswerTo viewed.now.session
         (records_of made.now.entries.items) (answer_value told.answer)) }
     ensures packet { IfOk result (λ told. told.packet
         ≡ packet_of (answer_value told.answer) made.now.entries.items) }
     ensures put_off { IfOk result (λ told. told.put_off ≡ put_off 0 made.now.entries.items) }
     ensures highest { IfOk result (λ told. told.highest
         ≡ highest_state (records_of made.now.entries.items)) }
-    ensures reason { IfOk result (λ told. IsReasonTo session.now made.now.entries.items
-        (answer_value told.answer) (reason_text told.reason)) }
+    ensures reason { IfOk result (λ told. IsReasonTo viewed.now.session
+        made.now.entries.items (answer_value told.answer) (reason_text told.reason)) }
     ensures unshown { IfOk result (λ told. (told.received ≡ made.now.received)
         × (told.sent ≡ made.now.sent)) }
+    ensures judge { IfOk result (λ told. IsClocked viewed.now.connection → AreOptionsTo
+        viewed.now.options.within viewed.now.asked viewed.now.session viewed.now.connection
+        made.now.entries.items made.now.received made.now.sent viewed.now.options.settings
+        (answer_value told.answer) told.judge) }
 {
+    let session = &viewed.session;
     let entries = made.entries.as_slice();
     let records = records_of(alloc, entries)?;
     let answer = check_end::<A, T>(alloc, session, &records)?;
     let reason = reason_of::<A, T>(alloc, session, entries, &records, &answer)?;
+    let judge = options_to(alloc, viewed, made, &records, &answer)?;
     Ok(Told {
-        end,
+        end: viewed.end,
         packet: packet_of(&answer, entries),
         answer,
         put_off: notes_on(made).put_off,
@@ -88,5 +117,6 @@ pub(crate) fn told_by<A: Allocator + Copy, T: Tracker<A>>(
         reason,
         received: made.received,
         sent: made.sent,
+        judge,
     })
 }

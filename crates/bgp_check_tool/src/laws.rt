@@ -3,8 +3,10 @@
 ghost use Rattle.bgp_check_tool.specs.Alone.{EachConnectionIsTold, EachRefusalIsTold};
 ghost use Rattle.bgp_check_tool.specs.Headline.{NoConfigurationHasARun, NothingIsVacuous};
 ghost use Rattle.bgp_check_tool.specs.Headline.{ToldNoHasNoRun, VerdictIsOverAll};
+ghost use Rattle.bgp_check_tool.specs.Repeated.{LineGivesTheVerdict};
 
 use bgp_check::no_configuration_explains_a_no;
+use bgp_check_reason::the_verdict_is_told_under_one;
 
 /// A no of [`check_recording`](crate::check_recording) says that no configuration under which the
 /// router's OPEN is its own has a run that shows these records: none shows even those before the
@@ -35,3 +37,12 @@ pub fn each_of_them_is_told()
     ensures told { EachConnectionIsTold }
     ensures refused { EachRefusalIsTold }
 {}
+
+/// The line with the options of `bgp judge` gives the verdict that is told before it: framed as
+/// `judge` frames it by these options, the connection has just the records that were judged, and
+/// under their configuration these have that verdict. `judge` refuses none for a ROUTE-REFRESH.
+pub fn a_judge_line_gives_the_verdict()
+    ensures { LineGivesTheVerdict }
+{
+    the_verdict_is_told_under_one();
+}

@@ -2,7 +2,7 @@
 //! recording of packets kept to the standard, without a setting.
 //!
 //! ```text
-//! let options = CheckOptions { port: 179, within: 10, routes: false };
+//! let options = CheckOptions { port: 179, within: 10, routes: false, settings: false };
 //! let checked = check_recording::<_, CompactTracker<_>, _, _>(alloc, &options, source, sink);
 //! std::process::exit(checked.status);
 //! ```
@@ -13,6 +13,7 @@ mod checking;
 mod connection;
 mod counted;
 mod ending;
+mod judging;
 mod laws;
 mod lines;
 mod making;
@@ -22,8 +23,8 @@ mod seen;
 
 pub use checking::{CheckedRecording, check_recording};
 pub use laws::{
-    a_verdict_is_over_all_configurations, each_of_them_is_told, no_configuration_has_a_run,
-    no_verdict_is_vacuous,
+    a_judge_line_gives_the_verdict, a_verdict_is_over_all_configurations, each_of_them_is_told,
+    no_configuration_has_a_run, no_verdict_is_vacuous,
 };
 pub use nothing::NothingJudged;
 pub use options::CheckOptions;

@@ -11,6 +11,7 @@ ghost use Rattle.bgp_check_tool.specs.Text.{told_lines, verdict_text, whose_text
 ghost use Rattle.bgp_check_tool.specs.Told.{told_value};
 
 use crate::ending::Told;
+use crate::judging::put_judge;
 use bgp_check::{Answer, Judged, NotJudged, PeerAs};
 use bgp_check_reason::{put_reason, put_unshown};
 use bgp_check_text::{put_as, put_endings, put_no, put_peer, put_why};
@@ -78,6 +79,7 @@ fn put_verdict<W: Sink, A: Allocator>(
             put_whose(lines, told.end, judged.as_number, judged.peer_as);
             put_endings(lines, endings.as_slice(), told.highest, routes);
             put_unshown(lines, told.received, told.sent);
+            put_judge(lines, told.judge);
         }
         Verdict::No(count) => {
             put_no(lines, *count, told.packet);
@@ -85,6 +87,7 @@ fn put_verdict<W: Sink, A: Allocator>(
             put_reason(lines, &told.reason);
             put_unshown(lines, told.received, told.sent);
             put_note(lines, told.put_off);
+            put_judge(lines, told.judge);
         }
         Verdict::Unfinished => {
             lines.put(b"unfinished");
@@ -92,6 +95,7 @@ fn put_verdict<W: Sink, A: Allocator>(
             put_reason(lines, &told.reason);
             put_unshown(lines, told.received, told.sent);
             put_note(lines, told.put_off);
+            put_judge(lines, told.judge);
         }
     }
 }

@@ -9,4 +9,6 @@ pub struct CheckOptions {
     pub within: u16,
     /// Whether the routes of each end are told.
     pub routes: bool,
+    /// Whether the options of `bgp judge` are told after a yes, too.
+    pub settings: bool,
 }

@@ -2,17 +2,18 @@
 //! from this one.
 //!
 //! `checked.txt` has worked rows, recordings of real sessions between five daemons, and random ones
-//! with planted oddities. Each is checked by the plain tracker and by the compact one.
-//!
-//! Of its lines those are left out that tell the settings as options.
+//! with planted oddities. Each is checked by the plain tracker and by the compact one, and where a
+//! verdict is told with the options of `bgp judge`, that is asked by them for the same.
 #![tactic(auto)]
 
 mod answer;
 mod case;
+mod repeated;
 mod words;
 
 use answer::answer_to;
 use case::read_case;
+use repeated::repeated;
 use std::process::ExitCode;
 use std::rt::Files;
 use std::{fs, io};
@@ -33,6 +34,7 @@ fn main(rt: HostRuntime) -> ExitCode {
 fn compare_cases<R: Files + Print + AllocGlobal>(rt: &R, name: &str) -> io::Result<bool> {
     let table = fs::read_to_string(rt, name)?;
     let mut cases = 0u64;
+    let mut lines = 0u64;
     let mut all = true;
     for block in table.split("\n\n") {
         let block = block.trim_end();
@@ -40,18 +42,26 @@ fn compare_cases<R: Files + Print + AllocGlobal>(rt: &R, name: &str) -> io::Resu
             continue;
         }
         cases = cases.saturating_add(1);
-        all &= compare_case(rt, block)?;
+        match compare_case(rt, block)? {
+            Some(count) => lines = lines.saturating_add(count),
+            None => all = false,
+        }
     }
-    println!(rt; "{name}: {cases} cases")?;
+    println!(rt; "{name}: {cases} cases, {lines} verdicts that judge gives")?;
     Ok(all)
 }
 
-/// Prints a case if it is not so. Answers whether it is so.
-fn compare_case<R: Files + Print + AllocGlobal>(rt: &R, block: &str) -> io::Result<bool> {
+/// Prints a case if it is not so, or if `bgp judge` gives another verdict for one that is told with
+/// its options. Answers how many of these there are, where it is so.
+fn compare_case<R: Files + Print + AllocGlobal>(rt: &R, block: &str) -> io::Result<Option<u64>> {
     let case = read_case(rt.alloc(), block)?;
     let answer = answer_to(rt.alloc(), &case)?;
     if answer.as_str() == case.answer {
-        return Ok(true);
+        let count = repeated(rt.alloc(), &case, answer.as_str())?;
+        if count.is_none() {
+            println!(rt; "case {} is judged otherwise", case.name)?;
+        }
+        return Ok(count);
     }
     println!(rt;
         "case {} is not so: {}\n{}\nand not\n{}\n",
@@ -60,5 +70,5 @@ fn compare_case<R: Files + Print + AllocGlobal>(rt: &R, block: &str) -> io::Resu
         answer.as_str(),
         case.answer
     )?;
-    Ok(false)
+    Ok(None)
 }

@@ -16,5 +16,6 @@ pub(crate) fn options_of(words: &str) -> Option<CheckOptions> {
         port: number_after(words, "--port", 179)?,
         within: number_after(words, "--within", 10)?,
         routes: words.split(' ').any(|word| word == "--routes"),
+        settings: words.split(' ').any(|word| word == "--settings"),
     })
 }

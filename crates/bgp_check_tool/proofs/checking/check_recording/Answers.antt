@@ -46,7 +46,7 @@ returns g c =
       lacks = subst (λ (n : ℕ). (c.put_all-lacking.result.1 ≡ None) ⊎ (c.put_all-lacking.result.1 ≡ Some (refusals.Memory n))) last all.lacks;
       is_refusal = c.or-refusal.ensures;
       blocks = puts.blocks;
-      told = as_many c.args.options.now.port c.args.options.now.within _ _ taken.packets puts.blocks last puts.told;
+      told = as_many c.args.options.now _ _ taken.packets puts.blocks last puts.told;
       rise = subst (λ (ks : List ℕ). IsStrictlySortedBy nat_cmp ks) (sym puts.are_places) all.rise;
       all = nothing_lacks c.args.options.now.port taken.packets all.places (keys_of puts.blocks) _ c.put_all-lacking.result.1 c.err-stopped.result (sym puts.are_places)
           (λ ample. taken.all (subst (λ (s : Option Refusal). ¬ IsMemory s) same ample)) all.all;

@@ -12,7 +12,7 @@ returns-in-Connection g c = λ packets told.
     let answer = c.check_connection-told.result in
     record {
       block = block_of session opening answer;
-      told = is_told c.args.options.now.port packets c.args.options.now.within c.args.last_packet c.args.packet c.in-Connection.addresses c.in-Connection.talk.now opening session answer
+      told = is_told c.args.options.now packets c.args.last_packet c.args.packet c.in-Connection.addresses c.in-Connection.talk.now opening session answer
           (ap (λ (s : Selection). s.session) c.selection_of.ensures) is c.check_connection-told.ensures;
       wrote = c.put_connection.ensures;
       tallied = c.with_connection.ensures;

@@ -1,6 +1,9 @@
-use Rattle.std.proofs.Common.{◌≡◌, ◌∙◌, true, false, Some, ap, inl, inr, refl, sym}
+use Rattle.std.proofs.Common.{◌≡◌, ◌∙◌, true, false, Some, ap, inl, inr, refl, subst, sym}
 use Rattle.streams.specs.declared.passed.Side.{Side}
 use Rattle.bgp_connections.specs.Octets.{octets_from}
+use Rattle.bgp_import.specs.ListText.{other_side}
+use Rattle.bgp_judge_line.specs.declared.options.Asked.{Asked}
+use Rattle.bgp_check_tool.specs.Told.{IsEndTold, told_value}
 use Rattle.streams.specs.Connections.{numbered}
 use Rattle.bgp_import.proofs.Telling.{are_covered, is_clocked}
 use Rattle.bgp_check_tool.proofs.connection.check_connection.Goals as goal
@@ -20,7 +23,11 @@ pub returns-in-Ok-check_both : goal.returns-in-Ok-check_both
 returns-in-Ok-check_both g c = λ segments holds order.
     let chosen = c.in-Ok.ensures segments holds in
     let clock = is_clocked segments (Some c.args.opening.number) c.args.between.now.last_packet c.in-Ok.connection order chosen in
-    let is = c.in-Ok-check_both.ensures in (
+    let is = c.in-Ok-check_both.ensures in
+    let both = c.in-Ok-check_both.both in
+    let options = c.args.between.now.options in
+    let session = c.args.between.now.session in
+    let from = c.args.opening.opened_by in (
       refl,
       refl,
       record {
@@ -29,8 +36,10 @@ returns-in-Ok-check_both g c = λ segments holds order.
         are_two = λ one. false_true (sym c.if-are_one.false ∙ c.are_one.ensures.1 one);
         is_first = is.opener_octets;
         is_second = is.other_octets;
-        is_opener = is.opener clock;
-        is_other = is.other clock;
+        is_opener = subst (λ (a : Asked). IsEndTold options a session c.args.opening c.in-Ok.connection from (told_value both.opener))
+            (c.asked_both-asked.ensures.opener segments holds) (is.opener clock);
+        is_other = subst (λ (a : Asked). IsEndTold options a session c.args.opening c.in-Ok.connection (other_side from) (told_value both.other))
+            (c.asked_both-asked.ensures.other segments holds) (is.other clock);
       },
     )
 

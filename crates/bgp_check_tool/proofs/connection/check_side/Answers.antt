@@ -5,7 +5,9 @@ use Rattle.bgp_recording.specs.Captured.{records_of}
 use Rattle.bgp_recording.specs.Gathered.{IsClocked}
 use Rattle.bgp_check.specs.Answered.{IsAnswerTo, answer_value}
 use Rattle.bgp_check_reason.specs.Reason.{IsReasonTo, reason_text}
+use Rattle.bgp_check_tool.specs.Judging.{AreOptionsTo}
 use Rattle.bgp_check_tool.specs.Made.{IsMade}
+use Rattle.bgp_check_tool.specs.Seen.{seen_from, session_from}
 use Rattle.bgp_check_tool.proofs.OtherEnd.{clocked}
 use Rattle.bgp_check_tool.proofs.connection.check_side.Goals as goal
 
@@ -14,18 +16,27 @@ returns g c = λ clock.
     let made = c.in_ok-made.made in
     let told = c.in_ok-told.told in
     let is = c.in_ok-told.ensures in
+    let options = c.args.between.now.options in
+    let session = session_from c.args.side c.args.between.now.session in
+    let seen = c.seen_from.result in
+    let its_clock = subst (λ (v : Connection). IsClocked v) (sym c.seen_from.ensures) (clocked c.args.side c.args.connection.now clock) in
     record {
       entries = made.entries.items;
       received_unshown = made.received;
       sent_unshown = made.sent;
-      made = subst (λ (v : Connection). IsMade c.args.between.now.within v made.entries.items made.received made.sent) c.seen_from.ensures
-          (c.in_ok-made.ensures (subst (λ (v : Connection). IsClocked v) (sym c.seen_from.ensures) (clocked c.args.side c.args.connection.now clock)));
-      is_end = is.end ∙ c.end_of-end.ensures;
-      answers = subst (λ (v : Session). IsAnswerTo v (records_of made.entries.items) (answer_value told.answer)) c.session_from-session.ensures is.answers;
+      made = subst (λ (v : Connection). IsMade options.within v made.entries.items made.received made.sent) c.seen_from.ensures (c.in_ok-made.ensures its_clock);
+      is_end = is.end ∙ c.end_of.ensures;
+      answers = subst (λ (v : Session). IsAnswerTo v (records_of made.entries.items) (answer_value told.answer)) c.session_from.ensures is.answers;
       is_packet = is.packet;
       is_put_off = is.put_off;
       is_highest = is.highest;
-      explains = subst (λ (v : Session). IsReasonTo v made.entries.items (answer_value told.answer) (reason_text told.reason)) c.session_from-session.ensures is.reason;
+      explains = subst (λ (v : Session). IsReasonTo v made.entries.items (answer_value told.answer) (reason_text told.reason)) c.session_from.ensures is.reason;
       is_received = is.unshown.0;
       is_sent = is.unshown.1;
+      judges = subst (λ (v : Connection).
+          AreOptionsTo options.within c.args.asked session v made.entries.items made.received made.sent options.settings (answer_value told.answer) told.judge)
+          c.seen_from.ensures
+          (subst (λ (v : Session).
+          AreOptionsTo options.within c.args.asked v seen made.entries.items made.received made.sent options.settings (answer_value told.answer) told.judge)
+          c.session_from.ensures (is.judge its_clock));
     }

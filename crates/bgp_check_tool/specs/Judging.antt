@@ -1,0 +1,50 @@
+-- How `bgp judge` gives a verdict that is told of an end.
+use Rattle.std.specs.Prelude.{◌≡◌, Bool, true, false, ℕ, List, [], Option, None, Some}
+use Rattle.bgp_prefix.specs.declared.session.Session.{Session}
+use Rattle.bgp_open.specs.declared.config.Config.{Config}
+use Rattle.streams.specs.declared.connection.Connection.{Connection}
+use Rattle.bgp_judge.specs.Verdict.{No, Unfinished, VerdictValue, Yes}
+use Rattle.bgp_recording.specs.Captured.{records_of}
+use Rattle.bgp_recording.specs.declared.entry.Entry.{Entry}
+use Rattle.bgp_recording.specs.declared.framing.Unshown.{Unshown}
+use Rattle.bgp_check.specs.Answered.{AnswerValue, JudgedAs, Unjudged}
+use Rattle.bgp_check.specs.declared.peer_as.PeerAs.{PeerAs}
+use Rattle.bgp_check_reason.specs.Under.{IsToldConfiguration}
+use Rattle.bgp_judge_line.specs.Line.{judge_line}
+use Rattle.bgp_judge_line.specs.ReadAlike.{AreJudgeOptions}
+use Rattle.bgp_judge_line.specs.declared.options.Asked.{Asked}
+use Rattle.bgp_judge_line.specs.declared.options.JudgeOptions.{JudgeOptions}
+
+-- its options are told after each verdict, but after a yes where they are asked for alone
+abbrev pub are_told : Bool → VerdictValue → Bool
+are_told settings (Yes ends) = settings
+are_told settings (No count) = true
+are_told settings Unfinished = true
+
+-- the line
+abbrev pub judge_text : Option JudgeOptions → List ℕ
+judge_text None = []
+judge_text (Some options) = judge_line options
+
+-- Of the end of this session that has the connection so, whose records these are; its connection is
+-- asked for so.
+module _ (within : ℕ) (asked : Asked) (session : Session) (connection : Connection)
+    (entries : List Entry) (received_unshown sent_unshown : Unshown) where
+  -- under the configuration for which the verdict is told, if the OPEN is one's own
+  abbrev pub AreOptionsUnder : Option Config → Option JudgeOptions → Type 0
+  AreOptionsUnder None judge = judge ≡ None
+  AreOptionsUnder (Some config) judge =
+      AreJudgeOptions config asked within connection entries received_unshown sent_unshown judge
+
+  abbrev pub AreOptionsFor : Bool → PeerAs → Option JudgeOptions → Type 0
+  AreOptionsFor false peer judge = judge ≡ None
+  AreOptionsFor true peer judge =
+      (config : Option Config)
+      × IsToldConfiguration session (records_of entries) peer config
+      × AreOptionsUnder config judge
+
+  -- the options by which `judge` gives what is answered of them, if it does
+  abbrev pub AreOptionsTo : Bool → AnswerValue → Option JudgeOptions → Type 0
+  AreOptionsTo settings (Unjudged why) judge = judge ≡ None
+  AreOptionsTo settings (JudgedAs number peer verdict) judge =
+      AreOptionsFor (are_told settings verdict) peer judge

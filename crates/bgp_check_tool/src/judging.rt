@@ -1,0 +1,102 @@
+//! How `bgp judge` gives a verdict that is told of an end.
+
+ghost use Rattle.std.specs.Prelude.{◌≡◌, IfOk, map};
+ghost use Rattle.mrt.specs.Reader.{shown_of};
+ghost use Rattle.bgp_judge.specs.Verdict.{verdict_value};
+ghost use Rattle.bgp_check.specs.Answered.{IsAnswerTo, IsJudged, answer_value};
+ghost use Rattle.bgp_recording.specs.Captured.{records_of};
+ghost use Rattle.bgp_recording.specs.Gathered.{IsClocked, IsCovered};
+ghost use Rattle.bgp_text.specs.Lines.{Writes};
+ghost use Rattle.bgp_check_tool.specs.Judging.{AreOptionsFor, AreOptionsTo, are_told, judge_text};
+
+use crate::ending::Viewed;
+use bgp_check::{Answer, Judged};
+use bgp_check_reason::told_configuration;
+use bgp_judge::Verdict;
+use bgp_judge_line::{JudgeOptions, judge_options, put_judge_line};
+use bgp_recording::Recording;
+use bgp_text::Lines;
+use mrt::{Record, Sink};
+use std::alloc::{AllocError, Allocator};
+
+/// Whether the options of `bgp judge` are told after a verdict: after a yes, where they are asked
+/// for.
+fn are_told<A: Allocator>(settings: bool, verdict: &Verdict<A>) -> bool
+    ensures { result ≡ are_told settings (verdict_value verdict.now) }
+{
+    match verdict {
+        Verdict::Yes(_) => settings,
+        Verdict::No(_) | Verdict::Unfinished => true,
+    }
+}
+
+/// The options by which `bgp judge` gives what is answered of the records that were made of an end,
+/// if it does and they are told.
+pub(crate) fn options_to<A: Allocator + Copy>(
+    alloc: A,
+    viewed: &Viewed<'_>,
+    made: &Recording<'_, A>,
+    records: &[Record<'_>],
+    answer: &Answer<A>,
+) -> Result<Option<JudgeOptions>, AllocError>
+    requires received { IsCovered viewed.now.connection.received }
+    requires sent { IsCovered viewed.now.connection.sent }
+    requires records { map shown_of records.now ≡ records_of made.now.entries.items }
+    requires answer { IsAnswerTo viewed.now.session (records_of made.now.entries.items)
+        (answer_value answer.now) }
+    ensures { IfOk result (λ judge. IsClocked viewed.now.connection → AreOptionsTo
+        viewed.now.options.within viewed.now.asked viewed.now.session viewed.now.connection
+        made.now.entries.items made.now.received made.now.sent viewed.now.options.settings
+        (answer_value answer.now) judge) }
+{
+    match answer {
+        Answer::NotJudged(_) => Ok(None),
+        Answer::Judged(judged) => options_for(alloc, viewed, made, records, judged),
+    }
+}
+
+/// Those of a verdict.
+fn options_for<A: Allocator + Copy>(
+    alloc: A,
+    viewed: &Viewed<'_>,
+    made: &Recording<'_, A>,
+    records: &[Record<'_>],
+    judged: &Judged<A>,
+) -> Result<Option<JudgeOptions>, AllocError>
+    requires received { IsCovered viewed.now.connection.received }
+    requires sent { IsCovered viewed.now.connection.sent }
+    requires records { map shown_of records.now ≡ records_of made.now.entries.items }
+    requires judged { IsJudged viewed.now.session (records_of made.now.entries.items)
+        judged.now.as_number judged.now.peer_as (verdict_value judged.now.verdict) }
+    ensures { IfOk result (λ judge. IsClocked viewed.now.connection → AreOptionsFor
+        viewed.now.options.within viewed.now.asked viewed.now.session viewed.now.connection
+        made.now.entries.items made.now.received made.now.sent
+        (are_told viewed.now.options.settings (verdict_value judged.now.verdict))
+        judged.now.peer_as judge) }
+{
+    if !are_told(viewed.options.settings, &judged.verdict) {
+        return Ok(None);
+    }
+    let Some(config) = told_configuration(&viewed.session, records, judged) else {
+        return Ok(None);
+    };
+    let within = viewed.options.within;
+    judge_options(
+        alloc,
+        config,
+        viewed.asked,
+        &viewed.connection,
+        within,
+        made,
+    )
+}
+
+/// Puts the line with the options of `bgp judge`, where they are told.
+pub(crate) fn put_judge<W: Sink>(lines: &mut Lines<'_, W>, judge: Option<JudgeOptions>)
+    ensures { Writes lines.old lines.new (judge_text judge) }
+{
+    match judge {
+        Some(options) => put_judge_line(lines, &options),
+        None => lines.put(b""),
+    }
+}

@@ -1,0 +1,113 @@
+//! Whether `bgp judge` gives each verdict that is told with its options.
+
+use crate::case::{Case, malformed};
+use bgp_compact::CompactTracker;
+use bgp_recording_explain::explain_recording;
+use bgp_words::{Command, command_line};
+use mrt::{MemSink, MemSource};
+use std::alloc::Global;
+use std::io;
+
+/// What `bgp judge --explain` prints of a case's recording, where it is asked by the words of a
+/// line.
+fn judged(alloc: Global, case: &Case<'_>, line: &str) -> io::Result<String> {
+    let mut words = Vec::new(alloc);
+    words.push("bgp")?;
+    for word in line.split(' ') {
+        words.push(word)?;
+    }
+    words.push("-")?;
+    let (config, options) = match command_line(alloc, &words) {
+        Ok(
+            Command::Judge {
+                config,
+                recording,
+                ..
+            },
+        ) => (config, recording),
+        _ => return Err(malformed()),
+    };
+    let mut source = MemSource::new(Vec::from_slice(alloc, case.recording.as_slice())?);
+    let mut sink = MemSink::new(alloc);
+    explain_recording::<Global, CompactTracker<Global>, MemSource, MemSink>(
+        alloc,
+        &config,
+        &options,
+        &mut source,
+        &mut sink,
+    );
+    String::from_utf8(sink.into_octets()).map_err(|_| malformed())
+}
+
+/// Whether a line is told as another is printed: in full; its beginning, where it is cut, or where
+/// any number but one is configured; or with more after it, of an end.
+fn is_told_so(told: &str, printed: &str) -> bool {
+    if let Some((front, _)) = told.split_once(" ..") {
+        return printed.starts_with(front);
+    }
+    if let Some((front, _)) = told.split_once(", configured another") {
+        return printed.starts_with(front);
+    }
+    told == printed || (told.starts_with("end ") && told.starts_with(printed))
+}
+
+/// Whether what is printed is told: a verdict, and in the lines after it each possible end, or each
+/// line of the reason. No routes are compared.
+fn is_told(verdict: &str, details: &[&str], printed: &str) -> bool {
+    let mut lines = printed.lines();
+    if lines.next() != Some(verdict) {
+        return false;
+    }
+    let mut places = details.iter();
+    for line in lines {
+        if verdict == "yes" && !line.starts_with("end ") {
+            continue;
+        }
+        match places.next() {
+            Some(told) if is_told_so(told, line) => {}
+            _ => return false,
+        }
+    }
+    true
+}
+
+/// The verdict in the line of an end.
+fn verdict_in(line: &str) -> &str {
+    let front = match line.split_once(": ") {
+        Some((front, _)) => front,
+        None => line,
+    };
+    match front.split_once(", packet ") {
+        Some((front, _)) => front,
+        None => front,
+    }
+}
+
+/// How many verdicts of an answer are told with the options of `bgp judge`: `None` where it gives
+/// another for one of them.
+pub(crate) fn repeated(alloc: Global, case: &Case<'_>, answer: &str) -> io::Result<Option<u64>> {
+    let mut count = 0u64;
+    let mut verdict = "";
+    let mut details = Vec::new(alloc);
+    for line in answer.lines() {
+        let line = line.strip_prefix("> ").unwrap_or(line);
+        let Some(detail) = line.strip_prefix("  ") else {
+            verdict = verdict_in(line);
+            details.clear();
+            continue;
+        };
+        if detail.starts_with("route ") {
+            continue;
+        }
+        if !detail.starts_with("judge ") {
+            details.push(detail)?;
+            continue;
+        }
+        let printed = judged(alloc, case, detail)?;
+        if !is_told(verdict, &details, printed.as_str()) {
+            return Ok(None);
+        }
+        count = count.saturating_add(1);
+    }
+    Ok(Some(count))
+}
