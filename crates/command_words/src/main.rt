@@ -105,8 +105,9 @@ fn command_text(alloc: Global, command: &Command<'_>) -> Result<String, AllocErr
             port,
             within,
             routes,
+            settings,
             file,
-        } => check_text(alloc, *port, *within, *routes, file),
+        } => check_text(alloc, *port, *within, *routes, *settings, file),
         Command::Speak {
             config,
             speaking,
@@ -161,10 +162,12 @@ fn check_text(
     port: u16,
     within: u16,
     routes: bool,
+    settings: bool,
     file: &str,
 ) -> Result<String, AllocError> {
     let routes = if routes { " routes" } else { "" };
-    format!(in alloc; "check port {port} within {within}{routes} file {file:?}")
+    let settings = if settings { " settings" } else { "" };
+    format!(in alloc; "check port {port} within {within}{routes}{settings} file {file:?}")
 }
 
 /// What `speak` is told.
