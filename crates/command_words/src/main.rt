@@ -1,19 +1,23 @@
 //! Reads command lines of which it is known what they are: a table of words, each with the command
-//! that they spell, or the exit status and what is told.
+//! that they spell, or the exit status and what is told. Then runs some, over real files.
 #![tactic(auto)]
+
+mod runs;
 
 use bgp_open::{ConfigParts, Families};
 use bgp_prefix::{Address, RouteRefresh, Session};
 use bgp_tool::{Command, Speaking, Start, command_line, words_status};
 use bgp_words::RecordingOptions;
 use clap::Error;
+use runs::run_all;
 use std::alloc::{AllocError, Global};
+use std::net::Net;
 use std::process::ExitCode;
-use std::rt::Files;
+use std::rt::{Clock, Files};
 use std::{fs, io};
 
 fn main(rt: HostRuntime) -> ExitCode {
-    match read_all(&rt) {
+    match read_and_run(&rt, &rt.stderr()) {
         Ok(true) => ExitCode::SUCCESS,
         Ok(false) => ExitCode::FAILURE,
         Err(error) => {
@@ -21,6 +25,16 @@ fn main(rt: HostRuntime) -> ExitCode {
             ExitCode::FAILURE
         }
     }
+}
+
+/// Reads the table, and then runs command lines. Answers whether all rows of the table are so.
+fn read_and_run<R: Files + Net + Clock + Input + Print + Eprint + AllocGlobal, E: Print>(
+    rt: &R,
+    errors: &E,
+) -> io::Result<bool> {
+    let all = read_all(rt)?;
+    run_all(rt, errors)?;
+    Ok(all)
 }
 
 /// Prints each row that is not so, and then how many there were. Answers whether all are so.

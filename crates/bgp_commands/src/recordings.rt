@@ -1,7 +1,9 @@
 //! `bgp import`, `bgp list` and `bgp check`: files as the sources and sinks of their calls.
 
-ghost use Rattle.std.specs.Prelude.{◌≡◌};
+ghost use Rattle.std.specs.Prelude.{◌≡◌, ◌≢◌, codes};
 ghost use Rattle.bgp_prefix.specs.Address.{family_of};
+ghost use Rattle.bgp_tool.specs.Status.{code_of};
+ghost use Rattle.bgp_tool.specs.declared.status.Status.TheVariants.{Usage};
 
 use crate::devices::{buffered, open, tell, tell_cut_short, tell_note};
 use crate::made_file::MadeFile;
@@ -32,6 +34,7 @@ pub fn import<R: Files + Input + Print + Eprint + AllocGlobal>(
     out: &str,
 ) -> u8
     requires families { family_of session.now.peer ≡ family_of session.now.local }
+    ensures one_name { file.now ≡ out.now → file.now ≢ codes "-" → result ≡ code_of Usage }
 {
     if file == out && file != "-" {
         let _ = eprintln!(rt; "bgp: {file:?} is FILE and OUT: give the capture another name");

@@ -1,5 +1,7 @@
 //! A file that is made at its first write.
 
+ghost use Rattle.std.specs.Prelude.{◌≡◌, None, is_some};
+
 use std::io::Write;
 use std::rt::Files;
 use std::{fs, io};
@@ -15,7 +17,9 @@ pub struct MadeFile<'r, 'n, R: Files> {
 
 impl<'r, 'n, R: Files> MadeFile<'r, 'n, R> {
     /// The file of this name, which isn't made yet.
-    pub fn new(rt: &'r R, name: &'n str) -> MadeFile<'r, 'n, R> {
+    pub fn new(rt: &'r R, name: &'n str) -> MadeFile<'r, 'n, R>
+        ensures { result.file ≡ None }
+    {
         MadeFile {
             rt,
             name,
@@ -24,7 +28,9 @@ impl<'r, 'n, R: Files> MadeFile<'r, 'n, R> {
     }
 
     /// Whether it was made.
-    pub fn is_made(&self) -> bool {
+    pub fn is_made(&self) -> bool
+        ensures { result ≡ is_some self.now.file }
+    {
         self.file.is_some()
     }
 }
