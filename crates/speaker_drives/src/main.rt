@@ -86,13 +86,24 @@ fn compare<R: Files + Print + AllocGlobal>(
             continue;
         }
         count = count.saturating_add(1);
-        if !is_so(rt.alloc(), told, block)? {
-            println!(rt; "{file}: number {count} is not so:\n{block}")?;
-            all = false;
-        }
+        all &= compare_block(rt, file, told, (count, block))?;
     }
     println!(rt; "{count} {name}")?;
     Ok(all)
+}
+
+/// Prints a block of a table that is not so. Answers whether it is so.
+fn compare_block<R: Print + AllocGlobal>(
+    rt: &R,
+    file: &str,
+    told: Told,
+    (count, block): (u64, &str),
+) -> io::Result<bool> {
+    let is_so = is_so(rt.alloc(), told, block)?;
+    if !is_so {
+        println!(rt; "{file}: number {count} is not so:\n{block}")?;
+    }
+    Ok(is_so)
 }
 
 /// Whether a block is so.

@@ -32,20 +32,25 @@ fn connecting<R: Net + Clock + Print>(rt: &R) -> io::Result<()> {
     if wire.connect().is_err() {
         return Err(unconnected());
     }
-    let mut peer = accepted::<R>(&listener)?;
+    let peer = accepted::<R>(&listener)?;
     println!(rt; "its clock is right: {}", wire.now() >= YEAR_2026)?;
     tell_read(rt, &mut wire)?;
-    peer.write_all(b"abc")?;
-    tell_read(rt, &mut wire)?;
-    tell_write(rt, &mut wire, b"defgh")?;
-    tell_peer(rt, &mut peer)?;
-    peer.shutdown(Shutdown::Write)?;
-    tell_read(rt, &mut wire)?;
-    tell_write(rt, &mut wire, b"ij")?;
-    tell_peer(rt, &mut peer)?;
-    drop(peer);
+    tell_talk(rt, &mut wire, peer)?;
     tell_last_write(rt, &mut wire)?;
     println!(rt; "failures: {}", wire.failures())
+}
+
+/// Of one whose peer says something, stops to send, and goes.
+fn tell_talk<R: Net + Print, W: Wire>(rt: &R, wire: &mut W, mut peer: R::Stream) -> io::Result<()>
+    requires stands { W.connection wire.old ≡ Stands }
+    requires failures { W.failures wire.old < 90 }
+    ensures stands { W.connection wire.new ≡ Stands }
+    ensures failures { W.failures wire.new ≤ W.failures wire.old + 4 }
+{
+    peer.write_all(b"abc")?;
+    tell_answer(rt, wire, &mut peer, b"defgh")?;
+    peer.shutdown(Shutdown::Write)?;
+    tell_answer(rt, wire, &mut peer, b"ij")
 }
 
 /// Of one that a peer connects to.
@@ -57,10 +62,26 @@ fn listening<R: Net + Clock + Print>(rt: &R) -> io::Result<()> {
         return Err(unconnected());
     }
     peer.write_all(b"op")?;
-    tell_read(rt, &mut wire)?;
-    tell_write(rt, &mut wire, b"q")?;
-    tell_peer(rt, &mut peer)?;
+    tell_answer(rt, &mut wire, &mut peer, b"q")?;
     println!(rt; "failures: {}", wire.failures())
+}
+
+/// Prints what a read answers, then what a write answers, and what the peer reads of it.
+fn tell_answer<R: Print, W: Wire, S: Read>(
+    rt: &R,
+    wire: &mut W,
+    peer: &mut S,
+    octets: &[u8],
+) -> io::Result<()>
+    requires some { 0 < length octets.now }
+    requires stands { W.connection wire.old ≡ Stands }
+    requires failures { W.failures wire.old < 99 }
+    ensures stands { W.connection wire.new ≡ Stands }
+    ensures failures { W.failures wire.new ≤ W.failures wire.old + 2 }
+{
+    tell_read(rt, wire)?;
+    tell_write(rt, wire, octets)?;
+    tell_peer(rt, peer)
 }
 
 /// Prints what a read answers.

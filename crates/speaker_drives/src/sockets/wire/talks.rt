@@ -53,6 +53,11 @@ fn with_a_silent_peer<R: Net + Clock + Print + AllocGlobal>(rt: &R) -> io::Resul
     let capture = speak(rt, SocketWire::connecting(rt, port))?;
     println!(rt; "{} octets of capture", capture.len())?;
     let mut peer = accepted::<R>(&listener)?;
+    tell_heard(rt, &mut peer)
+}
+
+/// Prints what the peer has heard.
+fn tell_heard<R: Print + AllocGlobal, S: Read>(rt: &R, peer: &mut S) -> io::Result<()> {
     let mut heard = Vec::new(rt.alloc());
     peer.read_to_end(&mut heard)?;
     println!(rt; "the peer reads {} octets", heard.len())?;
@@ -107,14 +112,19 @@ fn speak<R: Net + Clock + Print + AllocGlobal>(
         &mut output,
         1,
     );
-    println!(rt; "status {status}")?;
-    match String::from_utf8(output.into_octets()) {
-        Ok(text) => print!(rt; "{text}")?,
-        Err(_) => return Err(io::Error::from(ErrorKind::InvalidData)),
-    }
+    tell_output(rt, status, output.into_octets())?;
     println!(rt;
         "refused: {}",
         wire.refusal() == Some(ErrorKind::ConnectionRefused)
     )?;
     Ok(capture.into_octets())
+}
+
+/// Prints the status, and what was printed.
+fn tell_output<R: Print>(rt: &R, status: u8, octets: Vec<u8>) -> io::Result<()> {
+    println!(rt; "status {status}")?;
+    match String::from_utf8(octets) {
+        Ok(text) => print!(rt; "{text}"),
+        Err(_) => Err(io::Error::from(ErrorKind::InvalidData)),
+    }
 }
