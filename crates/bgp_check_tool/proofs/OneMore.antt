@@ -26,15 +26,17 @@ use Rattle.bgp_check_tool.specs.declared.connection.EndsTold.TheVariants.{Both, 
 use Rattle.bgp_connections.specs.declared.listed.Listed.{Listed}
 use Rattle.bgp_connections.specs.declared.listed.Listed.TheVariants as listed
 use Rattle.bgp_connections.specs.declared.talk.Talk.{Talk}
-use Rattle.bgp_check_tool.specs.Blocks.{Block, IsBlock, block_of, block_text}
+use Rattle.bgp_check_tool.specs.Blocks.{Block, IsBlock, block_of, block_text, refusal_in}
 use Rattle.bgp_connections.specs.declared.talks.Talks.{Talks}
-use Rattle.bgp_check_tool.specs.Checking.{PutsAll, PutsBlock, blocks_text, tally_from}
+use Rattle.bgp_check_tool.specs.Checking.{PutsAll, PutsBlock, blocks_text, refusals_in, tally_from}
 use Rattle.bgp_connections.specs.Listed.{AreListed, CanBeTold, IsListed, IsPlaceOf, ListsOne}
 use Rattle.bgp_connections.specs.Pairs.{selection_of}
 use Rattle.bgp_connections.specs.Places.{HasAll}
 use Rattle.bgp_check_tool.specs.Places.{IsToldAt}
 use Rattle.bgp_connections.specs.Talks.{HoldsEach}
-use Rattle.bgp_check_text.specs.Tally.{no_tally}
+use Rattle.bgp_recording_list.specs.Firsts.{firsts_after, with_first}
+use Rattle.bgp_recording_list.proofs.PutSoFar.{firsts_more}
+use Rattle.std.proofs.lemmas.List.{map-append}
 use Rattle.bgp_check_tool.specs.Counted.{with_block}
 use Rattle.bgp_connections.proofs.ListedSoFar.{among_keys}
 
@@ -56,20 +58,21 @@ keys_with (x ∷ xs) one rest = ap (λ (ks : List ℕ). x.0 ∷ ks) (keys_with x
 
 -- the blocks of the first entries are put, and these are left
 pub record PutsFront {T Z : Type 0} {sink : sinks.Ghosts T} (options : CheckOptions) (packets : List Recorded) (last_packet : ℕ) (entries rest : List (ℕ × Listed Z))
-    (lines lines' : Lines T sink) (tally : Tally) : Type 0 where
+    (lines lines' : Lines T sink) (tally tally' : Tally) (firsts firsts' : List (Option Refusal)) : Type 0 where
   pub blocks : List (ℕ × Block)
   pub told : AllByRecursion (λ (b : ℕ × Block). IsToldAt options packets last_packet b.0 b.1) blocks
   pub places : keys_of blocks ++ keys_of rest ≡ keys_of entries
   pub left : AreListed options.port packets rest
   pub wrote : Writes lines lines' (blocks_text options.routes blocks)
-  pub tallied : tally ≡ tally_from no_tally blocks
+  pub tallied : tally' ≡ tally_from tally blocks
+  pub added : firsts' ≡ firsts_after firsts (refusals_in blocks)
 
 pub one_more : {T Z : Type 0} {sink : sinks.Ghosts T} → Joins sink → (options : CheckOptions) (packets : List Recorded) (last_packet place : ℕ) (one : Listed Z)
-    (entries before rest : List (ℕ × Listed Z)) (lines middle lines' : Lines T sink) (between tally : Tally) → before ≡ (place, one) ∷ rest
-    → PutsFront options packets last_packet entries before lines middle between
-    → (IsListed options.port packets place one → PutsBlock options packets last_packet place middle lines' between tally)
-    → PutsFront options packets last_packet entries rest lines lines' tally
-one_more {T} {Z} law options packets last_packet place one entries before rest lines middle lines' between tally is so_far puts =
+    (entries before rest : List (ℕ × Listed Z)) (lines middle lines' : Lines T sink) (tally between tally' : Tally) (firsts few firsts' : List (Option Refusal))
+    → before ≡ (place, one) ∷ rest → PutsFront options packets last_packet entries before lines middle tally between firsts few
+    → (IsListed options.port packets place one → PutsBlock options packets last_packet place middle lines' between tally' few firsts')
+    → PutsFront options packets last_packet entries rest lines lines' tally tally' firsts firsts'
+one_more {T} {Z} law options packets last_packet place one entries before rest lines middle lines' tally between tally' firsts few firsts' is so_far puts =
     let left : AreListed options.port packets ((place, one) ∷ rest) = subst (λ (es : List (ℕ × Listed Z)). AreListed options.port packets es) is so_far.left in
     let put = puts left.0 in
     let places : keys_of so_far.blocks ++ place ∷ keys_of rest ≡ keys_of entries =
@@ -80,7 +83,9 @@ one_more {T} {Z} law options packets last_packet place one entries before rest l
       places = keys_with so_far.blocks (place, put.block) (keys_of rest) ∙ places;
       left = left.1;
       wrote = subst (λ (text : List ℕ). Writes lines lines' text) (text_of (λ (b : ℕ × Block). block_text options.routes b.1) so_far.blocks (place, put.block)) (and_then law so_far.wrote put.wrote);
-      tallied = put.tallied ∙ ap (λ (t : Tally). with_block t put.block) so_far.tallied ∙ tally_of no_tally so_far.blocks (place, put.block);
+      tallied = put.tallied ∙ ap (λ (t : Tally). with_block t put.block) so_far.tallied ∙ tally_of tally so_far.blocks (place, put.block);
+      added = put.added ∙ ap (λ (f : List (Option Refusal)). with_first f (refusal_in put.block)) so_far.added ∙ firsts_more firsts (refusals_in so_far.blocks) (refusal_in put.block)
+          ∙ ap (firsts_after firsts) (sym (map-append (λ (b : ℕ × Block). refusal_in b.1) so_far.blocks ((place, put.block) ∷ [])));
     }
 
 pub one_listed : {Z : Type 0} (port : ℕ) (packets : List Recorded) (place : ℕ) (one : Listed Z) (before rest : List (ℕ × Listed Z)) → before ≡ (place, one) ∷ rest
@@ -127,41 +132,43 @@ no_keys = tt
 
 -- none is put yet
 pub start_put : {T Z : Type 0} {sink : sinks.Ghosts T} (options : CheckOptions) (packets : List Recorded) (last_packet : ℕ) (entries first : List (ℕ × Listed Z)) (lines : Lines T sink) (tally : Tally)
-    → first ≡ entries → AreListed options.port packets entries → Writes lines lines [] → tally ≡ no_tally
-    → PutsFront options packets last_packet first first lines lines tally
-start_put {T} {Z} options packets last_packet entries first lines tally is listed wrote none = record {
+    (firsts : List (Option Refusal)) → first ≡ entries → AreListed options.port packets entries → Writes lines lines []
+    → PutsFront options packets last_packet first first lines lines tally tally firsts firsts
+start_put {T} {Z} options packets last_packet entries first lines tally firsts is listed wrote = record {
   blocks = [];
   told = tt;
   places = refl;
   left = subst (λ (es : List (ℕ × Listed Z)). AreListed options.port packets es) (sym is) listed;
   wrote = wrote;
-  tallied = none;
+  tallied = refl;
+  added = refl;
 }
 
 -- all are
 pub all_put : {T Z : Type 0} {sink : sinks.Ghosts T} (options : CheckOptions) (packets : List Recorded) (talks : Talks Z) (last_packet : ℕ) (listed : BTreeMap ℕ (Listed Z))
-    (first rest : List (ℕ × Listed Z)) (lines lines' : Lines T sink) (tally : Tally) (lacking : Option Refusal) → first ≡ listed.entries → rest ≡ [] → IsOrdered nat_cmp listed
-    → (HoldsEach options.port packets talks → HasAll options.port packets (IsPlaceOf listed)) → lacking ≡ None
-    → PutsFront options packets last_packet first rest lines lines' tally → PutsAll options packets talks last_packet lines lines' tally lacking
-all_put {T} {Z} options packets talks last_packet listed first rest lines lines' tally lacking is done rises all calm front =
+    (first rest : List (ℕ × Listed Z)) (lines lines' : Lines T sink) (tally tally' : Tally) (firsts firsts' : List (Option Refusal)) (lacking : Option Refusal)
+    → first ≡ listed.entries → rest ≡ [] → IsOrdered nat_cmp listed → (HoldsEach options.port packets talks → HasAll options.port packets (IsPlaceOf listed)) → lacking ≡ None
+    → PutsFront options packets last_packet first rest lines lines' tally tally' firsts firsts'
+    → PutsAll options packets talks last_packet lines lines' tally tally' firsts firsts' lacking
+all_put {T} {Z} options packets talks last_packet listed first rest lines lines' tally tally' firsts firsts' lacking is done rises all calm front =
     let whole : keys_of front.blocks ≡ keys_of listed.entries =
     sym (append-nil (keys_of front.blocks)) ∙ subst (λ (es : List (ℕ × Listed Z)). keys_of front.blocks ++ keys_of es ≡ keys_of first) done front.places
     ∙ ap (λ (es : List (ℕ × Listed Z)). keys_of es) is in
     record {
       places = keys_of listed.entries;
       rise = rises;
-      puts = record { blocks = front.blocks; told = front.told; are_places = whole; wrote = front.wrote; tallied = front.tallied };
+      puts = record { blocks = front.blocks; told = front.told; are_places = whole; wrote = front.wrote; tallied = front.tallied; added = front.added };
       lacks = inl calm;
       all = λ ample each. among_keys options.port packets listed (all each);
     }
 
 pub none_put : {T Z : Type 0} {sink : sinks.Ghosts T} (options : CheckOptions) (packets : List Recorded) (talks : Talks Z) (last_packet : ℕ) (lines : Lines T sink) (tally : Tally)
-    (lacking : Option Refusal) → Writes lines lines [] → tally ≡ no_tally → lacking ≡ Some (refusals.Memory last_packet)
-    → PutsAll options packets talks last_packet lines lines tally lacking
-none_put options packets talks last_packet lines tally lacking wrote none lacks = record {
+    (firsts : List (Option Refusal)) (lacking : Option Refusal) → Writes lines lines [] → lacking ≡ Some (refusals.Memory last_packet)
+    → PutsAll options packets talks last_packet lines lines tally tally firsts firsts lacking
+none_put options packets talks last_packet lines tally firsts lacking wrote lacks = record {
   places = [];
   rise = no_keys;
-  puts = record { blocks = []; told = tt; are_places = refl; wrote = wrote; tallied = none };
+  puts = record { blocks = []; told = tt; are_places = refl; wrote = wrote; tallied = refl; added = refl };
   lacks = inr lacks;
   all = λ ample each. absurd (some_none (refusals.Memory last_packet) (sym lacks ∙ ample));
 }

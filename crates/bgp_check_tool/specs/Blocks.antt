@@ -143,6 +143,13 @@ ends_text routes session opening (ends.Both both) =
 ends_text routes session opening (ends.One first second) =
     neither_text session opening first second
 
+-- the refusal in a block, if there is one
+abbrev pub refusal_in : Block → Option Refusal
+refusal_in (BothEnds session opening first second opener other) = None
+refusal_in (OneEnd session opening first second) = None
+refusal_in (Refused session opening refusal) = Some refusal
+refusal_in (AllRefused addresses refusal) = Some refusal
+
 abbrev pub block_of : {X : Type 0} → Session → Opening → Result (EndsTold X) Refusal → Block
 block_of session opening (Ok told) = ends_block session opening told
 block_of session opening (Err refusal) = Refused session opening refusal

@@ -1,6 +1,6 @@
 -- What checking a recording writes and answers.
 use Rattle.std.specs.Prelude.{◌≡◌, ◌⊎◌, ◌+◌, ◌++◌, ℕ, Bool, true, false, List, [], ◌∷◌}
-use Rattle.std.specs.Prelude.{Option, None, Some, codes, if◌then◌else◌}
+use Rattle.std.specs.Prelude.{Option, None, Some, codes, if◌then◌else◌, map}
 use Rattle.std.specs.Fmt.{decimal}
 use Rattle.std.specs.List.{AllByRecursion, Contains, flat_map}
 use Rattle.std.specs.List.Sorted.{IsStrictlySortedBy}
@@ -21,7 +21,8 @@ use Rattle.bgp_check_text.specs.declared.tally.Tally.{Tally}
 use Rattle.bgp_check_tool.specs.declared.nothing.NothingJudged.{NothingJudged}
 use Rattle.bgp_check_tool.specs.declared.options.CheckOptions.{CheckOptions}
 use Rattle.bgp_connections.specs.declared.talks.Talks.{Talks}
-use Rattle.bgp_check_tool.specs.Blocks.{Block, block_text}
+use Rattle.bgp_recording_list.specs.Firsts.{firsts_after, with_first}
+use Rattle.bgp_check_tool.specs.Blocks.{Block, block_text, refusal_in}
 use Rattle.bgp_check_tool.specs.Counted.{with_block, with_refused}
 use Rattle.bgp_connections.specs.Places.{HasAll}
 use Rattle.bgp_check_tool.specs.Places.{IsToldAt}
@@ -37,34 +38,42 @@ abbrev pub tally_from : Tally → List (ℕ × Block) → Tally
 tally_from tally [] = tally
 tally_from tally (block ∷ blocks) = tally_from (with_block tally block.1) blocks
 
--- One block was put, and is counted.
+abbrev pub refusals_in : List (ℕ × Block) → List (Option Refusal)
+refusals_in blocks = map (λ (b : ℕ × Block). refusal_in b.1) blocks
+
+-- One block was put, and is counted; its refusal is added, where it has one and none of that number
+-- is there.
 pub record PutsBlock {T : Type 0} {sink : sinks.Ghosts T} (options : CheckOptions)
     (packets : List Recorded) (last_packet place : ℕ) (lines lines' : Lines T sink)
-    (tally tally' : Tally) : Type 0 where
+    (tally tally' : Tally) (firsts firsts' : List (Option Refusal)) : Type 0 where
   pub block : Block
   pub told : IsToldAt options packets last_packet place block
   pub wrote : Writes lines lines' (block_text options.routes block)
   pub tallied : tally' ≡ with_block tally block
+  pub added : firsts' ≡ with_first firsts (refusal_in block)
 
--- Blocks were put at these places, and are counted.
+-- Blocks were put at these places, and are counted; of their refusals the first of each number is
+-- added.
 pub record PutsBlocks {T : Type 0} {sink : sinks.Ghosts T} (options : CheckOptions)
     (packets : List Recorded) (last_packet : ℕ) (places : List ℕ) (lines lines' : Lines T sink)
-    (tally tally' : Tally) : Type 0 where
+    (tally tally' : Tally) (firsts firsts' : List (Option Refusal)) : Type 0 where
   pub blocks : List (ℕ × Block)
   pub told : AllByRecursion
       (λ (b : ℕ × Block). IsToldAt options packets last_packet b.0 b.1) blocks
   pub are_places : keys_of blocks ≡ places
   pub wrote : Writes lines lines' (blocks_text options.routes blocks)
   pub tallied : tally' ≡ tally_from tally blocks
+  pub added : firsts' ≡ firsts_after firsts (refusals_in blocks)
 
 -- The blocks of these packets were put, in the order of their places; or none, where there was no
 -- memory for a list of them.
 pub record PutsAll {T : Type 0} {sink : sinks.Ghosts T} (options : CheckOptions)
     {Z : Type 0} (packets : List Recorded) (talks : Talks Z) (last_packet : ℕ)
-    (lines lines' : Lines T sink) (tally : Tally) (lacking : Option Refusal) : Type 0 where
+    (lines lines' : Lines T sink) (tally tally' : Tally) (firsts firsts' : List (Option Refusal))
+    (lacking : Option Refusal) : Type 0 where
   pub places : List ℕ
   pub rise : IsStrictlySortedBy nat_cmp places
-  pub puts : PutsBlocks options packets last_packet places lines lines' no_tally tally
+  pub puts : PutsBlocks options packets last_packet places lines lines' tally tally' firsts firsts'
   pub lacks : (lacking ≡ None) ⊎ (lacking ≡ Some (refusals.Memory last_packet))
   pub all : lacking ≡ None → HoldsEach options.port packets talks
       → HasAll options.port packets (Contains places)
@@ -103,11 +112,12 @@ nothing_by port false None = Some (record { port = port })
 -- them these blocks are told, in the order of their places: all, unless memory was refused. Then
 -- why the file can't be read on, if it can't; that there was no memory for a list of the blocks, if
 -- there was none; that the file was cut short, if it was; and last how many ends there are of each
--- verdict. All of that was written, if the sink didn't fail.
+-- verdict. All of that was written, if the sink didn't fail. Of all refusals those are answered that
+-- are the first of their number.
 pub record ChecksRecording {S T : Type 0} (gives : S → S → List ℕ → Type 0) (has_ended : S → Bool)
     (takes : T → T → List ℕ → Type 0) (source_failures : S → ℕ) (failures : T → ℕ)
     (options : CheckOptions) (source source' : S) (sink sink' : T) (status : ℕ)
-    (cut_short : Option CutShort)
+    (cut_short : Option CutShort) (firsts : List (Option Refusal))
     (refusal : Option Refusal) (nothing : Option NothingJudged) : Type 0 where
   pub packets : List Recorded
   pub short : Bool
@@ -127,6 +137,8 @@ pub record ChecksRecording {S T : Type 0} (gives : S → S → List ℕ → Type
       → HasAll options.port packets (Contains (keys_of blocks))
   pub tally : Tally
   pub counts : tally ≡ with_file (with_file (tally_from no_tally blocks) stopped) lacking
+  pub are_firsts : firsts
+      ≡ with_first (with_first (firsts_after [] (refusals_in blocks)) stopped) lacking
   pub is_nothing : nothing ≡ nothing_by options.port (has_verdict tally) refusal
   pub written : IsWritten takes failures
       (blocks_text options.routes blocks

@@ -5,18 +5,20 @@ ghost use Rattle.packets.specs.Packet.{Recorded};
 ghost use Rattle.bgp_text.specs.Lines.{Writes};
 ghost use Rattle.bgp_check_tool.specs.Checking.{ChecksRecording, PutsAll, PutsBlock, file_text};
 ghost use Rattle.bgp_check_tool.specs.Checking.{cut_note, nothing_by, with_file};
+ghost use Rattle.bgp_recording_list.specs.Firsts.{AreApart, with_first};
 ghost use Rattle.bgp_connections.specs.Listed.{CanBeTold, IsListed};
 ghost use Rattle.bgp_connections.specs.Talks.{HoldsSome};
 
 use crate::blocks::{put_connection, put_session};
 use crate::connection::{Between, check_connection};
-use crate::counted::{with_connection, with_refused};
+use crate::counted::Counted;
 use crate::nothing::{NothingJudged, put_nothing};
 use crate::options::CheckOptions;
-use bgp_check_text::Tally;
+use arrayvec::ArrayVec;
 use bgp_connections::{Listed, Talks, cut_short_at, listed_in, selection_of, take_all};
 use bgp_import::{CutShort, Refusal, put_refusal, refused};
 use bgp_judge::Tracker;
+use bgp_recording_list::NUMBERS;
 use bgp_text::Lines;
 use bgp_tool::hand_over;
 use mrt::{Sink, Source};
@@ -24,12 +26,15 @@ use packets::Reader;
 use std::alloc::Allocator;
 
 /// How checking a recording ended.
-#[derive(Clone, Copy, Debug)]
+#[derive(Clone, Drop)]
 pub struct CheckedRecording {
     /// The exit status.
     pub status: u8,
     /// That the file was cut short, where it was: a line says so.
     pub cut_short: Option<CutShort>,
+    /// The refusals in the lines, of each number the first, in their order: what helps against each
+    /// is to be told. None of them is `None`.
+    pub refusals: ArrayVec<Option<Refusal>, NUMBERS>,
     /// Why the file wasn't read to its end, if it wasn't; else that there was no memory for a list
     /// of what it holds, if there was none.
     pub refusal: Option<Refusal>,
@@ -37,7 +42,7 @@ pub struct CheckedRecording {
     pub nothing: Option<NothingJudged>,
 }
 
-/// Checks what is listed at this packet, puts what is told of it, and answers the tally with it.
+/// Checks what is listed at this packet, puts what is told of it, and counts it.
 fn put_listed<A: Allocator + Copy, T: Tracker<A>, W: Sink>(
     alloc: A,
     options: &CheckOptions,
@@ -45,11 +50,14 @@ fn put_listed<A: Allocator + Copy, T: Tracker<A>, W: Sink>(
     packet: u64,
     listed: &Listed<'_, A>,
     lines: &mut Lines<'_, W>,
-    tally: Tally,
-) -> Tally
-    requires { CanBeTold listed.now }
-    ensures { (packets : List Recorded) → IsListed options.now.port packets packet listed.now
-        → PutsBlock options.now packets last_packet packet lines.old lines.new tally result }
+    counted: &mut Counted,
+)
+    requires told { CanBeTold listed.now }
+    requires apart { AreApart counted.old.refusals.items }
+    ensures puts { (packets : List Recorded) → IsListed options.now.port packets packet listed.now
+        → PutsBlock options.now packets last_packet packet lines.old lines.new counted.old.tally
+        counted.new.tally counted.old.refusals.items counted.new.refusals.items }
+    ensures apart { AreApart counted.new.refusals.items }
 {
     match *listed {
         Listed::Connection(addresses, talk, opening) => {
@@ -60,56 +68,58 @@ fn put_listed<A: Allocator + Copy, T: Tracker<A>, W: Sink>(
             };
             let told = check_connection::<A, T>(alloc, &between, &talk.connections, opening);
             put_connection(lines, &between.session, opening, &told, options.routes);
-            with_connection(tally, &between.session, opening, &told)
+            counted.add_connection(&between.session, opening, &told);
         }
         Listed::Refused(addresses, fault) => {
             let refusal = refused(fault, packet);
             put_session(lines, addresses, refusal);
-            with_refused(tally, refusal)
+            counted.add_refusal(refusal);
         }
     }
 }
 
-/// Checks all that was gathered, in the order of packets, and answers the tally of it. Nothing is
-/// put, and the refusal answered, where there is no memory for the list.
+/// Checks all that was gathered, in the order of packets, and counts it. Nothing is put, and the
+/// refusal answered, where there is no memory for the list.
 fn put_all<A: Allocator + Copy, T: Tracker<A>, W: Sink>(
     alloc: A,
     options: &CheckOptions,
     talks: &Talks<A>,
     last_packet: u64,
     lines: &mut Lines<'_, W>,
-) -> (Tally, Option<Refusal>)
-    requires { (packets : List Recorded) × HoldsSome options.now.port packets talks.now }
-    ensures { (packets : List Recorded) → HoldsSome options.now.port packets talks.now
-        → PutsAll options.now packets talks.now last_packet lines.old lines.new result.0 result.1 }
+    counted: &mut Counted,
+) -> Option<Refusal>
+    requires holds { (packets : List Recorded) × HoldsSome options.now.port packets talks.now }
+    requires apart { AreApart counted.old.refusals.items }
+    ensures puts { (packets : List Recorded) → HoldsSome options.now.port packets talks.now
+        → PutsAll options.now packets talks.now last_packet lines.old lines.new counted.old.tally
+        counted.new.tally counted.old.refusals.items counted.new.refusals.items result }
+    ensures apart { AreApart counted.new.refusals.items }
 {
-    let mut tally = Tally::new();
     let Ok(listed) = listed_in(alloc, talks) else {
-        let refusal = Refusal::Memory {
+        return Some(Refusal::Memory {
             packet: last_packet,
-        };
-        return (tally, Some(refusal));
+        });
     };
     for (packet, one) in &listed {
-        tally = put_listed::<A, T, W>(alloc, options, last_packet, *packet, one, lines, tally);
+        put_listed::<A, T, W>(alloc, options, last_packet, *packet, one, lines, counted);
     }
-    (tally, None)
+    None
 }
 
-/// Puts why the file is refused, if it is, and answers the tally with that.
-fn put_file<W: Sink>(lines: &mut Lines<'_, W>, tally: Tally, refusal: Option<Refusal>) -> Tally
+/// Puts why the file is refused, if it is, and counts that.
+fn put_file<W: Sink>(lines: &mut Lines<'_, W>, counted: &mut Counted, refusal: Option<Refusal>)
+    requires { AreApart counted.old.refusals.items }
     ensures wrote { Writes lines.old lines.new (file_text refusal) }
-    ensures tallied { result ≡ with_file tally refusal }
+    ensures tallied { counted.new.tally ≡ with_file counted.old.tally refusal }
+    ensures added { counted.new.refusals.items ≡ with_first counted.old.refusals.items refusal }
+    ensures apart { AreApart counted.new.refusals.items }
 {
     match refusal {
         Some(refusal) => {
             put_refusal(lines, refusal);
-            with_refused(tally, refusal)
+            counted.add_refusal(refusal);
         }
-        None => {
-            lines.put(b"");
-            tally
-        }
+        None => lines.put(b""),
     }
 }
 
@@ -167,19 +177,29 @@ pub fn check_recording<A: Allocator + Copy, T: Tracker<A>, R: Source, W: Sink>(
     requires source { R.failures source.old < 2 ^ 63 }
     requires sink { W.failures sink.old < 2 ^ 63 }
     ensures { ChecksRecording R.gives R.has_ended W.takes R.failures W.failures options.now
-        source.old source.new sink.old sink.new result.status result.cut_short result.refusal
-        result.nothing }
+        source.old source.new sink.old sink.new result.status result.cut_short
+        result.refusals.items result.refusal result.nothing }
 {
     let mut reader = Reader::new(alloc);
     let mut talks = Talks::new(alloc, options.port);
     let stopped = take_all(&mut reader, &mut talks, source).err();
     let cut_short = cut_short_at(reader.number(), reader.is_cut_short(), stopped);
     let mut lines = Lines::new(sink);
-    let (tally, lacking) = put_all::<A, T, W>(alloc, options, &talks, reader.number(), &mut lines);
-    let tally = put_file(&mut lines, tally, stopped);
-    let tally = put_file(&mut lines, tally, lacking);
+    let mut counted = Counted::new();
+    let last_packet = reader.number();
+    let lacking = put_all::<A, T, W>(
+        alloc,
+        options,
+        &talks,
+        last_packet,
+        &mut lines,
+        &mut counted,
+    );
+    put_file(&mut lines, &mut counted, stopped);
+    put_file(&mut lines, &mut counted, lacking);
     put_cut_short(&mut lines, cut_short);
     let refusal = stopped.or(lacking);
+    let Counted { tally, refusals } = counted;
     put_nothing(&mut lines, tally, options.port);
     tally.put(&mut lines);
     let status = hand_over(&mut lines, tally.status());
@@ -188,6 +208,7 @@ pub fn check_recording<A: Allocator + Copy, T: Tracker<A>, R: Source, W: Sink>(
     CheckedRecording {
         status: status.code(),
         cut_short,
+        refusals,
         refusal,
         nothing: nothing_by(options.port, tally.has_verdict(), refusal),
     }

@@ -92,8 +92,10 @@ fn check_from<R: Print + Eprint + AllocGlobal, F: Read + Drop>(
         tell_unwritten(rt, &sink);
         return checked.status;
     }
+    for refusal in checked.refusals.iter().flatten() {
+        tell_help(rt, *refusal);
+    }
     if let Some(refusal) = checked.refusal {
-        tell_help(rt, refusal);
         tell_cause(rt, file, &source, refusal);
         if refusal.number() == NO_RECORDING {
             let _ = eprintln!(rt;

@@ -28,7 +28,7 @@ text_of : (f : ℕ × Line → List ℕ) (put : List (ℕ × Line)) (one : ℕ �
 text_of f [] one = sym (append-nil (f one))
 text_of f (b ∷ put) one = append_assoc (f b) (flat_map f put) (f one) ∙ ap (λ (rest : List ℕ). f b ++ rest) (text_of f put one)
 
-firsts_more : (firsts refusals : List (Option Refusal)) (one : Option Refusal) → with_first (firsts_after firsts refusals) one ≡ firsts_after firsts (refusals ++ one ∷ [])
+pub firsts_more : (firsts refusals : List (Option Refusal)) (one : Option Refusal) → with_first (firsts_after firsts refusals) one ≡ firsts_after firsts (refusals ++ one ∷ [])
 firsts_more firsts [] one = refl
 firsts_more firsts (refusal ∷ later) one = firsts_more (with_first firsts refusal) later one
 

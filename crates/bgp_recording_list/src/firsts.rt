@@ -6,8 +6,8 @@ ghost use Rattle.bgp_recording_list.specs.Firsts.{AreApart, has_number, number_i
 use arrayvec::ArrayVec;
 use bgp_import::Refusal;
 
-/// No refusal has a number of 19 or more.
-pub(crate) const NUMBERS: usize = 19;
+/// How many refusals may be there, each with a number of its own: none has 19 or more.
+pub const NUMBERS: usize = 19;
 
 /// The number of a refusal, 0 of none.
 fn number_in(refusal: Option<Refusal>) -> u8
@@ -27,7 +27,7 @@ fn has_number(refusals: &[Option<Refusal>], number: u8) -> bool
 }
 
 /// Adds a refusal, where there is one and none of its number is there yet.
-pub(crate) fn add_first(refusals: &mut ArrayVec<Option<Refusal>, NUMBERS>, refusal: Option<Refusal>)
+pub fn add_first(refusals: &mut ArrayVec<Option<Refusal>, NUMBERS>, refusal: Option<Refusal>)
     requires { AreApart refusals.old.items }
     ensures adds { refusals.new.items ≡ with_first refusals.old.items refusal }
     ensures apart { AreApart refusals.new.items }

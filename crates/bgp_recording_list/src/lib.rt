@@ -15,6 +15,7 @@ mod line;
 mod listed;
 mod listing;
 
+pub use firsts::{NUMBERS, add_first};
 pub use laws::each_of_them_is_listed;
 pub use listed::{ListedRecording, NothingListed};
 pub use listing::list_recording;

@@ -4,6 +4,7 @@ use crate::case::{Case, malformed};
 use crate::words::options_of;
 use bgp_check_tool::check_recording;
 use bgp_compact::CompactTracker;
+use bgp_import::Refusal;
 use bgp_judge::{PlainTracker, Tracker};
 use mrt::{MemSink, MemSource};
 use std::alloc::{AllocError, Global};
@@ -33,6 +34,17 @@ fn printed(alloc: Global, status: u8, octets: Vec<u8>) -> io::Result<String> {
     Ok(text)
 }
 
+/// Appends a line each with what helps against these refusals, as standard error has it.
+fn add_help(text: &mut String, refusals: &[Option<Refusal>]) -> io::Result<()> {
+    for refusal in refusals.iter().flatten() {
+        if let Some(help) = refusal.help() {
+            add(text, "\nnote ")?;
+            add(text, help)?;
+        }
+    }
+    Ok(())
+}
+
 /// What checking a case's recording with a tracker answers.
 fn check<T: Tracker<Global>>(alloc: Global, case: &Case<'_>) -> io::Result<String> {
     let Some(options) = options_of(case.words) else {
@@ -46,7 +58,9 @@ fn check<T: Tracker<Global>>(alloc: Global, case: &Case<'_>) -> io::Result<Strin
         &mut source,
         &mut sink,
     );
-    printed(alloc, checked.status, sink.into_octets())
+    let mut text = printed(alloc, checked.status, sink.into_octets())?;
+    add_help(&mut text, checked.refusals.as_slice())?;
+    Ok(text)
 }
 
 /// The lines of the answer to a case, by both trackers.

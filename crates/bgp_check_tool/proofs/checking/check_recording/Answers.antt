@@ -6,7 +6,9 @@ use Rattle.bgp_tool.proofs.CaptureJudged.{is_written}
 use Rattle.bgp_text.proofs.Fresh.{IsFresh}
 use Rattle.bgp_text.proofs.Pieces.{Joins, and_nothing, and_then}
 use Rattle.bgp_check_text.specs.declared.tally.Tally.{Tally}
-use Rattle.bgp_check_tool.specs.Checking.{nothing_by, with_file}
+use Rattle.bgp_check_tool.specs.Checking.{nothing_by, refusals_in, tally_from, with_file}
+use Rattle.bgp_recording_list.specs.Firsts.{AreApart, firsts_after, with_first}
+use Rattle.bgp_recording_list.proofs.AllListed.{none_apart}
 use Rattle.bgp_connections.specs.Reading.{IsMemory, IsReadTo, TakesAll, cut_short_at, failures_of, looked_at}
 use Rattle.bgp_connections.specs.Talks.{HoldsEach, HoldsSome}
 use Rattle.bgp_import.specs.declared.refusal.Refusal.{Refusal}
@@ -20,8 +22,10 @@ take_all-requires-clause-empty g c = subst (λ (p : ℕ). HoldsEach p [] c.new-t
 
 pub put_all-lacking-requires : goal.put_all-lacking-requires
 put_all-lacking-requires g c =
-    let taken = c.take_all.ensures.takes in
-    (taken.packets, subst (λ (p : ℕ). HoldsSome p taken.packets c.take_all.new.talks) c.new-talks.ensures.holds.right.is_port taken.some)
+    let taken = c.take_all.ensures.takes in record {
+      holds = (taken.packets, subst (λ (p : ℕ). HoldsSome p taken.packets c.take_all.new.talks) c.new-talks.ensures.holds.right.is_port taken.some);
+      apart = subst AreApart (sym c.new-counted.ensures.refusals) none_apart;
+    }
 
 pub returns : goal.returns
 returns g c =
@@ -29,11 +33,11 @@ returns g c =
     let fresh : IsFresh c.new-lines.result = record { empty = c.new-lines.ensures.empty; calm = c.new-lines.ensures.fresh } in
     let taken = subst (λ (p : ℕ). TakesAll g.R.Source.gives g.R.Source.has_ended p c.args.source.now c.take_all.new.source c.take_all.new.talks c.take_all.new.reader.number c.take_all.new.reader.is_cut c.take_all.result)
     c.new-talks.ensures.holds.right.is_port c.take_all.ensures.takes in
-    let all = c.put_all-lacking.ensures taken.packets taken.some in
+    let all = c.put_all-lacking.ensures.puts taken.packets taken.some in
     let puts = all.puts in
-    let wrote = and_nothing law (and_then law puts.wrote (and_then law c.put_file-tally.ensures.wrote (and_then law c.put_file-tally-2.ensures.wrote (and_then law c.put_cut_short.ensures (and_then law c.put_nothing.ensures c.put.ensures))))) c.hand_over-status.ensures.writes in
+    let wrote = and_nothing law (and_then law puts.wrote (and_then law c.put_file.ensures.wrote (and_then law c.put_file-2.ensures.wrote (and_then law c.put_cut_short.ensures (and_then law c.put_nothing.ensures c.put.ensures))))) c.hand_over-status.ensures.writes in
     let same = c.err-stopped.ensures.value in
-    let last = c.number-2.ensures ∙ taken.many ∙ ap (looked_at taken.packets) (sym same) in
+    let last = c.number-last_packet.ensures ∙ taken.many ∙ ap (looked_at taken.packets) (sym same) in
     let last' = c.number.ensures ∙ taken.many ∙ ap (looked_at taken.packets) (sym same) in
     record {
       packets = taken.packets;
@@ -42,17 +46,21 @@ returns g c =
       read = subst (λ (s : Option Refusal). IsReadTo g.R.Source.gives g.R.Source.has_ended c.args.source.now c.take_all.new.source taken.packets c.take_all.new.reader.is_cut s) (sym same) taken.read;
       counted = c.take_all.ensures.failures ∙ ap (λ (s : Option Refusal). g.R.Source.failures c.args.source.now + failures_of s) (sym same);
       is_cut_short = c.cut_short_at-cut_short.ensures ∙ (λ i. cut_short_at (last' i) (c.is_cut_short.ensures i) c.err-stopped.result);
-      lacking = c.put_all-lacking.result.1;
-      lacks = subst (λ (n : ℕ). (c.put_all-lacking.result.1 ≡ None) ⊎ (c.put_all-lacking.result.1 ≡ Some (refusals.Memory n))) last all.lacks;
+      lacking = c.put_all-lacking.result;
+      lacks = subst (λ (n : ℕ). (c.put_all-lacking.result ≡ None) ⊎ (c.put_all-lacking.result ≡ Some (refusals.Memory n))) last all.lacks;
       is_refusal = c.or-refusal.ensures;
       blocks = puts.blocks;
       told = as_many c.args.options.now _ _ taken.packets puts.blocks last puts.told;
       rise = subst (λ (ks : List ℕ). IsStrictlySortedBy nat_cmp ks) (sym puts.are_places) all.rise;
-      all = nothing_lacks c.args.options.now.port taken.packets all.places (keys_of puts.blocks) _ c.put_all-lacking.result.1 c.err-stopped.result (sym puts.are_places)
+      all = nothing_lacks c.args.options.now.port taken.packets all.places (keys_of puts.blocks) _ c.put_all-lacking.result c.err-stopped.result (sym puts.are_places)
           (λ ample. taken.all (subst (λ (s : Option Refusal). ¬ IsMemory s) same ample)) all.all;
-      tally = c.put_file-tally-2.result;
-      counts = c.put_file-tally-2.ensures.tallied
-          ∙ ap (λ (t : Tally). with_file t c.put_all-lacking.result.1) (c.put_file-tally.ensures.tallied ∙ ap (λ (t : Tally). with_file t c.err-stopped.result) puts.tallied);
+      tally = c.put_file-2.new.counted.tally;
+      counts = c.put_file-2.ensures.tallied
+          ∙ ap (λ (t : Tally). with_file t c.put_all-lacking.result) (c.put_file.ensures.tallied ∙ ap (λ (t : Tally). with_file t c.err-stopped.result)
+          (puts.tallied ∙ ap (λ (t : Tally). tally_from t puts.blocks) c.new-counted.ensures.tally));
+      are_firsts = c.put_file-2.ensures.added
+          ∙ ap (λ (f : List (Option Refusal)). with_first f c.put_all-lacking.result) (c.put_file.ensures.added ∙ ap (λ (f : List (Option Refusal)). with_first f c.err-stopped.result)
+          (puts.added ∙ ap (λ (f : List (Option Refusal)). firsts_after f (refusals_in puts.blocks)) c.new-counted.ensures.refusals));
       is_nothing = c.nothing_by.ensures ∙ ap (λ (b : Bool). nothing_by c.args.options.now.port b c.or-refusal.result) c.has_verdict.ensures;
       written = is_written c.new-lines.result c.hand_over-status.new.lines c.args.sink.now _ fresh c.new-lines.ensures.now (search rules)
           _ _ _ wrote c.hand_over-status.ensures.none (coded_as _ _ _ _ c.code.ensures (told_as _ _ _ _ c.hand_over-status.ensures.told c.status.ensures));

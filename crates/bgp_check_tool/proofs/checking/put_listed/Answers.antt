@@ -4,8 +4,8 @@ use Rattle.std.proofs.Common.{ap}
 use Rattle.bgp_import.specs.declared.selection.Selection.{Selection}
 use Rattle.bgp_check_tool.proofs.checking.put_listed.Goals as goal
 
-pub returns-in-Connection : goal.returns-in-Connection
-returns-in-Connection g c = λ packets told.
+pub returns-in-Connection-clause-puts : goal.returns-in-Connection-clause-puts
+returns-in-Connection-clause-puts g c = λ packets told.
     let is = rw (c.in-Connection.is) at told in
     let session = c.selection_of.result.session in
     let opening = c.in-Connection.opening in
@@ -15,14 +15,16 @@ returns-in-Connection g c = λ packets told.
       told = is_told c.args.options.now packets c.args.last_packet c.args.packet c.in-Connection.addresses c.in-Connection.talk.now opening session answer
           (ap (λ (s : Selection). s.session) c.selection_of.ensures) is c.check_connection-told.ensures;
       wrote = c.put_connection.ensures;
-      tallied = c.with_connection.ensures;
+      tallied = c.add_connection.ensures.tallied;
+      added = c.add_connection.ensures.added;
     }
 
-pub returns-in-Refused : goal.returns-in-Refused
-returns-in-Refused g c = λ packets told.
+pub returns-in-Refused-clause-puts : goal.returns-in-Refused-clause-puts
+returns-in-Refused-clause-puts g c = λ packets told.
     let is = rw (c.in-Refused.is) at told in record {
       block = AllRefused c.in-Refused.addresses c.refused-refusal.result;
       told = record { ordered = is.ordered; fault = c.in-Refused.fault; refused = is.refused; is = c.refused-refusal.ensures };
       wrote = c.put_session.ensures;
-      tallied = c.with_refused.ensures;
+      tallied = c.add_refusal.ensures.tallied;
+      added = c.add_refusal.ensures.added;
     }
