@@ -10,3 +10,4 @@ pub mod FaultTexts
 pub mod Written
 pub mod Held
 pub mod RestTexts
+pub mod AtRecord

@@ -13,22 +13,26 @@ use Rattle.bgp_check.specs.Opens.{HasOwnOpen}
 use Rattle.bgp_check.specs.declared.own_fault.OwnFault.{OwnFault}
 use Rattle.bgp_check.specs.declared.peer_as.PeerAs.{PeerAs}
 use Rattle.bgp_check.specs.declared.peer_as.PeerAs.TheVariants.{Any, Is, OtherThan}
-use Rattle.bgp_explain.specs.Entries.{CanBeShown, SaysOfEntries}
+use Rattle.bgp_explain.specs.Entries.{SaysOfEntries}
 use Rattle.bgp_recording.specs.Captured.{records_of}
 use Rattle.bgp_recording.specs.declared.entry.Entry.{Entry}
+use Rattle.bgp_wire.specs.declared.header.Limit.{Limit}
 use Rattle.bgp_check_reason.specs.OwnFaults.{AreOwnFaults, faults_text}
+use Rattle.bgp_check_reason.specs.Shown.{CanBeTold, session_at}
 use Rattle.bgp_check_reason.specs.Telling.{told_text}
 use Rattle.bgp_check_reason.specs.Under.{IsToldUnder}
 use Rattle.bgp_check_reason.specs.declared.own_faults.OwnFaults.{OwnFaults}
 use Rattle.bgp_check_reason.specs.declared.reason.Reason.{Reason}
 
--- what `bgp judge --explain` says of these entries under a configuration, after the verdict; nothing,
--- where no capture of its session can hold their records
-abbrev pub IsSaid : Config → List Entry → VerdictValue → List ℕ → Type 0
-IsSaid config entries verdict text =
-    (AllByRecursion (CanBeShown config.parts.session) entries
-    × SaysOfEntries config entries verdict text)
-    ⊎ ((¬ AllByRecursion (CanBeShown config.parts.session) entries) × (text ≡ []))
+-- What `bgp judge --explain` says of these entries under a configuration, after the verdict, but that
+-- the line of a record that was sent goes by the limit of its receiver; nothing, where no capture
+-- can hold their records.
+abbrev pub IsSaid : Config → Limit → List Entry → VerdictValue → List ℕ → Type 0
+IsSaid config sent entries verdict text =
+    (AllByRecursion (CanBeTold config.parts.session sent) entries
+    × SaysOfEntries config (session_at config.parts.session sent entries verdict) entries verdict
+    text)
+    ⊎ ((¬ AllByRecursion (CanBeTold config.parts.session sent) entries) × (text ≡ []))
 
 -- ---- what differs from that
 
@@ -61,37 +65,37 @@ AreFaultsIn records Unfinished faults = faults ≡ None
 -- ---- all of it
 
 -- The configuration under which the verdict is told, what is said of it, and how that is told.
-pub record IsExplained (session : Session) (entries : List Entry) (peer : PeerAs)
+pub record IsExplained (session : Session) (sent : Limit) (entries : List Entry) (peer : PeerAs)
     (verdict : VerdictValue) (text : List ℕ) : Type 0 where
   pub config : Config
   pub under : IsToldUnder session (records_of entries) peer config
   pub holds : HasVerdict config (records_of entries) verdict
   pub said : List ℕ
-  pub is_said : IsSaid config entries verdict said
+  pub is_said : IsSaid config sent entries verdict said
   pub faults : Option OwnFaults
   pub are_faults : AreFaultsIn (records_of entries) verdict faults
   pub told : text ≡ told_text (is_of_another peer) (option_map faults_text faults) said
 
 -- of records that are judged for this peer, whatever the verdict is
-abbrev pub IsToldAs : Session → List Entry → PeerAs → Option OwnFaults → List ℕ → Type 0
-IsToldAs session entries peer faults text =
+abbrev pub IsToldAs : Session → Limit → List Entry → PeerAs → Option OwnFaults → List ℕ → Type 0
+IsToldAs session sent entries peer faults text =
     (number : Option ℕ) (verdict : VerdictValue)
     → IsJudged session (records_of entries) number peer verdict
     → AreFaultsIn (records_of entries) verdict faults
-    → IsExplained session entries peer verdict text
+    → IsExplained session sent entries peer verdict text
 
 -- of a yes nothing is told
-abbrev pub IsReasonOf : Session → List Entry → PeerAs → VerdictValue → List ℕ → Type 0
-IsReasonOf session entries peer (Yes ends) text = text ≡ []
-IsReasonOf session entries peer (No count) text =
-    IsExplained session entries peer (No count) text
-IsReasonOf session entries peer Unfinished text =
-    IsExplained session entries peer Unfinished text
+abbrev pub IsReasonOf : Session → Limit → List Entry → PeerAs → VerdictValue → List ℕ → Type 0
+IsReasonOf session sent entries peer (Yes ends) text = text ≡ []
+IsReasonOf session sent entries peer (No count) text =
+    IsExplained session sent entries peer (No count) text
+IsReasonOf session sent entries peer Unfinished text =
+    IsExplained session sent entries peer Unfinished text
 
-abbrev pub IsReasonTo : Session → List Entry → AnswerValue → List ℕ → Type 0
-IsReasonTo session entries (Unjudged why) text = text ≡ []
-IsReasonTo session entries (JudgedAs number peer verdict) text =
-    IsReasonOf session entries peer verdict text
+abbrev pub IsReasonTo : Session → Limit → List Entry → AnswerValue → List ℕ → Type 0
+IsReasonTo session sent entries (Unjudged why) text = text ≡ []
+IsReasonTo session sent entries (JudgedAs number peer verdict) text =
+    IsReasonOf session sent entries peer verdict text
 
 -- the lines of one
 abbrev pub reason_text : {X : Type 0} → Reason X → List ℕ

@@ -20,6 +20,7 @@ use bgp_judge::{Tracker, Verdict};
 use bgp_prefix::Session;
 use bgp_recording::Entry;
 use bgp_text::Lines;
+use bgp_wire::Limit;
 use mrt::{Record, Sink};
 use std::alloc::{AllocError, Allocator, Global};
 
@@ -70,6 +71,7 @@ fn own_faults_at(records: &[Record<'_>], number: Option<u32>, count: u64) -> Opt
 fn explained<A: Allocator + Copy, T: Tracker<A>>(
     alloc: A,
     session: &Session,
+    sent: Limit,
     entries: &[Entry<'_>],
     records: &[Record<'_>],
     peer: PeerAs,
@@ -78,13 +80,13 @@ fn explained<A: Allocator + Copy, T: Tracker<A>>(
     requires records { map shown_of records.now ≡ records_of entries.now }
     requires judged { (number : Option ℕ) × (verdict : VerdictValue)
         × IsJudged session.now (records_of entries.now) number peer verdict }
-    ensures { IfOk result (λ reason. IsToldAs session.now entries.now peer own_faults
+    ensures { IfOk result (λ reason. IsToldAs session.now sent entries.now peer own_faults
         (reason_text reason)) }
 {
     the_verdict_is_told_under_one();
     let config = told_under(session, records, peer);
     Ok(Reason {
-        text: said_of::<A, T>(alloc, &config, entries)?,
+        text: said_of::<A, T>(alloc, &config, sent, entries)?,
         names_another: is_of_another(peer),
         own_faults,
     })
@@ -94,6 +96,7 @@ fn explained<A: Allocator + Copy, T: Tracker<A>>(
 fn reason_for<A: Allocator + Copy, T: Tracker<A>>(
     alloc: A,
     session: &Session,
+    sent: Limit,
     entries: &[Entry<'_>],
     records: &[Record<'_>],
     judged: &Judged<A>,
@@ -101,7 +104,7 @@ fn reason_for<A: Allocator + Copy, T: Tracker<A>>(
     requires records { map shown_of records.now ≡ records_of entries.now }
     requires judged { IsJudged session.now (records_of entries.now) judged.now.as_number
         judged.now.peer_as (verdict_value judged.now.verdict) }
-    ensures { IfOk result (λ reason. IsReasonOf session.now entries.now judged.now.peer_as
+    ensures { IfOk result (λ reason. IsReasonOf session.now sent entries.now judged.now.peer_as
         (verdict_value judged.now.verdict) (reason_text reason)) }
 {
     let peer = judged.peer_as;
@@ -109,32 +112,38 @@ fn reason_for<A: Allocator + Copy, T: Tracker<A>>(
         Verdict::Yes(_) => Ok(Reason::nothing(alloc)),
         Verdict::No(count) => {
             let faults = own_faults_at(records, judged.as_number, *count);
-            explained::<A, T>(alloc, session, entries, records, peer, faults)
+            explained::<A, T>(alloc, session, sent, entries, records, peer, faults)
         }
-        Verdict::Unfinished => explained::<A, T>(alloc, session, entries, records, peer, None),
+        Verdict::Unfinished => {
+            explained::<A, T>(alloc, session, sent, entries, records, peer, None)
+        }
     }
 }
 
 /// Why the verdict on an end's records is a no or unfinished, by what is answered of them: what
 /// `bgp judge --explain` says of these entries, whose records they are, under the configuration
-/// under which the verdict is told. Of a yes, and of an end that isn't judged, it is nothing.
+/// under which the verdict is told, but that the line of a message that was sent goes by this limit,
+/// that of its receiver. Of a yes, and of an end that isn't judged, it is nothing.
 ///
 /// `AllocError` is answered where memory is refused.
 pub fn reason_of<A: Allocator + Copy, T: Tracker<A>>(
     alloc: A,
     session: &Session,
+    sent: Limit,
     entries: &[Entry<'_>],
     records: &[Record<'_>],
     answer: &Answer<A>,
 ) -> Result<Reason<A>, AllocError>
     requires records { map shown_of records.now ≡ records_of entries.now }
     requires answer { IsAnswerTo session.now (records_of entries.now) (answer_value answer.now) }
-    ensures { IfOk result (λ reason. IsReasonTo session.now entries.now (answer_value answer.now)
-        (reason_text reason)) }
+    ensures { IfOk result (λ reason. IsReasonTo session.now sent entries.now
+        (answer_value answer.now) (reason_text reason)) }
 {
     match answer {
         Answer::NotJudged(_) => Ok(Reason::nothing(alloc)),
-        Answer::Judged(judged) => reason_for::<A, T>(alloc, session, entries, records, judged),
+        Answer::Judged(judged) => {
+            reason_for::<A, T>(alloc, session, sent, entries, records, judged)
+        }
     }
 }
 

@@ -1,4 +1,4 @@
-//! Whether a capture can hold the records of entries.
+//! Whether a capture can hold the records of entries, and as of which session each is told.
 
 ghost use Rattle.std.specs.Prelude.{◌≡◌, ◌↔◌, None, IfNone, IfSome, IsTrue};
 ghost use Rattle.std.specs.List.{AllByRecursion};
@@ -7,13 +7,16 @@ ghost use Rattle.mrt.specs.Layout.{IsState};
 ghost use Rattle.mrt.specs.Reader.{shown_of};
 ghost use Rattle.mrt.specs.Rules.{HasOtherLength};
 ghost use Rattle.mrt.specs.Written.{IsAllowed, IsMessageAllowed};
-ghost use Rattle.bgp_explain.specs.Entries.{CanBeShown};
-ghost use Rattle.bgp_check_reason.specs.Shown.{IsNotHeld};
+ghost use Rattle.bgp_judge.specs.Verdict.{verdict_value};
+ghost use Rattle.bgp_check_reason.specs.Shown.{CanBeTold, IsNotHeld, is_extended, session_at};
+ghost use Rattle.bgp_check_reason.specs.Shown.{session_for};
 
+use bgp_judge::Verdict;
 use bgp_prefix::{RouteRefresh, Session};
 use bgp_recording::Entry;
 use bgp_wire::{HEADER_LEN, HeaderVerdict, Limit, check_header, header_at};
 use mrt::{Record, is_route_refresh, is_whole_refresh};
+use std::alloc::Allocator;
 
 /// Whether a number is that of a state (RFC 6396, 4.4.1).
 fn is_state(number: u16) -> bool
@@ -79,12 +82,50 @@ fn is_allowed(session: &Session, shown: &Record<'_>) -> bool
     }
 }
 
-/// Whether a capture of the session can hold the records of all these entries.
-pub(crate) fn can_be_shown(session: &Session, entries: &[Entry<'_>]) -> bool
-    ensures { IsTrue result ↔ AllByRecursion (CanBeShown session.now) entries.now }
+fn is_extended(limit: Limit) -> bool
+    ensures { result ≡ is_extended limit }
+{
+    matches!(limit, Limit::Extended)
+}
+
+/// The session as of which a record is told: a message that was sent goes by this limit.
+fn session_for(session: &Session, sent: Limit, shown: &Record<'_>) -> Session
+    ensures { result ≡ session_for session.now sent (shown_of shown.now) }
+{
+    match *shown {
+        Record::Out(..) => Session {
+            extended: is_extended(sent),
+            ..*session
+        },
+        Record::In(..) | Record::Change(..) => *session,
+    }
+}
+
+/// The session as of which the record is told at which a no stands.
+pub(crate) fn session_at<A: Allocator>(
+    session: &Session,
+    sent: Limit,
+    entries: &[Entry<'_>],
+    verdict: &Verdict<A>,
+) -> Session
+    ensures { result ≡ session_at session.now sent entries.now (verdict_value verdict.now) }
+{
+    match verdict {
+        Verdict::No(count) => match entries.get(*count as usize) {
+            Some(entry) => session_for(session, sent, &entry.record),
+            None => *session,
+        },
+        Verdict::Yes(_) | Verdict::Unfinished => *session,
+    }
+}
+
+/// Whether a capture of the session as of which it is told can hold the record of each of these
+/// entries.
+pub(crate) fn can_be_told(session: &Session, sent: Limit, entries: &[Entry<'_>]) -> bool
+    ensures { IsTrue result ↔ AllByRecursion (CanBeTold session.now sent) entries.now }
 {
     for entry in entries {
-        if !is_allowed(session, &entry.record) {
+        if !is_allowed(&session_for(session, sent, &entry.record), &entry.record) {
             return false;
         }
     }

@@ -29,7 +29,7 @@ over_all options asked session opening connection side told number peer verdict 
     let its = session_from side session in
     let records = records_of end.entries in
     let answer : IsAnswerTo its records (JudgedAs number peer verdict) = subst (λ (a : AnswerValue). IsAnswerTo its records a) is end.answers in
-    let stretch = stretch_of end.made.framings options.within (seen_from side connection) end.entries end.received_unshown end.sent_unshown end.made.recorded.told in
+    let stretch = stretch_of end.framings options.within (seen_from side connection) end.entries end.received_unshown end.sent_unshown end.made.recorded.told in
     let same = one_own records own answer.own has answer.has_own in
     subst (λ (o : Option (List ℕ)). HasVerdictOver (IsOf its o) records verdict) (sym same)
     (answer.over stretch (subst (λ (o : Option (List ℕ)). IsFaultless o) same faultless))
@@ -39,7 +39,7 @@ no_run law options asked session opening connection side told number peer count 
     let its = session_from side session in
     let records = records_of end.entries in
     let answer : IsAnswerTo its records (JudgedAs number peer (No count)) = subst (λ (a : AnswerValue). IsAnswerTo its records a) is end.answers in
-    let stretch = stretch_of end.made.framings options.within (seen_from side connection) end.entries end.received_unshown end.sent_unshown end.made.recorded.told in
+    let stretch = stretch_of end.framings options.within (seen_from side connection) end.entries end.received_unshown end.sent_unshown end.made.recorded.told in
     law its records number peer count own config stretch answer has of
 
 sends_by : (sends extended : Bool) (own told : Option OpenFields) → None ≡ why_not sends extended own told → IsTrue sends
@@ -54,7 +54,7 @@ not_vacuous options asked session opening connection side told number peer verdi
     let its = session_from side session in
     let records = records_of end.entries in
     let answer : IsAnswerTo its records (JudgedAs number peer verdict) = subst (λ (a : AnswerValue). IsAnswerTo its records a) is end.answers in (
-      stretch_of end.made.framings options.within (seen_from side connection) end.entries end.received_unshown end.sent_unshown end.made.recorded.told,
+      stretch_of end.framings options.within (seen_from side connection) end.entries end.received_unshown end.sent_unshown end.made.recorded.told,
       sends_some records answer.none,
     )
 
@@ -84,6 +84,7 @@ told_no law options last_packet place packets session opening first second opene
       connection = both.connection;
       chosen = both.chosen;
       entries = end.entries;
+      framings = end.framings;
       received_unshown = end.received_unshown;
       sent_unshown = end.sent_unshown;
       made = end.made;

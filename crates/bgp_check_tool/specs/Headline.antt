@@ -14,6 +14,7 @@ use Rattle.streams.specs.declared.connection.Opening.{Opening}
 use Rattle.streams.specs.declared.passed.Side.{Side}
 use Rattle.bgp_recording.specs.Captured.{records_of}
 use Rattle.bgp_recording.specs.declared.entry.Entry.{Entry}
+use Rattle.bgp_recording.specs.declared.framing.Framings.{Framings}
 use Rattle.bgp_recording.specs.declared.framing.Unshown.{Unshown}
 use Rattle.bgp_import.specs.ListText.{other_side}
 use Rattle.bgp_check.specs.Answered.{JudgedAs}
@@ -89,7 +90,9 @@ pub record NoneHasARun (port : ℕ) (packets : List Recorded) (within last_packe
   pub entries : List Entry
   pub received_unshown : Unshown
   pub sent_unshown : Unshown
-  pub made : IsMade within (seen_from side connection) entries received_unshown sent_unshown
+  pub framings : Framings
+  pub made : IsMade within (seen_from side connection) framings entries received_unshown
+      sent_unshown
   pub none : (own : Option (List ℕ)) (config : Config) → HasOwnOpen (records_of entries) own
       → IsOf (session_from side session) own config
       → ¬ Begins config (take (count + 1) (records_of entries))

@@ -44,17 +44,16 @@ pub record AreOffered (records : List ShownRecord) (framings : Framings) : Type 
   pub received : framings.received ≡ framing_by own
   pub sent : framings.sent ≡ framing_by heard
 
--- These entries tell the connection in the made order, either direction framed by what its receiver
--- offers. The OPENs that say so are looked for in the records that are made as if both systems
+-- These entries tell the connection in the made order, either direction framed so, by what its
+-- receiver offers. The OPENs that say so are looked for in the records that are made as if both systems
 -- offered both.
-pub record IsMade (within : ℕ) (connection : Connection) (entries : List Entry)
-    (received_unshown sent_unshown : Unshown) : Type 0 where
+pub record IsMade (within : ℕ) (connection : Connection) (framings : Framings)
+    (entries : List Entry) (received_unshown sent_unshown : Unshown) : Type 0 where
   pub looked_in : List Entry
   pub looked_in_received : Unshown
   pub looked_in_sent : Unshown
   pub is_looked_in : IsRecordedInOrder with_both_offers within connection looked_in
       looked_in_received looked_in_sent
-  pub framings : Framings
   pub are_offered : AreOffered (records_of looked_in) framings
   pub recorded : IsRecordedInOrder framings within connection entries received_unshown
       sent_unshown

@@ -9,6 +9,7 @@ use Rattle.streams.specs.declared.passed.Side.{Side}
 use Rattle.bgp_judge.specs.Verdict.{No, Unfinished, VerdictValue, Yes}
 use Rattle.bgp_recording.specs.Captured.{records_of}
 use Rattle.bgp_recording.specs.declared.entry.Entry.{Entry}
+use Rattle.bgp_recording.specs.declared.framing.Framings.{Framings}
 use Rattle.bgp_recording.specs.declared.framing.Unshown.{Unshown}
 use Rattle.bgp_import.specs.Captures.{put_off}
 use Rattle.bgp_import.specs.ListText.{end_of}
@@ -66,19 +67,23 @@ packet_of (Unjudged why) entries = None
 packet_of (JudgedAs number peer verdict) entries = packet_by verdict entries
 
 -- This is told of that end of the connection: what is answered of the records that are made of it
--- as this end has it. How the connection is asked for is told of `bgp judge`.
+-- as this end has it, and why; the line of a message that it sent goes by the limit of its receiver.
+-- How the connection is asked for is told of `bgp judge`.
 pub record IsEndTold (options : CheckOptions) (asked : Asked) (session : Session)
     (opening : Opening) (connection : Connection) (side : Side) (told : EndTold) : Type 0 where
   pub entries : List Entry
   pub received_unshown : Unshown
   pub sent_unshown : Unshown
-  pub made : IsMade options.within (seen_from side connection) entries received_unshown sent_unshown
+  pub framings : Framings
+  pub made : IsMade options.within (seen_from side connection) framings entries received_unshown
+      sent_unshown
   pub is_end : told.end ≡ end_of side session opening
   pub answers : IsAnswerTo (session_from side session) (records_of entries) told.answer
   pub is_packet : told.packet ≡ packet_of told.answer entries
   pub is_put_off : told.put_off ≡ put_off 0 entries
   pub is_highest : told.highest ≡ highest_state (records_of entries)
-  pub explains : IsReasonTo (session_from side session) entries told.answer told.reason
+  pub explains : IsReasonTo (session_from side session) framings.sent.limit entries told.answer
+      told.reason
   pub is_received : told.received ≡ received_unshown
   pub is_sent : told.sent ≡ sent_unshown
   pub judges : AreOptionsTo options.within asked (session_from side session)

@@ -11,7 +11,7 @@ ghost use Rattle.bgp_check_tool.specs.Judging.{AreOptionsTo};
 ghost use Rattle.bgp_check_tool.specs.Told.{packet_of};
 
 use crate::judging::options_to;
-use crate::making::records_of;
+use crate::making::{Made, records_of};
 use crate::options::CheckOptions;
 use bgp_check::{Answer, check_end};
 use bgp_check_reason::{Reason, reason_of};
@@ -20,7 +20,7 @@ use bgp_import::notes_on;
 use bgp_judge::{Tracker, Verdict};
 use bgp_judge_line::{Asked, JudgeOptions};
 use bgp_prefix::Session;
-use bgp_recording::{Entry, Recording, Unshown};
+use bgp_recording::{Entry, Unshown};
 use segments::Endpoint;
 use std::alloc::{AllocError, Allocator};
 use streams::Connection;
@@ -81,42 +81,46 @@ fn packet_of<A: Allocator>(answer: &Answer<A>, entries: &[Entry<'_>]) -> Option<
 pub(crate) fn told_by<A: Allocator + Copy, T: Tracker<A>>(
     alloc: A,
     viewed: &Viewed<'_>,
-    made: &Recording<'_, A>,
+    made: &Made<'_, A>,
 ) -> Result<Told<A>, AllocError>
     requires received { IsCovered viewed.now.connection.received }
     requires sent { IsCovered viewed.now.connection.sent }
     ensures end { IfOk result (λ told. told.end ≡ viewed.now.end) }
     ensures answers { IfOk result (λ told. IsAnswerTo viewed.now.session
-        (records_of made.now.entries.items) (answer_value told.answer)) }
+        (records_of made.now.recording.entries.items) (answer_value told.answer)) }
     ensures packet { IfOk result (λ told. told.packet
-        ≡ packet_of (answer_value told.answer) made.now.entries.items) }
-    ensures put_off { IfOk result (λ told. told.put_off ≡ put_off 0 made.now.entries.items) }
+        ≡ packet_of (answer_value told.answer) made.now.recording.entries.items) }
+    ensures put_off { IfOk result (λ told. told.put_off
+        ≡ put_off 0 made.now.recording.entries.items) }
     ensures highest { IfOk result (λ told. told.highest
-        ≡ highest_state (records_of made.now.entries.items)) }
+        ≡ highest_state (records_of made.now.recording.entries.items)) }
     ensures reason { IfOk result (λ told. IsReasonTo viewed.now.session
-        made.now.entries.items (answer_value told.answer) (reason_text told.reason)) }
-    ensures unshown { IfOk result (λ told. (told.received ≡ made.now.received)
-        × (told.sent ≡ made.now.sent)) }
+        made.now.framings.sent.limit made.now.recording.entries.items (answer_value told.answer)
+        (reason_text told.reason)) }
+    ensures unshown { IfOk result (λ told. (told.received ≡ made.now.recording.received)
+        × (told.sent ≡ made.now.recording.sent)) }
     ensures judge { IfOk result (λ told. IsClocked viewed.now.connection → AreOptionsTo
         viewed.now.options.within viewed.now.asked viewed.now.session viewed.now.connection
-        made.now.entries.items made.now.received made.now.sent viewed.now.options.settings
-        (answer_value told.answer) told.judge) }
+        made.now.recording.entries.items made.now.recording.received made.now.recording.sent
+        viewed.now.options.settings (answer_value told.answer) told.judge) }
 {
     let session = &viewed.session;
-    let entries = made.entries.as_slice();
+    let recording = &made.recording;
+    let sent = made.framings.sent.limit;
+    let entries = recording.entries.as_slice();
     let records = records_of(alloc, entries)?;
     let answer = check_end::<A, T>(alloc, session, &records)?;
-    let reason = reason_of::<A, T>(alloc, session, entries, &records, &answer)?;
-    let judge = options_to(alloc, viewed, made, &records, &answer)?;
+    let reason = reason_of::<A, T>(alloc, session, sent, entries, &records, &answer)?;
+    let judge = options_to(alloc, viewed, recording, &records, &answer)?;
     Ok(Told {
         end: viewed.end,
         packet: packet_of(&answer, entries),
         answer,
-        put_off: notes_on(made).put_off,
+        put_off: notes_on(recording).put_off,
         highest: highest_state(&records),
         reason,
-        received: made.received,
-        sent: made.sent,
+        received: recording.received,
+        sent: recording.sent,
         judge,
     })
 }

@@ -86,23 +86,37 @@ fn offered_in(records: &[Record<'_>]) -> Framings
     }
 }
 
+/// The records that tell a connection, and how they are framed.
+#[derive(Drop)]
+pub(crate) struct Made<'a, A: Allocator> {
+    pub(crate) recording: Recording<'a, A>,
+    pub(crate) framings: Framings,
+}
+
 /// The records that tell a connection, either direction framed by what its receiver offers.
 pub(crate) fn made_of<'a, A: Allocator + Copy>(
     alloc: A,
     connection: &Connection<'a>,
     within: u16,
-) -> Result<Recording<'a, A>, AllocError>
+) -> Result<Made<'a, A>, AllocError>
     requires received { IsCovered connection.now.received }
     requires sent { IsCovered connection.now.sent }
     // Where the packets' seconds don't fall, the records tell the connection.
     ensures { IfOk result (λ made. IsClocked connection.now → IsMade within connection.now
-        made.entries.items made.received made.sent) }
+        made.framings made.recording.entries.items made.recording.received
+        made.recording.sent) }
 {
     let looked_in = make_records(alloc, connection, with_both_offers(), within)?;
     let records = records_of(alloc, looked_in.entries.as_slice())?;
     let framings = offered_in(&records);
     if has_both_offers(framings.received) && has_both_offers(framings.sent) {
-        return Ok(looked_in);
+        return Ok(Made {
+            recording: looked_in,
+            framings,
+        });
     }
-    make_records(alloc, connection, framings, within)
+    Ok(Made {
+        recording: make_records(alloc, connection, framings, within)?,
+        framings,
+    })
 }

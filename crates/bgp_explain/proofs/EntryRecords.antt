@@ -5,20 +5,15 @@ use Rattle.std.specs.Option.{option_map}
 use Rattle.std.proofs.lemmas.List.{take_more, take_all}
 use Rattle.mrt.specs.Reader.{shown_of}
 use Rattle.bgp_prefix.specs.Shown.{ShownRecord}
+use Rattle.bgp_prefix.specs.declared.session.Session.{Session}
 use Rattle.bgp_open.specs.declared.config.Config.{Config}
-use Rattle.bgp_judge.specs.declared.verdict.Verdict.{Verdict}
-use Rattle.bgp_judge.specs.declared.verdict.Verdict.TheVariants.{Yes, No, Unfinished}
 use Rattle.bgp_judge.specs.Verdict.{VerdictValue}
 use Rattle.bgp_judge.specs.Verdict as values
 use Rattle.bgp_judge.proofs.EndLists.{map_behind}
 use Rattle.bgp_recording.specs.Captured.{records_of}
 use Rattle.bgp_recording.specs.declared.entry.Entry.{Entry}
-use Rattle.bgp_explain.specs.declared.explained.Impossible.{Impossible}
-use Rattle.bgp_explain.specs.declared.explained.Reason.{Reason}
 use Rattle.bgp_explain.specs.Entries.{SaysOfEntries, SaysWhere}
 use Rattle.bgp_explain.specs.Packets.{packets_of}
-use Rattle.bgp_explain.specs.Reason.{HasReason, IsNext}
-use Rattle.bgp_explain.specs.Text.{CanBePut, CanBePutOf}
 
 -- those so far, and one more
 pub entries_more : (xs : List Entry) (i : ℕ) (d : Entry) → i < length xs
@@ -50,22 +45,9 @@ packet_from entries number index is = subst (λ (n : ℕ). packets_of entries n 
   at [] = refl
   at (e ∷ xs) = rw add-one refl
 
--- ---- what can be put
-
-next_can : {X : Type 0} (config : Config) (before records : List ShownRecord) (o : Option (Impossible X)) → IsNext config before o records → CanBePut config.parts.session o
-next_can config before records None next = absurd next
-next_can config before records (Some i) next = next.0.allowed
-
-pub can_of : {X Y : Type 0} (config : Config) (records : List ShownRecord) (verdict : Verdict X) (reason : Option (Reason Y)) → HasReason config records verdict reason
-    → CanBePutOf config.parts.session reason
-can_of config records (Yes ends) reason has = subst (λ (w : Option (Reason _)). CanBePutOf config.parts.session w) (sym has) tt
-can_of config records (No count) None has = tt
-can_of config records (No count) (Some reason) has = next_can config (take count records) (take (count + 1) records) reason.impossible has.1
-can_of config records Unfinished None has = tt
-can_of config records Unfinished (Some reason) has = subst (λ (o : Option (Impossible _)). CanBePut config.parts.session o) (sym has.1) tt
-
 -- where the details of the reason are there, all is said
-pub says_all : (config : Config) (entries : List Entry) (verdict : VerdictValue) (more : List ℕ) → SaysWhere config entries true verdict more → SaysOfEntries config entries verdict more
-says_all config entries (values.Yes ends) more says = says
-says_all config entries (values.No count) more says = says
-says_all config entries values.Unfinished more says = says
+pub says_all : (config : Config) (session : Session) (entries : List Entry) (verdict : VerdictValue) (more : List ℕ) → SaysWhere config session entries true verdict more
+    → SaysOfEntries config session entries verdict more
+says_all config session entries (values.Yes ends) more says = says
+says_all config session entries (values.No count) more says = says
+says_all config session entries values.Unfinished more says = says

@@ -16,7 +16,6 @@ use Rattle.bgp_explain.specs.declared.explained.Impossible.{Impossible}
 use Rattle.bgp_explain.specs.declared.explained.Reason.{Reason}
 use Rattle.bgp_explain.specs.Progress.{IsAtBy, IsNamed, IsToldOf, StopsAt}
 use Rattle.bgp_explain.specs.Reason.{HasReason, IsImpossible, IsNext, IsReasonAt}
-use Rattle.mrt.specs.Written.{IsAllowed}
 use Rattle.bgp_explain.specs.Sending.{IsSendingAt}
 use Rattle.bgp_explain.specs.declared.tally.Tally.{Tally}
 use Rattle.bgp_explain.specs.Tally.{no_tally, tally_from, tally_of, tally_with}
@@ -67,7 +66,6 @@ module _ {X : Type 0} (stands : Config → List ShownRecord → Type 0) (config 
     after = at.after ++ r ∷ [];
     split = ap (λ (v : List ShownRecord). v ++ r ∷ []) at.split ∙ append_assoc at.before (at.shown ∷ at.after) (r ∷ []);
     begins = at.begins;
-    allowed = at.allowed;
     stops = at.stops;
     tells = at.tells;
     found = at.found;
@@ -119,7 +117,6 @@ module _ {X : Type 0} (config : Config) (records : List ShownRecord) (p : Progre
     subst (λ (v : List ShownRecord). IsImpossible config v impossible) (sym before_it)
         (record {
           number = named.0;
-          allowed = (at.allowed.0, subst (λ (r : ShownRecord). IsAllowed config.parts.session at.allowed.0 r) (sym named.1) at.allowed.1);
           stops = λ more. at.stops (subst (λ (r : ShownRecord). Begins config (at.before ++ r ∷ [])) named.1 more);
         }),
     with_it ∙ ap (λ (r : ShownRecord). at.before ++ r ∷ []) (sym named.1) ∙ ap (λ (v : List ShownRecord). v ++ shown_by impossible.«record» ∷ []) (sym before_it),

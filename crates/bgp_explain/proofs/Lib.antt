@@ -5,6 +5,7 @@ pub mod Keeping
 pub mod Reading
 pub mod Standing
 pub mod LastReceived
+pub mod NextRecord
 pub mod EntryRecords
 pub mod Telling
 pub mod LackedText

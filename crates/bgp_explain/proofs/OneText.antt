@@ -211,8 +211,8 @@ module _ (sets : SubcodesAreSets) (config : Config) where
   one_last [] a b e = cc
   one_last (r ∷ before) a b e = one_last before a b (let f : before ++ a ∷ [] ≡ before ++ b ∷ [] = cc in f)
 
-  one_why_not : (packets : ℕ → Option ℕ) (before records : List ShownRecord) (text other : List ℕ) → EachHasAHeader before → TellsWhyNot config packets before records text
-      → TellsWhyNot config packets before records other → text ≡ other
+  one_why_not : (packets : ℕ → Option ℕ) (before records : List ShownRecord) (text other : List ℕ) → EachHasAHeader before → TellsWhyNot config config.parts.session packets before records text
+      → TellsWhyNot config config.parts.session packets before records other → text ≡ other
   one_why_not packets before records text other each h k =
       let shown = one_last before h.shown k.shown (sym h.next ∙ k.next) in
       let line = one_record_text config.parts.session h.shown h.line k.line h.is_line (subst (λ (r : ShownRecord). IsRecordText config.parts.session r k.line) (sym shown) k.is_line) in
@@ -234,7 +234,7 @@ module _ (sets : SubcodesAreSets) (config : Config) where
         let e : No a.count ≡ No b.count = law config records (No a.count) (No b.count) (a.within, a.before, a.behind) (b.within, b.before, b.behind) in
         let count : a.count ≡ b.count = cc in
         one_why_not no_packets (take a.count records) (take (a.count + 1) records) more also (first_headers a.count records each) h
-        (subst (λ (n : ℕ). TellsWhyNot config no_packets (take n records) (take (n + 1) records) also) (sym count) k)
+        (subst (λ (n : ℕ). TellsWhyNot config config.parts.session no_packets (take n records) (take (n + 1) records) also) (sym count) k)
     one_more (inr (inl a)) (inr (inr b)) more also h k =
         absurd (let e : No a.count ≡ Unfinished = law config records (No a.count) Unfinished (a.within, a.before, a.behind) (b.begins, b.none) in cc)
     one_more (inr (inr a)) (inl b) more also h k =

@@ -1,6 +1,8 @@
 -- What is explained, told by its text.
 use Rattle.std.proofs.Common.{◌≡◌, ◌∙◌, ◌⊎◌, ◌+◌, ◌++◌, ◌==◌, ℕ, zero, suc, List, [], Bool, true, arith, refl, sym, ap, subst, inl, inr, map, take, length, append-nil, false, Option, None, Some, Result, Ok, Err}
+use Rattle.std.specs.List.{AllByRecursion}
 use Rattle.bgp_prefix.specs.Shown.{ShownRecord}
+use Rattle.bgp_prefix.specs.declared.session.Session.{Session}
 use Rattle.bgp_open.specs.declared.config.Config.{Config}
 use Rattle.mrt.specs.declared.fault.CaptureFault.{CaptureFault}
 use Rattle.mrt.specs.Capture.{ArePieces, Piece, Spells, joined, records_of}
@@ -37,15 +39,16 @@ use Rattle.bgp_explain.specs.Explaining.{Explains, ExplainsBy, IsExplained}
 use Rattle.bgp_explain.specs.Kept.{shown_by}
 use Rattle.bgp_explain.specs.Opened.{fault_told}
 use Rattle.bgp_explain.specs.Reason.{AreSummed, HasReason, IsNext, IsReasonAt}
-use Rattle.bgp_explain.specs.Text.{CanBePut, CanBePutOf, IsExplainedText, IsImpossibleLine, IsMoreBy, IsMoreOf, IsReasonText, IsWhy, no_memory_line}
+use Rattle.bgp_explain.specs.Text.{CanBePutOf, IsExplainedText, IsImpossibleLine, IsMoreBy, IsMoreOf, IsReasonText, IsWhy, no_memory_line}
 use Rattle.bgp_explain.specs.Packets.{no_packets}
+use Rattle.bgp_explain.proofs.NextRecord.{Can, can_of, each_can}
 use Rattle.bgp_explain.specs.Skipped.{skipped_of}
 use Rattle.bgp_explain.specs.Tally.{tally_of, yes_lines}
 use Rattle.bgp_explain.specs.declared.skipped.Skipped.{Skipped}
 use Rattle.bgp_explain.specs.declared.tally.Tally.{Tally}
 use Rattle.bgp_tool.specs.declared.seen.Seen.{Seen}
 
-module _ {X : Type 0} (config : Config) (packets : ℕ → Option ℕ) where
+module _ {X : Type 0} (config : Config) (session : Session) (packets : ℕ → Option ℕ) where
   same_why : (records : List ShownRecord) (reason : Reason X) (next : Option (ℕ × ShownRecord)) (text : List ℕ) → IsReasonAt config records reason
       → IsWhy config packets reason.told reason.link reason.unjudged reason.last_message.items reason.possible next text
       → IsWhy config packets (told records) (sending_link config records) reason.unjudged (last_message records) reason.possible next text
@@ -67,9 +70,9 @@ module _ {X : Type 0} (config : Config) (packets : ℕ → Option ℕ) where
   }
 
   tells_not : (before records : List ShownRecord) (reason : Reason X) (o : Option (Impossible X)) (first rest : List ℕ)
-      → IsNext config before o records → IsImpossibleLine config.parts.session packets o first → IsReasonAt config before reason
+      → IsNext config before o records → IsImpossibleLine session packets o first → IsReasonAt config before reason
       → IsWhy config packets reason.told reason.link reason.unjudged reason.last_message.items reason.possible (next_in o) rest
-      → TellsWhyNot config packets before records (first ++ rest)
+      → TellsWhyNot config session packets before records (first ++ rest)
   tells_not before records reason None first rest next line at why = absurd next
   tells_not before records reason (Some i) first rest next line at why = record {
     shown = shown_by i.«record»;
@@ -84,30 +87,30 @@ module _ {X : Type 0} (config : Config) (packets : ℕ → Option ℕ) where
 
   -- what stands after a no that has a reason
   pub why_not : (Y : Type 0) (records : List ShownRecord) (count : ℕ) (reason : Reason X) (more : List ℕ) → HasReason {X = Y} config records (No count) (Some reason)
-      → IsReasonText config packets reason more → TellsWhyNot config packets (take count records) (take (count + 1) records) more
+      → IsReasonText config session packets reason more → TellsWhyNot config session packets (take count records) (take (count + 1) records) more
   why_not Y records count reason more has is =
-      subst (λ (t : List ℕ). TellsWhyNot config packets (take count records) (take (count + 1) records) t) (sym is.whole)
+      subst (λ (t : List ℕ). TellsWhyNot config session packets (take count records) (take (count + 1) records) t) (sym is.whole)
       (tells_not (take count records) (take (count + 1) records) reason reason.impossible is.first is.rest has.1 is.impossible has.0 is.why)
 
   -- and after an unfinished
   pub why_unfinished : (Y : Type 0) (records : List ShownRecord) (reason : Reason X) (more : List ℕ) → HasReason {X = Y} config records Unfinished (Some reason)
-      → IsReasonText config packets reason more → TellsWhy config packets records None more
+      → IsReasonText config session packets reason more → TellsWhy config packets records None more
   why_unfinished Y records reason more has is =
-      let none : is.first ≡ [] = subst (λ (o : Option (Impossible X)). IsImpossibleLine config.parts.session packets o is.first) has.1 is.impossible in
+      let none : is.first ≡ [] = subst (λ (o : Option (Impossible X)). IsImpossibleLine session packets o is.first) has.1 is.impossible in
       let why = subst (λ (o : Option (Impossible X)). IsWhy config packets reason.told reason.link reason.unjudged reason.last_message.items reason.possible (next_in o) is.rest) has.1 is.why in
       let whole = is.whole ∙ ap (λ (f : List ℕ). f ++ is.rest) none in
       subst (λ (t : List ℕ). TellsWhy config packets records None t) (sym whole) (tells_why records reason None is.rest has.0 why)
 
   -- the reason, or that there was no memory for it
   more_of_no : (Y : Type 0) (records : List ShownRecord) (count : ℕ) (why : Option (Reason X)) (detailed : Bool) (more : List ℕ) → HasReason {X = Y} config records (No count) why
-      → IsMoreBy config packets why detailed more
-      → TellsWhyNot config packets (take count records) (take (count + 1) records) more ⊎ (more ≡ no_memory_line)
+      → IsMoreBy config session packets why detailed more
+      → TellsWhyNot config session packets (take count records) (take (count + 1) records) more ⊎ (more ≡ no_memory_line)
   more_of_no Y records count None detailed more has is = inr is
   more_of_no Y records count (Some reason) false more has is = inr is
   more_of_no Y records count (Some reason) true more has is = inl (why_not Y records count reason more has is)
 
   more_of_unfinished : (Y : Type 0) (records : List ShownRecord) (why : Option (Reason X)) (detailed : Bool) (more : List ℕ) → HasReason {X = Y} config records Unfinished why
-      → IsMoreBy config packets why detailed more → TellsWhy config packets records None more ⊎ (more ≡ no_memory_line)
+      → IsMoreBy config session packets why detailed more → TellsWhy config packets records None more ⊎ (more ≡ no_memory_line)
   more_of_unfinished Y records None detailed more has is = inr is
   more_of_unfinished Y records (Some reason) false more has is = inr is
   more_of_unfinished Y records (Some reason) true more has is = inl (why_unfinished Y records reason more has is)
@@ -127,7 +130,7 @@ says config records skipped (Yes ends) why detailed totals more text is has sums
   whole = whole;
 }
 says {X} {Y} config records skipped (No count) why detailed totals more text is has sums skips tells whole =
-    elim (more_of_no config no_packets X records count why detailed more has tells) [
+    elim (more_of_no config config.parts.session no_packets X records count why detailed more has tells) [
       | inl why_not ↦ inl record {
         first = verdict_text {X = X} (No count);
         more = more;
@@ -143,7 +146,7 @@ says {X} {Y} config records skipped (No count) why detailed totals more text is 
       }
     ]
 says {X} {Y} config records skipped Unfinished why detailed totals more text is has sums skips tells whole =
-    elim (more_of_unfinished config no_packets X records why detailed more has tells) [
+    elim (more_of_unfinished config config.parts.session no_packets X records why detailed more has tells) [
       | inl may ↦ inl record {
         first = verdict_text {X = X} Unfinished;
         more = more;
@@ -227,14 +230,9 @@ module _ {R : Type 0} (gives : R → R → List ℕ → Type 0) (has_ended : R �
   -- a record that is kept can be put
   can_put : {X Y : Type 0} (answer : Result (Verdict X) CaptureFault) (why : Option (Reason Y)) (totals : Totals) → ExplainsBy gives has_ended config source source' may_lack answer why totals
       → CanBePutOf config.parts.session why
-  can_put (Ok (Yes ends)) why octets is = subst (λ (w : Option (Reason _)). CanBePutOf config.parts.session w) (sym is.reason) tt
-  can_put (Ok (No count)) None octets is = tt
-  can_put (Ok (No count)) (Some reason) octets is = next_can (take count is.records) (take (count + 1) is.records) reason.impossible is.reason.1 where
-    next_can : {Y : Type 0} (before records : List ShownRecord) (o : Option (Impossible Y)) → IsNext config before o records → CanBePut config.parts.session o
-    next_can before records None next = absurd next
-    next_can before records (Some i) next = next.0.allowed
-  can_put (Ok Unfinished) None octets is = tt
-  can_put (Ok Unfinished) (Some reason) octets is = subst (λ (o : Option (Impossible _)). CanBePut config.parts.session o) (sym is.reason.1) tt
+  can_put (Ok verdict) why totals is =
+      can_of config.parts.session config is.records verdict why
+      (subst (λ (rs : List ShownRecord). AllByRecursion (Can config.parts.session) rs) (sym is.spells.shown) (each_can config.parts.session None is.spells.pieces is.spells.text.each)) is.reason
   can_put (Err fault) why octets is = subst (λ (w : Option (Reason _)). CanBePutOf config.parts.session w) (sym is.1) tt
 
 pub can_be_put : {S X : Type 0} (gives : S → S → List ℕ → Type 0) (has_ended : S → Bool) (config : Config) (source new : S)

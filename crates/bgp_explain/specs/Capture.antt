@@ -3,6 +3,7 @@ use Rattle.std.specs.Prelude.{◌≡◌, ◌≢◌, ◌<◌, ◌+◌, ◌^◌, �
 use Rattle.std.specs.Prelude.{Option, None, Some, IfSome, IsTrue, length, take}
 use Rattle.std.proofs.Common.{inl, inr}
 use Rattle.bgp_prefix.specs.Shown.{ShownRecord}
+use Rattle.bgp_prefix.specs.declared.session.Session.{Session}
 use Rattle.bgp_open.specs.declared.config.Config.{Config}
 use Rattle.mrt.specs.Capture.{Spells}
 use Rattle.bgp_reason.specs.declared.kinds.Possible.{Possible}
@@ -37,13 +38,14 @@ pub record TellsWhy (config : Config) (packets : ℕ → Option ℕ) (records : 
   pub why : IsWhy config packets (told records) (sending_link config records) unjudged
       (last_message records) possible next text
 
--- the line of the record after these, and then the lines on those before it
-pub record TellsWhyNot (config : Config) (packets : ℕ → Option ℕ)
+-- the line of the record after these, as of a capture of this session, and then the lines on those
+-- before it
+pub record TellsWhyNot (config : Config) (session : Session) (packets : ℕ → Option ℕ)
     (before records : List ShownRecord) (text : List ℕ) : Type 0 where
   pub shown : ShownRecord
   pub next : records ≡ before ++ shown ∷ []
   pub line : List ℕ
-  pub is_line : IsRecordText config.parts.session shown line
+  pub is_line : IsRecordText session shown line
   pub rest : List ℕ
   pub why : TellsWhy config packets before (Some (length before + 1, shown)) rest
   pub whole : text
@@ -57,7 +59,7 @@ module _ (config : Config) (records : List ShownRecord) (skipped : Skipped) (fir
   SaysMore (inl says) more =
       more ≡ yes_lines (tally_of records) (Some skipped) (seen_in records).left_idle
   SaysMore (inr (inl denies)) more =
-      TellsWhyNot config no_packets (take denies.count records)
+      TellsWhyNot config config.parts.session no_packets (take denies.count records)
       (take (denies.count + 1) records) more
   SaysMore (inr (inr unfinished)) more = TellsWhy config no_packets records None more
 

@@ -27,15 +27,16 @@ pub record AreExplained {X : Type 0} (config : Config) (entries : List Entry)
   pub reason : HasReason config (records_of entries) explained.verdict explained.reason
   pub summed : AreSummed (records_of entries) explained.verdict explained.tally explained.seen
 
--- What is told after the verdict: of a no why the next record is impossible, of an unfinished what
--- may follow, and after a yes what the records are; or that memory was refused for the reason.
-module _ (config : Config) (entries : List Entry) where
+-- What is told after the verdict: of a no why the next record is impossible, with its line as of a
+-- capture of this session, of an unfinished what may follow, and after a yes what the records are;
+-- or that memory was refused for the reason.
+module _ (config : Config) (session : Session) (entries : List Entry) where
   abbrev pub SaysOfEntries : VerdictValue → List ℕ → Type 0
   SaysOfEntries (Yes ends) more =
       more ≡ yes_lines (tally_of (records_of entries)) None
       (seen_in (records_of entries)).left_idle
   SaysOfEntries (No count) more =
-      TellsWhyNot config (packets_of entries) (take count (records_of entries))
+      TellsWhyNot config session (packets_of entries) (take count (records_of entries))
       (take (count + 1) (records_of entries)) more
   SaysOfEntries Unfinished more =
       TellsWhy config (packets_of entries) (records_of entries) None more

@@ -4,7 +4,6 @@ use Rattle.std.specs.Prelude.{IfSome, Vec, length}
 use Rattle.bgp_prefix.specs.Shown.{ShownRecord}
 use Rattle.bgp_open.specs.declared.config.Config.{Config}
 use Rattle.bgp_machine.specs.Run.{Begins}
-use Rattle.mrt.specs.Written.{IsAllowed}
 use Rattle.bgp_reason.specs.Asked.{AreAsked}
 use Rattle.bgp_reason.specs.Possible.{ArePossible}
 use Rattle.bgp_reason.specs.declared.told.Told.{Told}
@@ -55,9 +54,8 @@ pub record IsFound {X : Type 0} (config : Config) (before : List ShownRecord)
   pub asked : AreAsked config before found.possible
   pub timely : IfSome found.possible.hold_timer_expired (λ from. from < 2 ^ 32)
 
--- The records stop being those of a run at one that a capture of the session can hold. It is kept
--- with what could have stood in its place, if there was memory for it, and what those before it
--- tell.
+-- The records stop being those of a run at one. It is kept with what could have stood in its place,
+-- if there was memory for it, and what those before it tell.
 pub record StopsAt {X : Type 0} (config : Config) (records : List ShownRecord)
     (progress : Progress X) (stop : Stop X) : Type 0 where
   pub before : List ShownRecord
@@ -65,7 +63,6 @@ pub record StopsAt {X : Type 0} (config : Config) (records : List ShownRecord)
   pub after : List ShownRecord
   pub split : records ≡ before ++ shown ∷ after
   pub begins : Begins config before
-  pub allowed : (last : Option ℕ) × IsAllowed config.parts.session last shown
   pub stops : ¬ Begins config (before ++ shown ∷ [])
   pub tells : IsToldOf config before progress
   pub found : IfSome stop.found (IsFound config before shown)

@@ -4,7 +4,6 @@ use Rattle.std.specs.Prelude.{IfSome, length, take}
 use Rattle.bgp_prefix.specs.Shown.{ShownRecord}
 use Rattle.bgp_open.specs.declared.config.Config.{Config}
 use Rattle.bgp_machine.specs.Run.{Begins}
-use Rattle.mrt.specs.Written.{IsAllowed}
 use Rattle.bgp_judge.specs.declared.verdict.Verdict.{Verdict}
 use Rattle.bgp_judge.specs.declared.verdict.Verdict.TheVariants.{Yes, No, Unfinished}
 use Rattle.bgp_reason.specs.Asked.{AreAsked}
@@ -33,13 +32,10 @@ pub record IsReasonAt {X : Type 0} (config : Config) (records : List ShownRecord
   pub asked : AreAsked config records reason.possible
   pub timely : IfSome reason.possible.hold_timer_expired (λ from. from < 2 ^ 32)
 
--- A record with which those before it begin no run, and which a capture of the session can hold, is
--- kept with its number.
+-- A record with which those before it begin no run is kept with its number.
 pub record IsImpossible {X : Type 0} (config : Config) (before : List ShownRecord)
     (impossible : Impossible X) : Type 0 where
   pub number : impossible.number ≡ length before + 1
-  pub allowed : (last : Option ℕ)
-      × IsAllowed config.parts.session last (shown_by impossible.«record»)
   pub stops : ¬ Begins config (before ++ shown_by impossible.«record» ∷ [])
 
 -- it is the one after those before it

@@ -103,7 +103,7 @@ pub record IsWhy (config : Config) (packets : ℕ → Option ℕ) (told : Told) 
 
 -- ---- of a reason
 
--- the line of the first impossible record, where there is one
+-- the line of the first impossible record, where there is one, as of a capture of this session
 abbrev pub IsImpossibleLine : {X : Type 0} → Session → (ℕ → Option ℕ) → Option (Impossible X)
     → List ℕ → Type 0
 IsImpossibleLine session packets None text = text ≡ []
@@ -111,11 +111,11 @@ IsImpossibleLine session packets (Some impossible) text =
     (line : List ℕ) × IsRecordText session (shown_by impossible.«record») line
     × (text ≡ record_line impossible.number (packets impossible.number) line)
 
-pub record IsReasonText {X : Type 0} (config : Config) (packets : ℕ → Option ℕ)
-    (reason : Reason X) (text : List ℕ) : Type 0 where
+pub record IsReasonText {X : Type 0} (config : Config) (session : Session)
+    (packets : ℕ → Option ℕ) (reason : Reason X) (text : List ℕ) : Type 0 where
   pub first : List ℕ
   pub rest : List ℕ
-  pub impossible : IsImpossibleLine config.parts.session packets reason.impossible first
+  pub impossible : IsImpossibleLine session packets reason.impossible first
   pub why : IsWhy config packets reason.told reason.link reason.unjudged
       reason.last_message.items reason.possible (next_in reason.impossible) rest
   pub whole : text ≡ first ++ rest
@@ -127,10 +127,11 @@ abbrev pub no_memory_line : List ℕ
 no_memory_line = codes "note no memory for the reason\n"
 
 -- the reason, where there is one and its details are there, or that memory was refused for it
-abbrev pub IsMoreBy : {X : Type 0} → Config → (ℕ → Option ℕ) → Option (Reason X) → Bool → List ℕ
-    → Type 0
-IsMoreBy config packets (Some reason) true more = IsReasonText config packets reason more
-IsMoreBy config packets reason detailed more = more ≡ no_memory_line
+abbrev pub IsMoreBy : {X : Type 0} → Config → Session → (ℕ → Option ℕ) → Option (Reason X) → Bool
+    → List ℕ → Type 0
+IsMoreBy config session packets (Some reason) true more =
+    IsReasonText config session packets reason more
+IsMoreBy config session packets reason detailed more = more ≡ no_memory_line
 
 -- after a yes what its records are, after a fault nothing, and else the reason
 abbrev pub IsMoreOf : {X Y : Type 0} → Config → Result (Verdict X) CaptureFault → Option (Reason Y)
@@ -138,7 +139,7 @@ abbrev pub IsMoreOf : {X Y : Type 0} → Config → Result (Verdict X) CaptureFa
 IsMoreOf config (Ok (Yes ends)) reason detailed totals more =
     more ≡ yes_lines totals.tally (Some totals.skipped) totals.seen.left_idle
 IsMoreOf config (Ok verdict) reason detailed totals more =
-    IsMoreBy config no_packets reason detailed more
+    IsMoreBy config config.parts.session no_packets reason detailed more
 IsMoreOf config (Err fault) reason detailed totals more = more ≡ []
 
 -- the verdict's own text, and then what comes after it

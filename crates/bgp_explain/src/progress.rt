@@ -7,7 +7,6 @@ ghost use Rattle.bgp_judge.specs.Verdict.{IsVerdict};
 ghost use Rattle.bgp_open.specs.declared.config.Config.{Config as TheConfig};
 ghost use Rattle.bgp_machine.specs.Run.{Begins};
 ghost use Rattle.mrt.specs.Reader.{shown_of};
-ghost use Rattle.mrt.specs.Written.{IsAllowed};
 ghost use Rattle.bgp_reason.specs.Told.{last_from};
 ghost use Rattle.bgp_explain.specs.Progress.{AreSaidBy, IsAt, IsFound, IsNamed, IsToldOf};
 ghost use Rattle.bgp_explain.specs.Reason.{AreSummed, HasReason, IsReasonAt};
@@ -212,8 +211,6 @@ impl<A: Allocator + Copy> Progress<A> {
         shown: &Record<'_>,
     ) -> Result<(), AllocError>
         requires count { self.old.count < u64.MAX }
-        requires can { (last : Option ℕ)
-            × IsAllowed config.now.parts.session last (shown_of shown.now) }
         ensures next { (records : List ShownRecord)
             → IsAt (T.stands_for tracker.old) config.now records self.old
             → IfOk result (λ done. IsAt (T.stands_for tracker.new) config.now

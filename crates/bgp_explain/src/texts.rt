@@ -20,6 +20,7 @@ use crate::tally::put_yes_lines;
 use bgp_check::Unjudged;
 use bgp_judge::Verdict;
 use bgp_open::Config;
+use bgp_prefix::Session;
 use bgp_reason::{Possible, Told};
 use bgp_reason_text::{
     Asked, AskedUpdate, Lacks, NotWhole, Notes, put_last_received, put_last_update, put_not_whole,
@@ -174,29 +175,26 @@ fn put_why<W: Sink, A: Allocator>(
 /// with what the impossible one lacks of it; and notes.
 ///
 /// Where the records are made of a recording, these are its entries, and the lines on the record
-/// and on the message have their packets; of a capture there are none.
+/// and on the message have their packets; of a capture there are none. The record's line is put as
+/// of a capture of this session.
 pub fn put_reason<W: Sink, A: Allocator + Copy>(
     lines: &mut Lines<'_, W>,
     config: &Config,
+    session: &Session,
     entries: &[Entry<'_>],
     reason: &Reason<A>,
     details: &Details<'_, A>,
 )
-    requires can { CanBePut config.now.parts.session reason.now.impossible }
+    requires can { CanBePut session.now reason.now.impossible }
     requires details { AreDetails config.now reason.now details.now }
-    ensures { (text : List ℕ) × IsReasonText config.now (packets_of entries.now) reason.now text
+    ensures { (text : List ℕ)
+        × IsReasonText config.now session.now (packets_of entries.now) reason.now text
         × Writes lines.old lines.new text }
 {
     if let Some(impossible) = &reason.impossible {
         let shown = impossible.record.as_record();
         let packet = packet_of(entries, impossible.number);
-        put_record_line(
-            lines,
-            impossible.number,
-            packet,
-            &config.parts.session,
-            &shown,
-        );
+        put_record_line(lines, impossible.number, packet, session, &shown);
     }
     let received = received_of(config, entries, reason);
     let unwhole = unwhole_of(reason);
@@ -223,21 +221,23 @@ fn put_no_memory<W: Sink>(lines: &mut Lines<'_, W>)
 pub(crate) fn put_any_reason<W: Sink, A: Allocator + Copy>(
     lines: &mut Lines<'_, W>,
     config: &Config,
+    session: &Session,
     entries: &[Entry<'_>],
     reason: &Option<Reason<A>>,
     details: &Option<Details<'_, A>>,
 )
-    requires can { CanBePutOf config.now.parts.session reason.now }
+    requires can { CanBePutOf session.now reason.now }
     requires details { AreDetailsOf config.now reason.now details.now }
     ensures { (more : List ℕ)
-        × IsMoreBy config.now (packets_of entries.now) reason.now (is_some details.now) more
+        × IsMoreBy config.now session.now (packets_of entries.now) reason.now
+        (is_some details.now) more
         × Writes lines.old lines.new more }
 {
     match reason {
         None => put_no_memory(lines),
         Some(reason) => match details {
             None => put_no_memory(lines),
-            Some(details) => put_reason(lines, config, entries, reason, details),
+            Some(details) => put_reason(lines, config, session, entries, reason, details),
         },
     }
 }
@@ -255,6 +255,7 @@ fn put_more<W: Sink, A: Allocator + Copy>(
     ensures { (more : List ℕ) × IsMoreOf config.now explained.now.answer explained.now.reason
         (is_some details.now) explained.now.totals more × Writes lines.old lines.new more }
 {
+    let session = &config.parts.session;
     match &explained.answer {
         Ok(Verdict::Yes(_)) => {
             let Totals {
@@ -265,9 +266,11 @@ fn put_more<W: Sink, A: Allocator + Copy>(
             } = &explained.totals;
             put_yes_lines(lines, tally, Some(*skipped), seen.left_idle);
         }
-        Ok(Verdict::No(_)) => put_any_reason(lines, config, &[], &explained.reason, details),
+        Ok(Verdict::No(_)) => {
+            put_any_reason(lines, config, session, &[], &explained.reason, details);
+        }
         Ok(Verdict::Unfinished) => {
-            put_any_reason(lines, config, &[], &explained.reason, details);
+            put_any_reason(lines, config, session, &[], &explained.reason, details);
         }
         Err(_) => {}
     }

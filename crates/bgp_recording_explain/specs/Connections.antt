@@ -42,7 +42,7 @@ module _ (config : Config) (wanted : Import) (packets : List Recorded) (segments
     pub record IsExplained (number named : Option ℕ) (verdict : VerdictValue) (more : List ℕ)
         (remarks : List Remark) : Type 0 where
       pub judged : IsJudged config wanted packets segments number named verdict remarks
-      pub explains : SaysOrNot config judged.entries verdict more
+      pub explains : SaysOrNot config config.parts.session judged.entries verdict more
 
     -- or it is refused
     abbrev pub IsTold : Option ℕ → Option ℕ → Told → List Remark → Type 0

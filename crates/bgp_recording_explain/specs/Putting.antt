@@ -22,7 +22,7 @@ pub record PutsExplained {T : Type 0} {sink : sinks.Ghosts T} (config : Config) 
   pub verdict : VerdictValue
   pub more : List ℕ
   pub is : HasVerdict config (records_of entries) verdict
-  pub explains : SaysOrNot config entries verdict more
+  pub explains : SaysOrNot config config.parts.session entries verdict more
   pub wrote : Writes lines lines' (value_text verdict ++ more)
   pub added : remarks' ≡ remarks ++ remarks_on named entries notes verdict
   pub tells : status ≡ value_status verdict

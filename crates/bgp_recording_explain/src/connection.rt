@@ -18,6 +18,7 @@ ghost use Rattle.bgp_recording_tool.specs.Remarks.{AddsTold, IsHelp, notes_of};
 ghost use Rattle.bgp_recording_tool.specs.Told.{refused_status, value_status, value_text};
 ghost use Rattle.bgp_explain.specs.Details.{AreDetailsOf};
 ghost use Rattle.bgp_explain.specs.Entries.{AreExplained, CanBeShown, SaysOrNot};
+ghost use Rattle.bgp_explain.specs.Text.{CanBePutOf};
 ghost use Rattle.bgp_recording_explain.specs.Connections.{IsToldAs};
 ghost use Rattle.bgp_recording_explain.specs.Putting.{PutsExplained, PutsNothing};
 
@@ -44,15 +45,18 @@ fn put_explained<A: Allocator + Copy, W: Sink>(
     details: &Option<Details<'_, A>>,
 ) -> Status
     requires explained { AreExplained config.now entries.now explained.now }
+    requires can { CanBePutOf config.now.parts.session explained.now.reason }
     requires details { AreDetailsOf config.now explained.now.reason details.now }
     ensures writes { (more : List ℕ)
-        × SaysOrNot config.now entries.now (verdict_value explained.now.verdict) more
+        × SaysOrNot config.now config.now.parts.session entries.now
+        (verdict_value explained.now.verdict) more
         × Writes lines.old lines.new
         (value_text (verdict_value explained.now.verdict) ++ more) }
     ensures status { code_of result ≡ value_status (verdict_value explained.now.verdict) }
 {
+    let session = &config.parts.session;
     put_verdict(lines, &explained.verdict);
-    put_explained_entries(lines, config, entries, explained, details);
+    put_explained_entries(lines, config, session, entries, explained, details);
     verdict_status(&explained.verdict)
 }
 

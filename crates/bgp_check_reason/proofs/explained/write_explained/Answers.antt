@@ -16,7 +16,8 @@ returns g c =
     let config = c.args.config.now in
     let entries = c.args.entries.now in
     let verdict = verdict_value c.args.explained.now.verdict in
-    let says = says_all config entries verdict more (subst (λ (b : Bool). SaysWhere config entries b verdict more) c.requires.all so) in
+    let session = c.args.session.now in
+    let says = says_all config session entries verdict more (subst (λ (b : Bool). SaysWhere config session entries b verdict more) c.requires.all so) in
     let wrote = and_nothing law put c.hand_over-handed_over.ensures.writes in
     on_ok_weaker c.hand_over-handed_over.result
     (λ calm. (more, says, took_all c.new-lines.result c.hand_over-handed_over.new.self c.args.sink.now _ more fresh c.new-lines.ensures.now (search rules) wrote c.hand_over-handed_over.ensures.none calm))

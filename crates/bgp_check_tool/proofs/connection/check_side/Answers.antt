@@ -13,7 +13,8 @@ use Rattle.bgp_check_tool.proofs.connection.check_side.Goals as goal
 
 pub returns : goal.returns
 returns g c = λ clock.
-    let made = c.in_ok-made.made in
+    let made = c.in_ok-made.made.recording in
+    let framings = c.in_ok-made.made.framings in
     let told = c.in_ok-told.told in
     let is = c.in_ok-told.ensures in
     let options = c.args.between.now.options in
@@ -21,16 +22,17 @@ returns g c = λ clock.
     let seen = c.seen_from.result in
     let its_clock = subst (λ (v : Connection). IsClocked v) (sym c.seen_from.ensures) (clocked c.args.side c.args.connection.now clock) in
     record {
+      framings = framings;
       entries = made.entries.items;
       received_unshown = made.received;
       sent_unshown = made.sent;
-      made = subst (λ (v : Connection). IsMade options.within v made.entries.items made.received made.sent) c.seen_from.ensures (c.in_ok-made.ensures its_clock);
+      made = subst (λ (v : Connection). IsMade options.within v framings made.entries.items made.received made.sent) c.seen_from.ensures (c.in_ok-made.ensures its_clock);
       is_end = is.end ∙ c.end_of.ensures;
       answers = subst (λ (v : Session). IsAnswerTo v (records_of made.entries.items) (answer_value told.answer)) c.session_from.ensures is.answers;
       is_packet = is.packet;
       is_put_off = is.put_off;
       is_highest = is.highest;
-      explains = subst (λ (v : Session). IsReasonTo v made.entries.items (answer_value told.answer) (reason_text told.reason)) c.session_from.ensures is.reason;
+      explains = subst (λ (v : Session). IsReasonTo v framings.sent.limit made.entries.items (answer_value told.answer) (reason_text told.reason)) c.session_from.ensures is.reason;
       is_received = is.unshown.0;
       is_sent = is.unshown.1;
       judges = subst (λ (v : Connection).

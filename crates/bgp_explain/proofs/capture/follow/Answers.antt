@@ -3,7 +3,6 @@ use Rattle.mrt.specs.declared.fault.CaptureFault.{CaptureFault}
 use Rattle.mrt.specs.declared.fault.FaultKind.TheVariants.{Memory}
 use Rattle.mrt.specs.Reader.{ReaderState, shown_of}
 use Rattle.bgp_judge.proofs.CaptureSoFar.{answer_of, answered, less_left, nothing_read, passes_more, refused, untaken}
-use Rattle.bgp_tool.proofs.CaptureLines.{allowed_answer}
 use Rattle.bgp_explain.specs.Progress.{IsAt}
 use Rattle.bgp_explain.proofs.Keeping.{none_yet}
 use Rattle.bgp_explain.proofs.Reading.{reads_all}
@@ -78,11 +77,3 @@ loop-shown-preserved g c =
       one_source = c.next_record.follows.holds-at-none.1;
       calm = omega (arith, c.loop-shown.invariant.calm);
     }
-
-pub advance-advanced-requires-clause-can : goal.advance-advanced-requires-clause-can
-advance-advanced-requires-clause-can g c =
-    let (records, so, at) = c.loop-shown.invariant.so_far in
-    let answer = answer_of g.S.Source.gives g.S.Source.has_ended g.met.S.Source.joined g.S.Source.given_count g.met.S.Source.counted c.args.config.now c.args.source.now g.T.Tracker.may_lack c.loop-shown.source c.next_record.new.source
-    c.loop-shown.reader c.next_record.follows.lender-at-none records c.next_record.result so c.next_record.follows.holds-at-none.0 in
-    let is = rw (c.in-Ok-Some.is, c.in-Ok-Some.field-0-is) at answer in
-    allowed_answer g.S.Source.gives g.S.Source.has_ended g.met.S.Source.joined g.S.Source.given_count g.met.S.Source.counted c.args.config.now.parts.session c.args.source.now _ _ _ _ _ is

@@ -1,10 +1,9 @@
-use Rattle.std.proofs.Common.{List, [], None, take, subst, arith}
+use Rattle.std.proofs.Common.{List, [], take, subst, arith}
 use Rattle.bgp_prefix.specs.Shown.{ShownRecord}
 use Rattle.bgp_judge.proofs.Verdicts.{no_record_begins}
 use Rattle.bgp_recording.specs.Captured.{records_of}
-use Rattle.bgp_explain.specs.Entries.{CanBeShown}
 use Rattle.bgp_explain.specs.Progress.{IsAt}
-use Rattle.bgp_explain.proofs.EntryRecords.{entries_all, entries_more, one_of}
+use Rattle.bgp_explain.proofs.EntryRecords.{entries_all, entries_more}
 use Rattle.bgp_explain.proofs.Keeping.{none_at}
 use Rattle.bgp_explain.proofs.entries.explain_entries.Goals as goal
 
@@ -16,10 +15,6 @@ loop-entry-init g c =
           c.in_ok-tracker.ensures (no_record_begins c.args.config.now) told;
       few = omega (arith, none);
     }
-
-pub advance-requires-clause-can : goal.advance-requires-clause-can
-advance-requires-clause-can g c =
-    (None, one_of (CanBeShown c.args.config.now.parts.session) c.args.entries.now c.loop-entry.entry-index _ c.loop-entry-test.true c.requires)
 
 pub loop-entry-preserved : goal.loop-entry-preserved
 loop-entry-preserved g c =

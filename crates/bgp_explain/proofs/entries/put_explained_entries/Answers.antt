@@ -1,4 +1,5 @@
 use Rattle.std.proofs.Common.{◌≡◌, ◌∙◌, ℕ, Bool, true, false, IsTrue, List, Option, None, Some, ap, is_some, refl, subst}
+use Rattle.bgp_prefix.specs.declared.session.Session.{Session}
 use Rattle.bgp_open.specs.declared.config.Config.{Config}
 use Rattle.bgp_judge.specs.declared.verdict.Verdict.{Verdict}
 use Rattle.bgp_judge.specs.declared.verdict.Verdict.TheVariants.{No, Unfinished}
@@ -15,7 +16,6 @@ use Rattle.bgp_explain.specs.Packets.{packets_of}
 use Rattle.bgp_explain.specs.Reason.{HasReason}
 use Rattle.bgp_explain.specs.Tally.{tally_of, yes_lines}
 use Rattle.bgp_explain.specs.Text.{IsMoreBy}
-use Rattle.bgp_explain.proofs.EntryRecords.{can_of}
 use Rattle.bgp_explain.proofs.Telling.{why_not, why_unfinished}
 use Rattle.bgp_explain.proofs.entries.put_explained_entries.Goals as goal
 
@@ -25,38 +25,30 @@ detailed_so config None None are some = some
 detailed_so config None (Some details) are some = absurd are
 detailed_so config (Some reason) details are some = refl
 
-module _ {X : Type 0} (Y : Type 0) (config : Config) (entries : List Entry) where
+module _ {X : Type 0} (Y : Type 0) (config : Config) (session : Session) (entries : List Entry) where
   after_no : (count : ℕ) (why : Option (Reason X)) (detailed : Bool) (more : List ℕ) → HasReason {X = Y} config (records_of entries) (No count) why → (IsTrue detailed → IsTrue (is_some why))
-      → IsMoreBy config (packets_of entries) why detailed more → SaysWhere config entries detailed (values.No count) more
+      → IsMoreBy config session (packets_of entries) why detailed more → SaysWhere config session entries detailed (values.No count) more
   after_no count None true more has some is = absurd (let k : false ≡ true = some refl in cc)
   after_no count None false more has some is = is
   after_no count (Some reason) false more has some is = is
-  after_no count (Some reason) true more has some is = why_not config (packets_of entries) Y (records_of entries) count reason more has is
+  after_no count (Some reason) true more has some is = why_not config session (packets_of entries) Y (records_of entries) count reason more has is
 
   after_unfinished : (why : Option (Reason X)) (detailed : Bool) (more : List ℕ) → HasReason {X = Y} config (records_of entries) Unfinished why → (IsTrue detailed → IsTrue (is_some why))
-      → IsMoreBy config (packets_of entries) why detailed more → SaysWhere config entries detailed values.Unfinished more
+      → IsMoreBy config session (packets_of entries) why detailed more → SaysWhere config session entries detailed values.Unfinished more
   after_unfinished None true more has some is = absurd (let k : false ≡ true = some refl in cc)
   after_unfinished None false more has some is = is
   after_unfinished (Some reason) false more has some is = is
-  after_unfinished (Some reason) true more has some is = why_unfinished config (packets_of entries) Y (records_of entries) reason more has is
+  after_unfinished (Some reason) true more has some is = why_unfinished config session (packets_of entries) Y (records_of entries) reason more has is
 
   says_no : (verdict : Verdict Y) (count : ℕ) (why : Option (Reason X)) (detailed : Bool) (more : List ℕ) → verdict ≡ No count → HasReason config (records_of entries) verdict why
-      → (IsTrue detailed → IsTrue (is_some why)) → IsMoreBy config (packets_of entries) why detailed more → SaysWhere config entries detailed (values.No count) more
+      → (IsTrue detailed → IsTrue (is_some why)) → IsMoreBy config session (packets_of entries) why detailed more → SaysWhere config session entries detailed (values.No count) more
   says_no verdict count why detailed more is has some by =
       after_no count why detailed more (subst (λ (v : Verdict Y). HasReason config (records_of entries) v why) is has) some by
 
   says_unfinished : (verdict : Verdict Y) (why : Option (Reason X)) (detailed : Bool) (more : List ℕ) → verdict ≡ Unfinished → HasReason config (records_of entries) verdict why
-      → (IsTrue detailed → IsTrue (is_some why)) → IsMoreBy config (packets_of entries) why detailed more → SaysWhere config entries detailed values.Unfinished more
+      → (IsTrue detailed → IsTrue (is_some why)) → IsMoreBy config session (packets_of entries) why detailed more → SaysWhere config session entries detailed values.Unfinished more
   says_unfinished verdict why detailed more is has some by =
       after_unfinished why detailed more (subst (λ (v : Verdict Y). HasReason config (records_of entries) v why) is has) some by
-
-pub put_any_reason-requires-clause-can : goal.put_any_reason-requires-clause-can
-put_any_reason-requires-clause-can g c =
-    can_of c.args.config.now (records_of c.args.entries.now) c.args.explained.now.verdict c.args.explained.now.reason c.requires.explained.reason
-
-pub put_any_reason-requires-in-Unfinished-clause-can : goal.put_any_reason-requires-in-Unfinished-clause-can
-put_any_reason-requires-in-Unfinished-clause-can g c =
-    can_of c.args.config.now (records_of c.args.entries.now) c.args.explained.now.verdict c.args.explained.now.reason c.requires.explained.reason
 
 pub returns-in-Yes : goal.returns-in-Yes
 returns-in-Yes g c =
@@ -74,7 +66,7 @@ returns-in-No g c =
     let (more, is, put) = c.put_any_reason.ensures in
     let explained = c.args.explained.now in
     let details = c.args.details.now in
-    let says = says_no _ c.args.config.now c.args.entries.now explained.verdict _ explained.reason (is_some details) more c.in-No.is
+    let says = says_no _ c.args.config.now c.args.session.now c.args.entries.now explained.verdict _ explained.reason (is_some details) more c.in-No.is
     c.requires.explained.reason (detailed_so c.args.config.now explained.reason details c.requires.details) is in
     rw c.in-No.is (more, says, put)
 
@@ -83,6 +75,6 @@ returns-in-Unfinished g c =
     let (more, is, put) = c.put_any_reason-in-Unfinished.ensures in
     let explained = c.args.explained.now in
     let details = c.args.details.now in
-    let says = says_unfinished _ c.args.config.now c.args.entries.now explained.verdict explained.reason (is_some details) more c.in-Unfinished.is
+    let says = says_unfinished _ c.args.config.now c.args.session.now c.args.entries.now explained.verdict explained.reason (is_some details) more c.in-Unfinished.is
     c.requires.explained.reason (detailed_so c.args.config.now explained.reason details c.requires.details) is in
     rw c.in-Unfinished.is (more, says, put)

@@ -14,7 +14,7 @@ pub returns : goal.returns
 returns g c =
     let law : Joins g.W.Sink = record { joined = g.met.W.Sink.joined } in
     let config = c.args.config.now in
-    let session = config.parts.session in
+    let session = c.args.session.now in
     let reason = c.args.reason.now in
     let packets = packets_of c.args.entries.now in
     let details = c.args.details.now in

@@ -4,11 +4,18 @@ use Rattle.bgp_judge.specs.Verdict.{HasVerdict, verdict_value}
 use Rattle.bgp_recording.specs.Captured.{records_of}
 use Rattle.bgp_recording.specs.declared.entry.Entry.{Entry}
 use Rattle.bgp_explain.specs.Entries.{CanBeShown, SaysOrNot}
+use Rattle.bgp_explain.proofs.NextRecord.{can_of, entries_can}
 use Rattle.bgp_recording_explain.proofs.connection.explain_made.Goals as goal
 
-pub explain_entries-requires : goal.explain_entries-requires
-explain_entries-requires g c =
-    subst (λ (es : List Entry). AllByRecursion (CanBeShown c.args.config.now.parts.session) es) (sym c.as_slice-entries.ensures.value) c.requires
+pub put_explained-requires-clause-can : goal.put_explained-requires-clause-can
+put_explained-requires-clause-can g c =
+    let config = c.args.config.now in
+    let session = config.parts.session in
+    let entries = c.as_slice-entries.result.now in
+    let explained = c.in_ok-explained.explained in
+    can_of session config (records_of entries) explained.verdict explained.reason
+    (entries_can session entries (subst (λ (es : List Entry). AllByRecursion (CanBeShown session) es) (sym c.as_slice-entries.ensures.value) c.requires))
+    c.in_ok-explained.ensures.reason
 
 pub returns : goal.returns
 returns g c =
@@ -20,7 +27,7 @@ returns g c =
       verdict = verdict;
       more = more;
       is = subst (λ (es : List Entry). HasVerdict config (records_of es) verdict) same c.in_ok-explained.ensures.verdict;
-      explains = subst (λ (es : List Entry). SaysOrNot config es verdict more) same says;
+      explains = subst (λ (es : List Entry). SaysOrNot config config.parts.session es verdict more) same says;
       wrote = wrote;
       added = c.in_ok-add_remarks_on.ensures.ok;
       tells = c.put_explained.ensures.status;

@@ -19,7 +19,6 @@ returns-then-not-branch-clause-next g c = λ records at.
       after = [];
       split = refl;
       begins = so.1;
-      allowed = c.requires.can;
       stops = λ more.
           let t : IsTrue c.in_ok-take.field-0 = may.1 more in
           let no = c.if-not-branch.true in cc;
