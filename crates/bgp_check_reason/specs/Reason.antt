@@ -24,9 +24,9 @@ use Rattle.bgp_check_reason.specs.Under.{IsToldUnder}
 use Rattle.bgp_check_reason.specs.declared.own_faults.OwnFaults.{OwnFaults}
 use Rattle.bgp_check_reason.specs.declared.reason.Reason.{Reason}
 
--- What `bgp judge --explain` says of these entries under a configuration, after the verdict, but that
--- the line of a record that was sent goes by the limit of its receiver; nothing, where no capture
--- can hold their records.
+-- What `bgp judge --explain` says of these entries under a configuration, after the verdict, but
+-- that the line of a record that was sent goes by the limit of its receiver; nothing, where no
+-- capture can hold their records.
 abbrev pub IsSaid : Config → Limit → List Entry → VerdictValue → List ℕ → Type 0
 IsSaid config sent entries verdict text =
     (AllByRecursion (CanBeTold config.parts.session sent) entries

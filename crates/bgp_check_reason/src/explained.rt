@@ -48,8 +48,9 @@ fn write_explained<W: Sink, A: Allocator + Copy>(
     handed_over
 }
 
-/// What is said of entries whose records a capture can hold, the sent ones by this limit. `AllocError` is answered where memory
-/// is refused for the reason, or where there is none, as of a yes.
+/// What is said of entries whose records a capture can hold, the sent ones by this limit.
+/// `AllocError` is answered where memory is refused for the reason, or where there is none, as of a
+/// yes.
 fn text_of<A: Allocator + Copy, T: Tracker<A>>(
     alloc: A,
     config: &Config,

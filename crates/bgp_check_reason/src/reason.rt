@@ -122,8 +122,8 @@ fn reason_for<A: Allocator + Copy, T: Tracker<A>>(
 
 /// Why the verdict on an end's records is a no or unfinished, by what is answered of them: what
 /// `bgp judge --explain` says of these entries, whose records they are, under the configuration
-/// under which the verdict is told, but that the line of a message that was sent goes by this limit,
-/// that of its receiver. Of a yes, and of an end that isn't judged, it is nothing.
+/// under which the verdict is told, but that the line of a message that was sent goes by this
+/// limit, that of its receiver. Of a yes, and of an end that isn't judged, it is nothing.
 ///
 /// `AllocError` is answered where memory is refused.
 pub fn reason_of<A: Allocator + Copy, T: Tracker<A>>(

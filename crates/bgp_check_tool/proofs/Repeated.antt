@@ -44,4 +44,5 @@ gives_the_verdict law options asked session opening connection side told number 
       subst (λ (c : Config). IsReadAlike (framings_by c line.skips_refresh) options.within seen end.entries) (sym so.are.is_config) so.alike,
       subst (λ (c : Config). HasVerdict c records verdict) (sym so.are.is_config) (law its records number peer verdict config judged so.under),
       so.are.calm,
+      so.are.is_asked,
     )

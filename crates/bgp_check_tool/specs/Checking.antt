@@ -25,6 +25,7 @@ use Rattle.bgp_recording_list.specs.Firsts.{firsts_after, with_first}
 use Rattle.bgp_check_tool.specs.Blocks.{Block, block_text, refusal_in}
 use Rattle.bgp_check_tool.specs.Counted.{with_block, with_refused}
 use Rattle.bgp_connections.specs.Places.{HasAll}
+use Rattle.bgp_check_tool.specs.Judging.{options_by}
 use Rattle.bgp_check_tool.specs.Places.{IsToldAt}
 use Rattle.bgp_connections.specs.Reading.{IsMemory, IsReadTo, cut_short_at, failures_of, looked_at}
 use Rattle.bgp_connections.specs.Talks.{HoldsEach}
@@ -110,10 +111,10 @@ nothing_by port false None = Some (record { port = port })
 -- These packets are read, up to the end, or to where the file was cut short, or to what keeps it
 -- from being read on; the source counts one failure more where that is a device that failed. Of
 -- them these blocks are told, in the order of their places: all, unless memory was refused. Then
--- why the file can't be read on, if it can't; that there was no memory for a list of the blocks, if
--- there was none; that the file was cut short, if it was; and last how many ends there are of each
--- verdict. All of that was written, if the sink didn't fail. Of all refusals those are answered that
--- are the first of their number.
+-- why the file can't be read on, if it can't, of which `judge` then gives no verdict; that there was
+-- no memory for a list of the blocks, if there was none; that the file was cut short, if it was; and
+-- last how many ends there are of each verdict. All of that was written, if the sink didn't fail. Of
+-- all refusals those are answered that are the first of their number.
 pub record ChecksRecording {S T : Type 0} (gives : S → S → List ℕ → Type 0) (has_ended : S → Bool)
     (takes : T → T → List ℕ → Type 0) (source_failures : S → ℕ) (failures : T → ℕ)
     (options : CheckOptions) (source source' : S) (sink sink' : T) (status : ℕ)
@@ -130,7 +131,7 @@ pub record ChecksRecording {S T : Type 0} (gives : S → S → List ℕ → Type
       ⊎ (lacking ≡ Some (refusals.Memory (looked_at packets stopped)))
   pub is_refusal : refusal ≡ option_or stopped lacking
   pub blocks : List (ℕ × Block)
-  pub told : AllByRecursion (λ (b : ℕ × Block). IsToldAt options packets
+  pub told : AllByRecursion (λ (b : ℕ × Block). IsToldAt (options_by stopped options) packets
       (looked_at packets stopped) b.0 b.1) blocks
   pub rise : IsStrictlySortedBy nat_cmp (keys_of blocks)
   pub all : lacking ≡ None → ¬ IsMemory stopped

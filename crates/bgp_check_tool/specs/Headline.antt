@@ -40,8 +40,9 @@ use Rattle.bgp_check_tool.specs.Told.{EndTold, IsEndTold}
 abbrev pub VerdictIsOverAll : Type 0
 VerdictIsOverAll =
     (options : CheckOptions) (asked : Asked) (session : Session) (opening : Opening)
-    (connection : Connection) (side : Side) (told : EndTold) (number : Option ℕ) (peer : PeerAs) (verdict : VerdictValue)
-    (own : Option (List ℕ)) (end : IsEndTold options asked session opening connection side told)
+    (connection : Connection) (side : Side) (told : EndTold) (number : Option ℕ) (peer : PeerAs)
+    (verdict : VerdictValue) (own : Option (List ℕ))
+    (end : IsEndTold options asked session opening connection side told)
     → told.answer ≡ JudgedAs number peer verdict → HasOwnOpen (records_of end.entries) own
     → IsFaultless own
     → HasVerdictOver (IsOf (session_from side session) own) (records_of end.entries) verdict
@@ -51,8 +52,9 @@ VerdictIsOverAll =
 abbrev pub NoConfigurationHasARun : Type 0
 NoConfigurationHasARun =
     (options : CheckOptions) (asked : Asked) (session : Session) (opening : Opening)
-    (connection : Connection) (side : Side) (told : EndTold) (number : Option ℕ) (peer : PeerAs) (count : ℕ) (own : Option (List ℕ))
-    (config : Config) (end : IsEndTold options asked session opening connection side told)
+    (connection : Connection) (side : Side) (told : EndTold) (number : Option ℕ) (peer : PeerAs)
+    (count : ℕ) (own : Option (List ℕ)) (config : Config)
+    (end : IsEndTold options asked session opening connection side told)
     → told.answer ≡ JudgedAs number peer (No count) → HasOwnOpen (records_of end.entries) own
     → IsOf (session_from side session) own config
     → (¬ Begins config (take (count + 1) (records_of end.entries)))
@@ -62,8 +64,8 @@ NoConfigurationHasARun =
 abbrev pub NothingIsVacuous : Type 0
 NothingIsVacuous =
     (options : CheckOptions) (asked : Asked) (session : Session) (opening : Opening)
-    (connection : Connection) (side : Side) (told : EndTold) (number : Option ℕ) (peer : PeerAs) (verdict : VerdictValue)
-    (end : IsEndTold options asked session opening connection side told)
+    (connection : Connection) (side : Side) (told : EndTold) (number : Option ℕ) (peer : PeerAs)
+    (verdict : VerdictValue) (end : IsEndTold options asked session opening connection side told)
     → told.answer ≡ JudgedAs number peer verdict
     → IsStretch (records_of end.entries) × SendsSome (records_of end.entries)
 

@@ -7,6 +7,7 @@ use Rattle.bgp_judge.specs.Verdict.{No, Unfinished, VerdictValue, Yes}
 use Rattle.bgp_recording.specs.Captured.{records_of}
 use Rattle.bgp_recording.specs.declared.entry.Entry.{Entry}
 use Rattle.bgp_recording.specs.declared.framing.Unshown.{Unshown}
+use Rattle.bgp_import.specs.declared.refusal.Refusal.{Refusal}
 use Rattle.bgp_check.specs.Answered.{AnswerValue, JudgedAs, Unjudged}
 use Rattle.bgp_check.specs.declared.peer_as.PeerAs.{PeerAs}
 use Rattle.bgp_check_reason.specs.Under.{IsToldConfiguration}
@@ -14,12 +15,32 @@ use Rattle.bgp_judge_line.specs.Line.{judge_line}
 use Rattle.bgp_judge_line.specs.ReadAlike.{AreJudgeOptions}
 use Rattle.bgp_judge_line.specs.declared.options.Asked.{Asked}
 use Rattle.bgp_judge_line.specs.declared.options.JudgeOptions.{JudgeOptions}
+use Rattle.bgp_check_tool.specs.declared.options.CheckOptions.{CheckOptions}
+use Rattle.bgp_check_tool.specs.declared.options.Settings.{Settings}
+use Rattle.bgp_check_tool.specs.declared.options.Settings.TheVariants as told
 
--- its options are told after each verdict, but after a yes where they are asked for alone
-abbrev pub are_told : Bool → VerdictValue → Bool
-are_told settings (Yes ends) = settings
-are_told settings (No count) = true
-are_told settings Unfinished = true
+-- ---- after which verdicts its options are told
+
+abbrev pub is_no_yes : VerdictValue → Bool
+is_no_yes (Yes ends) = false
+is_no_yes (No count) = true
+is_no_yes Unfinished = true
+
+abbrev pub are_told : Settings → VerdictValue → Bool
+are_told told.Never verdict = false
+are_told told.UnlessYes verdict = is_no_yes verdict
+are_told told.Always verdict = true
+
+-- where the file is refused, `judge` gives none
+abbrev pub settings_by : Option Refusal → Settings → Settings
+settings_by None settings = settings
+settings_by (Some refusal) settings = told.Never
+
+abbrev pub options_by : Option Refusal → CheckOptions → CheckOptions
+options_by refusal options =
+    record options { settings = settings_by refusal options.settings }
+
+-- ---- which these are
 
 -- the line
 abbrev pub judge_text : Option JudgeOptions → List ℕ
@@ -44,7 +65,7 @@ module _ (within : ℕ) (asked : Asked) (session : Session) (connection : Connec
       × AreOptionsUnder config judge
 
   -- the options by which `judge` gives what is answered of them, if it does
-  abbrev pub AreOptionsTo : Bool → AnswerValue → Option JudgeOptions → Type 0
+  abbrev pub AreOptionsTo : Settings → AnswerValue → Option JudgeOptions → Type 0
   AreOptionsTo settings (Unjudged why) judge = judge ≡ None
   AreOptionsTo settings (JudgedAs number peer verdict) judge =
       AreOptionsFor (are_told settings verdict) peer judge

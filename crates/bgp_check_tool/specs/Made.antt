@@ -45,8 +45,8 @@ pub record AreOffered (records : List ShownRecord) (framings : Framings) : Type 
   pub sent : framings.sent ≡ framing_by heard
 
 -- These entries tell the connection in the made order, either direction framed so, by what its
--- receiver offers. The OPENs that say so are looked for in the records that are made as if both systems
--- offered both.
+-- receiver offers. The OPENs that say so are looked for in the records that are made as if both
+-- systems offered both.
 pub record IsMade (within : ℕ) (connection : Connection) (framings : Framings)
     (entries : List Entry) (received_unshown sent_unshown : Unshown) : Type 0 where
   pub looked_in : List Entry

@@ -17,8 +17,9 @@ use Rattle.bgp_check_tool.specs.Seen.{seen_from}
 use Rattle.bgp_check_tool.specs.Told.{EndTold, IsEndTold}
 
 -- Framed as `judge` frames it by the options of the line, the connection has the records that were
--- judged, and under their configuration these have the verdict that is told. None is a ROUTE-REFRESH,
--- for which `judge` would refuse the connection, unless the options say that none was offered.
+-- judged, and under their configuration these have the verdict that is told. None is a
+-- ROUTE-REFRESH, for which `judge` would refuse the connection, unless the options say that none
+-- was offered. The connection is asked for as it has to be.
 abbrev pub LineGivesTheVerdict : Type 0
 LineGivesTheVerdict =
     (options : CheckOptions) (asked : Asked) (session : Session) (opening : Opening)
@@ -30,3 +31,4 @@ LineGivesTheVerdict =
     (seen_from side connection) end.entries
     × HasVerdict line.config (records_of end.entries) verdict
     × (IsFalse line.no_refresh → AllByRecursion IsNoRefresh (records_of end.entries))
+    × (line.asked ≡ asked)

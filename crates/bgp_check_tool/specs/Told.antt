@@ -67,8 +67,8 @@ packet_of (Unjudged why) entries = None
 packet_of (JudgedAs number peer verdict) entries = packet_by verdict entries
 
 -- This is told of that end of the connection: what is answered of the records that are made of it
--- as this end has it, and why; the line of a message that it sent goes by the limit of its receiver.
--- How the connection is asked for is told of `bgp judge`.
+-- as this end has it, and why; the line of a message that it sent goes by the limit of its
+-- receiver. And how `bgp judge` gives it, where the connection is asked for so.
 pub record IsEndTold (options : CheckOptions) (asked : Asked) (session : Session)
     (opening : Opening) (connection : Connection) (side : Side) (told : EndTold) : Type 0 where
   pub entries : List Entry

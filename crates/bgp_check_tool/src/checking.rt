@@ -5,6 +5,7 @@ ghost use Rattle.packets.specs.Packet.{Recorded};
 ghost use Rattle.bgp_text.specs.Lines.{Writes};
 ghost use Rattle.bgp_check_tool.specs.Checking.{ChecksRecording, PutsAll, PutsBlock, file_text};
 ghost use Rattle.bgp_check_tool.specs.Checking.{cut_note, nothing_by, with_file};
+ghost use Rattle.bgp_check_tool.specs.Judging.{settings_by};
 ghost use Rattle.bgp_recording_list.specs.Firsts.{AreApart, with_first};
 ghost use Rattle.bgp_connections.specs.Listed.{CanBeTold, IsListed};
 ghost use Rattle.bgp_connections.specs.Talks.{HoldsSome};
@@ -13,7 +14,7 @@ use crate::blocks::{put_connection, put_session};
 use crate::connection::{Between, check_connection};
 use crate::counted::Counted;
 use crate::nothing::{NothingJudged, put_nothing};
-use crate::options::CheckOptions;
+use crate::options::{CheckOptions, Settings};
 use arrayvec::ArrayVec;
 use bgp_connections::{Listed, Talks, cut_short_at, listed_in, selection_of, take_all};
 use bgp_import::{CutShort, Refusal, put_refusal, refused};
@@ -147,16 +148,27 @@ fn nothing_by(port: u16, judged: bool, refusal: Option<Refusal>) -> Option<Nothi
     }
 }
 
+/// After which verdicts the options of `bgp judge` are told: after none, where the file is refused.
+fn settings_by(stopped: Option<Refusal>, settings: Settings) -> Settings
+    ensures { result ≡ settings_by stopped settings }
+{
+    match stopped {
+        None => settings,
+        Some(_) => Settings::Never,
+    }
+}
+
 /// Checks each end of each connection in a recording that holds octets and one of whose ports is
 /// this one: whether its messages are those of a run of the session machine (RFC 4271, 8.2.2) under
 /// some configuration under which the OPEN that it sent is its own.
 ///
 /// It writes a line for each connection, in the order of their first packets, and after it what is
 /// told of both ends, first of that which opened it: the verdict, for which AS number of its peer
-/// it is told, and of a yes each possible end; or why it isn't judged. Then why the file can't be
-/// read on, if it can't, that memory was refused for a list of the connections, if it was, and that
-/// the file was cut short, if it was; last how many ends there are of each verdict. It answers the
-/// exit status over all ends, the first of 5, 4, 1, 3, 2, 0 for which there is something:
+/// it is told, of a yes each possible end, of a no and an unfinished why it is so, and with which
+/// options `bgp judge` gives the verdict; or why it isn't judged. Then why the file can't be read
+/// on, if it can't, that memory was refused for a list of the connections, if it was, and that the file
+/// was cut short, if it was; last how many ends there are of each verdict. It answers the exit
+/// status over all ends, the first of 5, 4, 1, 3, 2, 0 for which there is something:
 ///
 /// * 0: a yes.
 /// * 1: a no. What it is worth says
@@ -187,14 +199,11 @@ pub fn check_recording<A: Allocator + Copy, T: Tracker<A>, R: Source, W: Sink>(
     let mut lines = Lines::new(sink);
     let mut counted = Counted::new();
     let last_packet = reader.number();
-    let lacking = put_all::<A, T, W>(
-        alloc,
-        options,
-        &talks,
-        last_packet,
-        &mut lines,
-        &mut counted,
-    );
+    let told = CheckOptions {
+        settings: settings_by(stopped, options.settings),
+        ..*options
+    };
+    let lacking = put_all::<A, T, W>(alloc, &told, &talks, last_packet, &mut lines, &mut counted);
     put_file(&mut lines, &mut counted, stopped);
     put_file(&mut lines, &mut counted, lacking);
     put_cut_short(&mut lines, cut_short);

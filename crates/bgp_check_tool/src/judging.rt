@@ -7,9 +7,11 @@ ghost use Rattle.bgp_check.specs.Answered.{IsAnswerTo, IsJudged, answer_value};
 ghost use Rattle.bgp_recording.specs.Captured.{records_of};
 ghost use Rattle.bgp_recording.specs.Gathered.{IsClocked, IsCovered};
 ghost use Rattle.bgp_text.specs.Lines.{Writes};
-ghost use Rattle.bgp_check_tool.specs.Judging.{AreOptionsFor, AreOptionsTo, are_told, judge_text};
+ghost use Rattle.bgp_check_tool.specs.Judging.{AreOptionsFor, AreOptionsTo, are_told};
+ghost use Rattle.bgp_check_tool.specs.Judging.{is_no_yes, judge_text};
 
 use crate::ending::Viewed;
+use crate::options::Settings;
 use bgp_check::{Answer, Judged};
 use bgp_check_reason::told_configuration;
 use bgp_judge::Verdict;
@@ -19,13 +21,23 @@ use bgp_text::Lines;
 use mrt::{Record, Sink};
 use std::alloc::{AllocError, Allocator};
 
-/// Whether the options of `bgp judge` are told after a verdict: after a yes, where they are asked
-/// for.
-fn are_told<A: Allocator>(settings: bool, verdict: &Verdict<A>) -> bool
+/// Whether the options of `bgp judge` are told after a verdict.
+fn are_told<A: Allocator>(settings: Settings, verdict: &Verdict<A>) -> bool
     ensures { result ≡ are_told settings (verdict_value verdict.now) }
 {
+    match settings {
+        Settings::Never => false,
+        Settings::UnlessYes => is_no_yes(verdict),
+        Settings::Always => true,
+    }
+}
+
+/// Whether a verdict is a no or unfinished.
+fn is_no_yes<A: Allocator>(verdict: &Verdict<A>) -> bool
+    ensures { result ≡ is_no_yes (verdict_value verdict.now) }
+{
     match verdict {
-        Verdict::Yes(_) => settings,
+        Verdict::Yes(_) => false,
         Verdict::No(_) | Verdict::Unfinished => true,
     }
 }

@@ -31,8 +31,8 @@ pub fn no_verdict_is_vacuous()
 {}
 
 /// [`check_recording`](crate::check_recording), which tells what stands at each packet at which
-/// there is something to tell, tells each connection in a recording, and each two addresses of whose
-/// connections none can be told; and that their packets rise says that it tells each once.
+/// there is something to tell, tells each connection in a recording, and each two addresses of
+/// whose connections none can be told; and that their packets rise says that it tells each once.
 pub fn each_of_them_is_told()
     ensures told { EachConnectionIsTold }
     ensures refused { EachRefusalIsTold }
@@ -40,7 +40,8 @@ pub fn each_of_them_is_told()
 
 /// The line with the options of `bgp judge` gives the verdict that is told before it: framed as
 /// `judge` frames it by these options, the connection has just the records that were judged, and
-/// under their configuration these have that verdict. `judge` refuses none for a ROUTE-REFRESH.
+/// under their configuration these have that verdict. `judge` refuses none for a ROUTE-REFRESH, and is
+/// asked for the connection as it has to be.
 pub fn a_judge_line_gives_the_verdict()
     ensures { LineGivesTheVerdict }
 {

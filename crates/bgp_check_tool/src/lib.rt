@@ -2,7 +2,8 @@
 //! recording of packets kept to the standard, without a setting.
 //!
 //! ```text
-//! let options = CheckOptions { port: 179, within: 10, routes: false, settings: false };
+//! let settings = Settings::UnlessYes;
+//! let options = CheckOptions { port: 179, within: 10, routes: false, settings };
 //! let checked = check_recording::<_, CompactTracker<_>, _, _>(alloc, &options, source, sink);
 //! std::process::exit(checked.status);
 //! ```
@@ -27,5 +28,5 @@ pub use laws::{
     no_configuration_has_a_run, no_verdict_is_vacuous,
 };
 pub use nothing::NothingJudged;
-pub use options::CheckOptions;
+pub use options::{CheckOptions, Settings};
 pub use seen::seen_from;

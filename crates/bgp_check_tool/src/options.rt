@@ -1,5 +1,16 @@
 //! How a recording is checked.
 
+/// After which verdicts the options are told with which `bgp judge` gives them.
+#[derive(Clone, Copy, Debug)]
+pub enum Settings {
+    /// After none: `bgp judge` wouldn't give them.
+    Never,
+    /// After a no and an unfinished.
+    UnlessYes,
+    /// After each.
+    Always,
+}
+
 /// How a recording is checked.
 #[derive(Clone, Copy, Debug)]
 pub struct CheckOptions {
@@ -9,6 +20,6 @@ pub struct CheckOptions {
     pub within: u16,
     /// Whether the routes of each end are told.
     pub routes: bool,
-    /// Whether the options of `bgp judge` are told after a yes, too.
-    pub settings: bool,
+    /// After which verdicts the options of `bgp judge` are told, where the file is read to its end.
+    pub settings: Settings,
 }

@@ -1,7 +1,7 @@
 //! A command line, from its words to the exit status.
 
 use crate::{devices, explaining, recordings, speaker};
-use bgp_check_tool::CheckOptions;
+use bgp_check_tool::{CheckOptions, Settings};
 use bgp_tool::{Command, Status, command_line, words_status};
 use bgp_wire::Limit;
 use clap::Error;
@@ -64,7 +64,11 @@ pub fn run_words<R: Files + Net + Clock + Input + Print + Eprint + AllocGlobal, 
                 port,
                 within,
                 routes,
-                settings,
+                settings: if settings {
+                    Settings::Always
+                } else {
+                    Settings::UnlessYes
+                },
             };
             recordings::check(rt, &options, file)
         }

@@ -74,9 +74,9 @@ fn are_same(one: &[Entry<'_>], other: &[Entry<'_>]) -> bool
     true
 }
 
-/// The options by which `bgp judge` gives the verdict on the records that were made of a connection,
-/// where that is told under this configuration. `None` where it reads other records: it frames the
-/// messages of both directions by what the local system offers alone, and passes over a
+/// The options by which `bgp judge` gives the verdict on the records that were made of a
+/// connection, where that is told under this configuration. `None` where it reads other records: it
+/// frames the messages of both directions by what the local system offers alone, and passes over a
 /// ROUTE-REFRESH in both or in neither.
 ///
 /// `AllocError` is answered where memory is refused: the records are made once more.

@@ -1,6 +1,6 @@
 //! The words of `bgp check`.
 
-use bgp_check_tool::CheckOptions;
+use bgp_check_tool::{CheckOptions, Settings};
 
 /// The number after an option, or the one that is meant where it isn't given.
 fn number_after(words: &str, option: &str, default: u16) -> Option<u16> {
@@ -16,6 +16,10 @@ pub(crate) fn options_of(words: &str) -> Option<CheckOptions> {
         port: number_after(words, "--port", 179)?,
         within: number_after(words, "--within", 10)?,
         routes: words.split(' ').any(|word| word == "--routes"),
-        settings: words.split(' ').any(|word| word == "--settings"),
+        settings: if words.split(' ').any(|word| word == "--settings") {
+            Settings::Always
+        } else {
+            Settings::UnlessYes
+        },
     })
 }

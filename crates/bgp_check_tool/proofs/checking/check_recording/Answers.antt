@@ -6,7 +6,10 @@ use Rattle.bgp_tool.proofs.CaptureJudged.{is_written}
 use Rattle.bgp_text.proofs.Fresh.{IsFresh}
 use Rattle.bgp_text.proofs.Pieces.{Joins, and_nothing, and_then}
 use Rattle.bgp_check_text.specs.declared.tally.Tally.{Tally}
-use Rattle.bgp_check_tool.specs.Checking.{nothing_by, refusals_in, tally_from, with_file}
+use Rattle.bgp_check_tool.specs.Checking.{PutsAll, nothing_by, refusals_in, tally_from, with_file}
+use Rattle.bgp_check_tool.specs.Judging.{options_by}
+use Rattle.bgp_check_tool.specs.declared.options.CheckOptions.{CheckOptions}
+use Rattle.bgp_check_tool.specs.declared.options.Settings.{Settings}
 use Rattle.bgp_recording_list.specs.Firsts.{AreApart, firsts_after, with_first}
 use Rattle.bgp_recording_list.proofs.AllListed.{none_apart}
 use Rattle.bgp_connections.specs.Reading.{IsMemory, IsReadTo, TakesAll, cut_short_at, failures_of, looked_at}
@@ -33,7 +36,11 @@ returns g c =
     let fresh : IsFresh c.new-lines.result = record { empty = c.new-lines.ensures.empty; calm = c.new-lines.ensures.fresh } in
     let taken = subst (λ (p : ℕ). TakesAll g.R.Source.gives g.R.Source.has_ended p c.args.source.now c.take_all.new.source c.take_all.new.talks c.take_all.new.reader.number c.take_all.new.reader.is_cut c.take_all.result)
     c.new-talks.ensures.holds.right.is_port c.take_all.ensures.takes in
-    let all = c.put_all-lacking.ensures.puts taken.packets taken.some in
+    let options = c.args.options.now in
+    let same_settings = c.settings_by.ensures in
+    let all = subst (λ (s : Settings). PutsAll (record options { settings = s }) taken.packets c.take_all.new.talks c.number-last_packet.result c.new-lines.result c.put_all-lacking.new.lines
+    c.new-counted.result.tally c.put_all-lacking.new.counted.tally c.new-counted.result.refusals.items c.put_all-lacking.new.counted.refusals.items c.put_all-lacking.result)
+    same_settings (c.put_all-lacking.ensures.puts taken.packets taken.some) in
     let puts = all.puts in
     let wrote = and_nothing law (and_then law puts.wrote (and_then law c.put_file.ensures.wrote (and_then law c.put_file-2.ensures.wrote (and_then law c.put_cut_short.ensures (and_then law c.put_nothing.ensures c.put.ensures))))) c.hand_over-status.ensures.writes in
     let same = c.err-stopped.ensures.value in
@@ -50,7 +57,7 @@ returns g c =
       lacks = subst (λ (n : ℕ). (c.put_all-lacking.result ≡ None) ⊎ (c.put_all-lacking.result ≡ Some (refusals.Memory n))) last all.lacks;
       is_refusal = c.or-refusal.ensures;
       blocks = puts.blocks;
-      told = as_many c.args.options.now _ _ taken.packets puts.blocks last puts.told;
+      told = as_many (options_by c.err-stopped.result options) _ _ taken.packets puts.blocks last puts.told;
       rise = subst (λ (ks : List ℕ). IsStrictlySortedBy nat_cmp ks) (sym puts.are_places) all.rise;
       all = nothing_lacks c.args.options.now.port taken.packets all.places (keys_of puts.blocks) _ c.put_all-lacking.result c.err-stopped.result (sym puts.are_places)
           (λ ample. taken.all (subst (λ (s : Option Refusal). ¬ IsMemory s) same ample)) all.all;
