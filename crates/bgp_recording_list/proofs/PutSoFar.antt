@@ -1,6 +1,6 @@
 -- Lines are put one after another.
-use Rattle.std.proofs.Common.{◌≡◌, ◌∙◌, ◌++◌, ℕ, suc, List, [], ◌∷◌, Option, None, Some, Result, Ok, Err, length, map, refl, sym, ap, subst, inl, inr, append-nil, append_assoc}
-use Rattle.std.proofs.lemmas.List.{length-map, map-append}
+use Rattle.std.proofs.Common.{◌≡◌, ◌∙◌, ◌++◌, ℕ, suc, List, [], ◌∷◌, Option, None, Some, Ok, Err, length, refl, sym, ap, subst, inl, inr, append-nil, append_assoc}
+use Rattle.std.proofs.lemmas.List.{map-append}
 use Rattle.std.specs.BTreeMap.{BTreeMap, IsOrdered}
 use Rattle.std.specs.List.{AllByRecursion, flat_map}
 use Rattle.std.specs.List.Sorted.{IsStrictlySortedBy}
@@ -43,6 +43,13 @@ keys_with (x ∷ xs) one rest = ap (λ (ks : List ℕ). x.0 ∷ ks) (keys_with x
 pub key_count : {X : Type 0} (xs : List (ℕ × X)) → length (keys_of xs) ≡ length xs
 key_count [] = refl
 key_count (x ∷ xs) = ap (λ (n : ℕ). suc n) (key_count xs)
+
+one_key : {X : Type 0} (x : ℕ × X) (xs : List (ℕ × X)) → keys_of (x ∷ xs) ≡ [] → ⊥
+one_key x xs none = cc
+
+pub without_keys : {X : Type 0} (xs : List (ℕ × X)) → keys_of xs ≡ [] → xs ≡ []
+without_keys [] none = refl
+without_keys (x ∷ xs) none = absurd (one_key x xs none)
 
 -- the lines of the first entries are put, and these are left
 pub record PutsFront {T Z : Type 0} {sink : sinks.Ghosts T} (port : ℕ) (packets : List Recorded) (last_packet : ℕ) (entries rest : List (ℕ × Listed Z))
@@ -106,6 +113,7 @@ all_put {T} {Z} port packets talks last_packet listed first rest lines lines' fi
       rise = rises;
       puts = record { put = front.put; told = front.told; are_places = whole; wrote = front.wrote; added = front.added };
       lacks = inl refl;
+      none = inl refl;
       count = counted ∙ sym (key_count listed.entries);
       all = λ ample each. among_keys port packets listed (all each);
     }
@@ -117,6 +125,7 @@ none_put port packets talks last_packet lines firsts refusal wrote is = record {
   rise = no_keys;
   puts = record { put = []; told = tt; are_places = refl; wrote = wrote; added = refl };
   lacks = inr (ap (λ (r : Refusal). Some r) is);
+  none = inr refl;
   count = refl;
   all = λ ample each. absurd (some_none refusal ample);
 }

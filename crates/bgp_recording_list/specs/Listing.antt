@@ -1,6 +1,6 @@
 -- What listing a recording writes and answers.
 use Rattle.std.specs.Prelude.{◌≡◌, ◌⊎◌, ◌+◌, ◌++◌, ℕ, Bool, List, [], Option, None, Some}
-use Rattle.std.specs.Prelude.{Result, length, map}
+use Rattle.std.specs.Prelude.{Result, length, map, max}
 use Rattle.std.specs.List.{AllByRecursion, Contains, flat_map}
 use Rattle.std.specs.List.Sorted.{IsStrictlySortedBy}
 use Rattle.std.specs.Map.{keys_of}
@@ -56,6 +56,7 @@ pub record PutsAll {T : Type 0} {sink : sinks.Ghosts T} {Z : Type 0} (port : ℕ
   pub puts : PutsLines port packets last_packet places lines lines' firsts firsts'
   pub lacks : (result_err answer ≡ None)
       ⊎ (result_err answer ≡ Some (refusals.Memory last_packet))
+  pub none : (result_err answer ≡ None) ⊎ (places ≡ [])
   pub count : result_unwrap_or answer 0 ≡ length places
   pub all : result_err answer ≡ None → HoldsEach port packets talks
       → HasAll port packets (Contains places)
@@ -76,11 +77,15 @@ abbrev pub status_of : Option Refusal → ℕ
 status_of None = 0
 status_of (Some refusal) = cause_status (cause_of refusal)
 
+-- over both refusals: where a device failed, or memory, not all was listed
+abbrev pub status_over : Option Refusal → Option Refusal → ℕ
+status_over stopped lacking = max (status_of stopped) (status_of lacking)
+
 -- These packets are read, up to the end, or to where the file was cut short, or to what keeps it
 -- from being read on; the source counts one failure more where that is a device that failed. Of
 -- them these lines are told, in the order of their places: all, unless memory was refused; then why
--- the file can't be read on, if it can't, or else that there was no memory for a list of the lines,
--- if there was none. All of that was written, if the sink didn't fail.
+-- the file can't be read on, if it can't, and that there was no memory for a list of the lines, if
+-- there was none, and so no line. All of that was written, if the sink didn't fail.
 pub record ListsRecording {S T : Type 0} (gives : S → S → List ℕ → Type 0) (has_ended : S → Bool)
     (takes : T → T → List ℕ → Type 0) (source_failures : S → ℕ) (failures : T → ℕ) (port : ℕ)
     (source source' : S) (sink sink' : T) (listed : ListedRecording) : Type 0 where
@@ -96,6 +101,7 @@ pub record ListsRecording {S T : Type 0} (gives : S → S → List ℕ → Type 
   pub told : AllByRecursion
       (λ (l : ℕ × Line). IsLineAt port packets (looked_at packets stopped) l.0 l.1) lines
   pub rise : IsStrictlySortedBy nat_cmp (keys_of lines)
+  pub none : (lacking ≡ None) ⊎ (lines ≡ [])
   pub all : lacking ≡ None → ¬ IsMemory stopped
       → HasAll port packets (Contains (keys_of lines))
   pub is_port : listed.port ≡ port
@@ -105,6 +111,7 @@ pub record ListsRecording {S T : Type 0} (gives : S → S → List ℕ → Type 
   pub is_cut_short : listed.cut_short ≡ cut_short_at (looked_at packets stopped) short stopped
   pub is_refusal : listed.refusal ≡ option_or stopped lacking
   pub are_refusals : listed.refusals.items
-      ≡ with_first (firsts_after [] (refusals_in lines)) listed.refusal
-  pub written : IsWritten takes failures (lines_text lines ++ file_text listed.refusal)
-      (status_of listed.refusal) sink sink' listed.status
+      ≡ with_first (with_first (firsts_after [] (refusals_in lines)) stopped) lacking
+  pub written : IsWritten takes failures
+      (lines_text lines ++ (file_text stopped ++ file_text lacking))
+      (status_over stopped lacking) sink sink' listed.status

@@ -2,7 +2,7 @@
 //!
 //! ```text
 //! let listed = list_recording(alloc, 179, &mut source, &mut sink);
-//! for refusal in &listed.refusals {
+//! for refusal in listed.refusals.iter().flatten() {
 //!     help_against(refusal);
 //! }
 //! std::process::exit(listed.status);

@@ -7,6 +7,7 @@ ghost use Rattle.bgp_text.specs.Lines.{Writes};
 ghost use Rattle.bgp_tool.specs.Status.{code_of};
 ghost use Rattle.bgp_recording_list.specs.Firsts.{AreApart};
 ghost use Rattle.bgp_recording_list.specs.Listing.{ListsRecording, PutsAll, file_text, status_of};
+ghost use Rattle.bgp_recording_list.specs.Listing.{status_over};
 
 use crate::firsts::{NUMBERS, add_first};
 use crate::line::Line;
@@ -74,10 +75,23 @@ fn status_of(refusal: Option<Refusal>) -> Status
     }
 }
 
+/// The same where memory may have lacked for the list, too: the greater one.
+fn status_over(stopped: Option<Refusal>, lacking: Option<Refusal>) -> Status
+    ensures { code_of result ≡ status_over stopped lacking }
+{
+    let (first, second) = (status_of(stopped), status_of(lacking));
+    if first.code() < second.code() {
+        second
+    } else {
+        first
+    }
+}
+
 /// Writes a line for each connection in a recording that holds octets and one of whose ports is
-/// this one, in the order of their first packets; for two addresses of whose connections none can be
-/// told a line that says why, at the packet that is refused; and last, where the recording can't be
-/// read on, that refusal. It answers the exit status:
+/// this one, in the order of their first packets; for two addresses of whose connections none can
+/// be told a line that says why, at the packet that is refused; then, where the recording can't be
+/// read on, that refusal; and last, where there was no memory for a list of the lines, that, and no
+/// line. It answers the exit status, the greatest that holds:
 ///
 /// * 0: the recording was read to its end, or to where it was cut short. A connection that is
 ///   refused is no refusal of the recording.
@@ -104,10 +118,12 @@ pub fn list_recording<A: Allocator + Copy, R: Source, W: Sink>(
     let mut refusals = ArrayVec::new();
     let mut lines = Lines::new(sink);
     let put = put_all(alloc, port, &talks, packets, &mut lines, &mut refusals);
-    let refusal = stopped.or(put.err());
-    put_file(&mut lines, refusal);
-    add_first(&mut refusals, refusal);
-    let status = hand_over(&mut lines, status_of(refusal));
+    let lacking = put.err();
+    put_file(&mut lines, stopped);
+    put_file(&mut lines, lacking);
+    add_first(&mut refusals, stopped);
+    add_first(&mut refusals, lacking);
+    let status = hand_over(&mut lines, status_over(stopped, lacking));
     // No effect: it ends the loan of the sink.
     lines.into_sink();
     ListedRecording {
@@ -118,6 +134,6 @@ pub fn list_recording<A: Allocator + Copy, R: Source, W: Sink>(
         wrapped: talks.wrapped,
         cut_short: cut_short_at(packets, reader.is_cut_short(), stopped),
         refusals,
-        refusal,
+        refusal: stopped.or(lacking),
     }
 }
