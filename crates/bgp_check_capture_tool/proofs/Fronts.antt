@@ -1,7 +1,7 @@
 -- The first stretch of records, and what is told of those before it.
-use Rattle.std.proofs.Common.{◌≡◌, ◌∙◌, ◌+◌, ◌<◌, ◌≤◌, ◌++◌, ℕ, suc, zero, Bool, List, [], ◌∷◌, refl, sym, ap, subst, append-nil, arith, codes, drop, length, map, take}
+use Rattle.std.proofs.Common.{◌≡◌, ◌∙◌, ◌+◌, ◌<◌, ◌++◌, ℕ, suc, Bool, List, [], ◌∷◌, refl, sym, ap, subst, append-nil, arith, codes, drop, length, map, take}
 use Rattle.std.proofs.Math.Seq.{take-append_seam}
-use Rattle.std.proofs.lemmas.List.{length-map, map-append, take-append-drop, take-map, drop-map}
+use Rattle.std.proofs.lemmas.List.{length-map, take-map, drop-map}
 use Rattle.bgp_prefix.specs.Shown.{ShownRecord}
 use Rattle.bgp_prefix.specs.declared.address.Address.{Address}
 use Rattle.mrt.specs.Reader.{shown_of}

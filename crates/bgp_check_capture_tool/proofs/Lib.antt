@@ -1,4 +1,3 @@
-pub mod Passing
 pub mod Fronts
 pub mod ToldSoFar
 pub mod WholeSession

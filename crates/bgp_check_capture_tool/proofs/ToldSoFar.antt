@@ -1,6 +1,5 @@
 -- The ends of a session that are told so far.
-use Rattle.std.proofs.Common.{◌≡◌, ◌∙◌, ◌+◌, ◌<◌, ◌++◌, ℕ, Bool, IsTrue, List, [], ◌∷◌, Option, refl, sym, ap, subst, append-nil, append_assoc, arith, length, true, inl, inr}
-use Rattle.std.specs.List.{flat_map}
+use Rattle.std.proofs.Common.{◌≡◌, ◌∙◌, ◌+◌, ◌<◌, ◌++◌, ℕ, Bool, IsTrue, List, [], ◌∷◌, refl, sym, ap, subst, append-nil, append_assoc, arith, length}
 use Rattle.std.proofs.lemmas.Grind.{flat_map-append}
 use Rattle.std.proofs.lemmas.List.{length-append}
 use Rattle.bgp_prefix.specs.Shown.{ShownRecord}
@@ -16,7 +15,7 @@ use Rattle.bgp_check.specs.Stretch.{LeavesIdle}
 use Rattle.bgp_check_capture.specs.Cut.{IsAtLeaving, IsBeforeLeaving}
 use Rattle.bgp_check_text.specs.declared.tally.Tally.{Tally}
 use Rattle.bgp_check_capture_tool.specs.Counted.{with_ends, with_one}
-use Rattle.bgp_check_capture_tool.specs.Ends.{AreTold, End, IsToldOf, TellsStretches, front_ends}
+use Rattle.bgp_check_capture_tool.specs.Ends.{AreTold, End, IsToldOf, front_ends}
 use Rattle.bgp_check_capture_tool.specs.Putting.{Puts, StretchesUpTo}
 use Rattle.bgp_check_capture_tool.specs.Stretches.{AreCut, IsFirst, first_of}
 use Rattle.bgp_check_capture_tool.specs.Text.{end_text, ends_text}

@@ -1,6 +1,5 @@
 -- The lines of a session.
-use Rattle.std.specs.Prelude.{◌++◌, ◌+◌, Bool, ℕ, List, [], Option, codes, if◌then◌else◌, nat_lt}
-use Rattle.std.specs.Prelude.{unwrap_or}
+use Rattle.std.specs.Prelude.{◌++◌, ◌+◌, Bool, ℕ, List, Option, codes, unwrap_or}
 use Rattle.std.specs.Fmt.{decimal}
 use Rattle.std.specs.List.{flat_map}
 use Rattle.bgp_prefix.specs.Text.{address_text}
@@ -10,6 +9,7 @@ use Rattle.bgp_check.specs.Answered.{AnswerValue, JudgedAs, Unjudged}
 use Rattle.bgp_check.specs.declared.not_judged.NotJudged.TheVariants.{NothingSent}
 use Rattle.bgp_check.specs.declared.peer_as.PeerAs.{PeerAs}
 use Rattle.bgp_check_capture.specs.Told.{ToldValue}
+use Rattle.bgp_check_reason.specs.Unshown.{passed_notes}
 use Rattle.bgp_check_text.specs.Text.{as_text, ending_text, peer_text, why_text}
 use Rattle.bgp_check_capture_tool.specs.Ends.{End, Silent, Staying, Stretch}
 use Rattle.bgp_check_capture_tool.specs.declared.part.Part.{Part}
@@ -24,19 +24,6 @@ unfoldable pub unjudged_line : Address → Part → List ℕ → List ℕ
 unjudged_line local part why =
     codes "not judged: " ++ (address_text local ++ (part_text part ++ (codes ", "
     ++ (why ++ codes "\n"))))
-
--- so many ROUTE-REFRESHes (RFC 2918) of a direction are passed over, where some are
-unfoldable pub passed_note : List ℕ → ℕ → List ℕ
-passed_note way count =
-    if nat_lt 0 count
-    then codes "  note " ++ (way ++ (codes " ROUTE-REFRESH messages passed over: "
-    ++ (decimal count ++ codes "\n")))
-    else []
-
--- of those that were received, and of those that were sent
-abbrev pub passed_notes : ℕ → ℕ → List ℕ
-passed_notes received sent =
-    passed_note (codes "received") received ++ passed_note (codes "sent") sent
 
 -- ---- a stretch
 

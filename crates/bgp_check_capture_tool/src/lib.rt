@@ -15,7 +15,6 @@ mod ends;
 mod lines;
 mod nothing;
 mod part;
-mod passed;
 
 pub use checking::{CheckedCapture, check_capture};
 pub use nothing::NothingJudged;

@@ -7,15 +7,16 @@ ghost use Rattle.bgp_judge.specs.Verdict.{verdict_value};
 ghost use Rattle.bgp_text.specs.Lines.{Writes};
 ghost use Rattle.bgp_check.specs.declared.not_judged.NotJudged.TheVariants.{NothingSent};
 ghost use Rattle.bgp_check_capture.specs.Told.{told_value};
+ghost use Rattle.bgp_check_reason.specs.Unshown.{passed_notes};
 ghost use Rattle.bgp_check_text.specs.Text.{as_text, ending_text, peer_text, why_text};
 ghost use Rattle.bgp_check_capture_tool.specs.Ends.{Stretch};
-ghost use Rattle.bgp_check_capture_tool.specs.Text.{end_text, no_text, part_text, passed_notes};
+ghost use Rattle.bgp_check_capture_tool.specs.Text.{end_text, no_text, part_text};
 ghost use Rattle.bgp_check_capture_tool.specs.Text.{unjudged_line, verdict_text, whose_text};
 
 use crate::part::Part;
-use crate::passed::put_passed_over;
 use bgp_check::{Answer, Judged, NotJudged, PeerAs};
 use bgp_check_capture::StretchTold;
+use bgp_check_reason::put_passed_over;
 use bgp_check_text::{put_as, put_endings, put_peer, put_why};
 use bgp_judge::Verdict;
 use bgp_prefix::Address;

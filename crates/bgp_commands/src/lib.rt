@@ -6,6 +6,7 @@
 //! ```
 #![tactic(auto)]
 
+mod captures;
 mod devices;
 mod explaining;
 mod made_file;

@@ -5,6 +5,7 @@ ghost use Rattle.bgp_prefix.specs.Address.{family_of};
 ghost use Rattle.bgp_tool.specs.Status.{code_of};
 ghost use Rattle.bgp_tool.specs.declared.status.Status.TheVariants.{Usage};
 
+use crate::captures::{check_records, list_records};
 use crate::devices::{buffered, open, tell, tell_cut_short, tell_note};
 use crate::made_file::MadeFile;
 use bgp_check_tool::{CheckOptions, check_recording};
@@ -12,16 +13,13 @@ use bgp_compact::CompactTracker;
 use bgp_import::{Cause, Import, Imported, Refusal, Stopped, import_recording};
 use bgp_prefix::Session;
 use bgp_recording_list::list_recording;
-use bgp_recording_tool::{RecordingOptions, import_of};
+use bgp_recording_tool::{Peeked, RecordingOptions, import_of};
 use bgp_tool::{ErrorWords, Note, Status, unopened, unwritten};
 use mrt::{FromRead, FromWrite, Sink};
 use std::alloc::Global;
 use std::io;
 use std::io::{Read, Write};
 use std::rt::Files;
-
-/// The number of the refusal of a file that is no recording.
-const NO_RECORDING: u8 = 1;
 
 /// Runs `import` on a recording, or on standard input for `-`, and answers the exit status. The
 /// capture's file is made, or emptied, at the first octet that is written, so where the recording is
@@ -48,7 +46,8 @@ pub fn import<R: Files + Input + Print + Eprint + AllocGlobal>(
     }
 }
 
-/// Runs `list` on a recording, or on standard input for `-`, and answers the exit status.
+/// Runs `list` on a recording or a capture, or on standard input for `-`, and answers the exit
+/// status. The first four octets tell which it is.
 pub fn list<R: Files + Input + Print + Eprint + AllocGlobal>(rt: &R, port: u16, file: &str) -> u8 {
     if file == "-" {
         list_from(rt, port, file, Ok(rt.reader()))
@@ -57,7 +56,8 @@ pub fn list<R: Files + Input + Print + Eprint + AllocGlobal>(rt: &R, port: u16, 
     }
 }
 
-/// Runs `check` on a recording, or on standard input for `-`, and answers the exit status.
+/// Runs `check` on a recording or a capture, or on standard input for `-`, and answers the exit
+/// status. The first four octets tell which it is.
 pub fn check<R: Files + Input + Print + Eprint + AllocGlobal>(
     rt: &R,
     options: &CheckOptions,
@@ -70,17 +70,32 @@ pub fn check<R: Files + Input + Print + Eprint + AllocGlobal>(
     }
 }
 
-/// Checks the connections of the recording that a file's reader gives.
+/// Checks the sessions of the recording or the capture that a file's reader gives.
 fn check_from<R: Print + Eprint + AllocGlobal, F: Read + Drop>(
     rt: &R,
     options: &CheckOptions,
     file: &str,
     opened: io::Result<F>,
 ) -> u8 {
-    let mut source = match buffered(rt, opened) {
-        Ok(reader) => FromRead::new(reader),
+    let peeked = match buffered(rt, opened) {
+        Ok(reader) => Peeked::new(reader),
         Err(error) => return tell_unopened(rt, file, &error),
     };
+    if peeked.is_recording() {
+        check_packets(rt, options, file, peeked)
+    } else {
+        check_records(rt, options.routes, file, peeked)
+    }
+}
+
+/// Checks the connections of the recording that a reader gives.
+fn check_packets<R: Print + Eprint + AllocGlobal, F: Read + Drop>(
+    rt: &R,
+    options: &CheckOptions,
+    file: &str,
+    reader: F,
+) -> u8 {
+    let mut source = FromRead::new(reader);
     let mut sink = FromWrite::new(io::writer(rt));
     let checked = check_recording::<Global, CompactTracker<Global>, _, _>(
         rt.alloc(),
@@ -97,11 +112,6 @@ fn check_from<R: Print + Eprint + AllocGlobal, F: Read + Drop>(
     }
     if let Some(refusal) = checked.refusal {
         tell_cause(rt, file, &source, refusal);
-        if refusal.number() == NO_RECORDING {
-            let _ = eprintln!(rt;
-                "bgp: {file:?} is no recording of packets: bgp judge takes captures"
-            );
-        }
     }
     if let Some(nothing) = checked.nothing {
         let _ = eprintln!(rt; "bgp: {nothing}");
@@ -160,17 +170,32 @@ fn tell_imported<R: Eprint, F: Read>(
     }
 }
 
-/// Lists the connections of the recording that a file's reader gives.
+/// Lists the sessions of the recording or the capture that a file's reader gives.
 fn list_from<R: Print + Eprint + AllocGlobal, F: Read + Drop>(
     rt: &R,
     port: u16,
     file: &str,
     opened: io::Result<F>,
 ) -> u8 {
-    let mut source = match buffered(rt, opened) {
-        Ok(reader) => FromRead::new(reader),
+    let peeked = match buffered(rt, opened) {
+        Ok(reader) => Peeked::new(reader),
         Err(error) => return tell_unopened(rt, file, &error),
     };
+    if peeked.is_recording() {
+        list_packets(rt, port, file, peeked)
+    } else {
+        list_records(rt, file, peeked)
+    }
+}
+
+/// Lists the connections of the recording that a reader gives.
+fn list_packets<R: Print + Eprint + AllocGlobal, F: Read + Drop>(
+    rt: &R,
+    port: u16,
+    file: &str,
+    reader: F,
+) -> u8 {
+    let mut source = FromRead::new(reader);
     let mut sink = FromWrite::new(io::writer(rt));
     let listed = list_recording(rt.alloc(), port, &mut source, &mut sink);
     if sink.failures() > 0 {
@@ -241,7 +266,7 @@ fn tell_unopened<R: Eprint>(rt: &R, file: &str, error: &io::Error) -> u8 {
 }
 
 /// Tells that standard output can't be written. A closed pipe isn't told.
-fn tell_unwritten<R: Eprint, W: Write>(rt: &R, sink: &FromWrite<W>) {
+pub(crate) fn tell_unwritten<R: Eprint, W: Write>(rt: &R, sink: &FromWrite<W>) {
     if let Some(note) = unwritten(sink) {
         tell_note(rt, &note);
     }

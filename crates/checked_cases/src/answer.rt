@@ -1,8 +1,9 @@
-//! What checking a recording answers, told as a case tells it.
+//! What checking a file answers, told as a case tells it.
 
-use crate::case::{Case, malformed};
+use crate::case::{Case, Kind, malformed};
 use crate::words::options_of;
-use bgp_check_tool::check_recording;
+use bgp_check_capture_tool::check_capture;
+use bgp_check_tool::{CheckOptions, check_recording};
 use bgp_compact::CompactTracker;
 use bgp_import::Refusal;
 use bgp_judge::{PlainTracker, Tracker};
@@ -45,16 +46,17 @@ fn add_help(text: &mut String, refusals: &[Option<Refusal>]) -> io::Result<()> {
     Ok(())
 }
 
-/// What checking a case's recording with a tracker answers.
-fn check<T: Tracker<Global>>(alloc: Global, case: &Case<'_>) -> io::Result<String> {
-    let Some(options) = options_of(case.words) else {
-        return Err(malformed());
-    };
-    let mut source = MemSource::new(Vec::from_slice(alloc, case.recording.as_slice())?);
+/// What checking a recording with a tracker answers.
+fn check_packets<T: Tracker<Global>>(
+    alloc: Global,
+    options: &CheckOptions,
+    file: &[u8],
+) -> io::Result<String> {
+    let mut source = MemSource::new(Vec::from_slice(alloc, file)?);
     let mut sink = MemSink::new(alloc);
     let checked = check_recording::<Global, T, MemSource, MemSink>(
         alloc,
-        &options,
+        options,
         &mut source,
         &mut sink,
     );
@@ -63,10 +65,39 @@ fn check<T: Tracker<Global>>(alloc: Global, case: &Case<'_>) -> io::Result<Strin
     Ok(text)
 }
 
+/// What checking a capture with a tracker answers.
+fn check_records<T: Tracker<Global>>(
+    alloc: Global,
+    options: &CheckOptions,
+    file: &[u8],
+) -> io::Result<String> {
+    let mut source = MemSource::new(Vec::from_slice(alloc, file)?);
+    let mut sink = MemSink::new(alloc);
+    let checked = check_capture::<Global, T, MemSource, MemSink>(
+        alloc,
+        options.routes,
+        &mut source,
+        &mut sink,
+    );
+    printed(alloc, checked.status, sink.into_octets())
+}
+
+/// What checking a case's file with a tracker answers.
+fn check<T: Tracker<Global>>(alloc: Global, kind: Kind, case: &Case<'_>) -> io::Result<String> {
+    let Some(options) = options_of(case.words) else {
+        return Err(malformed());
+    };
+    let file = case.file.as_slice();
+    match kind {
+        Kind::Recording => check_packets::<T>(alloc, &options, file),
+        Kind::Capture => check_records::<T>(alloc, &options, file),
+    }
+}
+
 /// The lines of the answer to a case, by both trackers.
-pub(crate) fn answer_to(alloc: Global, case: &Case<'_>) -> io::Result<String> {
-    let plain = check::<PlainTracker<Global>>(alloc, case)?;
-    let compact = check::<CompactTracker<Global>>(alloc, case)?;
+pub(crate) fn answer_to(alloc: Global, kind: Kind, case: &Case<'_>) -> io::Result<String> {
+    let plain = check::<PlainTracker<Global>>(alloc, kind, case)?;
+    let compact = check::<CompactTracker<Global>>(alloc, kind, case)?;
     if plain.as_str() == compact.as_str() {
         Ok(compact)
     } else {

@@ -1,15 +1,24 @@
-//! A recording and its answer, told by a block of lines.
+//! A file and its answer, told by a block of lines.
 
 use hex::FromHexError;
 use std::alloc::{AllocError, Global};
 use std::io;
 
-/// A recording, the words of a command over it, and the lines that tell its answer.
+/// What a file holds.
+#[derive(Clone, Copy)]
+pub(crate) enum Kind {
+    /// Packets.
+    Recording,
+    /// MRT records.
+    Capture,
+}
+
+/// A file, the words of a command over it, and the lines that tell its answer.
 #[derive(Drop)]
 pub(crate) struct Case<'a> {
     pub(crate) name: &'a str,
     pub(crate) words: &'a str,
-    pub(crate) recording: Vec<u8>,
+    pub(crate) file: Vec<u8>,
     pub(crate) answer: &'a str,
 }
 
@@ -44,7 +53,7 @@ fn first_line(text: &str) -> (&str, &str) {
 }
 
 /// Reads a block of lines: `case` and its name; `args` and the words of the command; `octets` and
-/// the recording; and then the lines of the answer: `status` and a number, `refusal` and its text,
+/// the file; and then the lines of the answer: `status` and a number, `refusal` and its text,
 /// `note` and a sentence, `capture` and its octets, `>` and a line that is printed.
 pub(crate) fn read_case(alloc: Global, block: &str) -> io::Result<Case<'_>> {
     let (name, rest) = first_line(block);
@@ -53,7 +62,7 @@ pub(crate) fn read_case(alloc: Global, block: &str) -> io::Result<Case<'_>> {
     Ok(Case {
         name: told(name, "case")?,
         words: told(words, "args")?,
-        recording: octets_of(alloc, told(octets, "octets")?)?,
+        file: octets_of(alloc, told(octets, "octets")?)?,
         answer,
     })
 }

@@ -1,4 +1,4 @@
-//! Checks recordings whose answers are known from elsewhere: from a program that was written apart
+//! Checks recordings and captures whose answers are known from elsewhere: from a program that was written apart
 //! from this one.
 //!
 //! `checked.txt` has worked rows, recordings of real sessions between five daemons, and random ones
@@ -12,14 +12,15 @@ mod repeated;
 mod words;
 
 use answer::answer_to;
-use case::read_case;
+use case::{Case, Kind, read_case};
 use repeated::repeated;
+use std::alloc::Global;
 use std::process::ExitCode;
 use std::rt::Files;
 use std::{fs, io};
 
 fn main(rt: HostRuntime) -> ExitCode {
-    match compare_cases(&rt, "checked.txt") {
+    match compare_tables(&rt) {
         Ok(true) => ExitCode::SUCCESS,
         Ok(false) => ExitCode::FAILURE,
         Err(error) => {
@@ -29,9 +30,20 @@ fn main(rt: HostRuntime) -> ExitCode {
     }
 }
 
+/// Answers whether all cases of both tables are so.
+fn compare_tables<R: Files + Print + AllocGlobal>(rt: &R) -> io::Result<bool> {
+    let recordings = compare_cases(rt, "checked.txt", Kind::Recording)?;
+    let captures = compare_cases(rt, "captures.txt", Kind::Capture)?;
+    Ok(recordings && captures)
+}
+
 /// Prints each case of a table that is not so, and then how many there were. Answers whether all
 /// are so.
-fn compare_cases<R: Files + Print + AllocGlobal>(rt: &R, name: &str) -> io::Result<bool> {
+fn compare_cases<R: Files + Print + AllocGlobal>(
+    rt: &R,
+    name: &str,
+    kind: Kind,
+) -> io::Result<bool> {
     let table = fs::read_to_string(rt, name)?;
     let mut cases = 0u64;
     let mut lines = 0u64;
@@ -42,7 +54,7 @@ fn compare_cases<R: Files + Print + AllocGlobal>(rt: &R, name: &str) -> io::Resu
             continue;
         }
         cases = cases.saturating_add(1);
-        match compare_case(rt, block)? {
+        match compare_case(rt, kind, block)? {
             Some(count) => lines = lines.saturating_add(count),
             None => all = false,
         }
@@ -51,13 +63,31 @@ fn compare_cases<R: Files + Print + AllocGlobal>(rt: &R, name: &str) -> io::Resu
     Ok(all)
 }
 
+/// How many verdicts on a case are told with options of `bgp judge`, if that gives each of them:
+/// none of a capture.
+fn repeated_of(
+    alloc: Global,
+    kind: Kind,
+    case: &Case<'_>,
+    answer: &str,
+) -> io::Result<Option<u64>> {
+    match kind {
+        Kind::Recording => repeated(alloc, case, answer),
+        Kind::Capture => Ok(Some(0)),
+    }
+}
+
 /// Prints a case if it is not so, or if `bgp judge` gives another verdict for one that is told with
 /// its options. Answers how many of these there are, where it is so.
-fn compare_case<R: Files + Print + AllocGlobal>(rt: &R, block: &str) -> io::Result<Option<u64>> {
+fn compare_case<R: Files + Print + AllocGlobal>(
+    rt: &R,
+    kind: Kind,
+    block: &str,
+) -> io::Result<Option<u64>> {
     let case = read_case(rt.alloc(), block)?;
-    let answer = answer_to(rt.alloc(), &case)?;
+    let answer = answer_to(rt.alloc(), kind, &case)?;
     if answer.as_str() == case.answer {
-        let count = repeated(rt.alloc(), &case, answer.as_str())?;
+        let count = repeated_of(rt.alloc(), kind, &case, answer.as_str())?;
         if count.is_none() {
             println!(rt; "case {} is judged otherwise", case.name)?;
         }

@@ -27,7 +27,7 @@ fn judged(alloc: Global, case: &Case<'_>, line: &str) -> io::Result<String> {
         ) => (config, recording),
         _ => return Err(malformed()),
     };
-    let mut source = MemSource::new(Vec::from_slice(alloc, case.recording.as_slice())?);
+    let mut source = MemSource::new(Vec::from_slice(alloc, case.file.as_slice())?);
     let mut sink = MemSink::new(alloc);
     explain_recording::<Global, CompactTracker<Global>, MemSource, MemSink>(
         alloc,

@@ -1,4 +1,4 @@
-use Rattle.std.proofs.Common.{◌+◌, ap, List, ℕ, drop, map, subst, sym, take}
+use Rattle.std.proofs.Common.{◌+◌, List, drop, map, subst, sym}
 use Rattle.mrt.specs.Reader.{shown_of}
 use Rattle.mrt.specs.declared.record.Record.{Record}
 use Rattle.bgp_check_capture.specs.Cut.{IsBeforeLeaving}

@@ -1,9 +1,8 @@
-use Rattle.std.proofs.Common.{◌≡◌, ◌∙◌, ◌+◌, ◌-◌, ◌<◌, ap, arith, length, map, sym, true, false, Bool, IsTrue, [], List, Option, ℕ, refl, subst}
+use Rattle.std.proofs.Common.{◌≡◌, ◌∙◌, ◌+◌, ◌-◌, ap, arith, length, map, sym, true, false, Option, ℕ, subst}
 use Rattle.std.proofs.lemmas.Bool.{eqb-true}
 use Rattle.std.proofs.lemmas.List.{length-map}
 use Rattle.bgp_prefix.specs.Shown.{ShownRecord}
 use Rattle.mrt.specs.Reader.{shown_of}
-use Rattle.mrt.specs.declared.record.Record.{Record}
 use Rattle.bgp_text.proofs.Pieces.{Joins}
 use Rattle.bgp_check_capture.specs.Told.{IsStretchTold, told_value}
 use Rattle.bgp_check_capture_tool.specs.Ends.{Stretch}
