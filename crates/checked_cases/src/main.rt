@@ -1,5 +1,5 @@
-//! Checks recordings and captures whose answers are known from elsewhere: from a program that was written apart
-//! from this one.
+//! Checks recordings and captures whose answers are known from elsewhere: from a program that was
+//! written apart from this one. Of four recordings they aren't (docs/TESTING.md).
 //!
 //! `checked.txt` has worked rows, recordings of real sessions between five daemons, and random ones
 //! with planted oddities. Each is checked by the plain tracker and by the compact one, and where a
