@@ -12,7 +12,8 @@
 //!   whose peer sends a table of so many prefixes and then so many further records; then it goes
 //!   on, or is ended, or leaves four ends (`bench/judge.sh`).
 //! - `table FILE`: the routes of such a capture are put into a table, and nothing else is done.
-//! - `speaker [PREFIXES]`: a speaker's core hears and announces so many prefixes (`bench/speaker.sh`).
+//! - `speaker [PREFIXES]`: a speaker's core hears and announces so many prefixes
+//!   (`bench/speaker.sh`).
 //! - `each FILE`: the UPDATEs of that stream, and small loads of routes, sessions and a speaker, as
 //!   they are without sizes. So the gate runs it, on the UPDATEs of `bench/mix.sh`, whose prefixes
 //!   were counted by hand.

@@ -47,8 +47,8 @@ fn wished(words: &[String]) -> io::Result<Wish> {
     })
 }
 
-/// Puts the routes that the words wish, 1,200 if there are none, and tells how long it took if there
-/// are any. Answers whether the listing had each route, in order.
+/// Puts the routes that the words wish, 1,200 if there are none, and tells how long it took if
+/// there are any. Answers whether the listing had each route, in order.
 pub(crate) fn fill_routes<R: Files + Clock + Print + AllocGlobal>(
     rt: &R,
     words: &[String],

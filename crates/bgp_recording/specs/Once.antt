@@ -24,8 +24,8 @@ pub record TellTheSame (one other : Connection) : Type 0 where
   pub sent : AreSame one.sent other.sent
   pub end : one.end ≡ other.end
 
--- Whatever is recorded of two such connections by the same rules of framing, within as many seconds,
--- are the same records, by the same packets, and the same is in none of them.
+-- Whatever is recorded of two such connections by the same rules of framing, within as many
+-- seconds, are the same records, by the same packets, and the same is in none of them.
 abbrev pub ConnectionsAreRecordedOnce : Type 0
 ConnectionsAreRecordedOnce =
     (framings : Framings) (within : ℕ) (one other : Connection) (entries others : List Entry)

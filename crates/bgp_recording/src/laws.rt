@@ -20,9 +20,9 @@ pub fn made_records_are_the_streams()
 {}
 
 /// What is made of a connection is one thing: two lists of records that tell connections with the
-/// same streams, packets and end, framed by the same rules and within as many seconds, are the same,
-/// record by record and packet by packet, and the same of the streams is in no record. So whoever
-/// makes the records of a connection makes these: `specs/MadeOrder` is a function.
+/// same streams, packets and end, framed by the same rules and within as many seconds, are the
+/// same, record by record and packet by packet, and the same of the streams is in no record. So
+/// whoever makes the records of a connection makes these: `specs/MadeOrder` is a function.
 pub fn connections_are_recorded_once()
     ensures { ConnectionsAreRecordedOnce }
 {}

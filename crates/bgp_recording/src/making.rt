@@ -70,8 +70,8 @@ fn sent_messages<'a, A: Allocator + Copy>(
 }
 
 /// The records that tell a connection whose packets' seconds don't fall, the messages of either
-/// direction framed by its rules. The order is allowed where a received message is handled within so
-/// many seconds after it came. The session begins in Idle, and the changes of state are those to
+/// direction framed by its rules. The order is allowed where a received message is handled within
+/// so many seconds after it came. The session begins in Idle, and the changes of state are those to
 /// which the order leads.
 pub fn make_records<'a, A: Allocator + Copy>(
     alloc: A,

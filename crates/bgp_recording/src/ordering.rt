@@ -7,7 +7,8 @@ ghost use Rattle.bgp_recording.specs.Told.{IsTold, IsMade};
 ghost use Rattle.bgp_recording.specs.Tells.{HasSecond, numbered_of};
 ghost use Rattle.bgp_recording.specs.MadeOrder.{first_waits, first_is_answered, after_next};
 ghost use Rattle.bgp_recording.specs.Steps.{ShowsReceived, ShowsSent, ShowsEnd, Begins};
-ghost use Rattle.bgp_recording.specs.Steps.{Shows, StepsOrEnds, answering_after, course_of, order_of};
+ghost use Rattle.bgp_recording.specs.Steps.{Shows, StepsOrEnds};
+ghost use Rattle.bgp_recording.specs.Steps.{answering_after, course_of, order_of};
 
 use crate::entry::Entry;
 use crate::message::Message;

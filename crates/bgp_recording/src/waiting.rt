@@ -5,7 +5,8 @@
 ghost use Rattle.std.specs.Prelude.{◌≡◌, ◌||◌, option_map};
 ghost use Rattle.streams.specs.Connections.{last_index};
 ghost use Rattle.bgp_recording.specs.Values.{message_value, values_of};
-ghost use Rattle.bgp_recording.specs.Waiting.{is_open_or_cease, notification_from, is_blamed, blames};
+ghost use Rattle.bgp_recording.specs.Waiting.{is_open_or_cease, notification_from};
+ghost use Rattle.bgp_recording.specs.Waiting.{is_blamed, blames};
 ghost use Rattle.bgp_recording.specs.Waiting.{cause_of, hold_in, first_hold, lesser, foresight_of};
 ghost use Rattle.bgp_recording.specs.Waiting.{is_at, isnt_after, isnt_after_first};
 ghost use Rattle.bgp_recording.specs.Waiting.{is_cause_answered, answers, is_answered};
@@ -264,7 +265,8 @@ impl Foresight {
         kind: Option<MessageType>,
         next: Option<&Message<'_>>,
     ) -> bool
-        ensures { result ≡ is_answered self.now place state kind (option_map (λ m. message_value m.now) next.entry) }
+        ensures { result ≡ is_answered self.now place state kind
+            (option_map (λ m. message_value m.now) next.entry) }
     {
         let Some(next) = next else {
             return false;
@@ -305,7 +307,8 @@ impl Foresight {
 
     /// Whether the next message received waits for this reason, where this is the next one sent.
     pub(crate) fn waits(&self, why: Waiting, place: Place, next: Option<&Message<'_>>) -> bool
-        ensures { result ≡ waits_for why self.now place (option_map (λ m. message_value m.now) next.entry) }
+        ensures { result ≡ waits_for why self.now place
+            (option_map (λ m. message_value m.now) next.entry) }
     {
         match why {
             Waiting::AnAnswerIsUnderWay | Waiting::ItWouldBeAnswered | Waiting::ItCameUnseen => {

@@ -102,7 +102,8 @@ module _ (config : Config) (wanted : Import) (packets : List Recorded) (segments
     abbrev pub AreEachTold : ℕ → List ℕ → List ℕ → List Remark → Type 0
     AreEachTold zero text statuses remarks = (text ≡ []) × (statuses ≡ []) × (remarks ≡ [])
     AreEachTold (suc count) text statuses remarks =
-        HasOneMore (AreEachTold count) (IsOpening (suc count)) (IsTold (Some (suc count)) (Some (suc count)))
+        HasOneMore (AreEachTold count) (IsOpening (suc count))
+        (IsTold (Some (suc count)) (Some (suc count)))
         (opening_text config.parts.session) text statuses remarks
 
     -- and this is the status over them

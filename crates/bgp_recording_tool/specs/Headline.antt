@@ -62,7 +62,8 @@ pub record IsFirstRefresh (records front : List ShownRecord) : Type 0 where
 
 -- The octets read as just the records of these entries, unless one of them is a ROUTE-REFRESH and
 -- the session refuses it; and any verdict on what they read as is the one on these records. Where
--- there is one and the session refuses it, a reader refuses them at the first, and for nothing else.
+-- there is one and the session refuses it, a reader refuses them at the first, and for nothing
+-- else.
 pub record Agrees (config : Config) (entries : List Entry) (octets : List ℕ) : Type 0 where
   pub reads :
       (config.parts.session.refresh ≡ refreshes.Refused
@@ -83,8 +84,8 @@ pub record Agrees (config : Config) (entries : List Entry) (octets : List ℕ) :
 
 -- Whatever is imported of packets and whatever is judged of them, of the same session, number and
 -- patience, are one list of records, of which the same is told, and the capture of the former is
--- judged as the latter are. Whether the session of the import refuses a ROUTE-REFRESH plays no part;
--- what it passes over, that of the judge does, too.
+-- judged as the latter are. Whether the session of the import refuses a ROUTE-REFRESH plays no
+-- part; what it passes over, that of the judge does, too.
 abbrev pub ImportAndJudgeAgree : Type 0
 ImportAndJudgeAgree =
     (config : Config) (imports judges : Import) (number : Option ℕ) (packets : List Recorded)

@@ -56,8 +56,8 @@ packet_after entries count = packet_of (slice_get entries count)
 abbrev pub has_sent : List Entry → Bool
 has_sent entries = list_any (λ entry. is_sent (shown_of entry.record)) entries
 
--- Of a yes, that nothing was sent, where that is so; of a no, how many records come before the first
--- impossible one, and the packet that shows that.
+-- Of a yes, that nothing was sent, where that is so; of a no, how many records come before the
+-- first impossible one, and the packet that shows that.
 abbrev pub verdict_remark : Option ℕ → List Entry → VerdictValue → Option Remark
 verdict_remark connection entries (Yes ends) =
     if has_sent entries then None else Some (remark_on connection kinds.NothingSent)

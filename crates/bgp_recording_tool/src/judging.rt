@@ -95,8 +95,8 @@ fn put_told<A: Allocator, W: Sink>(
     }
 }
 
-/// Judges each connection that holds octets, under a line that names it, and answers the exit status
-/// over them.
+/// Judges each connection that holds octets, under a line that names it, and answers the exit
+/// status over them.
 fn judge_each<A: Allocator + Copy, T: Tracker<A>, W: Sink>(
     alloc: A,
     config: &Config,

@@ -1,7 +1,7 @@
-//! What a speaker over a wire in memory does with little memory, with a sink that fails, and when it
-//! writes, against records, octets, turns and routes that were written down by hand. Messages are by
-//! the names of `bgp_wire::vectors` and of `messages`. What it does over wires that fail or do harm
-//! is compared by the program `speaker_drives`.
+//! What a speaker over a wire in memory does with little memory, with a sink that fails, and when
+//! it writes, against records, octets, turns and routes that were written down by hand. Messages
+//! are by the names of `bgp_wire::vectors` and of `messages`. What it does over wires that fail or
+//! do harm is compared by the program `speaker_drives`.
 //!
 //! Each capture is compared octet by octet with its records, by the layout of RFC 6396.
 

@@ -23,7 +23,8 @@ abbrev pub fault_told : {R : Type 0} {gives : R → R → List ℕ → Type 0} {
     {failures : R → ℕ} {config : Config} {source source' : R}
     {may_lack : Config → List ShownRecord → ShownRecord → Type 0} {text : List ℕ} {status : ℕ}
     → TellsVerdict gives has_ended failures config source source' text status
-    ⊎ TellsFault gives has_ended failures config source source' may_lack text status → Option CaptureFault
+    ⊎ TellsFault gives has_ended failures config source source' may_lack text status
+    → Option CaptureFault
 fault_told (inl tells) = None
 fault_told (inr tells) = Some tells.fault
 

@@ -1,6 +1,7 @@
 //! The verdict on one session of a capture, with what its records show of the local system's work.
 
-ghost use Rattle.std.specs.Prelude.{◌↔◌, ◌≢◌, ◌≡◌, ◌<◌, ◌+◌, ◌++◌, ◌∷◌, [], List, IfOk, OnErr, None};
+ghost use Rattle.std.specs.Prelude.{◌↔◌, ◌≢◌, ◌≡◌, ◌<◌, ◌+◌, ◌++◌, ◌∷◌, [], List};
+ghost use Rattle.std.specs.Prelude.{IfOk, OnErr, None};
 ghost use Rattle.std.specs.Prelude.{IsTrue, length};
 ghost use Rattle.bgp_prefix.specs.Shown.{ShownRecord};
 ghost use Rattle.bgp_open.specs.declared.config.Config.{Config as TheConfig};

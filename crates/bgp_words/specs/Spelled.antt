@@ -46,7 +46,8 @@ AreValuesOf (Capture session recording file) = IsCapture session recording file.
 AreValuesOf (Judge config recording explain file) = IsJudge config recording explain file.now
 AreValuesOf (Import session recording file out) = IsImport session recording file.now out.now
 AreValuesOf (Listing port file) = IsListing port file.now
-AreValuesOf (Check port within routes settings file) = IsChecking port within routes settings file.now
+AreValuesOf (Check port within routes settings file) =
+    IsChecking port within routes settings file.now
 AreValuesOf (Speak config speaking file) = IsSpeak config speaking file.now
 AreValuesOf (Pair file) = IsPair file.now
 

@@ -71,8 +71,8 @@ abbrev pub IsRouteRefresh : List ℕ → Type 0
 IsRouteRefresh content = (19 ≤ length content) × (wire.type_of (wire.header_of content) ≡ 5)
 
 -- A message is a whole ROUTE-REFRESH: that its type is none of the four is the one fault of its
--- header, as its marker is all 255 and its Length 19 to 4096, by either limit; and its Length is the
--- count of the octets.
+-- header, as its marker is all 255 and its Length 19 to 4096, by either limit; and its Length is
+-- the count of the octets.
 pub record IsWholeRefresh (content : List ℕ) : Type 0 where
   pub least : 19 ≤ length content
   pub greatest : length content ≤ 4096

@@ -40,8 +40,8 @@ pub fn nothing_is_passed_over_unasked()
 {}
 
 /// Where they are, the records of a capture are those of the octets without what is passed over, of
-/// a session without route refresh, and so are the end and the fault. What is passed over is a whole
-/// message of the session, whose header has no fault but its type.
+/// a session without route refresh, and so are the end and the fault. What is passed over is a
+/// whole message of the session, whose header has no fault but its type.
 pub fn passed_over_records_are_taken_out()
     ensures taken_out { PassedOverAreTakenOut }
     ensures whole { PassedOverAreWhole }

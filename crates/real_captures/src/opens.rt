@@ -3,8 +3,8 @@
 //!
 //! A line of `case` says what a block teaches, `config` gives the configuration and `octets` the
 //! OPEN. Each line behind them tells one thing: whether there is such a configuration
-//! (`configured`), whether it may send the OPEN itself (`own`), the subcodes that a peer's has to be
-//! refused with and those that it may be (`must`, `may`), and what a peer's settles (`link`).
+//! (`configured`), whether it may send the OPEN itself (`own`), the subcodes that a peer's has to
+//! be refused with and those that it may be (`must`, `may`), and what a peer's settles (`link`).
 
 use crate::case::{malformed, octets_of};
 use crate::updates::families_of;
