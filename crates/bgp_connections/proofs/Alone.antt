@@ -1,8 +1,7 @@
 -- Each thing that there is to tell of stands at a packet of its own.
-use Rattle.std.proofs.Common.{◌≡◌, ◌≢◌, ◌∙◌, ◌<◌, ◌+◌, ◌-◌, ◌++◌, ℕ, zero, suc, List, [], ◌∷◌, length, get_or, reverse, Option, None, Some, Ok, Err, inl, inr, refl, sym, ap, subst, arith, length-append}
+use Rattle.std.proofs.Common.{◌≡◌, ◌≢◌, ◌∙◌, ◌<◌, ◌+◌, ◌-◌, ◌++◌, ℕ, List, [], ◌∷◌, length, reverse, Option, None, Some, Ok, Err, inl, inr, refl, sym, ap, subst, arith, length-append}
 use Rattle.std.proofs.lemmas.List.{reverse-append}
-use Rattle.std.specs.List.{AllByRecursion, Contains}
-use Rattle.std.specs.Map.{keys_of}
+use Rattle.std.specs.List.{AllByRecursion}
 use Rattle.packets.specs.Packet.{Recorded}
 use Rattle.segments.specs.Conversation.{Answer, IsAnswerIf, IsSelected}
 use Rattle.segments.specs.Found.{found_in}
@@ -12,16 +11,12 @@ use Rattle.segments.specs.declared.fault.PacketFault.{PacketFault}
 use Rattle.segments.specs.declared.fault.PacketFault.TheVariants as faults
 use Rattle.segments.specs.declared.found.Addresses.{Addresses}
 use Rattle.segments.specs.declared.found.Ends.{Ends}
-use Rattle.streams.specs.Choice.{OpensAs, first_packet}
+use Rattle.streams.specs.Choice.{first_packet}
 use Rattle.streams.specs.Connections.{first_in, numbered}
 use Rattle.streams.specs.Passed.{Segment}
-use Rattle.streams.specs.declared.connection.Opening.{Opening}
 use Rattle.streams.specs.declared.passed.Side.{Side}
 use Rattle.streams.specs.declared.passed.Side.TheVariants.{Local, Peer}
-use Rattle.bgp_prefix.specs.declared.session.Session.{Session}
 use Rattle.bgp_import.specs.Selecting.{AreTaken, HasPart, IsFound, IsPart, IsSentBy, conversation_of, part_by}
-use Rattle.bgp_import.specs.declared.refusal.Refusal.{Refusal}
-use Rattle.bgp_import.specs.declared.refusal.Refusal.TheVariants as refusals
 use Rattle.bgp_import.specs.declared.selection.Selection.{Selection}
 use Rattle.bgp_import.proofs.InOrder.{in_order}
 use Rattle.bgp_connections.specs.Alone.{ConnectionsStandAlone, NoneBeginsAtARefusal, RefusalsStandAlone}

@@ -12,7 +12,7 @@ use Rattle.packets.specs.declared.packet.Packet.{Packet}
 use Rattle.bgp_import.specs.Gathers.{failures_by}
 use Rattle.bgp_import.specs.declared.refusal.Refusal.{Refusal}
 use Rattle.bgp_import.specs.declared.refusal.Refusal.TheVariants as refusals
-use Rattle.bgp_connections.specs.Reading.{AreKnown, Begins, TakesAll}
+use Rattle.bgp_connections.specs.Reading.{AreKnown, TakesAll}
 use Rattle.bgp_connections.specs.Talks.{HoldsEach, IsLinkKnown, TakesPacket}
 use Rattle.bgp_connections.specs.Wrapped.{AreCounted}
 use Rattle.bgp_connections.specs.declared.talks.Talks.{Talks}
@@ -23,6 +23,10 @@ all_with P (x ∷ xs) one all p = (all.0, all_with P xs one all.1 p)
 
 some_none : (r : Refusal) → Some r ≡ None → ⊥
 some_none r e = cc
+
+none_counted : (packets : List Recorded) → length packets ≡ 0 → packets ≡ []
+none_counted [] none = refl
+none_counted (packet ∷ packets) some = absurd (omega (arith, some))
 
 -- what was read, and then more
 then_read : (from mid to : Context) (a b : List ℕ) (p q : List Recorded) → HasRead from a p mid → HasRead mid b q to → HasRead from (a ++ b) (p ++ q) to
@@ -142,7 +146,6 @@ module _ {S : Type 0} (gives : S → S → List ℕ → Type 0) (has_ended : S �
       let front = so.octets ++ fails.octets in
       let read = then_passed Start state.context after.context so.octets fails.octets so.packets so.read fails.passed in
       let whole : so.octets ++ (fails.octets ++ fails.rest) ≡ front ++ fails.rest = sym (append_assoc so.octets fails.octets fails.rest) in
-      let begins : Begins (so.octets ++ (fails.octets ++ fails.rest)) so.packets = record { front = front; rest = fails.rest; after = after.context; whole = whole; read = read } in
       record {
         packets = so.packets;
         read = record {
@@ -156,7 +159,23 @@ module _ {S : Type 0} (gives : S → S → List ℕ → Type 0) (has_ended : S �
                   (sym (append_assoc front fails.rest more) ∙ ap (λ (o : List ℕ). o ++ more) (sym whole))
                   (read_to_fault after.context front (fails.rest ++ more) so.packets fault.kind read
                   (refused_there after.context (fails.rest ++ more) fault.kind (refused.0 more none) refused.1)))
-              | inr other ↦ inr (elim other [ inl device ↦ inl device.0 | inr memory ↦ inr memory.0 ], begins)
+              | inr other ↦ inr (elim other [
+                | inl device ↦ inl (device.0, record { front = front; rest = fails.rest; after = after.context; whole = whole; read = read; is = device.1 })
+                | inr memory ↦ inr (
+                  memory.0,
+                  record {
+                    front = front;
+                    rest = fails.rest;
+                    after = after.context;
+                    whole = whole;
+                    read = read;
+                    is = elim memory.1 [
+                      | inl fresh ↦ inl (none_counted so.packets (sym so.many ∙ ap (λ (s : ReaderState). s.number) fresh.1))
+                      | inr describes ↦ inr describes
+                    ];
+                  },
+                )
+              ])
             ],
           );
           known = so.known;
@@ -192,6 +211,7 @@ module _ {S : Type 0} (gives : S → S → List ℕ → Type 0) (has_ended : S �
             after = after.context;
             whole = sym (append-nil (so.octets ++ answer.0.octets));
             read = then_read Start state.context after.context so.octets answer.0.octets so.packets _ so.read answer.0.told;
+            is = refl;
           },
         ),
       );
@@ -207,7 +227,20 @@ module _ {S : Type 0} (gives : S → S → List ℕ → Type 0) (has_ended : S �
     read = record {
       octets = so.octets ++ answer.0.octets;
       exactly = gives_joined source now next so.octets answer.0.octets so.gave answer.0.exactly;
-      is = (is, record { front = so.octets; rest = answer.0.octets; after = state.context; whole = refl; read = so.read });
+      is = (
+        is,
+        (
+          recorded_of packet,
+          record {
+            front = so.octets ++ answer.0.octets;
+            rest = [];
+            after = after.context;
+            whole = sym (append-nil (so.octets ++ answer.0.octets));
+            read = then_read Start state.context after.context so.octets answer.0.octets so.packets _ so.read answer.0.told;
+            is = refl;
+          },
+        ),
+      );
       known = so.known;
     };
     some = holds;

@@ -1,6 +1,6 @@
 -- What there is to tell of in a recording, and where: each connection at its first packet, and two
 -- addresses of whose connections none can be told at the first packet that is refused for them.
-use Rattle.std.specs.Prelude.{◌≡◌, ◌⊎◌, ◌≤◌, ℕ, List, length, reverse}
+use Rattle.std.specs.Prelude.{◌⊎◌, ◌≤◌, ℕ, List, length, reverse}
 use Rattle.packets.specs.Packet.{Recorded}
 use Rattle.segments.specs.declared.fault.PacketFault.{PacketFault}
 use Rattle.segments.specs.declared.found.Addresses.{Addresses}

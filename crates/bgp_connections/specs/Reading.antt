@@ -5,8 +5,8 @@ use Rattle.std.specs.List.{AllByRecursion}
 use Rattle.std.specs.Result.{result_err}
 use Rattle.packets.specs.Context.{Context, Start}
 use Rattle.packets.specs.Packet.{Recorded}
-use Rattle.packets.specs.Reader.{HasRead}
-use Rattle.packets.specs.Recording.{IsFirstFault, Spells}
+use Rattle.packets.specs.Reader.{Describes, HasRead}
+use Rattle.packets.specs.Recording.{IsBegun, IsFirstFault, Spells}
 use Rattle.packets.specs.declared.fault.FaultKind.{FaultKind}
 use Rattle.packets.specs.declared.fault.FaultKind.TheVariants as kinds
 use Rattle.segments.specs.Found.{found_in}
@@ -20,13 +20,19 @@ use Rattle.bgp_connections.specs.Talks.{HoldsEach, HoldsSome, IsLinkKnown}
 use Rattle.bgp_connections.specs.Wrapped.{AreCounted}
 use Rattle.bgp_connections.specs.declared.talks.Talks.{Talks}
 
--- these octets begin with these packets
-pub record Begins (octets : List ℕ) (packets : List Recorded) : Type 0 where
+-- these octets begin with these packets, and what is left is such where they end
+pub record Begins (octets : List ℕ) (packets : List Recorded) (Is : Context → List ℕ → Type 0)
+    : Type 0 where
   pub front : List ℕ
   pub rest : List ℕ
   pub after : Context
   pub whole : octets ≡ front ++ rest
   pub read : HasRead Start front packets after
+  pub is : Is after rest
+
+-- they are these packets, and no more
+abbrev pub AreAll : List ℕ → List Recorded → Type 0
+AreAll octets packets = Begins octets packets (λ after rest. rest ≡ [])
 
 -- whatever follows on these octets, which is nothing where the source has ended, the file is
 -- refused after these packets
@@ -35,20 +41,24 @@ IsFaulty octets ended packets kind =
     (more : List ℕ) → (IsTrue ended → more ≡ [])
     → IsFirstFault (octets ++ more) packets kind
 
--- The file is refused after these packets; or a device failed there, or there was no memory; or
--- the link of the next packet is unknown; or there was no memory for it.
+-- The file is refused after these packets; or a device failed within what begins there; or there
+-- was no memory for the buffer, before anything was read, or for an interface that is described
+-- there; or the link of the next packet is unknown; or there was no memory for it.
 abbrev pub IsCut : List ℕ → Bool → List Recorded → Refusal → Type 0
 IsCut octets ended packets (refusals.File fault) =
     (fault.packet ≡ length packets + 1)
     × (IsFaulty octets ended packets fault.kind
-    ⊎ (((fault.kind ≡ kinds.Device) ⊎ (fault.kind ≡ kinds.Memory)) × Begins octets packets))
+    ⊎ ((fault.kind ≡ kinds.Device) × Begins octets packets IsBegun)
+    ⊎ ((fault.kind ≡ kinds.Memory)
+    × Begins octets packets (λ after rest. (packets ≡ []) ⊎ Describes after rest)))
 IsCut octets ended packets (refusals.Packet fault number) =
     (number ≡ length packets + 1)
     × ((packet : Recorded) × (link_type : ℕ) × (fault ≡ faults.Link link_type)
     × (found_in packet.link_type packet.octets ≡ UnknownLink link_type)
-    × Begins octets (packets ++ packet ∷ []))
+    × AreAll octets (packets ++ packet ∷ []))
 IsCut octets ended packets (refusals.Memory number) =
-    (number ≡ length packets + 1) × Begins octets packets
+    (number ≡ length packets + 1)
+    × ((packet : Recorded) × AreAll octets (packets ++ packet ∷ []))
 IsCut octets ended packets (refusals.Connection fault) = ⊥
 IsCut octets ended packets (refusals.RouteRefresh number from place) = ⊥
 

@@ -6,7 +6,7 @@
 //! let stopped = take_all(&mut reader, &mut talks, source).err();
 //! for (packet, listed) in &listed_in(alloc, &talks)? {
 //!     match listed {
-//!         Listed::Connection(addresses, talk, opening) => tell(addresses, &talk.connections, opening),
+//!         Listed::Connection(addresses, talk, opening) => tell(addresses, talk, opening),
 //!         Listed::Refused(addresses, fault) => refuse(addresses, fault, packet),
 //!     }
 //! }

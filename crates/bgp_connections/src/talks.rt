@@ -160,9 +160,9 @@ impl<A: Allocator + Copy> Talks<A> {
     }
 }
 
-/// Takes all packets of a recording: up to its end, or to what keeps it from being read on, which is
-/// answered. That is a fault of the file, a device that failed, a packet of a link whose type isn't
-/// known, or want of memory. Where memory lacked, of two addresses nothing may be held.
+/// Takes all packets of a recording: up to its end, or to what keeps it from being read on, which
+/// is answered. That is a fault of the file, a device that failed, a packet of a link whose type
+/// isn't known, or want of memory. Where memory lacked, of two addresses nothing may be held.
 pub fn take_all<A: Allocator + Copy, R: Source>(
     reader: &mut Reader<A>,
     talks: &mut Talks<A>,
