@@ -28,40 +28,46 @@ fn source_of(alloc: Global, case: &Case<'_>, most: NonZeroUsize) -> io::Result<M
 
 /// The lines of the answer to a case, whose file is read so many octets at a time at the most.
 pub(crate) fn answer_to(alloc: Global, case: &Case<'_>, most: NonZeroUsize) -> io::Result<String> {
+    let Some(command) = case.words.split(' ').next() else {
+        return Err(malformed());
+    };
+    if command == "judge" {
+        return judged_by_both(alloc, case, most);
+    }
     let mut source = source_of(alloc, case, most)?;
-    match case.words.split(' ').next() {
-        Some("import") => import(alloc, case.words, &mut source),
-        Some("list") => list(alloc, case.words, &mut source),
-        Some("decode") => decode(alloc, case.words, &mut source),
-        Some("judge") => {
-            let plain = judged_by::<PlainTracker<Global>>(alloc, case.words, &mut source)?;
-            let mut source = source_of(alloc, case, most)?;
-            let compact = judged_by::<CompactTracker<Global>>(alloc, case.words, &mut source)?;
-            if plain.as_str() == compact.as_str() {
-                Ok(compact)
-            } else {
-                Ok(format!(in alloc; "the trackers differ")?)
-            }
-        }
+    match command {
+        "import" => import(alloc, case.words, &mut source),
+        "list" => list(alloc, case.words, &mut source),
+        "decode" => decode(alloc, case.words, &mut source),
         _ => Err(malformed()),
+    }
+}
+
+/// What `bgp judge` answers by both trackers.
+fn judged_by_both(alloc: Global, case: &Case<'_>, most: NonZeroUsize) -> io::Result<String> {
+    let plain = judged_by::<PlainTracker<Global>>(alloc, case, most)?;
+    let compact = judged_by::<CompactTracker<Global>>(alloc, case, most)?;
+    if plain.as_str() == compact.as_str() {
+        Ok(compact)
+    } else {
+        Ok(format!(in alloc; "the trackers differ")?)
     }
 }
 
 /// What `bgp judge` answers by a tracker: of a recording, or with `--explain` of a capture.
 fn judged_by<T: Tracker<Global>>(
     alloc: Global,
-    words: &str,
-    source: &mut MemSource,
-) -> io::Result<String>
-    requires { (source_state source.old).failures < 2 ^ 63 }
-{
-    let Some(config) = config_of(words) else {
+    case: &Case<'_>,
+    most: NonZeroUsize,
+) -> io::Result<String> {
+    let Some(config) = config_of(case.words) else {
         return Err(malformed());
     };
-    if has_flag(words, "--explain") {
-        explain::<T>(alloc, &config, source)
+    let mut source = source_of(alloc, case, most)?;
+    if has_flag(case.words, "--explain") {
+        explain::<T>(alloc, &config, &mut source)
     } else {
-        judge::<T>(alloc, words, &config, source)
+        judge::<T>(alloc, case.words, &config, &mut source)
     }
 }
 

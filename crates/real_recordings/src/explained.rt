@@ -88,23 +88,48 @@ fn without_skipped(alloc: Global, text: &str) -> io::Result<String> {
     Ok(lines)
 }
 
-/// Prints a connection that isn't explained as its capture, but for packets and what is skipped, by
-/// both trackers. Answers whether it is so explained, if there is one.
-fn compare_talk<R: Print + AllocGlobal>(rt: &R, talk: &Talk<'_>) -> io::Result<Option<bool>> {
-    let alloc = rt.alloc();
-    let Some(capture) = capture_of(alloc, talk)? else {
-        return Ok(None);
-    };
-    let mut source = MemSource::new(capture);
-    let known = explain::<CompactTracker<Global>>(alloc, talk.config, &mut source)?;
+/// The text of both trackers, if it is one.
+fn explained_by_both(alloc: Global, talk: &Talk<'_>) -> io::Result<Option<String>> {
     let plain = explained::<PlainTracker<Global>>(alloc, talk)?;
     let compact = explained::<CompactTracker<Global>>(alloc, talk)?;
-    let is_so = plain == compact
-        && without_packets(alloc, plain.as_str())? == without_skipped(alloc, known.as_str())?;
+    Ok((plain == compact).then_some(plain))
+}
+
+/// Whether a connection's text is its capture's, but for packets and what is skipped.
+fn is_same(alloc: Global, text: &str, known: &str) -> io::Result<bool> {
+    Ok(without_packets(alloc, text)? == without_skipped(alloc, known)?)
+}
+
+/// Prints a connection that isn't explained as its capture, by both trackers. Answers whether it
+/// is.
+fn compare_texts<R: Print + AllocGlobal>(
+    rt: &R,
+    talk: &Talk<'_>,
+    capture: Vec<u8>,
+) -> io::Result<bool> {
+    let alloc = rt.alloc();
+    let known = explain::<CompactTracker<Global>>(
+        alloc,
+        talk.config,
+        &mut MemSource::new(capture),
+    )?;
+    let Some(text) = explained_by_both(alloc, talk)? else {
+        println!(rt; "the trackers differ, where there is\n{known}")?;
+        return Ok(false);
+    };
+    let is_so = is_same(alloc, text.as_str(), known.as_str())?;
     if !is_so {
-        println!(rt; "{plain}\nbut\n{known}")?;
+        println!(rt; "{text}\nbut\n{known}")?;
     }
-    Ok(Some(is_so))
+    Ok(is_so)
+}
+
+/// The same of a connection if there is such a one.
+fn compare_talk<R: Print + AllocGlobal>(rt: &R, talk: &Talk<'_>) -> io::Result<Option<bool>> {
+    match capture_of(rt.alloc(), talk)? {
+        Some(capture) => Ok(Some(compare_texts(rt, talk, capture)?)),
+        None => Ok(None),
+    }
 }
 
 /// Compares each connection of a recording under a configuration. Answers how many there are, and

@@ -20,7 +20,7 @@ mod session;
 mod words;
 
 use answer::answer_to;
-use case::read_case;
+use case::{Case, read_case};
 use explained::compare_explained;
 use session::compare_sessions;
 use std::num::NonZeroUsize;
@@ -79,18 +79,20 @@ fn compare_cases<R: Files + Print + AllocGlobal>(rt: &R, name: &str) -> io::Resu
 /// Prints a case if it is not so, read at once or octet by octet. Answers whether it is so.
 fn compare_case<R: Files + Print + AllocGlobal>(rt: &R, block: &str) -> io::Result<bool> {
     let case = read_case(rt.alloc(), block)?;
-    for most in [NonZeroUsize::MAX, NonZeroUsize::MIN] {
-        let answer = answer_to(rt.alloc(), &case, most)?;
-        if answer.as_str() != case.answer {
-            println!(rt;
-                "case {} is not so: {}\n{}\nand not\n{}\n",
-                case.name,
-                case.words,
-                answer.as_str(),
-                case.answer
-            )?;
-            return Ok(false);
-        }
+    Ok(is_so(rt, &case, NonZeroUsize::MAX)? && is_so(rt, &case, NonZeroUsize::MIN)?)
+}
+
+/// Prints a case if it is not so, read so many octets at a time at the most. Answers whether it is
+/// so.
+fn is_so<R: Print + AllocGlobal>(rt: &R, case: &Case<'_>, most: NonZeroUsize) -> io::Result<bool> {
+    let answer = answer_to(rt.alloc(), case, most)?;
+    if answer.as_str() == case.answer {
+        return Ok(true);
     }
-    Ok(true)
+    let Case { name, words, .. } = case;
+    println!(rt;
+        "case {name} is not so: {words}\n{answer}\nand not\n{}\n",
+        case.answer
+    )?;
+    Ok(false)
 }

@@ -88,14 +88,15 @@ fn is_so(answer: &Answer, known: &Known) -> bool {
         && answer.status == known.status
 }
 
-/// Prints an answer that is not so.
-fn print_other<R: Print>(rt: &R, name: &str, answer: &Answer) -> io::Result<()> {
-    let text = std::str::from_utf8(answer.text.as_slice()).unwrap_or("?");
-    println!(rt;
-        "{name} is not so: status {}\n{text}{}",
-        answer.status,
-        answer.notes.as_str()
-    )
+/// Reads the words by which an end of a session is judged.
+fn read_words<R: Files + AllocGlobal>(rt: &R, name: &str, end: &str) -> io::Result<String> {
+    let lines = read_text(rt, name, format!(in rt.alloc(); "{end}.args")?.as_str())?;
+    let mut words = String::new(rt.alloc());
+    for word in lines.lines() {
+        words.push_str(word)?;
+        words.push_str(" ")?;
+    }
+    Ok(words)
 }
 
 /// Reads how an end of a session is judged.
@@ -104,14 +105,7 @@ pub(crate) fn read_settings<R: Files + AllocGlobal>(
     name: &str,
     end: &str,
 ) -> io::Result<(Config, RecordingOptions)> {
-    let alloc = rt.alloc();
-    let path = format!(in alloc; "sessions/{name}.{end}.args")?;
-    let lines = fs::read_to_string(rt, path.as_str())?;
-    let mut words = String::new(alloc);
-    for word in lines.lines() {
-        words.push_str(word)?;
-        words.push_str(" ")?;
-    }
+    let words = read_words(rt, name, end)?;
     let words = words.as_str().trim_end();
     match (config_of(words), options_of(words)) {
         (Some(config), Some(options)) => Ok((config, options)),
@@ -150,6 +144,25 @@ fn read_end<R: Files + AllocGlobal>(
     })
 }
 
+/// Prints what a tracker answers of an end, if it isn't what is known. Answers whether it is.
+fn is_judged<R: Print + AllocGlobal, T: Tracker<Global>>(
+    rt: &R,
+    (name, end, tracker): (&str, &str, &str),
+    known: &Known,
+) -> io::Result<bool> {
+    let answer = answer_to::<T>(rt.alloc(), known)?;
+    if is_so(&answer, known) {
+        return Ok(true);
+    }
+    println!(rt;
+        "{name} {end} is not so by the {tracker} tracker: status {}",
+        answer.status
+    )?;
+    let text = std::str::from_utf8(answer.text.as_slice()).unwrap_or("?");
+    println!(rt; "{text}{}", answer.notes)?;
+    Ok(false)
+}
+
 /// Prints the end of a session that isn't judged as is known, by both trackers. Answers whether it
 /// is.
 fn compare_end<R: Files + Print + AllocGlobal>(
@@ -159,30 +172,33 @@ fn compare_end<R: Files + Print + AllocGlobal>(
     status: u8,
 ) -> io::Result<bool> {
     let known = read_end(rt, name, end, status)?;
-    let plain = answer_to::<PlainTracker<Global>>(rt.alloc(), &known)?;
-    let compact = answer_to::<CompactTracker<Global>>(rt.alloc(), &known)?;
-    let all = is_so(&plain, &known) && is_so(&compact, &known);
-    if !all {
-        println!(rt; "{name} {end}:")?;
-        print_other(rt, "plain", &plain)?;
-        print_other(rt, "compact", &compact)?;
-    }
-    Ok(all)
+    Ok(
+        is_judged::<R, PlainTracker<Global>>(rt, (name, end, "plain"), &known)?
+            && is_judged::<R, CompactTracker<Global>>(rt, (name, end, "compact"), &known)?,
+    )
+}
+
+/// The list of a recording, where it is read to its end.
+fn listed(alloc: Global, recording: Vec<u8>) -> Option<Vec<u8>> {
+    let mut source = MemSource::new(recording);
+    let mut sink = MemSink::new(alloc);
+    let listed = list_recording(alloc, 179, &mut source, &mut sink);
+    (listed.status == 0).then_some(sink.into_octets())
 }
 
 /// Prints a session's list if it is not so. Answers whether it is.
 fn compare_list<R: Files + Print + AllocGlobal>(rt: &R, name: &str) -> io::Result<bool> {
-    let alloc = rt.alloc();
     let known = read_text(rt, name, "pcap.list.stdout")?;
-    let mut source = MemSource::new(read_recording(rt, name)?);
-    let mut sink = MemSink::new(alloc);
-    let listed = list_recording(alloc, 179, &mut source, &mut sink);
-    if listed.status == 0 && sink.octets() == known.as_bytes() {
-        return Ok(true);
+    let Some(list) = listed(rt.alloc(), read_recording(rt, name)?) else {
+        println!(rt; "{name}: there is no list")?;
+        return Ok(false);
+    };
+    let is_so = list.as_slice() == known.as_bytes();
+    if !is_so {
+        let text = std::str::from_utf8(list.as_slice()).unwrap_or("?");
+        println!(rt; "{name}: the list is not so:\n{text}")?;
     }
-    let text = std::str::from_utf8(sink.octets()).unwrap_or("?");
-    println!(rt; "{name}: the list is not so:\n{text}")?;
-    Ok(false)
+    Ok(is_so)
 }
 
 /// Prints each session that is not so, and then how many there were. Answers whether all are so.
