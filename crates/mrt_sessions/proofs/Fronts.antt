@@ -1,5 +1,5 @@
 -- What stands at a place of a file, whichever session is asked for.
-use Rattle.std.proofs.Common.{◌≡◌, ◌≢◌, ◌∙◌, ◌⊎◌, ℕ, ◌+◌, ◌<◌, ◌≤◌, Bool, true, false, ◌||◌, ◌==◌, List, [], ◌∷◌, ◌++◌, length, take, drop, refl, sym, ap, subst, arith, inl, inr, length-append, IsTrue, Option, None}
+use Rattle.std.proofs.Common.{◌≡◌, ◌≢◌, ◌∙◌, ◌⊎◌, ℕ, ◌+◌, ◌<◌, ◌≤◌, Bool, true, false, ◌||◌, ◌==◌, List, [], ◌∷◌, ◌++◌, length, take, drop, refl, sym, ap, subst, arith, inl, inr, length-append, IsTrue, Option, None, lit≤}
 use Rattle.std.specs.Prelude.{if◌then◌else◌}
 use Rattle.std.proofs.lemmas.Bool.{eqb-true}
 use Rattle.std.proofs.lemmas.Bool.Decides.{eqb_tells}
@@ -22,6 +22,14 @@ pub limit_is : (session : Session) → IsTrue session.extended → body_limit se
 unfolding body_limit
 limit_is session is = limit_by session.extended is
 
+least_by : (extended : Bool) → 8192 ≤ (if extended then 65583 else 8192)
+least_by true = lit≤ tt
+least_by false = lit≤ tt
+
+pub least_limit : (session : Session) → 8192 ≤ body_limit session
+unfolding body_limit
+least_limit session = least_by session.extended
+
 -- ---- a type is known or not
 
 kind_of : (kind : ℕ) → IsBgp4mp kind ⊎ (¬ IsBgp4mp kind)
@@ -35,6 +43,14 @@ kind_of kind = elim (eqb_tells kind 16) [
     ])
   ]
 ]
+
+-- a record of this header is skipped for its type or subtype
+abbrev pub IsOtherKind : Header → Type 0
+IsOtherKind header = (¬ IsBgp4mp header.kind) ⊎ (form_of header.subtype ≡ None)
+
+subtype_of : (header : Header) → IsBgp4mp header.kind → IsOtherKind header → form_of header.subtype ≡ None
+subtype_of header known (inl unknown) = absurd (unknown known)
+subtype_of header known (inr none) = none
 
 -- ---- octets from a header on
 
@@ -92,21 +108,19 @@ module _ (octets : List ℕ) (is_record : IsRecord octets) where
       let behind = behind_head octets is_record.header in
       omega (arith, is_record.whole)
 
-  pub other_kind : (¬ IsBgp4mp (header_of octets).kind) → IsJudgedForAll octets rules.Skipped
-  other_kind other session last is =
+  -- where a session reads a body of its length
+  pub other_judged : (session : Session) (last : Option ℕ) → (IsBgp4mp (header_of octets).kind → (header_of octets).count ≤ body_limit session)
+      → IsOtherKind (header_of octets) → IsJudged session last octets rules.Skipped
+  other_judged session last fits other =
       judged_as octets is_record.header session last rules.Skipped
-      (other_type session last (take 12 octets) (drop 12 octets) (head_len octets is_record.header) other body_len)
+      (elim (kind_of (header_of octets).kind) [
+        | inl known ↦ judged_piece session last rules.Skipped (take 12 octets) (drop 12 octets) (head_len octets is_record.header) known (fits known) body_len
+            (inl (subtype_of (header_of octets) known other, refl))
+        | inr unknown ↦ other_type session last (take 12 octets) (drop 12 octets) (head_len octets is_record.header) unknown body_len
+      ])
 
   pub fitting : ¬ (IsBgp4mp (header_of octets).kind × (65583 < (header_of octets).count)) → IsBgp4mp (header_of octets).kind → (header_of octets).count ≤ 65583
   fitting fits known = let below : ¬ (65583 < (header_of octets).count) = λ long. fits (known, long) in omega (arith, below)
-
-  pub other_subtype : IsBgp4mp (header_of octets).kind → (header_of octets).count ≤ 65583 → form_of (header_of octets).subtype ≡ None
-      → IsJudgedForAll octets rules.Skipped
-  other_subtype known fits unknown session last is =
-      let limit = limit_is session is in
-      judged_as octets is_record.header session last rules.Skipped
-      (judged_piece session last rules.Skipped (take 12 octets) (drop 12 octets) (head_len octets is_record.header) known (omega (arith, limit)) body_len
-      (inl (unknown, refl)))
 
   pub no_fields : (rest : List ℕ) → IsBgp4mp (header_of octets).kind → (header_of octets).count ≤ 65583 → form_of (header_of octets).subtype ≢ None
       → LacksFields (header_of octets) (body_of octets) → IsJudgedForAll (octets ++ rest) (Refused kinds.Body)
@@ -139,24 +153,16 @@ kind_is kind known = elim (kind_of kind) [
     | inr precise ↦ other (inr (eqb-true kind 17 precise))
   ]
 
-abbrev IsOtherKind : Header → Type 0
-IsOtherKind header = (¬ IsBgp4mp header.kind) ⊎ (form_of header.subtype ≡ None)
-
 abbrev IsTooLong : Header → Type 0
 IsTooLong header = IsBgp4mp header.kind × (65583 < header.count)
 
 pub other_front : (octets : List ℕ) → IsRecord octets → (header : Header) → header ≡ header_of octets → ¬ IsTooLong header → IsOtherKind header
     → IsJudgedForAll octets rules.Skipped
-other_front octets is header same fits other = by (subst IsOtherKind same other) where
-  short : ¬ IsTooLong (header_of octets)
-  short = subst (λ (h : Header). ¬ IsTooLong h) same fits
-
-  by : IsOtherKind (header_of octets) → IsJudgedForAll octets rules.Skipped
-  by (inl unknown) = other_kind octets is unknown
-  by (inr form) = elim (kind_of (header_of octets).kind) [
-    | inl known ↦ other_subtype octets is known (fitting octets is short known) form
-    | inr unknown ↦ other_kind octets is unknown
-  ]
+other_front octets is header same fits other session last long =
+    let limit = limit_is session long in
+    other_judged octets is session last (λ known. omega (arith, limit, fitting octets is short known)) (subst IsOtherKind same other) where
+      short : ¬ IsTooLong (header_of octets)
+      short = subst (λ (h : Header). ¬ IsTooLong h) same fits
 
 module _ (octets : List ℕ) (is : IsRecord octets) (header : Header) (same : header ≡ header_of octets) (fits : ¬ IsTooLong header) (known : ¬ IsOtherKind header)
     (body : List ℕ) (its : body ≡ drop 12 octets) where

@@ -1,5 +1,5 @@
 -- A record of a session, as it is judged.
-use Rattle.std.proofs.Common.{◌≡◌, ◌∙◌, ◌↔◌, ◌⊎◌, ℕ, Bool, true, false, List, [], ◌∷◌, Option, None, Some, drop, refl, ap, subst, inl, inr}
+use Rattle.std.proofs.Common.{◌≡◌, ◌∙◌, ◌↔◌, ◌⊎◌, ℕ, Bool, true, false, List, [], ◌∷◌, Option, None, Some, drop, refl, sym, ap, subst, inl, inr}
 use Rattle.bgp_prefix.specs.Shown.{ShownRecord}
 use Rattle.bgp_prefix.specs.declared.session.RouteRefresh.TheVariants as refreshes
 use Rattle.bgp_prefix.specs.declared.session.Session.{Session}
@@ -13,24 +13,24 @@ use Rattle.mrt.specs.declared.layout.Form.{Form}
 use Rattle.mrt.specs.declared.layout.Form.TheVariants as forms
 use Rattle.mrt_sessions.specs.declared.addresses.Addresses.{Addresses}
 use Rattle.mrt_sessions.specs.declared.lengths.ExtendedMessages.{ExtendedMessages}
-use Rattle.mrt_sessions.specs.Reading.{IsJudgedHere, may_be_extended, session_for}
+use Rattle.mrt_sessions.specs.Reading.{IsJudgedHere, may_be_extended}
+use Rattle.mrt_sessions.specs.ReadsAs.{IsJudgedOf}
 
 abbrev pub session_with : Addresses → Bool → Session
 session_with addresses extended = record { peer = addresses.peer; local = addresses.local; refresh = refreshes.NotOffered; extended = extended }
 
+-- ---- of any session
+
 as_place : (session : Session) (last : Option ℕ) (octets : List ℕ) (judgement : Judgement) → IsJudgedBy session last (header_of octets) (body_of octets) judgement
-    → FirstSays (Holds session last (place_of octets)) record_rules judgement
+    → IsJudgedOf session last octets judgement
 as_place session last octets judgement says = says
 
-pub judged_here : (addresses : Addresses) (extended : ExtendedMessages) (last : Option ℕ) (octets : List ℕ) (judgement : Judgement) (header : Header) (body : List ℕ) (long : Bool)
-    → header ≡ header_of octets → body ≡ body_of octets → long ≡ may_be_extended extended (form_of header.subtype)
-    → IsJudgedBy (session_with addresses long) last header body judgement → IsJudgedHere addresses extended last octets judgement
-judged_here addresses extended last octets judgement header body long same its is says =
-    let limit : long ≡ may_be_extended extended (form_of (header_of octets).subtype) = is ∙ ap (λ (h : Header). may_be_extended extended (form_of h.subtype)) same in
-    as_place (session_for addresses extended octets) last octets judgement
-    (subst (λ (b : Bool). IsJudgedBy (session_with addresses b) last (header_of octets) (body_of octets) judgement) limit
-    (subst (λ (h : Header). IsJudgedBy (session_with addresses long) last h (body_of octets) judgement) same
-    (subst (λ (o : List ℕ). IsJudgedBy (session_with addresses long) last header o judgement) its says)))
+pub judged_of : (session : Session) (last : Option ℕ) (octets : List ℕ) (judgement : Judgement) (header : Header) (body : List ℕ)
+    → header ≡ header_of octets → body ≡ body_of octets → IsJudgedBy session last header body judgement → IsJudgedOf session last octets judgement
+judged_of session last octets judgement header body same its says =
+    as_place session last octets judgement
+    (subst (λ (h : Header). IsJudgedBy session last h (body_of octets) judgement) same
+    (subst (λ (o : List ℕ). IsJudgedBy session last header o judgement) its says))
 
 pub shows_here : (octets : List ℕ) (header : Header) (body : List ℕ) (found : Found) (shown : ShownRecord) → header ≡ header_of octets → body ≡ body_of octets
     → IsFound header body found → shown ≡ shown_as found.second found.shows (drop found.content_at body) → shown ≡ shown_of octets
@@ -41,6 +41,33 @@ shows_here octets header body found shown same its is shows =
     ∙ is.shown
     ∙ ap (λ (h : Header). shown_in h (content_in h body)) same
     ∙ ap (λ (b : List ℕ). shown_in (header_of octets) (content_in (header_of octets) b)) its
+
+-- of the rules that hold one is the first
+one_first : (H : Rule → Type 0) (list : List Rule) (judgement other : Judgement) → FirstSays H list judgement → FirstSays H list other → judgement ≡ other
+one_first H [] judgement other says also = absurd says
+one_first H (rule ∷ later) judgement other (inl here) (inl there) = here.1 ∙ sym there.1
+one_first H (rule ∷ later) judgement other (inl here) (inr there) = absurd (there.0 here.0)
+one_first H (rule ∷ later) judgement other (inr here) (inl there) = absurd (here.0 there.0)
+one_first H (rule ∷ later) judgement other (inr here) (inr there) = one_first H later judgement other here.1 there.1
+
+pub one_judgement : (session : Session) (last : Option ℕ) (octets : List ℕ) (judgement other : Judgement) → IsJudgedOf session last octets judgement
+    → IsJudgedOf session last octets other → judgement ≡ other
+one_judgement session last octets judgement other says also = one_first (Holds session last (place_of octets)) record_rules judgement other says also
+
+-- one of the rules says it
+pub which_says : (H : Rule → Type 0) (list : List Rule) (judgement : Judgement) → FirstSays H list judgement → (rule : Rule) × H rule × (judgement ≡ judgement_of rule)
+which_says H [] judgement says = absurd says
+which_says H (rule ∷ later) judgement (inl here) = (rule, here.0, here.1)
+which_says H (rule ∷ later) judgement (inr there) = which_says H later judgement there.1
+
+-- ---- by the limit of its direction
+
+pub judged_here : (addresses : Addresses) (extended : ExtendedMessages) (last : Option ℕ) (octets : List ℕ) (judgement : Judgement) (header : Header) (long : Bool)
+    → header ≡ header_of octets → long ≡ may_be_extended extended (form_of header.subtype)
+    → IsJudgedOf (session_with addresses long) last octets judgement → IsJudgedHere addresses extended last octets judgement
+judged_here addresses extended last octets judgement header long same is says =
+    let limit : long ≡ may_be_extended extended (form_of (header_of octets).subtype) = is ∙ ap (λ (h : Header). may_be_extended extended (form_of h.subtype)) same in
+    subst (λ (b : Bool). IsJudgedOf (session_with addresses b) last octets judgement) limit says
 
 -- ---- as a session all of whose messages may be extended ones
 
@@ -59,8 +86,7 @@ both = ((λ x. x), (λ x. x))
 
 -- of what is no message the limit of messages isn't asked
 not_asked : (addresses : Addresses) (last : Option ℕ) (octets : List ℕ) (judgement : Judgement) → (rules.IsMessage (place_of octets) → ⊥)
-    → FirstSays (Holds (session_with addresses false) last (place_of octets)) record_rules judgement
-    → FirstSays (Holds (session_with addresses true) last (place_of octets)) record_rules judgement
+    → IsJudgedOf (session_with addresses false) last octets judgement → IsJudgedOf (session_with addresses true) last octets judgement
 not_asked addresses last octets judgement none says =
     says_alike (Holds (session_with addresses false) last (place_of octets)) (Holds (session_with addresses true) last (place_of octets)) record_rules judgement
     (both, (both, (both, (both, (both, (both, (both, (both, (both, (((λ other. absurd (none other.0)), (λ other. absurd (none other.0))), (both, (both, tt)))))))))))) says
@@ -79,11 +105,10 @@ no_message (Some forms.AddPath) is (inl e) = cc
 no_message (Some forms.AddPath) is (inr e) = cc
 
 by_limit : (addresses : Addresses) (last : Option ℕ) (octets : List ℕ) (judgement : Judgement) (long : Bool) → may_be_extended all (form_of (header_of octets).subtype) ≡ long
-    → FirstSays (Holds (session_with addresses long) last (place_of octets)) record_rules judgement
-    → FirstSays (Holds (session_with addresses true) last (place_of octets)) record_rules judgement
+    → IsJudgedOf (session_with addresses long) last octets judgement → IsJudgedOf (session_with addresses true) last octets judgement
 by_limit addresses last octets judgement true is says = says
 by_limit addresses last octets judgement false is says = not_asked addresses last octets judgement (no_message (form_of (header_of octets).subtype) is) says
 
 pub as_extended : (addresses : Addresses) (last : Option ℕ) (octets : List ℕ) (judgement : Judgement) → IsJudgedHere addresses all last octets judgement
-    → FirstSays (Holds (session_with addresses true) last (place_of octets)) record_rules judgement
+    → IsJudgedOf (session_with addresses true) last octets judgement
 as_extended addresses last octets judgement says = by_limit addresses last octets judgement (may_be_extended all (form_of (header_of octets).subtype)) refl says

@@ -4,5 +4,8 @@ pub mod Order
 pub mod Gathered
 pub mod Counted
 pub mod Judged
+pub mod Skipping
 pub mod Readings
+pub mod Awaiting
+pub mod Readable
 pub mod OneSession

@@ -1,16 +1,24 @@
 -- The parts of a file, one after another.
-use Rattle.std.proofs.Common.{◌≡◌, ◌∙◌, ℕ, ◌+◌, ◌≤◌, List, [], ◌∷◌, ◌++◌, length, refl, sym, ap, arith, append_assoc, append-nil, length-append, Option}
+use Rattle.std.proofs.Common.{◌≡◌, ◌∙◌, ◌↔◌, ℕ, ◌+◌, ◌≤◌, Bool, true, IsTrue, List, [], ◌∷◌, ◌++◌, length, refl, sym, ap, subst, arith, append_assoc, append-nil, length-append, Option}
 use Rattle.std.specs.List.{AllByRecursion}
 use Rattle.mrt.specs.declared.fault.FaultKind.{FaultKind}
-use Rattle.mrt_sessions.specs.File.{HasRecords, IsPart, Located, Named, NamesSession, Other, Part, StopsBy, joined, named_from, octets_of}
+use Rattle.mrt_sessions.specs.File.{FitsPlain, HasExtendedBody, HasSuchRecords, IsPart, Located, Named, NamesSession, Other, Part, StopsBy, joined, named_from, octets_of}
 
 joined_more : (parts : List Part) (part : Part) → joined (parts ++ part ∷ []) ≡ joined parts ++ octets_of part
 joined_more [] part = append-nil (octets_of part)
 joined_more (first ∷ parts) part = ap (λ (o : List ℕ). octets_of first ++ o) (joined_more parts part) ∙ sym (append_assoc (octets_of first) (joined parts) (octets_of part))
 
-all_more : (parts : List Part) (part : Part) → AllByRecursion IsPart parts → IsPart part → AllByRecursion IsPart (parts ++ part ∷ [])
-all_more [] part all is = (is, tt)
-all_more (first ∷ parts) part all is = (all.0, all_more parts part all.1 is)
+all_more : (P : Part → Type 0) (parts : List Part) (part : Part) → AllByRecursion P parts → P part → AllByRecursion P (parts ++ part ∷ [])
+all_more P [] part all is = (is, tt)
+all_more P (first ∷ parts) part all is = (all.0, all_more P parts part all.1 is)
+
+all_before : (P : Part → Type 0) (parts : List Part) (part : Part) → AllByRecursion P (parts ++ part ∷ []) → AllByRecursion P parts
+all_before P [] part all = tt
+all_before P (first ∷ parts) part all = (all.0, all_before P parts part all.1)
+
+is_last : (P : Part → Type 0) (parts : List Part) (part : Part) → AllByRecursion P (parts ++ part ∷ []) → P part
+is_last P [] part all = all.0
+is_last P (first ∷ parts) part all = is_last P parts part all.1
 
 further : (at a b c : ℕ) → c ≡ a + b → at + a + b ≡ at + c
 further at a b c e = omega (arith, e)
@@ -31,17 +39,18 @@ from_zero : (n : ℕ) → n ≡ 0 + n
 from_zero n = omega arith
 
 -- what was read so far, and what is left
-pub record SoFar (octets rest : List ℕ) (named : List Located) (offset : ℕ) : Type 0 where
+pub record SoFar (octets rest : List ℕ) (named : List Located) (offset : ℕ) (is_plain : Bool) : Type 0 where
   pub parts : List Part
   pub whole : octets ≡ joined parts ++ rest
   pub each : AllByRecursion IsPart parts
   pub are : named ≡ named_from 0 parts
   pub place : offset ≡ length (joined parts)
+  pub plain : IsTrue is_plain ↔ AllByRecursion FitsPlain parts
 
-pub nothing_read : (octets : List ℕ) → SoFar octets octets [] 0
-nothing_read octets = record { parts = []; whole = refl; each = tt; are = refl; place = refl }
+pub nothing_read : (octets : List ℕ) → SoFar octets octets [] 0 true
+nothing_read octets = record { parts = []; whole = refl; each = tt; are = refl; place = refl; plain = ((λ is. tt), (λ all. refl)) }
 
-module _ (octets rest behind part : List ℕ) (named : List Located) (offset : ℕ) (so : SoFar octets rest named offset) (is : rest ≡ part ++ behind) where
+module _ (octets rest behind part : List ℕ) (named : List Located) (offset : ℕ) (was : Bool) (so : SoFar octets rest named offset was) (is : rest ≡ part ++ behind) where
   pub fits : offset + length part ≤ length octets
   fits =
       let all = ap length so.whole in
@@ -65,33 +74,46 @@ module _ (octets rest behind part : List ℕ) (named : List Located) (offset : �
         let place = so.place in
         omega arith
 
-  pub other_more : IsPart (Other part) → SoFar octets behind named (offset + length part)
-  other_more one = record {
+    plain_more : (still : Bool) → (IsTrue still ↔ (IsTrue was × (¬ HasExtendedBody part))) → (IsTrue still ↔ AllByRecursion FitsPlain (so.parts ++ a ∷ []))
+    plain_more still by = (
+      λ is_still. let both = by.0 is_still in
+          all_more FitsPlain so.parts a (so.plain.0 both.0) (subst (λ (o : List ℕ). ¬ HasExtendedBody o) (sym its) both.1),
+      λ all. by.1 (so.plain.1 (all_before FitsPlain so.parts a all), subst (λ (o : List ℕ). ¬ HasExtendedBody o) its (is_last FitsPlain so.parts a all)),
+    )
+
+  pub other_more : (still : Bool) → (IsTrue still ↔ (IsTrue was × (¬ HasExtendedBody part))) → IsPart (Other part) → SoFar octets behind named (offset + length part) still
+  other_more still by one = record {
     parts = so.parts ++ Other part ∷ [];
     whole = whole_more (Other part) refl;
-    each = all_more so.parts (Other part) so.each one;
+    each = all_more IsPart so.parts (Other part) so.each one;
     are = so.are ∙ sym (named_more 0 so.parts (Other part) ∙ append-nil (named_from 0 so.parts));
     place = place_more (Other part) refl;
+    plain = plain_more (Other part) refl still by;
   }
 
-  pub record_more : NamesSession part → SoFar octets behind (named ++ record { offset = offset; octets = part } ∷ []) (offset + length part)
-  record_more one = record {
+  pub record_more : (still : Bool) → (IsTrue still ↔ (IsTrue was × (¬ HasExtendedBody part))) → NamesSession part
+      → SoFar octets behind (named ++ record { offset = offset; octets = part } ∷ []) (offset + length part) still
+  record_more still by one = record {
     parts = so.parts ++ Named part ∷ [];
     whole = whole_more (Named part) refl;
-    each = all_more so.parts (Named part) so.each one;
+    each = all_more IsPart so.parts (Named part) so.each one;
     are =
         ap (λ (ls : List Located). ls ++ record { offset = offset; octets = part } ∷ []) so.are
         ∙ ap (λ (n : ℕ). named_from 0 so.parts ++ record { offset = n; octets = part } ∷ []) (so.place ∙ from_zero (length (joined so.parts)))
         ∙ sym (named_more 0 so.parts (Named part));
     place = place_more (Named part) refl;
+    plain = plain_more (Named part) refl still by;
   }
 
-pub stopped : (octets rest : List ℕ) (named : List Located) (offset : ℕ) (refusal : Option FaultKind) → SoFar octets rest named offset → StopsBy rest refusal
-    → HasRecords octets named offset refusal
-stopped octets rest named offset refusal so stops = record {
-  parts = so.parts;
-  rest = rest;
-  text = record { whole = so.whole; each = so.each; stops = stops };
-  are = so.are;
-  place = so.place;
+pub stopped : (octets rest : List ℕ) (named : List Located) (offset : ℕ) (is_plain : Bool) (refusal : Option FaultKind) → SoFar octets rest named offset is_plain → StopsBy rest refusal
+    → HasSuchRecords octets named offset refusal is_plain
+stopped octets rest named offset is_plain refusal so stops = record {
+  has = record {
+    parts = so.parts;
+    rest = rest;
+    text = record { whole = so.whole; each = so.each; stops = stops };
+    are = so.are;
+    place = so.place;
+  };
+  plain = so.plain;
 }

@@ -1,13 +1,13 @@
 -- A file of records, whichever sessions it has (RFC 6396, 2): records one after another, each of
 -- which is one of a session or is skipped, and then the end or the first fault.
-use Rattle.std.specs.Prelude.{◌≡◌, ◌≢◌, ◌≤◌, ◌+◌, ◌++◌, ℕ, List, [], ◌∷◌, length}
+use Rattle.std.specs.Prelude.{◌≡◌, ◌≢◌, ◌<◌, ◌≤◌, ◌↔◌, ◌+◌, ◌++◌, ℕ, List, [], ◌∷◌, length}
 use Rattle.std.specs.Prelude.{Option, None, Some}
 use Rattle.std.specs.Prelude.{◌==◌, Bool, true, IsTrue, if◌then◌else◌, option_map}
 use Rattle.std.specs.List.{AllByRecursion, flat_map}
 use Rattle.bgp_prefix.specs.declared.session.Session.{Session}
 use Rattle.mrt.specs.Fault.{fault_number}
-use Rattle.mrt.specs.Layout.{IsRecord, LacksFields, body_of, form_of, header_of, is_of}
-use Rattle.mrt.specs.Layout.{local_in, peer_in}
+use Rattle.mrt.specs.Layout.{IsBgp4mp, IsRecord, LacksFields, body_of, form_of, header_of}
+use Rattle.mrt.specs.Layout.{is_of, local_in, peer_in}
 use Rattle.mrt.specs.Rules.{IsJudged, Judgement, Refused}
 use Rattle.mrt.specs.Rules as rules
 use Rattle.mrt.specs.declared.fault.CaptureFault.{CaptureFault}
@@ -96,6 +96,24 @@ pub record HasRecords (octets : List ℕ) (named : List Located) (offset : ℕ)
   pub text : IsFileText octets parts rest refusal
   pub are : named ≡ named_from 0 parts
   pub place : offset ≡ length (joined parts)
+
+-- ---- how long its bodies are
+
+-- A record of type BGP4MP or BGP4MP_ET has a longer body than is read where the local system offers
+-- no extended messages (RFC 8654).
+abbrev pub HasExtendedBody : List ℕ → Type 0
+HasExtendedBody octets = IsBgp4mp (header_of octets).kind × (8192 < (header_of octets).count)
+
+-- the part has none, so that it is read there, too, or skipped
+abbrev pub FitsPlain : Part → Type 0
+FitsPlain part = ¬ HasExtendedBody (octets_of part)
+
+-- The octets have these records, and it is told whether each record of the file, up to where it
+-- stops, is read or skipped there, too.
+pub record HasSuchRecords (octets : List ℕ) (named : List Located) (offset : ℕ)
+    (refusal : Option FaultKind) (is_plain : Bool) : Type 0 where
+  pub has : HasRecords octets named offset refusal
+  pub plain : IsTrue is_plain ↔ AllByRecursion FitsPlain has.parts
 
 -- ---- why it isn't read to its end
 

@@ -4,6 +4,8 @@ pub mod Located
 pub mod Front
 pub mod Sessions
 pub mod Gathering
+pub mod ReadsAs
+pub mod Taking
 pub mod Reading
 pub mod Counts
 pub mod SessionLaws

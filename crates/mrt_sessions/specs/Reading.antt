@@ -5,13 +5,14 @@ use Rattle.bgp_prefix.specs.declared.session.RouteRefresh.TheVariants as refresh
 use Rattle.bgp_prefix.specs.declared.session.Session.{Session}
 use Rattle.mrt.specs.Capture.{shown_of}
 use Rattle.mrt.specs.Layout.{form_of, header_of}
-use Rattle.mrt.specs.Rules.{FirstSays, Holds, Judgement, OfSession, Refused, place_of, record_rules}
+use Rattle.mrt.specs.Rules.{Judgement, OfSession, Refused}
 use Rattle.mrt.specs.declared.fault.CaptureFault.{CaptureFault}
 use Rattle.mrt.specs.declared.layout.Form.{Form}
 use Rattle.mrt.specs.declared.layout.Form.TheVariants as forms
 use Rattle.mrt_sessions.specs.declared.addresses.Addresses.{Addresses}
 use Rattle.mrt_sessions.specs.declared.lengths.ExtendedMessages.{ExtendedMessages}
 use Rattle.mrt_sessions.specs.File.{Located}
+use Rattle.mrt_sessions.specs.ReadsAs.{IsJudgedOf}
 
 -- Whether a record of this form has a message that may be an extended one (RFC 8654). Each
 -- direction has its own limit: that which its receiver offers.
@@ -37,8 +38,7 @@ module _ (addresses : Addresses) (extended : ExtendedMessages) where
   -- a record is judged so, behind one of the session of the second `last`
   abbrev pub IsJudgedHere : Option ℕ → List ℕ → Judgement → Type 0
   IsJudgedHere last octets judgement =
-      FirstSays (Holds (session_for addresses extended octets) last (place_of octets)) record_rules
-      judgement
+      IsJudgedOf (session_for addresses extended octets) last octets judgement
 
   -- the second of the last of these records
   abbrev pub last_of : Option ℕ → List Located → Option ℕ

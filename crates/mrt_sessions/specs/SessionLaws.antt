@@ -1,5 +1,5 @@
 -- A session of a file is that of the file as a capture of the session.
-use Rattle.std.specs.Prelude.{ℕ, true, List, Option, None, Some}
+use Rattle.std.specs.Prelude.{◌⊎◌, ℕ, Bool, true, IsTrue, List, Option, None, Some}
 use Rattle.bgp_prefix.specs.Shown.{ShownRecord}
 use Rattle.bgp_prefix.specs.declared.session.RouteRefresh.TheVariants as refreshes
 use Rattle.bgp_prefix.specs.declared.session.Session.{Session}
@@ -8,8 +8,9 @@ use Rattle.mrt.specs.declared.fault.CaptureFault.{CaptureFault}
 use Rattle.mrt.specs.declared.fault.FaultKind.{FaultKind}
 use Rattle.mrt_sessions.specs.declared.addresses.Addresses.{Addresses}
 use Rattle.mrt_sessions.specs.declared.lengths.ExtendedMessages.{ExtendedMessages}
-use Rattle.mrt_sessions.specs.File.{HasRecords, Located}
+use Rattle.mrt_sessions.specs.File.{HasRecords, HasSuchRecords, Located}
 use Rattle.mrt_sessions.specs.Reading.{IsReading}
+use Rattle.mrt_sessions.specs.ReadsAs.{ReadsAs, addresses_in}
 use Rattle.mrt_sessions.specs.Sessions.{records_between}
 
 -- the session between these addresses, all of whose messages may be extended ones (RFC 8654)
@@ -42,3 +43,15 @@ SessionsAreCaptures =
     → HasRecords octets named offset refusal
     → IsReading addresses all_extended (records_between addresses named) records fault
     → IsCapture (extended_session addresses) octets records fault offset refusal
+
+-- Where a file has no refusal, and a session's records in it are read as some records, these are
+-- what a capture of the session has: if its messages may be extended ones, or no body is longer
+-- than is read where they may not.
+abbrev pub ReadsAreSpelled : Type 0
+ReadsAreSpelled =
+    (session : Session) (octets : List ℕ) (named : List Located) (offset : ℕ) (is_plain : Bool)
+    (records : List ShownRecord)
+    → HasSuchRecords octets named offset None is_plain
+    → IsTrue is_plain ⊎ IsTrue session.extended
+    → ReadsAs session None (records_between (addresses_in session) named) records
+    → Spells session octets records

@@ -1,10 +1,11 @@
 //! The records of a file, whichever sessions they are of.
 
-ghost use Rattle.std.specs.Prelude.{◌≡◌, IfOk, map};
-ghost use Rattle.mrt_sessions.specs.File.{HasRecords, fault_by, kind_by, wants_more};
+ghost use Rattle.std.specs.Prelude.{◌≡◌, ◌≤◌, ◌↔◌, IfOk, IsTrue, length, map};
+ghost use Rattle.mrt_sessions.specs.File.{HasExtendedBody, HasRecords, HasSuchRecords};
+ghost use Rattle.mrt_sessions.specs.File.{fault_by, kind_by, wants_more};
 ghost use Rattle.mrt_sessions.specs.Located.{located};
 
-use crate::front::{Front, front_of};
+use crate::front::{Front, front_of, has_extended_body, header_of};
 use crate::holding::Ending;
 use crate::named::NamedRecord;
 use mrt::{CaptureFault, FaultKind};
@@ -19,6 +20,18 @@ pub struct FileRecords<'a, A: Allocator = Global> {
     pub offset: u64,
     /// What it is refused for, whichever session is asked for.
     pub refusal: Option<FaultKind>,
+    /// Whether no body of type BGP4MP or BGP4MP_ET, up to there, is longer than
+    /// [`PLAIN_BODY`](mrt::PLAIN_BODY): the file is read to there, too, where the local system
+    /// offers no extended messages (RFC 8654).
+    pub is_plain: bool,
+}
+
+/// Whether no body is longer than that of a plain message may be, with that of one record more.
+fn stays_plain(is_plain: bool, octets: &[u8]) -> bool
+    requires { 12 ≤ length octets.now }
+    ensures { IsTrue result ↔ (IsTrue is_plain × ¬ HasExtendedBody octets.now) }
+{
+    is_plain && !has_extended_body(&header_of(octets))
 }
 
 /// Reads the records of a file. Bodies may be as long as any that is read (RFC 8654).
@@ -28,29 +41,27 @@ pub fn records_in<'a, A: Allocator + Copy>(
     alloc: A,
     octets: &'a [u8],
 ) -> Result<FileRecords<'a, A>, AllocError>
-    ensures { IfOk result (λ file. HasRecords octets.entry.now (map located file.records.items)
-        file.offset file.refusal) }
+    ensures has { IfOk result (λ file. HasRecords octets.entry.now
+        (map located file.records.items) file.offset file.refusal) }
+    ensures plain { IfOk result (λ file. HasSuchRecords octets.entry.now
+        (map located file.records.items) file.offset file.refusal file.is_plain) }
 {
     let mut records = Vec::new(alloc);
     let mut offset = 0;
+    let mut is_plain = true;
     let mut rest = octets;
     loop {
         match front_of(rest) {
-            Front::End => {
+            Front::Stop(refusal) => {
                 return Ok(FileRecords {
                     records,
                     offset,
-                    refusal: None,
-                });
-            }
-            Front::Refused(kind) => {
-                return Ok(FileRecords {
-                    records,
-                    offset,
-                    refusal: Some(kind),
+                    refusal,
+                    is_plain,
                 });
             }
             Front::Other(record, behind) => {
+                is_plain = stays_plain(is_plain, record);
                 offset += record.len() as u64;
                 rest = behind;
             }
@@ -59,6 +70,7 @@ pub fn records_in<'a, A: Allocator + Copy>(
                     offset,
                     octets: record,
                 })?;
+                is_plain = stays_plain(is_plain, record);
                 offset += record.len() as u64;
                 rest = behind;
             }

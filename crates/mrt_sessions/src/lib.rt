@@ -13,6 +13,7 @@
 #![tactic(auto)]
 
 mod addresses;
+mod alike;
 mod counts;
 mod file;
 mod front;
@@ -22,12 +23,14 @@ mod lengths;
 mod named;
 mod reading;
 mod sessions;
+mod taking;
 
 pub use addresses::Addresses;
+pub use alike::{reads_as, show_the_same};
 pub use counts::{Counts, Direction};
 pub use file::{FileRecords, records_in};
 pub use holding::{Ending, Held, hold};
-pub use laws::{sessions_are_captures, the_same_addresses_are_equal};
+pub use laws::{reads_are_spelled, sessions_are_captures, the_same_addresses_are_equal};
 pub use lengths::ExtendedMessages;
 pub use named::NamedRecord;
 pub use reading::{SessionRecords, read_session};

@@ -3,7 +3,8 @@
 ghost use Rattle.mrt_sessions.specs.File.{NamesSession};
 
 use crate::addresses::Addresses;
-use mrt::{HEADER, RecordHeader, read_fields, read_header};
+use crate::front::header_of;
+use mrt::{HEADER, RecordHeader, read_fields};
 
 /// A record of a file that is one of some session: of type BGP4MP or BGP4MP_ET, of a known subtype,
 /// with a body that isn't too long and has its fields (RFC 6396, 4.4).
@@ -26,10 +27,7 @@ impl<'a> NamedRecord<'a> {
     pub fn header(&self) -> RecordHeader
         ensures { header_value result ≡ header_of self.now.octets.now }
     {
-        match self.octets.first_chunk::<HEADER>() {
-            Some(front) => read_header(front),
-            None => unreachable!(),
-        }
+        header_of(self.octets)
     }
 
     /// Its body.

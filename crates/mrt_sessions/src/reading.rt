@@ -1,9 +1,8 @@
 //! The records of one session of a file.
 
-ghost use Rattle.std.specs.Prelude.{◌≡◌, ◌≤◌, IfErr, IfOk, drop, length, map};
-ghost use Rattle.bgp_prefix.specs.Shown.{second_of};
+ghost use Rattle.std.specs.Prelude.{◌≡◌, IfErr, IfOk, map};
 ghost use Rattle.mrt.specs.Capture as capture;
-ghost use Rattle.mrt.specs.Found.{header_value, shown_as};
+ghost use Rattle.mrt.specs.Found.{header_value};
 ghost use Rattle.mrt.specs.Layout.{form_of};
 ghost use Rattle.mrt.specs.Reader.{shown_of};
 ghost use Rattle.mrt.specs.Rules.{OfSession, Refused};
@@ -15,10 +14,9 @@ ghost use Rattle.mrt_sessions.specs.Reading.{IsJudgedHere, IsReading, may_be_ext
 use crate::addresses::Addresses;
 use crate::lengths::ExtendedMessages;
 use crate::named::NamedRecord;
+use crate::taking::{TakenAs, second_of, taken_as};
 use bgp_prefix::{RouteRefresh, Seconds, Session};
-use mrt::{
-    CaptureFault, FaultKind, Form, Found, Judged, Record, RecordHeader, Shows, form_of, judge,
-};
+use mrt::{CaptureFault, FaultKind, Form, Record, RecordHeader, form_of};
 use std::alloc::{AllocError, Allocator, Global};
 
 /// The records of a session, up to the first that is refused.
@@ -42,20 +40,6 @@ fn may_be_extended(header: &RecordHeader, extended: ExtendedMessages) -> bool
     }
 }
 
-/// The record that was found, with this body.
-fn record_of(found: Found, body: &[u8]) -> Record<'_>
-    requires { found.content_at ≤ length body.now }
-    ensures { shown_of result
-        ≡ shown_as found.second found.shows (drop found.content_at body.entry.now) }
-{
-    let content = body.split_at(found.content_at).1;
-    match found.shows {
-        Shows::Received => Record::In(found.second, content),
-        Shows::Sent => Record::Out(found.second, content),
-        Shows::Changed(old, new) => Record::Change(found.second, old, new),
-    }
-}
-
 /// What a record of the session shows, behind one of the second `last`, or why it is refused.
 fn read_record<'a>(
     addresses: Addresses,
@@ -70,27 +54,16 @@ fn read_record<'a>(
     ensures err { IfErr result (λ kind.
         IsJudgedHere addresses extended last named.now.octets.now (Refused kind)) }
 {
-    let header = named.header();
-    let body = named.body();
     let session = Session {
         peer: addresses.peer,
         local: addresses.local,
         refresh: RouteRefresh::NotOffered,
-        extended: may_be_extended(&header, extended),
+        extended: may_be_extended(&named.header(), extended),
     };
-    match judge(&header, body, &session, last) {
-        Judged::OfSession(found) => Ok(record_of(found, body)),
-        Judged::Refused(kind) => Err(kind),
-        Judged::Skipped(_) => unreachable!(),
-    }
-}
-
-/// The second of a record.
-fn second_of(shown: &Record<'_>) -> Seconds
-    ensures { result ≡ second_of (shown_of shown.now) }
-{
-    match *shown {
-        Record::In(second, _) | Record::Out(second, _) | Record::Change(second, _, _) => second,
+    match taken_as(&session, last, named) {
+        TakenAs::Shown(shown) => Ok(shown),
+        TakenAs::Refused(kind) => Err(kind),
+        TakenAs::Skipped(_) => unreachable!(),
     }
 }
 

@@ -1,5 +1,6 @@
 //! What no clause says: devices that fail in mid-stream, each upset once, refused memory.
 
+mod alike;
 mod captures;
 mod extended;
 mod refreshes;

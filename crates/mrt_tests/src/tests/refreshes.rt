@@ -25,7 +25,7 @@ enum Wanted {
 
 /// The session, where such messages are passed over; and where it offers extended messages, too
 /// (RFC 8654); and where it offers no route refresh.
-const PASSING: Session = Session {
+pub(crate) const PASSING: Session = Session {
     refresh: RouteRefresh::PassedOver,
     ..SESSION
 };
@@ -35,7 +35,7 @@ const EXTENDED: Session = Session {
     ..PASSING
 };
 
-const WITHOUT: Session = Session {
+pub(crate) const WITHOUT: Session = Session {
     refresh: RouteRefresh::NotOffered,
     ..SESSION
 };

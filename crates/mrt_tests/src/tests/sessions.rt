@@ -1,4 +1,5 @@
-//! Of `mrt_sessions`: which sessions a file has, which records each of them has, and where both stop.
+//! Of `mrt_sessions`: which sessions a file has, which records each of them has, and where both
+//! stop.
 
 use super::captures::{CHANGE, RECEIVED};
 use super::*;

@@ -4,8 +4,8 @@ use Rattle.mrt_sessions.proofs.Parts.{SoFar}
 use Rattle.mrt_sessions.proofs.file.records_in.Given as goal
 
 -- what was read so far, and what is left
-abbrev pub invariant-loop-records : goal.invariant-loop-records
-invariant-loop-records g l = SoFar l.octets l.rest (map located l.records.items) l.offset
+abbrev pub invariant-loop-refusal : goal.invariant-loop-refusal
+invariant-loop-refusal g l = SoFar l.octets l.rest (map located l.records.items) l.offset l.is_plain
 
-abbrev pub decreases-loop-records : goal.decreases-loop-records
-decreases-loop-records g l = length l.rest
+abbrev pub decreases-loop-refusal : goal.decreases-loop-refusal
+decreases-loop-refusal g l = length l.rest

@@ -1,4 +1,4 @@
-use Rattle.std.proofs.Common.{◌≡◌, ◌∙◌, ◌++◌, false, true, ◌∷◌, [], ℕ, None, Some, List, Option, drop, take, map, ap, sym, subst, suc, refl, rules}
+use Rattle.std.proofs.Common.{◌≡◌, ◌∙◌, ◌++◌, false, true, ◌∷◌, [], ℕ, None, Some, List, drop, take, map, ap, sym, subst, suc, refl, rules}
 use Rattle.std.proofs.lemmas.List.{map-append}
 use Rattle.bgp_prefix.specs.Shown.{ShownRecord}
 use Rattle.mrt.specs.Reader.{shown_of}
