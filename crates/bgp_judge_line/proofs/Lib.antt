@@ -1,1 +1,3 @@
 mod SameAt
+mod Refreshes
+mod SameOptions

@@ -6,15 +6,22 @@
 //! if let Some(options) = judge_options(alloc, config, asked, &connection, 10, &made)? {
 //!     put_judge_line(&mut lines, &options);
 //! }
+//! if let Some(options) = capture_options(config, file.is_plain, named, &records, skips_refresh) {
+//!     put_judge_line(&mut lines, &options);
+//! }
 //! ```
 #![tactic(auto)]
 
 mod asking;
+mod laws;
 mod line;
+mod of_capture;
 mod options;
 mod read_alike;
 
 pub use asking::asked_of;
+pub use laws::a_capture_is_read_alike;
 pub use line::put_judge_line;
+pub use of_capture::capture_options;
 pub use options::{Asked, JudgeOptions};
 pub use read_alike::judge_options;

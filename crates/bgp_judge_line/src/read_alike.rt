@@ -1,7 +1,6 @@
 //! Whether `bgp judge` reads the same records of a connection as are told.
 
 ghost use Rattle.std.specs.Prelude.{◌≡◌, ◌↔◌, IfOk, IsTrue, map};
-ghost use Rattle.mrt.specs.Reader.{shown_of};
 ghost use Rattle.bgp_recording.specs.Gathered.{IsClocked, IsCovered};
 ghost use Rattle.bgp_recording.specs.Tells.{numbered_of};
 ghost use Rattle.bgp_judge_line.specs.ReadAlike.{AreJudgeOptions, framings_by, passes_over};
@@ -13,7 +12,7 @@ use bgp_recording::{
     Entry, Framing, Framings, Recording, Unshown, connections_are_recorded_once, make_records,
 };
 use bgp_wire::Limit;
-use mrt::Record;
+use mrt_sessions::show_the_same;
 use std::alloc::{AllocError, Allocator};
 use streams::Connection;
 
@@ -32,24 +31,6 @@ fn framings_by(config: &Config, skips_refresh: bool) -> Framings
         limit: Limit::with_extended(config.parts.session.extended),
         skips_refresh,
     })
-}
-
-/// Whether two records show the same.
-fn show_the_same(one: &Record<'_>, other: &Record<'_>) -> bool
-    ensures { IsTrue result ↔ (shown_of one.now ≡ shown_of other.now) }
-{
-    match (*one, *other) {
-        (Record::In(second, octets), Record::In(another, others)) => {
-            second == another && octets == others
-        }
-        (Record::Out(second, octets), Record::Out(another, others)) => {
-            second == another && octets == others
-        }
-        (Record::Change(second, old, new), Record::Change(another, before, after)) => {
-            second == another && old == before && new == after
-        }
-        _ => false,
-    }
 }
 
 /// Whether two entries are the same record at the same packet.

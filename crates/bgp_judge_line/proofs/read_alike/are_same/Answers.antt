@@ -1,4 +1,3 @@
-use Rattle.std.proofs.Common.{◌≡◌}
 use Rattle.bgp_recording.specs.Tells.{numbered_of}
 use Rattle.bgp_judge_line.proofs.SameAt.{not_true, same_at}
 use Rattle.bgp_judge_line.proofs.read_alike.are_same.Goals as goal
