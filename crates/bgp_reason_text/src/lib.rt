@@ -3,9 +3,9 @@
 //! What each text is, is stated in `specs/`. The lines are put into [`Lines`](bgp_text::Lines):
 //!
 //! ```text
-//! put_record_line(&mut lines, number, &session, &shown);
-//! put_state(&mut lines, &told);
-//! put_last_received(&mut lines, received, &Asked::of(&config, told.state, octets));
+//! put_record_line(&mut lines, number, None, &session, &shown);
+//! put_state(&mut lines, told.state, told.told_by);
+//! put_last_received(&mut lines, received, None, &Asked::of(&config, told.state, octets));
 //! put_possible(&mut lines, &possible);
 //! put_notes(&mut lines, &notes);
 //! ```

@@ -8,13 +8,13 @@ ghost use Rattle.bgp_text.specs.Lines.{Writes};
 ghost use Rattle.bgp_reason_text.specs.Record.{record_line, state_line, by_text};
 
 use crate::texts::{put_line_end, state_text};
+use bgp_machine::Fsm;
 use bgp_prefix::Session;
-use bgp_reason::Told;
 use bgp_text::{Lines, put_record_text};
 use mrt::{Record, Sink};
 
-/// Puts `record N LINE`: a record that a capture of the session may have, with its number, which
-/// counts from 1, and its line of `decode --mrt`; and in a recording the packet that shows it.
+/// Puts `record N LINE`: a record that a capture of the session may have, with its number and its
+/// line of `decode --mrt`; and in a recording the packet that shows it.
 pub fn put_record_line<W: Sink>(
     lines: &mut Lines<'_, W>,
     number: u64,
@@ -43,12 +43,13 @@ fn put_told_by<W: Sink>(lines: &mut Lines<'_, W>, told_by: Option<u64>)
     }
 }
 
-/// Puts `state STATE by record N`, or `state Idle` where no change was told.
-pub fn put_state<W: Sink>(lines: &mut Lines<'_, W>, told: &Told)
-    ensures { Writes lines.old lines.new (state_line told.now) }
+/// Puts `state STATE by record N`: the state that was told last, and the number of the record that
+/// told it; or `state Idle` where no change was told.
+pub fn put_state<W: Sink>(lines: &mut Lines<'_, W>, state: Fsm, told_by: Option<u64>)
+    ensures { Writes lines.old lines.new (state_line state told_by) }
 {
     lines.put(b"state ");
-    lines.put(state_text(told.state).as_bytes());
-    put_told_by(lines, told.told_by);
+    lines.put(state_text(state).as_bytes());
+    put_told_by(lines, told_by);
     lines.put(b"\n");
 }

@@ -2,7 +2,7 @@
 
 use bgp_machine::Fsm;
 use bgp_open::OpenSubcodes;
-use bgp_reason::{FsmErrors, Possible, States, Told};
+use bgp_reason::{FsmErrors, Possible, States};
 use bgp_reason_text::{put_possible, put_state};
 use bgp_text::Lines;
 use bgp_update::Subcodes;
@@ -340,12 +340,7 @@ static ROWS: [Row; 14] = [
 fn are_put(alloc: Global, row: &Row) -> bool {
     let mut sink = MemSink::new(alloc);
     let mut lines = Lines::new(&mut sink);
-    let told = Told {
-        state: row.possible.state,
-        told_by: row.told_by,
-        last_received: None,
-    };
-    put_state(&mut lines, &told);
+    put_state(&mut lines, row.possible.state, row.told_by);
     put_possible(&mut lines, &row.possible);
     let is_whole = lines.hand_over().is_ok();
     is_whole && lines.into_sink().octets() == row.text.as_bytes()
