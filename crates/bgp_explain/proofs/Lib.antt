@@ -6,7 +6,7 @@ pub mod Reading
 pub mod Standing
 pub mod LastReceived
 pub mod NextRecord
-pub mod EntryRecords
+pub mod Saying
 pub mod Telling
 pub mod LackedText
 pub mod Naming

@@ -1,5 +1,5 @@
 -- The first impossible record is one of those that are explained, so that what holds of each holds of it.
-use Rattle.std.proofs.Common.{◌≡◌, ◌+◌, ◌++◌, ◌∷◌, [], ℕ, zero, suc, List, Option, None, Some, subst, sym, take}
+use Rattle.std.proofs.Common.{◌+◌, ◌++◌, ◌∷◌, [], ℕ, zero, suc, List, Option, None, Some, subst, sym, take}
 use Rattle.std.specs.List.{AllByRecursion}
 use Rattle.bgp_prefix.specs.Shown.{ShownRecord}
 use Rattle.bgp_prefix.specs.declared.session.Session.{Session}
@@ -10,12 +10,11 @@ use Rattle.bgp_recording.specs.Captured.{records_of}
 use Rattle.bgp_recording.specs.declared.entry.Entry.{Entry}
 use Rattle.mrt.specs.Capture.{ArePieces, Piece, PassedOver, Other, OtherEnds, Shown, last_after}
 use Rattle.mrt.specs.Capture as captures
-use Rattle.mrt.specs.Reader.{shown_of}
 use Rattle.mrt.specs.Written.{IsAllowed}
 use Rattle.mrt.proofs.AllowedRecord.{each_allowed}
-use Rattle.bgp_explain.specs.Entries.{CanBeShown}
 use Rattle.bgp_explain.specs.Kept.{shown_by}
 use Rattle.bgp_explain.specs.Reason.{HasReason, IsNext}
+use Rattle.bgp_explain.specs.Records.{CanBeShown}
 use Rattle.bgp_explain.specs.Text.{CanBePut, CanBePutOf}
 use Rattle.bgp_explain.specs.declared.explained.Impossible.{Impossible}
 use Rattle.bgp_explain.specs.declared.explained.Reason.{Reason}

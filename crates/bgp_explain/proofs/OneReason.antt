@@ -58,6 +58,7 @@ use Rattle.bgp_reason_text.specs.NotWhole.{IsWhyNot, IsWhyNotSent}
 use Rattle.bgp_reason_text.specs.Possible.{item_lines}
 use Rattle.bgp_reason_text.specs.Words.{line_end}
 use Rattle.bgp_reason_text.specs.Refusal.{AreFieldReasons, AreReasons, IsToldOf}
+use Rattle.bgp_explain.specs.declared.places.Place.{Place}
 use Rattle.bgp_explain.specs.declared.texts.Received.{Received as LastReceived}
 use Rattle.bgp_explain.specs.Details.{AreLacksOf, IsAskedBy}
 use Rattle.bgp_explain.specs.Lacked.{Lacked, Nothing, Open, Update, Notification, RecordLacks, SentLacks, following_lines}
@@ -146,19 +147,18 @@ module _ (config : Config) (octets : List ℕ) where
       let y = heard_as n k in
       alike m n h k (sym x.2 ∙ ap kind_heard (one_heard config octets x.0 y.0 x.1 y.1) ∙ y.2)
 
-  pub one_received : (packets : ℕ → Option ℕ) (told : Told) (o : Option ℕ) (a b : Option LastReceived) → IsReceivedBy config packets told octets o a → IsReceivedBy config packets told octets o b
+  pub one_received : (places : ℕ → Place) (told : Told) (o : Option ℕ) (a b : Option LastReceived) → IsReceivedBy config places told octets o a → IsReceivedBy config places told octets o b
       → (IsTrue (is_some o) → 19 ≤ length octets) → a ≡ b
-  one_received packets told None None None h k whole = refl
-  one_received packets told None None (Some b) h k whole = absurd k
-  one_received packets told None (Some a) b h k whole = absurd h
-  one_received packets told (Some n) None b h k whole = absurd h
-  one_received packets told (Some n) (Some a) None h k whole = absurd k
-  one_received packets told (Some n) (Some a) (Some b) h k whole =
-      let number = h.0 ∙ sym k.0 in
-      let packet = h.1 ∙ sym k.1 in
-      let state = h.2 ∙ sym k.2 in
-      let message = one_asked a.asked.message b.asked.message (h.3 (whole refl)) (k.3 (whole refl)) in
-      λ i. Some (record { number = number i; packet = packet i; asked = record { state = state i; message = message i } })
+  one_received places told None None None h k whole = refl
+  one_received places told None None (Some b) h k whole = absurd k
+  one_received places told None (Some a) b h k whole = absurd h
+  one_received places told (Some n) None b h k whole = absurd h
+  one_received places told (Some n) (Some a) None h k whole = absurd k
+  one_received places told (Some n) (Some a) (Some b) h k whole =
+      let place = h.0 ∙ sym k.0 in
+      let state = h.1 ∙ sym k.1 in
+      let message = one_asked a.asked.message b.asked.message (h.2 (whole refl)) (k.2 (whole refl)) in
+      λ i. Some (record { place = place i; asked = record { state = state i; message = message i } })
 
 -- ---- what an UPDATE asks for
 
@@ -253,7 +253,7 @@ one_asking sets config told link octets (Some r) (Some a) None h k = absurd (k h
 one_asking sets config told link octets (Some r) (Some a) (Some b) h k =
     let some : Some h.0 ≡ Some k.0 = sym h.1.is_link ∙ k.1.is_link in
     let on : h.0 ≡ k.0 = cc in
-    one_line h.0 octets sets r.number r.packet a b h.2 (subst (λ (l : Link). updates.Asks l octets b) (sym on) k.2)
+    one_line h.0 octets sets r.place.number r.place.packet a b h.2 (subst (λ (l : Link). updates.Asks l octets b) (sym on) k.2)
 
 -- ---- whether it is whole
 

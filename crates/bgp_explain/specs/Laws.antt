@@ -37,8 +37,8 @@ CouldHaveStood =
     → HasVerdict config records (No count) → ArePossible config (take count records) possible
     → CouldStand config records count possible
 
--- Of a no at a message that was received, with these octets, after records that settle this link: it
--- isn't told that a message could have been received there, and so what is owed is told.
+-- Of a no at a message that was received, with these octets, after records that settle this link:
+-- it isn't told that a message could have been received there, and so what is owed is told.
 abbrev pub TellsWhatIsOwed : Config → Option Link → List ℕ → Type 0
 TellsWhatIsOwed config link octets =
     (records : List ShownRecord) (count second : ℕ) (possible : Possible)

@@ -1,5 +1,5 @@
 pub mod Settled
-pub mod Packets
+pub mod Places
 pub mod Offers
 pub mod Sending
 pub mod Kept
@@ -15,5 +15,5 @@ pub mod Lacked
 pub mod Details
 pub mod Text
 pub mod Capture
-pub mod Entries
+pub mod Records
 pub mod Opened

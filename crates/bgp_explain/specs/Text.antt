@@ -1,6 +1,6 @@
 -- The text of what is explained: the verdict's own text, and then that of its reason.
 use Rattle.std.specs.Prelude.{◌≡◌, ◌≤◌, ◌++◌, ℕ, Bool, true, List, [], Option, None, Some}
-use Rattle.std.specs.Prelude.{Result, Ok, Err, codes, length}
+use Rattle.std.specs.Prelude.{Result, Ok, Err, codes, length, option_map}
 use Rattle.bgp_prefix.specs.Shown.{ShownRecord}
 use Rattle.bgp_prefix.specs.declared.session.Session.{Session}
 use Rattle.bgp_open.specs.declared.config.Config.{Config}
@@ -24,37 +24,45 @@ use Rattle.bgp_explain.specs.declared.explained.Explained.{Explained}
 use Rattle.bgp_explain.specs.declared.explained.Impossible.{Impossible}
 use Rattle.bgp_explain.specs.declared.explained.Reason.{Reason}
 use Rattle.bgp_explain.specs.declared.explained.Totals.{Totals}
+use Rattle.bgp_explain.specs.declared.places.Place.{Place}
 use Rattle.bgp_explain.specs.declared.texts.Received.{Received}
 use Rattle.bgp_explain.specs.Details.{AreLacksOf, IsAskedBy, next_in}
 use Rattle.bgp_explain.specs.Kept.{shown_by}
 use Rattle.bgp_explain.specs.Lacked.{Lacked, following_lines}
-use Rattle.bgp_explain.specs.Packets.{no_packets}
+use Rattle.bgp_explain.specs.Places.{counted_places}
 use Rattle.bgp_explain.specs.Tally.{yes_lines}
 use Rattle.bgp_explain.specs.Updates.{Asking, update_line}
 
+-- the line of a record that stands there
+abbrev pub line_at : Place → List ℕ → List ℕ
+line_at place line = record_line place.number place.packet line
+
+-- the number of the record that told the state, where one did
+abbrev pub teller : (ℕ → Place) → Told → Option ℕ
+teller places told = option_map (λ count. (places count).number) told.told_by
+
 -- the message that was received last, by what the records tell, and what its octets ask for
-abbrev pub IsReceivedBy : Config → (ℕ → Option ℕ) → Told → List ℕ → Option ℕ → Option Received
+abbrev pub IsReceivedBy : Config → (ℕ → Place) → Told → List ℕ → Option ℕ → Option Received
     → Type 0
-IsReceivedBy config packets told octets None None = Unit {0}
-IsReceivedBy config packets told octets None (Some received) = ⊥
-IsReceivedBy config packets told octets (Some number) None = ⊥
-IsReceivedBy config packets told octets (Some number) (Some received) =
-    (received.number ≡ number) × (received.packet ≡ packets number)
-    × (received.asked.state ≡ told.state)
+IsReceivedBy config places told octets None None = Unit {0}
+IsReceivedBy config places told octets None (Some received) = ⊥
+IsReceivedBy config places told octets (Some count) None = ⊥
+IsReceivedBy config places told octets (Some count) (Some received) =
+    (received.place ≡ places count) × (received.asked.state ≡ told.state)
     × (19 ≤ length octets → Asks config octets received.asked.message)
 
-abbrev pub IsReceived : Config → (ℕ → Option ℕ) → Told → List ℕ → Option Received → Type 0
-IsReceived config packets told octets received =
-    IsReceivedBy config packets told octets told.last_received received
+abbrev pub IsReceived : Config → (ℕ → Place) → Told → List ℕ → Option Received → Type 0
+IsReceived config places told octets received =
+    IsReceivedBy config places told octets told.last_received received
 
 -- its line, where one was received since Idle was told: of an UPDATE in Established it has all that
 -- may become of it
 abbrev pub received_text : Option Received → Option Asking → List ℕ
 received_text None asking = []
 received_text (Some received) None =
-    last_received_line received.number received.packet received.asked
+    last_received_line received.place.number received.place.packet received.asked
 received_text (Some received) (Some asking) =
-    update_line received.number received.packet asking
+    update_line received.place.number received.place.packet asking
 
 -- ---- why the next record is impossible, or what may follow where there is none
 
@@ -79,14 +87,14 @@ AreNotesOf config told link unjudged octets possible next notes =
 
 -- what the records tell; the message received last; whether the next record is whole; what may
 -- follow, and what the next record lacks of it; and the notes
-abbrev pub why_text : Told → Option Received → Option Asking → Option NotWhole → Possible → Lacked
-    → Notes → List ℕ
-why_text told received asking unwhole possible lacked notes =
-    state_line told ++ (received_text received asking ++ (not_whole_line unwhole
-    ++ (following_lines possible lacked ++ notes_text notes)))
+abbrev pub why_text : (ℕ → Place) → Told → Option Received → Option Asking → Option NotWhole
+    → Possible → Lacked → Notes → List ℕ
+why_text places told received asking unwhole possible lacked notes =
+    state_line told.state (teller places told) ++ (received_text received asking
+    ++ (not_whole_line unwhole ++ (following_lines possible lacked ++ notes_text notes)))
 
--- The packets that show the records are those of a recording, where there are any.
-pub record IsWhy (config : Config) (packets : ℕ → Option ℕ) (told : Told) (link : Option Link)
+-- The records stand at these places. The next one is given with its count among them.
+pub record IsWhy (config : Config) (places : ℕ → Place) (told : Told) (link : Option Link)
     (unjudged : Unjudged) (octets : List ℕ) (possible : Possible)
     (next : Option (ℕ × ShownRecord)) (text : List ℕ) : Type 0 where
   pub received : Option Received
@@ -94,29 +102,29 @@ pub record IsWhy (config : Config) (packets : ℕ → Option ℕ) (told : Told) 
   pub unwhole : Option NotWhole
   pub lacked : Lacked
   pub notes : Notes
-  pub is_received : IsReceived config packets told octets received
+  pub is_received : IsReceived config places told octets received
   pub is_asked : IsAskedBy config told link octets asking
   pub is_unwhole : IsUnwholeOf link next unwhole
   pub are_lacks : AreLacksOf config link possible next lacked
   pub are_notes : AreNotesOf config told link unjudged octets possible next notes
-  pub whole : text ≡ why_text told received asking unwhole possible lacked notes
+  pub whole : text ≡ why_text places told received asking unwhole possible lacked notes
 
 -- ---- of a reason
 
 -- the line of the first impossible record, where there is one, as of a capture of this session
-abbrev pub IsImpossibleLine : {X : Type 0} → Session → (ℕ → Option ℕ) → Option (Impossible X)
+abbrev pub IsImpossibleLine : {X : Type 0} → Session → (ℕ → Place) → Option (Impossible X)
     → List ℕ → Type 0
-IsImpossibleLine session packets None text = text ≡ []
-IsImpossibleLine session packets (Some impossible) text =
+IsImpossibleLine session places None text = text ≡ []
+IsImpossibleLine session places (Some impossible) text =
     (line : List ℕ) × IsRecordText session (shown_by impossible.«record») line
-    × (text ≡ record_line impossible.number (packets impossible.number) line)
+    × (text ≡ line_at (places impossible.number) line)
 
-pub record IsReasonText {X : Type 0} (config : Config) (session : Session)
-    (packets : ℕ → Option ℕ) (reason : Reason X) (text : List ℕ) : Type 0 where
+pub record IsReasonText {X : Type 0} (config : Config) (session : Session) (places : ℕ → Place)
+    (reason : Reason X) (text : List ℕ) : Type 0 where
   pub first : List ℕ
   pub rest : List ℕ
-  pub impossible : IsImpossibleLine session packets reason.impossible first
-  pub why : IsWhy config packets reason.told reason.link reason.unjudged
+  pub impossible : IsImpossibleLine session places reason.impossible first
+  pub why : IsWhy config places reason.told reason.link reason.unjudged
       reason.last_message.items reason.possible (next_in reason.impossible) rest
   pub whole : text ≡ first ++ rest
 
@@ -127,11 +135,11 @@ abbrev pub no_memory_line : List ℕ
 no_memory_line = codes "note no memory for the reason\n"
 
 -- the reason, where there is one and its details are there, or that memory was refused for it
-abbrev pub IsMoreBy : {X : Type 0} → Config → Session → (ℕ → Option ℕ) → Option (Reason X) → Bool
+abbrev pub IsMoreBy : {X : Type 0} → Config → Session → (ℕ → Place) → Option (Reason X) → Bool
     → List ℕ → Type 0
-IsMoreBy config session packets (Some reason) true more =
-    IsReasonText config session packets reason more
-IsMoreBy config session packets reason detailed more = more ≡ no_memory_line
+IsMoreBy config session places (Some reason) true more =
+    IsReasonText config session places reason more
+IsMoreBy config session places reason detailed more = more ≡ no_memory_line
 
 -- after a yes what its records are, after a fault nothing, and else the reason
 abbrev pub IsMoreOf : {X Y : Type 0} → Config → Result (Verdict X) CaptureFault → Option (Reason Y)
@@ -139,7 +147,7 @@ abbrev pub IsMoreOf : {X Y : Type 0} → Config → Result (Verdict X) CaptureFa
 IsMoreOf config (Ok (Yes ends)) reason detailed totals more =
     more ≡ yes_lines totals.tally (Some totals.skipped) totals.seen.left_idle
 IsMoreOf config (Ok verdict) reason detailed totals more =
-    IsMoreBy config config.parts.session no_packets reason detailed more
+    IsMoreBy config config.parts.session counted_places reason detailed more
 IsMoreOf config (Err fault) reason detailed totals more = more ≡ []
 
 -- the verdict's own text, and then what comes after it

@@ -14,7 +14,7 @@ use std::alloc::{Allocator, Global};
 /// The first impossible record of a session, which is kept.
 #[derive(Drop)]
 pub struct Impossible<A: Allocator = Global> {
-    /// Its number among the session's records, from 1.
+    /// Its number among the records that are judged, from 1.
     pub number: u64,
     /// The record.
     pub record: KeptRecord<A>,

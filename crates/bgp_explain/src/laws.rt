@@ -48,8 +48,8 @@ pub fn a_no_names_what_lacks()
 }
 
 /// The record that is told as the message received last is the last one that was received since
-/// Idle was told, and its octets are those of which it is told what they ask for. Where none is told
-/// as such, none was received since then.
+/// Idle was told, and its octets are those of which it is told what they ask for. Where none is
+/// told as such, none was received since then.
 pub fn the_last_message_is_told()
     ensures { LastReceivedIsTold }
 {

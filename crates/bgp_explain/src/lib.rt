@@ -12,15 +12,15 @@
 
 mod capture;
 mod details;
-mod entries;
 mod explained;
 mod headline;
 mod kept;
 mod laws;
 mod offers;
 mod opened;
-mod packets;
+mod places;
 mod progress;
+mod records;
 mod sending;
 mod skipped;
 mod so_far;
@@ -29,7 +29,6 @@ mod texts;
 
 pub use capture::explain_with;
 pub use details::Details;
-pub use entries::{ExplainedEntries, explain_entries, put_explained_entries};
 pub use explained::{Explained, Impossible, Reason, Totals};
 pub use headline::{explain_capture, explained_as_judged};
 pub use kept::KeptRecord;
@@ -38,6 +37,8 @@ pub use laws::{
     each_verdict_is_explained_in_one_way, the_last_message_is_told, what_could_have_stood_is_told,
 };
 pub use opened::explain_opened;
+pub use places::{Place, Places};
+pub use records::{ExplainedRecords, explain_entries, explain_records, put_explained_records};
 pub use skipped::Skipped;
 pub use tally::Tally;
 pub use texts::{put_explained, put_reason};

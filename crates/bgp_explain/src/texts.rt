@@ -6,16 +6,16 @@ ghost use Rattle.bgp_tool.specs.Answer.{answer_status};
 ghost use Rattle.bgp_tool.specs.Status.{code_of};
 ghost use Rattle.bgp_explain.specs.Details.{AreDetails, AreDetailsOf, asking_in, next_in};
 ghost use Rattle.bgp_explain.specs.Lacked.{following_lines, lacked_of};
-ghost use Rattle.bgp_explain.specs.Packets.{packets_of};
+ghost use Rattle.bgp_explain.specs.Places.{places_of};
 ghost use Rattle.bgp_explain.specs.Text.{AreNotesOf, AreNotesOn, CanBePut, CanBePutOf};
 ghost use Rattle.bgp_explain.specs.Text.{IsExplainedText, IsMoreBy, IsMoreOf, IsReasonText};
 ghost use Rattle.bgp_explain.specs.Text.{IsReceived, IsUnwholeOf, no_memory_line, received_text};
-ghost use Rattle.bgp_explain.specs.Text.{why_text};
+ghost use Rattle.bgp_explain.specs.Text.{teller, why_text};
 ghost use Rattle.bgp_explain.specs.Updates.{asking_of, update_line};
 
 use crate::details::Details;
 use crate::explained::{Explained, Impossible, Reason, Totals};
-use crate::packets::packet_of;
+use crate::places::{Place, Places, place_of};
 use crate::tally::put_yes_lines;
 use bgp_check::Unjudged;
 use bgp_judge::Verdict;
@@ -26,7 +26,6 @@ use bgp_reason_text::{
     Asked, AskedUpdate, Lacks, NotWhole, Notes, put_last_received, put_last_update, put_not_whole,
     put_notes, put_possible_but, put_record_line, put_state,
 };
-use bgp_recording::Entry;
 use bgp_text::Lines;
 use bgp_tool::{Status, put_answer};
 use mrt::Sink;
@@ -35,27 +34,24 @@ use std::alloc::Allocator;
 /// The message that was received last, and what it asks for.
 #[derive(Clone, Copy)]
 pub(crate) struct Received {
-    /// The number of its record.
-    pub(crate) number: u64,
-    /// The packet by which it came, in a recording.
-    pub(crate) packet: Option<u64>,
+    /// Where its record stands.
+    pub(crate) place: Place,
     pub(crate) asked: Asked,
 }
 
 /// The message that was received last since Idle was told, if one was, and what it asks for.
 fn received_of<A: Allocator>(
     config: &Config,
-    entries: &[Entry<'_>],
+    places: Places<'_>,
     reason: &Reason<A>,
 ) -> Option<Received>
-    ensures { IsReceived config.now (packets_of entries.now) reason.now.told
+    ensures { IsReceived config.now (places_of places.entry) reason.now.told
         reason.now.last_message.items result }
 {
     match reason.told.last_received {
         None => None,
-        Some(number) => Some(Received {
-            number,
-            packet: packet_of(entries, number),
+        Some(count) => Some(Received {
+            place: place_of(places, count),
             asked: Asked::of(config, reason.told.state, reason.last_message.as_slice()),
         }),
     }
@@ -122,19 +118,12 @@ fn put_received<W: Sink, A: Allocator>(
 )
     ensures { Writes lines.old lines.new (received_text received (asking_in update.now)) }
 {
-    let Some(
-        Received {
-            number,
-            packet,
-            asked,
-        },
-    ) = received
-    else {
+    let Some(Received { place, asked }) = received else {
         return;
     };
     match update {
-        None => put_last_received(lines, number, packet, &asked),
-        Some(update) => put_update(lines, number, packet, update),
+        None => put_last_received(lines, place.number, place.packet, &asked),
+        Some(update) => put_update(lines, place.number, place.packet, update),
     }
 }
 
@@ -149,23 +138,31 @@ fn put_following<W: Sink, A: Allocator>(
     put_possible_but(lines, possible, lacks);
 }
 
+/// The number of the record that told the state, where one did.
+fn teller(places: Places<'_>, told: &Told) -> Option<u64>
+    ensures { result ≡ teller (places_of places.entry) told.now }
+{
+    Some(place_of(places, told.told_by?).number)
+}
+
 /// The lines on what the records tell, and what may follow them.
 fn put_why<W: Sink, A: Allocator>(
     lines: &mut Lines<'_, W>,
-    told: &Told,
-    received: Option<Received>,
+    places: Places<'_>,
+    reason: &Reason<A>,
     details: &Details<'_, A>,
+    received: Option<Received>,
     unwhole: Option<NotWhole>,
-    possible: &Possible,
     notes: &Notes,
 )
-    ensures { Writes lines.old lines.new (why_text told.now received (asking_in details.now.update)
-        unwhole possible.now (lacked_of details.now.lacks) notes.now) }
+    ensures { Writes lines.old lines.new (why_text (places_of places.entry) reason.now.told
+        received (asking_in details.now.update) unwhole reason.now.possible
+        (lacked_of details.now.lacks) notes.now) }
 {
-    put_state(lines, told);
+    put_state(lines, reason.told.state, teller(places, &reason.told));
     put_received(lines, received, &details.update);
     put_not_whole(lines, unwhole);
-    put_following(lines, possible, &details.lacks);
+    put_following(lines, &reason.possible, &details.lacks);
     put_notes(lines, notes);
 }
 
@@ -174,40 +171,31 @@ fn put_why<W: Sink, A: Allocator>(
 /// received last; a line for each kind of record that could have stood in its place, or may follow,
 /// with what the impossible one lacks of it; and notes.
 ///
-/// Where the records are made of a recording, these are its entries, and the lines on the record
-/// and on the message have their packets; of a capture there are none. The record's line is put as
-/// of a capture of this session.
+/// The lines name the records by where they stand, and the impossible one's is put as of a capture
+/// of this session.
 pub fn put_reason<W: Sink, A: Allocator + Copy>(
     lines: &mut Lines<'_, W>,
     config: &Config,
     session: &Session,
-    entries: &[Entry<'_>],
+    places: Places<'_>,
     reason: &Reason<A>,
     details: &Details<'_, A>,
 )
     requires can { CanBePut session.now reason.now.impossible }
     requires details { AreDetails config.now reason.now details.now }
     ensures { (text : List ℕ)
-        × IsReasonText config.now session.now (packets_of entries.now) reason.now text
+        × IsReasonText config.now session.now (places_of places.entry) reason.now text
         × Writes lines.old lines.new text }
 {
     if let Some(impossible) = &reason.impossible {
         let shown = impossible.record.as_record();
-        let packet = packet_of(entries, impossible.number);
-        put_record_line(lines, impossible.number, packet, session, &shown);
+        let place = place_of(places, impossible.number);
+        put_record_line(lines, place.number, place.packet, session, &shown);
     }
-    let received = received_of(config, entries, reason);
+    let received = received_of(config, places, reason);
     let unwhole = unwhole_of(reason);
     let notes = notes_of(config, reason);
-    put_why(
-        lines,
-        &reason.told,
-        received,
-        details,
-        unwhole,
-        &reason.possible,
-        &notes,
-    );
+    put_why(lines, places, reason, details, received, unwhole, &notes);
 }
 
 /// Puts that memory was refused for a reason.
@@ -222,14 +210,14 @@ pub(crate) fn put_any_reason<W: Sink, A: Allocator + Copy>(
     lines: &mut Lines<'_, W>,
     config: &Config,
     session: &Session,
-    entries: &[Entry<'_>],
+    places: Places<'_>,
     reason: &Option<Reason<A>>,
     details: &Option<Details<'_, A>>,
 )
     requires can { CanBePutOf session.now reason.now }
     requires details { AreDetailsOf config.now reason.now details.now }
     ensures { (more : List ℕ)
-        × IsMoreBy config.now session.now (packets_of entries.now) reason.now
+        × IsMoreBy config.now session.now (places_of places.entry) reason.now
         (is_some details.now) more
         × Writes lines.old lines.new more }
 {
@@ -237,7 +225,7 @@ pub(crate) fn put_any_reason<W: Sink, A: Allocator + Copy>(
         None => put_no_memory(lines),
         Some(reason) => match details {
             None => put_no_memory(lines),
-            Some(details) => put_reason(lines, config, session, entries, reason, details),
+            Some(details) => put_reason(lines, config, session, places, reason, details),
         },
     }
 }
@@ -255,7 +243,7 @@ fn put_more<W: Sink, A: Allocator + Copy>(
     ensures { (more : List ℕ) × IsMoreOf config.now explained.now.answer explained.now.reason
         (is_some details.now) explained.now.totals more × Writes lines.old lines.new more }
 {
-    let session = &config.parts.session;
+    let (session, places) = (&config.parts.session, Places::Counted);
     match &explained.answer {
         Ok(Verdict::Yes(_)) => {
             let Totals {
@@ -267,10 +255,10 @@ fn put_more<W: Sink, A: Allocator + Copy>(
             put_yes_lines(lines, tally, Some(*skipped), seen.left_idle);
         }
         Ok(Verdict::No(_)) => {
-            put_any_reason(lines, config, session, &[], &explained.reason, details);
+            put_any_reason(lines, config, session, places, &explained.reason, details);
         }
         Ok(Verdict::Unfinished) => {
-            put_any_reason(lines, config, session, &[], &explained.reason, details);
+            put_any_reason(lines, config, session, places, &explained.reason, details);
         }
         Err(_) => {}
     }

@@ -15,11 +15,10 @@ use Rattle.bgp_import.specs.Refusals.{refusal_line}
 use Rattle.bgp_import.specs.declared.importing.Import.{Import}
 use Rattle.bgp_import.specs.declared.refusal.Refusal.{Refusal}
 use Rattle.bgp_recording_tool.specs.declared.remark.Remark.{Remark}
-use Rattle.bgp_recording_tool.specs.Connections.{HasSeveral, IsOpening}
+use Rattle.bgp_recording_tool.specs.Connections.{IsOpening}
 use Rattle.bgp_recording_tool.specs.Judging.{Puts}
 use Rattle.bgp_recording_tool.specs.Remarks.{AddsTold, IsHelp}
 use Rattle.bgp_recording_tool.specs.Told.{refused_status, status_over}
-use Rattle.bgp_recording_tool.proofs.Puttings.{put_as}
 use Rattle.bgp_recording_tool.proofs.Statuses.{over_more}
 use Rattle.bgp_recording_explain.specs.Connections.{AllAreTold, AreTold, IsToldAs}
 use Rattle.bgp_recording_explain.specs.Explaining.{TellsRecording}

@@ -1,8 +1,7 @@
 -- What is told of one connection, by what was made of it and what was put of that.
-use Rattle.std.proofs.Common.{◌≡◌, ◌∙◌, ◌++◌, ℕ, List, [], Option, Some, IsTrue, refl, sym, ap, subst, append-nil, length, reverse, inl, inr}
+use Rattle.std.proofs.Common.{◌≡◌, ℕ, List, Option, Some, refl, inl, inr}
 use Rattle.std.specs.List.{AllByRecursion}
 use Rattle.packets.specs.Packet.{Recorded}
-use Rattle.streams.specs.Connections.{numbered}
 use Rattle.streams.specs.Passed.{Segment}
 use Rattle.mrt.specs.declared.sink.Sink as sinks
 use Rattle.bgp_prefix.specs.declared.session.RouteRefresh.TheVariants as refreshes
@@ -22,7 +21,7 @@ use Rattle.bgp_recording_tool.specs.Remarks.{AddsTold, IsHelp, notes_of, remarks
 use Rattle.bgp_recording_tool.specs.Told.{refused_status}
 use Rattle.bgp_recording_tool.proofs.Judgings.{is_made}
 use Rattle.bgp_recording_explain.specs.Connections.{IsToldAs}
-use Rattle.bgp_recording_explain.specs.Putting.{PutsExplained, PutsNothing}
+use Rattle.bgp_recording_explain.specs.Putting.{PutsExplained}
 use Rattle.bgp_recording_explain.specs.Told.{Explained, Refused}
 
 module _ {T : Type 0} {sink : sinks.Ghosts T} (config : Config) (wanted : Import) (packets : List Recorded) (segments : List Segment) (number named : Option ℕ)

@@ -9,10 +9,12 @@ use Rattle.bgp_open.specs.declared.config.Config.{Config}
 use Rattle.bgp_judge.specs.Verdict.{VerdictValue}
 use Rattle.bgp_import.specs.ListText.{opening_text}
 use Rattle.bgp_import.specs.declared.importing.Import.{Import}
+use Rattle.bgp_recording.specs.Captured.{records_of}
 use Rattle.bgp_recording_tool.specs.declared.remark.Remark.{Remark}
 use Rattle.bgp_recording_tool.specs.Connections.{HasSeveral, IsJudged, IsNotJudged, IsOpening}
 use Rattle.bgp_recording_tool.specs.Told.{status_over}
-use Rattle.bgp_explain.specs.Entries.{SaysOrNot}
+use Rattle.bgp_explain.specs.Places.{shown_places}
+use Rattle.bgp_explain.specs.Records.{SaysOrNot}
 use Rattle.bgp_recording_explain.specs.Told.{Told, Explained, Refused, told_status, told_text}
 
 -- One connection more is told of, under its line: what was told before it stands before it. Its
@@ -42,7 +44,8 @@ module _ (config : Config) (wanted : Import) (packets : List Recorded) (segments
     pub record IsExplained (number named : Option ℕ) (verdict : VerdictValue) (more : List ℕ)
         (remarks : List Remark) : Type 0 where
       pub judged : IsJudged config wanted packets segments number named verdict remarks
-      pub explains : SaysOrNot config config.parts.session judged.entries verdict more
+      pub explains : SaysOrNot config config.parts.session (shown_places judged.entries)
+          (records_of judged.entries) verdict more
 
     -- or it is refused
     abbrev pub IsTold : Option ℕ → Option ℕ → Told → List Remark → Type 0

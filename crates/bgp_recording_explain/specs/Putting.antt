@@ -12,7 +12,8 @@ use Rattle.bgp_recording.specs.declared.entry.Entry.{Entry}
 use Rattle.bgp_recording_tool.specs.declared.remark.Remark.{Remark}
 use Rattle.bgp_recording_tool.specs.Remarks.{remarks_on}
 use Rattle.bgp_recording_tool.specs.Told.{value_status, value_text}
-use Rattle.bgp_explain.specs.Entries.{SaysOrNot}
+use Rattle.bgp_explain.specs.Places.{shown_places}
+use Rattle.bgp_explain.specs.Records.{SaysOrNot}
 
 -- the verdict on the records of these entries and what explains it, or that there was no memory for
 -- the reason, with this exit status
@@ -22,7 +23,8 @@ pub record PutsExplained {T : Type 0} {sink : sinks.Ghosts T} (config : Config) 
   pub verdict : VerdictValue
   pub more : List ℕ
   pub is : HasVerdict config (records_of entries) verdict
-  pub explains : SaysOrNot config config.parts.session entries verdict more
+  pub explains : SaysOrNot config config.parts.session (shown_places entries) (records_of entries)
+      verdict more
   pub wrote : Writes lines lines' (value_text verdict ++ more)
   pub added : remarks' ≡ remarks ++ remarks_on named entries notes verdict
   pub tells : status ≡ value_status verdict

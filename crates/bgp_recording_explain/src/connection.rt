@@ -12,17 +12,19 @@ ghost use Rattle.bgp_import.specs.Gathers.{HoldsSession};
 ghost use Rattle.bgp_import.specs.Making.{HoldsTaken};
 ghost use Rattle.bgp_import.specs.Refusals.{refusal_line};
 ghost use Rattle.bgp_import.specs.Selecting.{AreTaken};
+ghost use Rattle.bgp_recording.specs.Captured as captured;
 ghost use Rattle.bgp_recording_tool.specs.Judging.{Puts};
 ghost use Rattle.bgp_recording_tool.specs.Options.{IsOneFamily};
 ghost use Rattle.bgp_recording_tool.specs.Remarks.{AddsTold, IsHelp, notes_of};
 ghost use Rattle.bgp_recording_tool.specs.Told.{refused_status, value_status, value_text};
 ghost use Rattle.bgp_explain.specs.Details.{AreDetailsOf};
-ghost use Rattle.bgp_explain.specs.Entries.{AreExplained, CanBeShown, SaysOrNot};
+ghost use Rattle.bgp_explain.specs.Places.{shown_places};
+ghost use Rattle.bgp_explain.specs.Records.{AreExplained, CanBeShown, SaysOrNot};
 ghost use Rattle.bgp_explain.specs.Text.{CanBePutOf};
 ghost use Rattle.bgp_recording_explain.specs.Connections.{IsToldAs};
 ghost use Rattle.bgp_recording_explain.specs.Putting.{PutsExplained, PutsNothing};
 
-use bgp_explain::{Details, ExplainedEntries, explain_entries, put_explained_entries};
+use bgp_explain::{Details, ExplainedRecords, Places, explain_entries, put_explained_records};
 use bgp_import::{Gathered, Import, Refusal, put_refusal, records_of};
 use bgp_judge::Tracker;
 use bgp_open::Config;
@@ -41,28 +43,28 @@ fn put_explained<A: Allocator + Copy, W: Sink>(
     lines: &mut Lines<'_, W>,
     config: &Config,
     entries: &[Entry<'_>],
-    explained: &ExplainedEntries<A>,
+    explained: &ExplainedRecords<A>,
     details: &Option<Details<'_, A>>,
 ) -> Status
-    requires explained { AreExplained config.now entries.now explained.now }
+    requires explained { AreExplained config.now (captured.records_of entries.now) explained.now }
     requires can { CanBePutOf config.now.parts.session explained.now.reason }
     requires details { AreDetailsOf config.now explained.now.reason details.now }
     ensures writes { (more : List ℕ)
-        × SaysOrNot config.now config.now.parts.session entries.now
-        (verdict_value explained.now.verdict) more
+        × SaysOrNot config.now config.now.parts.session (shown_places entries.now)
+        (captured.records_of entries.now) (verdict_value explained.now.verdict) more
         × Writes lines.old lines.new
         (value_text (verdict_value explained.now.verdict) ++ more) }
     ensures status { code_of result ≡ value_status (verdict_value explained.now.verdict) }
 {
-    let session = &config.parts.session;
+    let (session, places) = (&config.parts.session, Places::Shown(entries));
     put_verdict(lines, &explained.verdict);
-    put_explained_entries(lines, config, session, entries, explained, details);
+    put_explained_records(lines, config, session, places, explained, details);
     verdict_status(&explained.verdict)
 }
 
 /// Explains the records of a connection, adds what there is to tell of it, with this number where
-/// several are told of, and answers the exit status. Where memory is refused for the verdict nothing
-/// is put or added.
+/// several are told of, and answers the exit status. Where memory is refused for the verdict
+/// nothing is put or added.
 fn explain_made<A: Allocator + Copy, T: Tracker<A>, W: Sink>(
     alloc: A,
     config: &Config,

@@ -1,5 +1,7 @@
 //! What is told where a sink fails, where memory is refused, and of the end of a file.
 
+mod places;
+
 use bgp_compact::CompactTracker;
 use bgp_explain::{explain_capture, explain_opened};
 use bgp_open::{Config, ConfigParts, Families};
@@ -14,7 +16,7 @@ use std::io;
 use std::io::ErrorKind;
 
 /// What router A is configured to do.
-const PARTS_A: ConfigParts = ConfigParts {
+pub(crate) const PARTS_A: ConfigParts = ConfigParts {
     local_as: 65001,
     peer_as: 65002,
     local_id: 0xc000_0201,

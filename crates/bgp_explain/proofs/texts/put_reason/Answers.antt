@@ -1,12 +1,11 @@
 use Rattle.std.proofs.Common.{◌++◌, [], refl, subst, sym}
 use Rattle.bgp_prefix.specs.Shown.{ShownRecord}
-use Rattle.bgp_reason_text.specs.Record.{record_line}
 use Rattle.bgp_text.proofs.Pieces.{Joins, and_then}
 use Rattle.bgp_text.specs.Capture.{IsRecordText}
 use Rattle.bgp_explain.specs.Details.{asking_in, next_in}
 use Rattle.bgp_explain.specs.Lacked.{lacked_of}
-use Rattle.bgp_explain.specs.Packets.{packets_of}
-use Rattle.bgp_explain.specs.Text.{IsImpossibleLine, IsWhy, why_text}
+use Rattle.bgp_explain.specs.Places.{places_of}
+use Rattle.bgp_explain.specs.Text.{IsImpossibleLine, IsWhy, line_at, why_text}
 use Rattle.bgp_explain.proofs.texts.put_reason.Goals.{in-Some, in_default}
 use Rattle.bgp_explain.proofs.texts.put_reason.Goals as goal
 
@@ -16,15 +15,15 @@ returns g c =
     let config = c.args.config.now in
     let session = c.args.session.now in
     let reason = c.args.reason.now in
-    let packets = packets_of c.args.entries.now in
+    let places = places_of c.args.places in
     let details = c.args.details.now in
     let received = c.received_of-received.result in
     let unwhole = c.unwhole_of-unwhole.result in
     let notes = c.notes_of-notes.result in
     let asking = asking_in details.update in
     let lacked = lacked_of details.lacks in
-    let rest = why_text reason.told received asking unwhole reason.possible lacked notes in
-    let why : IsWhy config packets reason.told reason.link reason.unjudged reason.last_message.items reason.possible (next_in reason.impossible) rest = record {
+    let rest = why_text places reason.told received asking unwhole reason.possible lacked notes in
+    let why : IsWhy config places reason.told reason.link reason.unjudged reason.last_message.items reason.possible (next_in reason.impossible) rest = record {
       received = received;
       asking = asking;
       unwhole = unwhole;
@@ -40,15 +39,14 @@ returns g c =
     elim c.match-reason.branch [
       | in-Some w ↦ (
           let (line, is_line, put) = w.put_record_line.ensures in
-          let number = w.in-Some.impossible.number in
-          let first = record_line number (packets number) line in
+          let first = line_at (places w.in-Some.impossible.number) line in
           let is = subst (λ (r : ShownRecord). IsRecordText session r line) w.as_record-shown.ensures is_line in
-          let put = rw w.packet_of-packet.ensures at put in (
+          let put = rw w.place_of-place.ensures at put in (
             first ++ rest,
             record {
               first = first;
               rest = rest;
-              impossible = subst (λ o. IsImpossibleLine session packets o first) (sym w.in-Some.is) (line, is, refl);
+              impossible = subst (λ o. IsImpossibleLine session places o first) (sym w.in-Some.is) (line, is, refl);
               why = why;
               whole = refl;
             },
@@ -60,7 +58,7 @@ returns g c =
         record {
           first = [];
           rest = rest;
-          impossible = subst (λ o. IsImpossibleLine session packets o []) (sym w.in_default.is) refl;
+          impossible = subst (λ o. IsImpossibleLine session places o []) (sym w.in_default.is) refl;
           why = why;
           whole = refl;
         },

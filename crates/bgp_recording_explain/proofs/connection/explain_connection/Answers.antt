@@ -1,16 +1,12 @@
-use Rattle.std.proofs.Common.{◌≡◌, ◌∙◌, ◌++◌, ℕ, List, length, reverse, ap, inr, refl, subst, sym}
-use Rattle.std.specs.List.{AllByRecursion}
+use Rattle.std.proofs.Common.{◌≡◌, List, length, reverse, inr, subst, sym}
 use Rattle.bgp_prefix.specs.declared.session.RouteRefresh.TheVariants as refreshes
 use Rattle.bgp_prefix.specs.declared.session.Session.{Session}
-use Rattle.bgp_text.specs.Lines.{Writes}
 use Rattle.bgp_tool.specs.Status.{code_of}
-use Rattle.bgp_import.specs.Refusals.{refusal_line}
 use Rattle.bgp_recording.specs.Pieces.{framings_of}
 use Rattle.bgp_recording.specs.Recorded.{IsRecorded}
 use Rattle.bgp_recording.proofs.Capturing.{made_are_allowed}
 use Rattle.bgp_recording_tool.specs.Remarks.{AddsTold, IsHelp}
 use Rattle.bgp_recording_tool.specs.declared.remark.Remark.{Remark}
-use Rattle.bgp_recording_explain.specs.Putting.{PutsExplained}
 use Rattle.bgp_recording_explain.proofs.Tellings.{was_explained, was_refreshed, was_turned_down}
 use Rattle.bgp_recording_explain.proofs.connection.explain_connection.Goals as goal
 

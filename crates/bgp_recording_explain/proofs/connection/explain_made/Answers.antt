@@ -1,9 +1,10 @@
-use Rattle.std.proofs.Common.{ℕ, List, subst, sym}
+use Rattle.std.proofs.Common.{List, subst, sym}
 use Rattle.std.specs.List.{AllByRecursion}
 use Rattle.bgp_judge.specs.Verdict.{HasVerdict, verdict_value}
 use Rattle.bgp_recording.specs.Captured.{records_of}
 use Rattle.bgp_recording.specs.declared.entry.Entry.{Entry}
-use Rattle.bgp_explain.specs.Entries.{CanBeShown, SaysOrNot}
+use Rattle.bgp_explain.specs.Places.{shown_places}
+use Rattle.bgp_explain.specs.Records.{CanBeShown, SaysOrNot}
 use Rattle.bgp_explain.proofs.NextRecord.{can_of, entries_can}
 use Rattle.bgp_recording_explain.proofs.connection.explain_made.Goals as goal
 
@@ -27,7 +28,7 @@ returns g c =
       verdict = verdict;
       more = more;
       is = subst (λ (es : List Entry). HasVerdict config (records_of es) verdict) same c.in_ok-explained.ensures.verdict;
-      explains = subst (λ (es : List Entry). SaysOrNot config config.parts.session es verdict more) same says;
+      explains = subst (λ (es : List Entry). SaysOrNot config config.parts.session (shown_places es) (records_of es) verdict more) same says;
       wrote = wrote;
       added = c.in_ok-add_remarks_on.ensures.ok;
       tells = c.put_explained.ensures.status;

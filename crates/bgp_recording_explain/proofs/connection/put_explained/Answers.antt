@@ -2,25 +2,31 @@ use Rattle.std.proofs.Common.{List, ℕ, Bool, true, false, inl, inr, is_some, s
 use Rattle.bgp_prefix.specs.declared.session.Session.{Session}
 use Rattle.bgp_open.specs.declared.config.Config.{Config}
 use Rattle.bgp_judge.specs.Verdict.{VerdictValue, Yes, No, Unfinished, verdict_value}
-use Rattle.bgp_recording.specs.declared.entry.Entry.{Entry}
-use Rattle.bgp_explain.specs.Entries.{SaysOrNot, SaysWhere}
+use Rattle.bgp_prefix.specs.Shown.{ShownRecord}
+use Rattle.bgp_recording.specs.Captured.{records_of}
+use Rattle.bgp_explain.specs.Places.{shown_places}
+use Rattle.bgp_explain.specs.Records.{SaysOrNot, SaysWhere}
+use Rattle.bgp_explain.specs.declared.places.Place.{Place}
 use Rattle.bgp_text.specs.Lines.{Writes}
 use Rattle.bgp_text.proofs.Pieces.{Joins, and_then}
 use Rattle.bgp_recording_tool.proofs.Texts.{text_same}
 use Rattle.bgp_recording_explain.proofs.connection.put_explained.Goals as goal
 
 -- with details or without
-or_not : (config : Config) (session : Session) (entries : List Entry) (detailed : Bool) (verdict : VerdictValue) (more : List ℕ) → SaysWhere config session entries detailed verdict more
-    → SaysOrNot config session entries verdict more
-or_not config session entries detailed (Yes ends) more says = says
-or_not config session entries true (No count) more says = inl says
-or_not config session entries true Unfinished more says = inl says
-or_not config session entries false (No count) more says = inr says
-or_not config session entries false Unfinished more says = inr says
+or_not : (config : Config) (session : Session) (places : ℕ → Place) (records : List ShownRecord) (detailed : Bool) (verdict : VerdictValue) (more : List ℕ)
+    → SaysWhere config session places records detailed verdict more → SaysOrNot config session places records verdict more
+or_not config session places records detailed (Yes ends) more says = says
+or_not config session places records true (No count) more says = inl says
+or_not config session places records true Unfinished more says = inl says
+or_not config session places records false (No count) more says = inr says
+or_not config session places records false Unfinished more says = inr says
 
 pub returns-clause-writes : goal.returns-clause-writes
 returns-clause-writes g c =
     let law : Joins g.W.Sink = record { joined = g.met.W.Sink.joined } in
-    let (more, says, put) = c.put_explained_entries.ensures in
+    let config = c.args.config.now in
+    let entries = c.args.entries.now in
+    let verdict = verdict_value c.args.explained.now.verdict in
+    let (more, says, put) = c.put_explained_records.ensures (records_of entries) c.requires.explained in
     let first = subst (λ (t : List ℕ). Writes c.args.lines.now c.put_verdict.new.lines t) (text_same c.args.explained.now.verdict) c.put_verdict.ensures in
-    (more, or_not c.args.config.now c.args.config.now.parts.session c.args.entries.now (is_some c.args.details.now) (verdict_value c.args.explained.now.verdict) more says, and_then law first put)
+    (more, or_not config config.parts.session (shown_places entries) (records_of entries) (is_some c.args.details.now) verdict more says, and_then law first put)

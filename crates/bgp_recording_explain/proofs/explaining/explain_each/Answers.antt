@@ -1,4 +1,4 @@
-use Rattle.std.proofs.Common.{◌≡◌, ◌∙◌, ◌+◌, ℕ, length, reverse, [], ◌∷◌, ap, subst, add-one, arith}
+use Rattle.std.proofs.Common.{◌≡◌, ◌+◌, ℕ, length, reverse, subst, add-one, arith}
 use Rattle.streams.specs.Connections.{numbered}
 use Rattle.bgp_tool.specs.Status.{code_of}
 use Rattle.bgp_text.proofs.Pieces.{Joins, and_then}

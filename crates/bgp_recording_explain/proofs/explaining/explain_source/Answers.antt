@@ -1,4 +1,4 @@
-use Rattle.std.proofs.Common.{◌∙◌, Bool, None, refl, sym, ap, length, reverse}
+use Rattle.std.proofs.Common.{◌∙◌, Bool, None, refl, ap, length, reverse}
 use Rattle.bgp_import.specs.Gathers.{cut_short_by}
 use Rattle.bgp_tool.specs.Status.{code_of}
 use Rattle.bgp_recording_explain.proofs.Puttings.{was_read, was_refused}

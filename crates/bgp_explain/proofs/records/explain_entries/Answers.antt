@@ -1,11 +1,13 @@
-use Rattle.std.proofs.Common.{List, [], take, subst, arith}
+use Rattle.std.proofs.Common.{List, [], ap, take, subst, sym, arith}
+use Rattle.std.proofs.lemmas.List.{map_more, take_all}
 use Rattle.bgp_prefix.specs.Shown.{ShownRecord}
+use Rattle.mrt.specs.Reader.{shown_of}
 use Rattle.bgp_judge.proofs.Verdicts.{no_record_begins}
 use Rattle.bgp_recording.specs.Captured.{records_of}
+use Rattle.bgp_recording.specs.declared.entry.Entry.{Entry}
 use Rattle.bgp_explain.specs.Progress.{IsAt}
-use Rattle.bgp_explain.proofs.EntryRecords.{entries_all, entries_more}
 use Rattle.bgp_explain.proofs.Keeping.{none_at}
-use Rattle.bgp_explain.proofs.entries.explain_entries.Goals as goal
+use Rattle.bgp_explain.proofs.records.explain_entries.Goals as goal
 
 pub loop-entry-init : goal.loop-entry-init
 loop-entry-init g c =
@@ -22,12 +24,13 @@ loop-entry-preserved g c =
     let few = c.loop-entry.invariant.few in
     let more = c.advance.ensures.count in record {
       at = subst (λ (v : List ShownRecord). IsAt (g.T.Tracker.stands_for c.advance.new.tracker) c.args.config.now v c.advance.new.self)
-          (entries_more c.args.entries.now c.loop-entry.entry-index _ c.loop-entry-test.true) (c.in_ok-advance.ensures.next so_far c.loop-entry.invariant.at);
+          (sym (map_more (λ (e : Entry). shown_of e.«record») c.args.entries.now c.loop-entry.entry-index _ c.loop-entry-test.true))
+          (c.in_ok-advance.ensures.next so_far c.loop-entry.invariant.at);
       few = omega (arith, few, more);
     }
 
 pub returns : goal.returns
 returns g c =
-    let all = entries_all c.args.entries.now c.loop-entry.entry-index c.loop-entry-test.false in
-    let at = subst (λ (v : List ShownRecord). IsAt (g.T.Tracker.stands_for c.loop-entry.tracker) c.args.config.now v c.loop-entry.progress) all c.loop-entry.invariant.at in
-    let (is, has, sums) = c.in_ok-verdict.ensures.is (records_of c.args.entries.now) at in record { verdict = is; reason = has; summed = sums }
+    let all = ap (λ (v : List Entry). records_of v) (take_all c.loop-entry.entry-index c.args.entries.now c.loop-entry-test.false) in
+    c.concluded.ensures (records_of c.args.entries.now)
+    (subst (λ (v : List ShownRecord). IsAt (g.T.Tracker.stands_for c.loop-entry.tracker) c.args.config.now v c.loop-entry.progress) all c.loop-entry.invariant.at)

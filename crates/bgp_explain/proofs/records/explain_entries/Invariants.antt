@@ -1,7 +1,7 @@
 use Rattle.std.proofs.Common.{◌≤◌, take}
 use Rattle.bgp_recording.specs.Captured.{records_of}
 use Rattle.bgp_explain.specs.Progress.{IsAt}
-use Rattle.bgp_explain.proofs.entries.explain_entries.Given as goal
+use Rattle.bgp_explain.proofs.records.explain_entries.Given as goal
 
 -- how far the judging has come with the records so far
 abbrev pub invariant-loop-entry : goal.invariant-loop-entry

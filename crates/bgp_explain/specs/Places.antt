@@ -1,0 +1,39 @@
+-- Where the records that are judged stand: the number that one has in its session, and the packet
+-- that shows it, in a recording. They are counted from 1, and so are packets.
+use Rattle.std.specs.Prelude.{ℕ, zero, suc, List, Option, None, option_map, slice_get, unwrap_or}
+use Rattle.bgp_recording.specs.declared.entry.Entry.{Entry}
+use Rattle.bgp_explain.specs.declared.places.Place.{Place}
+use Rattle.bgp_explain.specs.declared.places.Places.{Places}
+use Rattle.bgp_explain.specs.declared.places.Places.TheVariants.{Counted, Shown, Numbered}
+
+-- the item with this count, where there is one
+abbrev pub counted : {X : Type 0} → List X → ℕ → Option X
+counted items zero = None
+counted items (suc index) = slice_get items index
+
+-- the packet of the entry with this count, where there is one
+abbrev pub packet_at : List Entry → ℕ → Option ℕ
+packet_at entries count = option_map (λ entry. entry.packet) (counted entries count)
+
+-- the number with this count, or the count itself where there are fewer
+abbrev pub number_at : List ℕ → ℕ → ℕ
+number_at numbers count = unwrap_or (counted numbers count) count
+
+-- ---- of the record with a count
+
+-- of all records of a capture's session: its count is its number
+abbrev pub counted_places : ℕ → Place
+counted_places count = record { number = count; packet = None }
+
+-- of those of entries: so, and its entry has the packet
+abbrev pub shown_places : List Entry → ℕ → Place
+shown_places entries count = record { number = count; packet = packet_at entries count }
+
+-- of some records of a capture's session, which have these numbers there
+abbrev pub numbered_places : List ℕ → ℕ → Place
+numbered_places numbers count = record { number = number_at numbers count; packet = None }
+
+abbrev pub places_of : Places → ℕ → Place
+places_of Counted = counted_places
+places_of (Shown entries) = shown_places entries.now
+places_of (Numbered numbers) = numbered_places numbers.now

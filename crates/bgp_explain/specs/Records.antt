@@ -1,0 +1,50 @@
+-- What explaining the verdict on records answers, and what is told of it after the verdict.
+use Rattle.std.specs.Prelude.{◌≡◌, ◌⊎◌, ◌+◌, ℕ, Bool, true, false, List, None, take}
+use Rattle.bgp_prefix.specs.Shown.{ShownRecord}
+use Rattle.bgp_prefix.specs.declared.session.Session.{Session}
+use Rattle.mrt.specs.Reader.{shown_of}
+use Rattle.mrt.specs.Written.{IsAllowed}
+use Rattle.bgp_open.specs.declared.config.Config.{Config}
+use Rattle.bgp_judge.specs.Verdict.{IsVerdict, VerdictValue, Yes, No, Unfinished}
+use Rattle.bgp_recording.specs.declared.entry.Entry.{Entry}
+use Rattle.bgp_tool.specs.Seen.{seen_in}
+use Rattle.bgp_explain.specs.declared.places.Place.{Place}
+use Rattle.bgp_explain.specs.declared.records.ExplainedRecords.{ExplainedRecords}
+use Rattle.bgp_explain.specs.Capture.{TellsWhy, TellsWhyNot}
+use Rattle.bgp_explain.specs.Reason.{AreSummed, HasReason}
+use Rattle.bgp_explain.specs.Tally.{tally_of, yes_lines}
+use Rattle.bgp_explain.specs.Text.{no_memory_line}
+
+-- a capture of the session may have an entry's record
+abbrev pub CanBeShown : Session → Entry → Type 0
+CanBeShown session entry = IsAllowed session None (shown_of entry.«record»)
+
+-- the verdict on these records, and its reason
+pub record AreExplained {X : Type 0} (config : Config) (records : List ShownRecord)
+    (explained : ExplainedRecords X) : Type 0 where
+  pub verdict : IsVerdict config records explained.verdict
+  pub reason : HasReason config records explained.verdict explained.reason
+  pub summed : AreSummed records explained.verdict explained.tally explained.seen
+
+-- What is told after the verdict on records that stand there: of a no why the next record is
+-- impossible, with its line as of a capture of this session, of an unfinished what may follow, and
+-- after a yes what the records are; or that memory was refused for the reason.
+module _ (config : Config) (session : Session) (places : ℕ → Place) (records : List ShownRecord)
+  where
+    abbrev pub SaysOfRecords : VerdictValue → List ℕ → Type 0
+    SaysOfRecords (Yes ends) more =
+        more ≡ yes_lines (tally_of records) None (seen_in records).left_idle
+    SaysOfRecords (No count) more =
+        TellsWhyNot config session places (take count records) (take (count + 1) records) more
+    SaysOfRecords Unfinished more = TellsWhy config places records None more
+
+    -- where the details of the reason are there, and without a reason where they aren't
+    abbrev pub SaysWhere : Bool → VerdictValue → List ℕ → Type 0
+    SaysWhere detailed (Yes ends) more = SaysOfRecords (Yes ends) more
+    SaysWhere true verdict more = SaysOfRecords verdict more
+    SaysWhere false verdict more = more ≡ no_memory_line
+
+    -- with a reason or without
+    abbrev pub SaysOrNot : VerdictValue → List ℕ → Type 0
+    SaysOrNot (Yes ends) more = SaysOfRecords (Yes ends) more
+    SaysOrNot verdict more = SaysOfRecords verdict more ⊎ (more ≡ no_memory_line)

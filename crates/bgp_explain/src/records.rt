@@ -1,0 +1,141 @@
+//! The verdict on records, and why it is a no or unfinished.
+
+ghost use Rattle.std.specs.Prelude.{List, ℕ, IfOk, is_some, map};
+ghost use Rattle.bgp_prefix.specs.Shown.{ShownRecord};
+ghost use Rattle.mrt.specs.Reader.{shown_of};
+ghost use Rattle.bgp_judge.specs.Verdict.{verdict_value};
+ghost use Rattle.bgp_recording.specs.Captured.{records_of};
+ghost use Rattle.bgp_text.specs.Lines.{Writes};
+ghost use Rattle.bgp_explain.specs.Details.{AreDetailsOf};
+ghost use Rattle.bgp_explain.specs.Places.{places_of};
+ghost use Rattle.bgp_explain.specs.Progress.{IsAt};
+ghost use Rattle.bgp_explain.specs.Records.{AreExplained, SaysWhere};
+ghost use Rattle.bgp_explain.specs.Text.{CanBePutOf};
+
+use crate::details::{Details, details_of};
+use crate::explained::Reason;
+use crate::places::Places;
+use crate::so_far::Progress;
+use crate::tally::{Tally, put_yes_lines};
+use crate::texts::put_any_reason;
+use bgp_judge::{Tracker, Verdict};
+use bgp_open::Config;
+use bgp_prefix::Session;
+use bgp_recording::Entry;
+use bgp_text::Lines;
+use bgp_tool::Seen;
+use mrt::{Record, Sink};
+use std::alloc::{AllocError, Allocator, Global};
+
+/// What judging records answers, and why.
+#[derive(Drop)]
+pub struct ExplainedRecords<A: Allocator = Global> {
+    /// The verdict.
+    pub verdict: Verdict<A>,
+    /// Why it is a no or unfinished; none where memory was refused for it.
+    pub reason: Option<Reason<A>>,
+    /// How many records there are, up to the first impossible one.
+    pub tally: Tally,
+    /// What these show of what the local system did.
+    pub seen: Seen,
+}
+
+/// What judging records answers, by how far the judging has come with them.
+fn concluded<A: Allocator + Copy, T: Tracker<A>>(
+    alloc: A,
+    config: &Config,
+    tracker: &T,
+    progress: Progress<A>,
+) -> Result<ExplainedRecords<A>, AllocError>
+    ensures { (records : List ShownRecord)
+        → IsAt (T.stands_for tracker.now) config.now records progress
+        → IfOk result (AreExplained config.now records) }
+{
+    let (tally, seen) = (progress.tally, progress.seen);
+    let (verdict, reason) = progress.conclude(alloc, tracker, config)?;
+    Ok(ExplainedRecords {
+        verdict,
+        reason,
+        tally,
+        seen,
+    })
+}
+
+/// Judges records, one after another, and keeps why the verdict is a no or unfinished, as far as
+/// there is memory for it. Memory is refused where the tracker lacks it.
+///
+/// Beside the tracker it holds the message that was received last and the first impossible record.
+pub fn explain_records<A: Allocator + Copy, T: Tracker<A>>(
+    alloc: A,
+    config: &Config,
+    records: &[Record<'_>],
+) -> Result<ExplainedRecords<A>, AllocError>
+    ensures { IfOk result (AreExplained config.now (map shown_of records.now)) }
+{
+    let mut tracker = T::start(alloc, config)?;
+    let mut progress = Progress::new(alloc);
+    for shown in records {
+        progress.advance(alloc, &mut tracker, config, shown)?;
+    }
+    concluded(alloc, config, &tracker, progress)
+}
+
+/// Judges the records of a recording's entries, as [`explain_records`] does.
+pub fn explain_entries<A: Allocator + Copy, T: Tracker<A>>(
+    alloc: A,
+    config: &Config,
+    entries: &[Entry<'_>],
+) -> Result<ExplainedRecords<A>, AllocError>
+    ensures { IfOk result (AreExplained config.now (records_of entries.now)) }
+{
+    let mut tracker = T::start(alloc, config)?;
+    let mut progress = Progress::new(alloc);
+    for entry in entries {
+        progress.advance(alloc, &mut tracker, config, &entry.record)?;
+    }
+    concluded(alloc, config, &tracker, progress)
+}
+
+impl<A: Allocator + Copy> ExplainedRecords<A> {
+    /// What the reason says besides, as far as it takes memory; none where memory is refused for
+    /// it, or where there is no reason, as of a yes.
+    pub fn details(&self, alloc: A, config: &Config) -> Option<Details<'_, A>>
+        ensures { AreDetailsOf config.now self.entry.now.reason result }
+    {
+        details_of(alloc, config, &self.reason)
+    }
+}
+
+/// Puts what is told after the verdict on records that stand at these places: after a yes how many
+/// there are, and else why it is so, which names the record that can't be, the one that told the
+/// state and that of the last message by where they stand; or that memory was refused for the
+/// reason, where there are no details of it.
+///
+/// The line of that record is put as of a capture of this session, which has to be able to hold it:
+/// the configuration's own, or one whose messages may be longer or have to be shorter.
+pub fn put_explained_records<W: Sink, A: Allocator + Copy>(
+    lines: &mut Lines<'_, W>,
+    config: &Config,
+    session: &Session,
+    places: Places<'_>,
+    explained: &ExplainedRecords<A>,
+    details: &Option<Details<'_, A>>,
+)
+    requires can { CanBePutOf session.now explained.now.reason }
+    requires details { AreDetailsOf config.now explained.now.reason details.now }
+    ensures { (records : List ShownRecord) → AreExplained config.now records explained.now
+        → (more : List ℕ)
+        × SaysWhere config.now session.now (places_of places.entry) records (is_some details.now)
+        (verdict_value explained.now.verdict) more
+        × Writes lines.old lines.new more }
+{
+    match &explained.verdict {
+        Verdict::Yes(_) => put_yes_lines(lines, &explained.tally, None, explained.seen.left_idle),
+        Verdict::No(_) => {
+            put_any_reason(lines, config, session, places, &explained.reason, details);
+        }
+        Verdict::Unfinished => {
+            put_any_reason(lines, config, session, places, &explained.reason, details);
+        }
+    }
+}
