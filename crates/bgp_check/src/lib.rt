@@ -32,7 +32,7 @@ pub use laws::{
     widest_configurations_have_the_same_ends, widest_configurations_make_the_verdict,
     widest_configurations_without_open_are_enough, widest_settings_are_widest,
 };
-pub use not_judged::NotJudged;
+pub use not_judged::{NotJudged, sends_some};
 pub use offer::{Offer, offer_of};
 pub use opens::{heard_open, own_open, peers_open};
 pub use own_fault::OwnFault;

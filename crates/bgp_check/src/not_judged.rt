@@ -33,7 +33,7 @@ pub enum NotJudged {
 }
 
 /// Whether a message is sent.
-fn sends_some(records: &[Record<'_>]) -> bool
+pub fn sends_some(records: &[Record<'_>]) -> bool
     ensures { IsTrue result ↔ SendsSome (map shown_of records.now) }
 {
     for record in records {

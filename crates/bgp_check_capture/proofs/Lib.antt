@@ -1,3 +1,4 @@
 pub mod Lists
 pub mod Taken
 pub mod Stretched
+pub mod Places

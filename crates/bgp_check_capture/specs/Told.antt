@@ -1,7 +1,9 @@
 -- What is told of a stretch of a session.
-use Rattle.std.specs.Prelude.{◌≡◌, ◌++◌, ℕ, List, [], ◌∷◌, Option, None, Some, slice_index_or}
+use Rattle.std.specs.Prelude.{◌≡◌, ◌++◌, ℕ, List, [], ◌∷◌, Option, None, Some, map}
+use Rattle.std.specs.Prelude.{slice_index_or}
 use Rattle.bgp_prefix.specs.Shown.{ShownRecord}
 use Rattle.bgp_prefix.specs.declared.session.Session.{Session}
+use Rattle.mrt.specs.Reader.{shown_of}
 use Rattle.bgp_machine.specs.Run.{end_of}
 use Rattle.bgp_machine.specs.State.{fresh_state}
 use Rattle.bgp_judge.specs.Verdict.{No, Unfinished, VerdictValue, Yes}
@@ -34,6 +36,11 @@ abbrev pub with_leaving : List ShownRecord → Option ShownRecord → List Shown
 with_leaving records None = records
 with_leaving records (Some leaving) = records ++ leaving ∷ []
 
+-- all of the stretch stand before that one
+abbrev pub with_place : List ℕ → Option ShownRecord → ℕ → List ℕ
+with_place places None all = places
+with_place places (Some leaving) all = places ++ all ∷ []
+
 -- ---- where a no stands
 
 -- how many records of the stretch stand before the first impossible one, of a no: all, where that
@@ -57,6 +64,9 @@ offers_of own heard = record { received = refresh_in own; sent = refresh_in hear
 pub record ToldValue : Type 0 where
   pub answer : AnswerValue
   pub impossible : Option ℕ
+  -- the records that are judged, and how many of the stretch stand before each
+  pub records : List ShownRecord
+  pub places : List ℕ
   pub received : ℕ
   pub sent : ℕ
 
@@ -64,6 +74,8 @@ abbrev pub told_value : {X : Type 0} → StretchTold X → ToldValue
 told_value told = record {
   answer = answer_value told.answer;
   impossible = told.impossible;
+  records = map shown_of told.records.items;
+  places = told.places.items;
   received = told.received;
   sent = told.sent;
 }
@@ -82,5 +94,7 @@ pub record IsStretchTold (session : Session) (stretch : List ShownRecord) (all :
   pub answers : IsAnswerTo session (with_leaving left.records leaving) answer
   pub is_answer : told.answer ≡ answer_by leaving answer
   pub is_place : told.impossible ≡ place_of answer left.places all
+  pub are_records : told.records ≡ with_leaving left.records leaving
+  pub are_places : told.places ≡ with_place left.places leaving all
   pub is_received : told.received ≡ left.received
   pub is_sent : told.sent ≡ left.sent

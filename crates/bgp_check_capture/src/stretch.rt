@@ -2,10 +2,9 @@
 
 ghost use Rattle.std.specs.Prelude.{◌≡◌, IfOk, length, map, option_map};
 ghost use Rattle.mrt.specs.Reader.{shown_of};
-ghost use Rattle.bgp_check.specs.Answered.{IsAnswerTo, answer_value};
-ghost use Rattle.bgp_check_capture.specs.Passed.{left_value};
+ghost use Rattle.bgp_check.specs.Answered.{answer_value};
 ghost use Rattle.bgp_check_capture.specs.Told.{IsStretchTold, answer_by, place_of, told_value};
-ghost use Rattle.bgp_check_capture.specs.Told.{with_leaving};
+ghost use Rattle.bgp_check_capture.specs.Told.{with_leaving, with_place};
 
 use crate::leaving::left_answer;
 use crate::offers::refresh_in;
@@ -18,12 +17,17 @@ use std::alloc::{AllocError, Allocator, Global};
 
 /// What is told of a stretch.
 #[derive(Drop)]
-pub struct StretchTold<A: Allocator = Global> {
-    /// What is answered of its records without those that are passed over.
+pub struct StretchTold<'a, A: Allocator = Global> {
+    /// What is answered of the records that are judged.
     pub answer: Answer<A>,
     /// How many records of the stretch stand before the first impossible one, of a no: all, where
     /// that is the one that leaves it.
     pub impossible: Option<usize>,
+    /// The records that are judged: those that aren't passed over, and the one that leaves the
+    /// stretch, if one does.
+    pub records: Vec<Record<'a>, A>,
+    /// How many records of the stretch stand before each of them.
+    pub places: Vec<usize, A>,
     /// How many ROUTE-REFRESH messages (RFC 2918) are passed over that the local system received.
     pub received: usize,
     /// And that it sent.
@@ -46,23 +50,38 @@ fn place_of<A: Allocator>(answer: &Answer<A>, places: &[usize], all: usize) -> O
     }
 }
 
-/// What is answered of these records and the one that leaves them, if one does.
-fn answer_with<'a, A: Allocator + Copy, T: Tracker<A>>(
-    alloc: A,
-    session: &Session,
+/// The records with the one that leaves them, if one does.
+fn with_leaving<'a, A: Allocator + Copy>(
     mut records: Vec<Record<'a>, A>,
     leaving: Option<Record<'a>>,
-) -> Result<Answer<A>, AllocError>
-    ensures { IfOk result (λ answer. IsAnswerTo session.now
-        (with_leaving (map shown_of records.entry.items) (option_map shown_of leaving.entry))
-        (answer_value answer)) }
+) -> Result<Vec<Record<'a>, A>, AllocError>
+    ensures { IfOk result (λ all. map shown_of all.items
+        ≡ with_leaving (map shown_of records.entry.items) (option_map shown_of leaving.entry)) }
 {
     match leaving {
         Some(leaving) => {
             records.push(leaving)?;
-            check_end::<A, T>(alloc, session, &records)
+            Ok(records)
         }
-        None => check_end::<A, T>(alloc, session, &records),
+        None => Ok(records),
+    }
+}
+
+/// Their places, where this one leaves them, if one does.
+fn with_place<A: Allocator + Copy>(
+    mut places: Vec<usize, A>,
+    leaving: Option<Record<'_>>,
+    all: usize,
+) -> Result<Vec<usize, A>, AllocError>
+    ensures { IfOk result (λ with. with.items
+        ≡ with_place places.items (option_map shown_of leaving.entry) all) }
+{
+    match leaving {
+        Some(_) => {
+            places.push(all)?;
+            Ok(places)
+        }
+        None => Ok(places),
     }
 }
 
@@ -91,7 +110,7 @@ pub fn check_stretch<'a, A: Allocator + Copy, T: Tracker<A>>(
     session: &Session,
     stretch: &[Record<'a>],
     leaving: Option<Record<'a>>,
-) -> Result<StretchTold<A>, AllocError>
+) -> Result<StretchTold<'a, A>, AllocError>
     ensures { IfOk result (λ told. IsStretchTold session.now (map shown_of stretch.now)
         (length stretch.now) (option_map shown_of leaving.entry) (told_value told)) }
 {
@@ -105,11 +124,14 @@ pub fn check_stretch<'a, A: Allocator + Copy, T: Tracker<A>>(
         received,
         sent,
     } = keep(alloc, offers, stretch)?;
-    let answer = answer_with::<A, T>(alloc, session, records, leaving)?;
+    let records = with_leaving(records, leaving)?;
+    let answer = check_end::<A, T>(alloc, session, &records)?;
     let impossible = place_of(&answer, &places, stretch.len());
     Ok(StretchTold {
         answer: answer_by(alloc, leaving, answer)?,
         impossible,
+        records,
+        places: with_place(places, leaving, stretch.len())?,
         received,
         sent,
     })

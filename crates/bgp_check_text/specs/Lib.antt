@@ -1,3 +1,4 @@
 pub mod Highest
 pub mod Text
 pub mod Tally
+pub mod Settings

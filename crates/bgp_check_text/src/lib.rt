@@ -4,8 +4,10 @@
 
 mod highest;
 mod lines;
+mod settings;
 mod tally;
 
 pub use highest::highest_state;
 pub use lines::{put_as, put_endings, put_no, put_peer, put_why};
+pub use settings::{Settings, is_no_yes};
 pub use tally::Tally;

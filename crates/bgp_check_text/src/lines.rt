@@ -149,8 +149,8 @@ fn put_ending<W: Sink, A: Allocator>(
 }
 
 /// Puts the lines of all possible ends of records that tell no higher state than this (RFC 6396,
-/// 4.4.1), each after two blanks: `end Idle disabled - routes 0 reached Established`; and after each
-/// its routes, if they are told.
+/// 4.4.1), each after two blanks: `end Idle disabled - routes 0 reached Established`; and after
+/// each its routes, if they are told.
 pub fn put_endings<W: Sink, A: Allocator>(
     lines: &mut Lines<'_, W>,
     endings: &[End<A>],

@@ -131,8 +131,8 @@ impl Tally {
     }
 
     /// The exit status over all ends, the first of 5, 4, 1, 3, 2, 0 for which there is something:
-    /// where a device or memory failed, not all was judged; then a no, which nothing told of another
-    /// end hides; then a refusal. It is that of a refusal where no end is judged.
+    /// where a device or memory failed, not all was judged; then a no, which nothing told of
+    /// another end hides; then a refusal. It is that of a refusal where no end is judged.
     pub fn status(&self) -> Status
         ensures { code_of result ≡ status_of self.now }
     {
