@@ -1,5 +1,5 @@
 -- The text of AS numbers that fit each other, or don't.
-use Rattle.std.proofs.Common.{◌≡◌, ◌++◌, ℕ, List, [], codes, refl}
+use Rattle.std.proofs.Common.{◌≡◌, ◌++◌, ℕ, [], codes, refl}
 use Rattle.std.proofs.lemmas.Bool.{eq-eqb, ne_eqb}
 use Rattle.std.specs.Fmt.{decimal}
 use Rattle.bgp_wire.specs.AsNumber.{two_octet_as}

@@ -1,6 +1,6 @@
 -- A text line by line.
-use Rattle.std.proofs.Common.{◌≡◌, ◌∙◌, ◌+◌, ◌<◌, ◌++◌, ◌∷◌, ◌==◌, ◌⊎◌, ℕ, zero, suc, List, [], Bool, true, false, Option, ap, refl, sym, subst, length, drop, take, inl, inr, arith, append_assoc, append-nil}
-use Rattle.std.proofs.lemmas.Bool.{cases_eq, eq-eqb, ne_eqb}
+use Rattle.std.proofs.Common.{◌≡◌, ◌∙◌, ◌+◌, ◌<◌, ◌++◌, ◌∷◌, ◌==◌, ℕ, zero, suc, List, [], Bool, true, false, Option, ap, refl, sym, length, drop, take, inl, inr, arith, append_assoc}
+use Rattle.std.proofs.lemmas.Bool.{cases_eq, ne_eqb}
 use Rattle.std.specs.List.{flat_map}
 use Rattle.bgp_check_reason.specs.Marks.{begins, first_place}
 use Rattle.bgp_check_reason.specs.Telling.{before_first, first_line, later_lines, lines_of, told_line, told_text}

@@ -1,5 +1,5 @@
 -- Where a mark first stands, place by place.
-use Rattle.std.proofs.Common.{◌≡◌, ◌∙◌, ◌+◌, ◌<◌, ◌≤◌, ◌∷◌, ℕ, suc, List, [], Bool, true, false, ap, refl, sym, subst, length, drop, get_or, add-one, arith}
+use Rattle.std.proofs.Common.{◌≡◌, ◌∙◌, ◌+◌, ◌<◌, ◌≤◌, ◌∷◌, ℕ, suc, List, [], true, false, ap, refl, subst, length, drop, get_or, add-one, arith}
 use Rattle.std.proofs.Math.Seq.{drop-cons}
 use Rattle.std.proofs.Math.ListN.{drop_of_length-le}
 use Rattle.bgp_check_reason.specs.Marks.{begins, first_place}

@@ -1,8 +1,8 @@
 -- What a reason is told of.
-use Rattle.std.proofs.Common.{IfSome, IfNone, MatchOption, ◌≡◌, ◌∙◌, ap, subst, ◌<◌, ◌+◌, ◌⊎◌, Bool, true, false, ℕ, zero, suc, List, [], ◌∷◌, Option, None, Some, inl, inr, refl, sym, take, length}
+use Rattle.std.proofs.Common.{IfSome, IfNone, MatchOption, ◌≡◌, ◌∙◌, ap, ◌<◌, ◌+◌, Bool, true, false, ℕ, zero, suc, List, [], ◌∷◌, Option, None, Some, inl, inr, take, length}
 use Rattle.bgp_prefix.specs.Shown.{ShownRecord, Received, Sent, Changed}
 use Rattle.bgp_open.specs.declared.config.Config.{Config}
-use Rattle.bgp_judge.specs.Verdict.{HasVerdict, No, VerdictValue}
+use Rattle.bgp_judge.specs.Verdict.{No, VerdictValue}
 use Rattle.bgp_check.specs.Checked.{IsToldBy}
 use Rattle.bgp_check.specs.Opens.{FirstSent, HasOwnOpen}
 use Rattle.bgp_check.specs.Answered.{IsJudged, number_of}

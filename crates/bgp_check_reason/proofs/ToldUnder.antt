@@ -1,5 +1,5 @@
 -- The configuration under which a verdict is told is the one that was judged.
-use Rattle.std.proofs.Common.{◌≡◌, ◌∙◌, ◌⊎◌, Bool, true, false, ℕ, List, [], ◌∷◌, Option, None, Some, inl, inr, refl, sym, ap, subst, option_map}
+use Rattle.std.proofs.Common.{◌≡◌, ◌∙◌, Bool, true, false, ℕ, List, [], ◌∷◌, Option, None, Some, inl, inr, refl, sym, ap, subst, option_map}
 use Rattle.std.proofs.Math.Bridge.{le_prop}
 use Rattle.bgp_prefix.specs.Shown.{ShownRecord, Received, Sent, Changed}
 use Rattle.bgp_prefix.specs.declared.session.Session.{Session}
@@ -18,7 +18,7 @@ use Rattle.bgp_check.specs.declared.peer_as.PeerAs.TheVariants.{Any, Is, OtherTh
 use Rattle.bgp_check.specs.declared.widest.Widest.{Widest}
 use Rattle.bgp_check.proofs.Answered.{family_if, one_own}
 use Rattle.bgp_check.proofs.OtherParts.{by_parts}
-use Rattle.bgp_check_reason.specs.Under.{HasItsVerdict, IsToldUnder, parts_for}
+use Rattle.bgp_check_reason.specs.Under.{HasItsVerdict, parts_for}
 
 -- ---- a configuration is its parts
 

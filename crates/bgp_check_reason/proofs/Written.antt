@@ -1,5 +1,5 @@
 -- What was put into fresh `Lines` is what their sink took, if it didn't fail.
-use Rattle.std.proofs.Common.{◌≡◌, ◌∙◌, ℕ, List, [], false, IsFalse, subst, sym}
+use Rattle.std.proofs.Common.{◌≡◌, ℕ, List, [], IsFalse, subst, sym}
 use Rattle.mrt.specs.declared.sink.Sink as sinks
 use Rattle.bgp_text.specs.Lines.{Writes}
 use Rattle.bgp_text.specs.declared.lines.Lines.{Lines}

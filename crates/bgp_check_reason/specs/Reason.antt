@@ -13,9 +13,8 @@ use Rattle.bgp_check.specs.Opens.{HasOwnOpen}
 use Rattle.bgp_check.specs.declared.own_fault.OwnFault.{OwnFault}
 use Rattle.bgp_check.specs.declared.peer_as.PeerAs.{PeerAs}
 use Rattle.bgp_check.specs.declared.peer_as.PeerAs.TheVariants.{Any, Is, OtherThan}
-use Rattle.bgp_explain.specs.Entries.{SaysOfEntries}
-use Rattle.bgp_recording.specs.Captured.{records_of}
-use Rattle.bgp_recording.specs.declared.entry.Entry.{Entry}
+use Rattle.bgp_explain.specs.Records.{SaysOfRecords}
+use Rattle.bgp_explain.specs.declared.places.Place.{Place}
 use Rattle.bgp_wire.specs.declared.header.Limit.{Limit}
 use Rattle.bgp_check_reason.specs.OwnFaults.{AreOwnFaults, faults_text}
 use Rattle.bgp_check_reason.specs.Shown.{CanBeTold, session_at}
@@ -24,15 +23,16 @@ use Rattle.bgp_check_reason.specs.Under.{IsToldUnder}
 use Rattle.bgp_check_reason.specs.declared.own_faults.OwnFaults.{OwnFaults}
 use Rattle.bgp_check_reason.specs.declared.reason.Reason.{Reason}
 
--- What `bgp judge --explain` says of these entries under a configuration, after the verdict, but
--- that the line of a record that was sent goes by the limit of its receiver; nothing, where no
--- capture can hold their records.
-abbrev pub IsSaid : Config → Limit → List Entry → VerdictValue → List ℕ → Type 0
-IsSaid config sent entries verdict text =
-    (AllByRecursion (CanBeTold config.parts.session sent) entries
-    × SaysOfEntries config (session_at config.parts.session sent entries verdict) entries verdict
-    text)
-    ⊎ ((¬ AllByRecursion (CanBeTold config.parts.session sent) entries) × (text ≡ []))
+-- What `bgp judge --explain` says of these records under a configuration, after the verdict, each
+-- with its place, but that the line of a record that was sent goes by the limit of its receiver;
+-- nothing, where no capture can hold them.
+abbrev pub IsSaid : Config → Limit → (ℕ → Place) → List ShownRecord → VerdictValue → List ℕ
+    → Type 0
+IsSaid config sent places records verdict text =
+    (AllByRecursion (CanBeTold config.parts.session sent) records
+    × SaysOfRecords config (session_at config.parts.session sent records verdict) places records
+    verdict text)
+    ⊎ ((¬ AllByRecursion (CanBeTold config.parts.session sent) records) × (text ≡ []))
 
 -- ---- what differs from that
 
@@ -65,37 +65,40 @@ AreFaultsIn records Unfinished faults = faults ≡ None
 -- ---- all of it
 
 -- The configuration under which the verdict is told, what is said of it, and how that is told.
-pub record IsExplained (session : Session) (sent : Limit) (entries : List Entry) (peer : PeerAs)
-    (verdict : VerdictValue) (text : List ℕ) : Type 0 where
+pub record IsExplained (session : Session) (sent : Limit) (places : ℕ → Place)
+    (records : List ShownRecord) (peer : PeerAs) (verdict : VerdictValue) (text : List ℕ)
+    : Type 0 where
   pub config : Config
-  pub under : IsToldUnder session (records_of entries) peer config
-  pub holds : HasVerdict config (records_of entries) verdict
+  pub under : IsToldUnder session records peer config
+  pub holds : HasVerdict config records verdict
   pub said : List ℕ
-  pub is_said : IsSaid config sent entries verdict said
+  pub is_said : IsSaid config sent places records verdict said
   pub faults : Option OwnFaults
-  pub are_faults : AreFaultsIn (records_of entries) verdict faults
+  pub are_faults : AreFaultsIn records verdict faults
   pub told : text ≡ told_text (is_of_another peer) (option_map faults_text faults) said
 
 -- of records that are judged for this peer, whatever the verdict is
-abbrev pub IsToldAs : Session → Limit → List Entry → PeerAs → Option OwnFaults → List ℕ → Type 0
-IsToldAs session sent entries peer faults text =
-    (number : Option ℕ) (verdict : VerdictValue)
-    → IsJudged session (records_of entries) number peer verdict
-    → AreFaultsIn (records_of entries) verdict faults
-    → IsExplained session sent entries peer verdict text
+abbrev pub IsToldAs : Session → Limit → (ℕ → Place) → List ShownRecord → PeerAs
+    → Option OwnFaults → List ℕ → Type 0
+IsToldAs session sent places records peer faults text =
+    (number : Option ℕ) (verdict : VerdictValue) → IsJudged session records number peer verdict
+    → AreFaultsIn records verdict faults
+    → IsExplained session sent places records peer verdict text
 
 -- of a yes nothing is told
-abbrev pub IsReasonOf : Session → Limit → List Entry → PeerAs → VerdictValue → List ℕ → Type 0
-IsReasonOf session sent entries peer (Yes ends) text = text ≡ []
-IsReasonOf session sent entries peer (No count) text =
-    IsExplained session sent entries peer (No count) text
-IsReasonOf session sent entries peer Unfinished text =
-    IsExplained session sent entries peer Unfinished text
+abbrev pub IsReasonOf : Session → Limit → (ℕ → Place) → List ShownRecord → PeerAs → VerdictValue
+    → List ℕ → Type 0
+IsReasonOf session sent places records peer (Yes ends) text = text ≡ []
+IsReasonOf session sent places records peer (No count) text =
+    IsExplained session sent places records peer (No count) text
+IsReasonOf session sent places records peer Unfinished text =
+    IsExplained session sent places records peer Unfinished text
 
-abbrev pub IsReasonTo : Session → Limit → List Entry → AnswerValue → List ℕ → Type 0
-IsReasonTo session sent entries (Unjudged why) text = text ≡ []
-IsReasonTo session sent entries (JudgedAs number peer verdict) text =
-    IsReasonOf session sent entries peer verdict text
+abbrev pub IsReasonTo : Session → Limit → (ℕ → Place) → List ShownRecord → AnswerValue → List ℕ
+    → Type 0
+IsReasonTo session sent places records (Unjudged why) text = text ≡ []
+IsReasonTo session sent places records (JudgedAs number peer verdict) text =
+    IsReasonOf session sent places records peer verdict text
 
 -- the lines of one
 abbrev pub reason_text : {X : Type 0} → Reason X → List ℕ

@@ -2,7 +2,9 @@
 //! configuration for which it is told, each set in by two blanks.
 //!
 //! ```text
-//! let reason = reason_of::<A, CompactTracker<A>>(alloc, &session, &entries, &records, &judged)?;
+//! let places = Places::Shown(&entries);
+//! let reason =
+//!     reason_of::<A, CompactTracker<A>>(alloc, &session, sent, places, &records, &answer)?;
 //! put_reason(&mut lines, &reason);
 //! ```
 #![tactic(auto)]

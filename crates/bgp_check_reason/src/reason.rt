@@ -5,7 +5,7 @@ ghost use Rattle.mrt.specs.Reader.{shown_of};
 ghost use Rattle.bgp_judge.specs.Verdict.{HasVerdict, VerdictValue, verdict_value};
 ghost use Rattle.bgp_check.specs.Answered.{IsAnswerTo, IsJudged, answer_value, number_of};
 ghost use Rattle.bgp_check.specs.Opens.{HasOwnOpen};
-ghost use Rattle.bgp_recording.specs.Captured.{records_of};
+ghost use Rattle.bgp_explain.specs.Places.{places_of};
 ghost use Rattle.bgp_text.specs.Lines.{Writes};
 ghost use Rattle.bgp_check_reason.specs.Reason.{AreFaultsAt, IsReasonOf, IsReasonTo, IsToldAs};
 ghost use Rattle.bgp_check_reason.specs.Reason.{is_of_another, reason_text};
@@ -16,9 +16,9 @@ use crate::own_faults::{OwnFaults, own_faults_of};
 use crate::telling::put_told;
 use crate::under::told_under;
 use bgp_check::{Answer, Judged, PeerAs, own_open};
+use bgp_explain::Places;
 use bgp_judge::{Tracker, Verdict};
 use bgp_prefix::Session;
-use bgp_recording::Entry;
 use bgp_text::Lines;
 use bgp_wire::Limit;
 use mrt::{Record, Sink};
@@ -72,21 +72,20 @@ fn explained<A: Allocator + Copy, T: Tracker<A>>(
     alloc: A,
     session: &Session,
     sent: Limit,
-    entries: &[Entry<'_>],
+    places: Places<'_>,
     records: &[Record<'_>],
     peer: PeerAs,
     own_faults: Option<OwnFaults>,
 ) -> Result<Reason<A>, AllocError>
-    requires records { map shown_of records.now ≡ records_of entries.now }
-    requires judged { (number : Option ℕ) × (verdict : VerdictValue)
-        × IsJudged session.now (records_of entries.now) number peer verdict }
-    ensures { IfOk result (λ reason. IsToldAs session.now sent entries.now peer own_faults
-        (reason_text reason)) }
+    requires { (number : Option ℕ) × (verdict : VerdictValue)
+        × IsJudged session.now (map shown_of records.now) number peer verdict }
+    ensures { IfOk result (λ reason. IsToldAs session.now sent (places_of places.entry)
+        (map shown_of records.now) peer own_faults (reason_text reason)) }
 {
     the_verdict_is_told_under_one();
     let config = told_under(session, records, peer);
     Ok(Reason {
-        text: said_of::<A, T>(alloc, &config, sent, entries)?,
+        text: said_of::<A, T>(alloc, &config, sent, places, records)?,
         names_another: is_of_another(peer),
         own_faults,
     })
@@ -97,52 +96,51 @@ fn reason_for<A: Allocator + Copy, T: Tracker<A>>(
     alloc: A,
     session: &Session,
     sent: Limit,
-    entries: &[Entry<'_>],
+    places: Places<'_>,
     records: &[Record<'_>],
     judged: &Judged<A>,
 ) -> Result<Reason<A>, AllocError>
-    requires records { map shown_of records.now ≡ records_of entries.now }
-    requires judged { IsJudged session.now (records_of entries.now) judged.now.as_number
+    requires { IsJudged session.now (map shown_of records.now) judged.now.as_number
         judged.now.peer_as (verdict_value judged.now.verdict) }
-    ensures { IfOk result (λ reason. IsReasonOf session.now sent entries.now judged.now.peer_as
-        (verdict_value judged.now.verdict) (reason_text reason)) }
+    ensures { IfOk result (λ reason. IsReasonOf session.now sent (places_of places.entry)
+        (map shown_of records.now) judged.now.peer_as (verdict_value judged.now.verdict)
+        (reason_text reason)) }
 {
     let peer = judged.peer_as;
     match &judged.verdict {
         Verdict::Yes(_) => Ok(Reason::nothing(alloc)),
         Verdict::No(count) => {
             let faults = own_faults_at(records, judged.as_number, *count);
-            explained::<A, T>(alloc, session, sent, entries, records, peer, faults)
+            explained::<A, T>(alloc, session, sent, places, records, peer, faults)
         }
         Verdict::Unfinished => {
-            explained::<A, T>(alloc, session, sent, entries, records, peer, None)
+            explained::<A, T>(alloc, session, sent, places, records, peer, None)
         }
     }
 }
 
 /// Why the verdict on an end's records is a no or unfinished, by what is answered of them: what
-/// `bgp judge --explain` says of these entries, whose records they are, under the configuration
-/// under which the verdict is told, but that the line of a message that was sent goes by this
-/// limit, that of its receiver. Of a yes, and of an end that isn't judged, it is nothing.
+/// `bgp judge --explain` says of them under the configuration under which the verdict is told, each
+/// with its place, but that the line of a message that was sent goes by this limit, that of its
+/// receiver. Of a yes, and of an end that isn't judged, it is nothing.
 ///
 /// `AllocError` is answered where memory is refused.
 pub fn reason_of<A: Allocator + Copy, T: Tracker<A>>(
     alloc: A,
     session: &Session,
     sent: Limit,
-    entries: &[Entry<'_>],
+    places: Places<'_>,
     records: &[Record<'_>],
     answer: &Answer<A>,
 ) -> Result<Reason<A>, AllocError>
-    requires records { map shown_of records.now ≡ records_of entries.now }
-    requires answer { IsAnswerTo session.now (records_of entries.now) (answer_value answer.now) }
-    ensures { IfOk result (λ reason. IsReasonTo session.now sent entries.now
-        (answer_value answer.now) (reason_text reason)) }
+    requires { IsAnswerTo session.now (map shown_of records.now) (answer_value answer.now) }
+    ensures { IfOk result (λ reason. IsReasonTo session.now sent (places_of places.entry)
+        (map shown_of records.now) (answer_value answer.now) (reason_text reason)) }
 {
     match answer {
         Answer::NotJudged(_) => Ok(Reason::nothing(alloc)),
         Answer::Judged(judged) => {
-            reason_for::<A, T>(alloc, session, sent, entries, records, judged)
+            reason_for::<A, T>(alloc, session, sent, places, records, judged)
         }
     }
 }

@@ -1,6 +1,6 @@
-//! Whether a capture can hold the records of entries, and as of which session each is told.
+//! Whether a capture can hold records, and as of which session each is told.
 
-ghost use Rattle.std.specs.Prelude.{◌≡◌, ◌↔◌, None, IfNone, IfSome, IsTrue};
+ghost use Rattle.std.specs.Prelude.{◌≡◌, ◌↔◌, None, IfNone, IfSome, IsTrue, map};
 ghost use Rattle.std.specs.List.{AllByRecursion};
 ghost use Rattle.bgp_wire.specs.Header.{IsSound, length_of};
 ghost use Rattle.mrt.specs.Layout.{IsState};
@@ -13,7 +13,6 @@ ghost use Rattle.bgp_check_reason.specs.Shown.{session_for};
 
 use bgp_judge::Verdict;
 use bgp_prefix::{RouteRefresh, Session};
-use bgp_recording::Entry;
 use bgp_wire::{HEADER_LEN, HeaderVerdict, Limit, check_header, header_at};
 use mrt::{Record, is_route_refresh, is_whole_refresh};
 use std::alloc::Allocator;
@@ -105,27 +104,28 @@ fn session_for(session: &Session, sent: Limit, shown: &Record<'_>) -> Session
 pub(crate) fn session_at<A: Allocator>(
     session: &Session,
     sent: Limit,
-    entries: &[Entry<'_>],
+    records: &[Record<'_>],
     verdict: &Verdict<A>,
 ) -> Session
-    ensures { result ≡ session_at session.now sent entries.now (verdict_value verdict.now) }
+    ensures { result ≡ session_at session.now sent (map shown_of records.now)
+        (verdict_value verdict.now) }
 {
     match verdict {
-        Verdict::No(count) => match entries.get(*count as usize) {
-            Some(entry) => session_for(session, sent, &entry.record),
+        Verdict::No(count) => match records.get(*count as usize) {
+            Some(shown) => session_for(session, sent, shown),
             None => *session,
         },
         Verdict::Yes(_) | Verdict::Unfinished => *session,
     }
 }
 
-/// Whether a capture of the session as of which it is told can hold the record of each of these
-/// entries.
-pub(crate) fn can_be_told(session: &Session, sent: Limit, entries: &[Entry<'_>]) -> bool
-    ensures { IsTrue result ↔ AllByRecursion (CanBeTold session.now sent) entries.now }
+/// Whether a capture of the session as of which it is told can hold each of these records.
+pub(crate) fn can_be_told(session: &Session, sent: Limit, records: &[Record<'_>]) -> bool
+    ensures { IsTrue result
+        ↔ AllByRecursion (CanBeTold session.now sent) (map shown_of records.now) }
 {
-    for entry in entries {
-        if !is_allowed(&session_for(session, sent, &entry.record), &entry.record) {
+    for shown in records {
+        if !is_allowed(&session_for(session, sent, shown), shown) {
             return false;
         }
     }

@@ -1,8 +1,9 @@
 use Rattle.std.proofs.Common.{Bool, rules, subst}
 use Rattle.std.proofs.lemmas.Result.{on_ok_weaker}
 use Rattle.bgp_judge.specs.Verdict.{verdict_value}
-use Rattle.bgp_explain.specs.Entries.{SaysWhere}
-use Rattle.bgp_explain.proofs.EntryRecords.{says_all}
+use Rattle.bgp_explain.specs.Places.{places_of}
+use Rattle.bgp_explain.specs.Records.{SaysWhere}
+use Rattle.bgp_explain.proofs.Saying.{says_all}
 use Rattle.bgp_text.proofs.Fresh.{IsFresh}
 use Rattle.bgp_text.proofs.Pieces.{Joins, and_nothing}
 use Rattle.bgp_check_reason.proofs.Written.{took_all}
@@ -12,13 +13,15 @@ pub returns : goal.returns
 returns g c =
     let law : Joins g.W.Sink = record { joined = g.met.W.Sink.joined } in
     let fresh : IsFresh c.new-lines.result = record { empty = c.new-lines.ensures.empty; calm = c.new-lines.ensures.fresh } in
-    let (more, so, put) = c.put_explained_entries.ensures in
     let config = c.args.config.now in
-    let entries = c.args.entries.now in
-    let verdict = verdict_value c.args.explained.now.verdict in
     let session = c.args.session.now in
-    let says = says_all config session entries verdict more (subst (λ (b : Bool). SaysWhere config session entries b verdict more) c.requires.all so) in
-    let wrote = and_nothing law put c.hand_over-handed_over.ensures.writes in
+    let places = places_of c.args.places in
+    let verdict = verdict_value c.args.explained.now.verdict in
     on_ok_weaker c.hand_over-handed_over.result
-    (λ calm. (more, says, took_all c.new-lines.result c.hand_over-handed_over.new.self c.args.sink.now _ more fresh c.new-lines.ensures.now (search rules) wrote c.hand_over-handed_over.ensures.none calm))
+    (λ calm. λ records are.
+    let (more, so, put) = c.put_explained_records.ensures records are in
+    let says = says_all config session places records verdict more
+    (subst (λ (b : Bool). SaysWhere config session places records b verdict more) c.requires.all so) in
+    let wrote = and_nothing law put c.hand_over-handed_over.ensures.writes in
+    (more, says, took_all c.new-lines.result c.hand_over-handed_over.new.self c.args.sink.now _ more fresh c.new-lines.ensures.now (search rules) wrote c.hand_over-handed_over.ensures.none calm))
     c.hand_over-handed_over.ensures.ok

@@ -1,4 +1,4 @@
-use Rattle.std.proofs.Common.{◌≡◌, Bool, true, false, not, IsTrue, refl}
+use Rattle.std.proofs.Common.{◌≡◌, Bool, true, false, not, refl}
 use Rattle.bgp_open.specs.Open.{OpenFields, open_of}
 use Rattle.bgp_check.specs.Configurations.{own_faults}
 use Rattle.bgp_check.specs.declared.own_fault.OwnFault.{OwnFault}

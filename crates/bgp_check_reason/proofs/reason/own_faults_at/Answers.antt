@@ -1,4 +1,4 @@
-use Rattle.std.proofs.Common.{◌≡◌, ◌∙◌, ◌+◌, List, ℕ, Option, None, Some, ap, map, option_map, refl, rules, sym, subst, take}
+use Rattle.std.proofs.Common.{◌+◌, List, ℕ, Option, None, Some, map, rules, sym, subst, take}
 use Rattle.std.proofs.lemmas.List.{take-map}
 use Rattle.bgp_open.specs.Open.{open_of}
 use Rattle.bgp_check.specs.Configurations.{own_faults}

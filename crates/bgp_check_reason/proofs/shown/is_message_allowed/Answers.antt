@@ -1,4 +1,4 @@
-use Rattle.bgp_check_reason.proofs.Held.{each_not, false_not, none_held, not_true, true_not}
+use Rattle.bgp_check_reason.proofs.Held.{each_not, false_not, not_true, true_not}
 use Rattle.bgp_check_reason.proofs.shown.is_message_allowed.Goals as goal
 
 pub returns : goal.returns

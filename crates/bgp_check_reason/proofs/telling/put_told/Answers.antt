@@ -1,4 +1,4 @@
-use Rattle.std.proofs.Common.{◌≡◌, ◌∙◌, ◌++◌, List, ℕ, [], length, option_map, refl}
+use Rattle.std.proofs.Common.{◌++◌, [], length, option_map, refl}
 use Rattle.bgp_text.proofs.Pieces.{Joins, and_then, nothing_yet}
 use Rattle.bgp_check_reason.specs.OwnFaults.{faults_text}
 use Rattle.bgp_check_reason.specs.Telling.{first_line, told_line}

@@ -1,5 +1,4 @@
-use Rattle.std.proofs.Common.{◌≡◌, List, ℕ, Bool, true, false, sym, subst, drop, ◌∙◌}
-use Rattle.bgp_check_reason.specs.Marks.{begins}
+use Rattle.std.proofs.Common.{sym, ◌∙◌}
 use Rattle.bgp_check_reason.proofs.Places.{found, nowhere, one_more}
 use Rattle.bgp_check_reason.proofs.marks.Mark.first_place.Goals as goal
 
