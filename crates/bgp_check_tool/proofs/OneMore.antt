@@ -24,12 +24,11 @@ use Rattle.bgp_import.proofs.InOrder.{in_order}
 use Rattle.bgp_check_tool.specs.declared.connection.EndsTold.{EndsTold}
 use Rattle.bgp_check_tool.specs.declared.connection.EndsTold.TheVariants.{Both, One}
 use Rattle.bgp_connections.specs.declared.listed.Listed.{Listed}
-use Rattle.bgp_connections.specs.declared.listed.Listed.TheVariants as listed
 use Rattle.bgp_connections.specs.declared.talk.Talk.{Talk}
 use Rattle.bgp_check_tool.specs.Blocks.{Block, IsBlock, block_of, block_text, refusal_in}
 use Rattle.bgp_connections.specs.declared.talks.Talks.{Talks}
 use Rattle.bgp_check_tool.specs.Checking.{PutsAll, PutsBlock, blocks_text, refusals_in, tally_from}
-use Rattle.bgp_connections.specs.Listed.{AreListed, CanBeTold, IsListed, IsPlaceOf, ListsOne}
+use Rattle.bgp_connections.specs.Listed.{AreListed, IsListed, IsPlaceOf, ListsOne}
 use Rattle.bgp_connections.specs.Pairs.{selection_of}
 use Rattle.bgp_connections.specs.Places.{HasAll}
 use Rattle.bgp_check_tool.specs.Places.{IsToldAt}

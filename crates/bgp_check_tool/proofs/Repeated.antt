@@ -1,5 +1,5 @@
 -- What a line is worth that tells how `bgp judge` gives a verdict.
-use Rattle.std.proofs.Common.{◌≡◌, Bool, true, false, ℕ, List, Option, None, Some, subst, sym}
+use Rattle.std.proofs.Common.{Bool, true, false, ℕ, List, Option, None, Some, subst, sym}
 use Rattle.bgp_prefix.specs.declared.session.Session.{Session}
 use Rattle.bgp_open.specs.declared.config.Config.{Config}
 use Rattle.streams.specs.declared.connection.Connection.{Connection}
@@ -13,7 +13,8 @@ use Rattle.bgp_check_reason.specs.Under.{HasItsVerdict, IsToldUnder}
 use Rattle.bgp_judge_line.specs.ReadAlike.{AreOptionsOf, IsReadAlike, framings_by}
 use Rattle.bgp_judge_line.specs.declared.options.Asked.{Asked}
 use Rattle.bgp_judge_line.specs.declared.options.JudgeOptions.{JudgeOptions}
-use Rattle.bgp_check_tool.specs.Judging.{AreOptionsFor, AreOptionsTo, are_told}
+use Rattle.bgp_check_text.specs.Settings.{are_told}
+use Rattle.bgp_check_tool.specs.Judging.{AreOptionsFor, AreOptionsTo}
 use Rattle.bgp_check_tool.specs.Repeated.{LineGivesTheVerdict}
 use Rattle.bgp_check_tool.specs.Seen.{seen_from, session_from}
 

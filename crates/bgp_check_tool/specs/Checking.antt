@@ -111,10 +111,10 @@ nothing_by port false None = Some (record { port = port })
 -- These packets are read, up to the end, or to where the file was cut short, or to what keeps it
 -- from being read on; the source counts one failure more where that is a device that failed. Of
 -- them these blocks are told, in the order of their places: all, unless memory was refused. Then
--- why the file can't be read on, if it can't, of which `judge` then gives no verdict; that there was
--- no memory for a list of the blocks, if there was none; that the file was cut short, if it was; and
--- last how many ends there are of each verdict. All of that was written, if the sink didn't fail. Of
--- all refusals those are answered that are the first of their number.
+-- why the file can't be read on, if it can't, of which `judge` then gives no verdict; that there
+-- was no memory for a list of the blocks, if there was none; that the file was cut short, if it
+-- was; and last how many ends there are of each verdict. All of that was written, if the sink
+-- didn't fail. Of all refusals those are answered that are the first of their number.
 pub record ChecksRecording {S T : Type 0} (gives : S → S → List ℕ → Type 0) (has_ended : S → Bool)
     (takes : T → T → List ℕ → Type 0) (source_failures : S → ℕ) (failures : T → ℕ)
     (options : CheckOptions) (source source' : S) (sink sink' : T) (status : ℕ)

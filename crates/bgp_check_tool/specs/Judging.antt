@@ -3,7 +3,7 @@ use Rattle.std.specs.Prelude.{◌≡◌, Bool, true, false, ℕ, List, [], Optio
 use Rattle.bgp_prefix.specs.declared.session.Session.{Session}
 use Rattle.bgp_open.specs.declared.config.Config.{Config}
 use Rattle.streams.specs.declared.connection.Connection.{Connection}
-use Rattle.bgp_judge.specs.Verdict.{No, Unfinished, VerdictValue, Yes}
+use Rattle.bgp_judge.specs.Verdict.{VerdictValue}
 use Rattle.bgp_recording.specs.Captured.{records_of}
 use Rattle.bgp_recording.specs.declared.entry.Entry.{Entry}
 use Rattle.bgp_recording.specs.declared.framing.Unshown.{Unshown}
@@ -16,20 +16,11 @@ use Rattle.bgp_judge_line.specs.ReadAlike.{AreJudgeOptions}
 use Rattle.bgp_judge_line.specs.declared.options.Asked.{Asked}
 use Rattle.bgp_judge_line.specs.declared.options.JudgeOptions.{JudgeOptions}
 use Rattle.bgp_check_tool.specs.declared.options.CheckOptions.{CheckOptions}
-use Rattle.bgp_check_tool.specs.declared.options.Settings.{Settings}
-use Rattle.bgp_check_tool.specs.declared.options.Settings.TheVariants as told
+use Rattle.bgp_check_text.specs.Settings.{are_told}
+use Rattle.bgp_check_text.specs.declared.settings.Settings.{Settings}
+use Rattle.bgp_check_text.specs.declared.settings.Settings.TheVariants as told
 
 -- ---- after which verdicts its options are told
-
-abbrev pub is_no_yes : VerdictValue → Bool
-is_no_yes (Yes ends) = false
-is_no_yes (No count) = true
-is_no_yes Unfinished = true
-
-abbrev pub are_told : Settings → VerdictValue → Bool
-are_told told.Never verdict = false
-are_told told.UnlessYes verdict = is_no_yes verdict
-are_told told.Always verdict = true
 
 -- where the file is refused, `judge` gives none
 abbrev pub settings_by : Option Refusal → Settings → Settings

@@ -15,6 +15,7 @@ use Rattle.bgp_import.specs.Captures.{put_off}
 use Rattle.bgp_import.specs.ListText.{end_of}
 use Rattle.bgp_check.specs.Answered.{AnswerValue, IsAnswerTo, JudgedAs, Unjudged, answer_value}
 use Rattle.bgp_check_reason.specs.Reason.{IsReasonTo, reason_text}
+use Rattle.bgp_explain.specs.Places.{shown_places}
 use Rattle.bgp_check_text.specs.Highest.{highest_state}
 use Rattle.bgp_check_tool.specs.declared.ending.Told.{Told}
 use Rattle.bgp_judge_line.specs.declared.options.Asked.{Asked}
@@ -82,8 +83,8 @@ pub record IsEndTold (options : CheckOptions) (asked : Asked) (session : Session
   pub is_packet : told.packet ≡ packet_of told.answer entries
   pub is_put_off : told.put_off ≡ put_off 0 entries
   pub is_highest : told.highest ≡ highest_state (records_of entries)
-  pub explains : IsReasonTo (session_from side session) framings.sent.limit entries told.answer
-      told.reason
+  pub explains : IsReasonTo (session_from side session) framings.sent.limit (shown_places entries)
+      (records_of entries) told.answer told.reason
   pub is_received : told.received ≡ received_unshown
   pub is_sent : told.sent ≡ sent_unshown
   pub judges : AreOptionsTo options.within asked (session_from side session)

@@ -14,8 +14,9 @@ use crate::blocks::{put_connection, put_session};
 use crate::connection::{Between, check_connection};
 use crate::counted::Counted;
 use crate::nothing::{NothingJudged, put_nothing};
-use crate::options::{CheckOptions, Settings};
+use crate::options::CheckOptions;
 use arrayvec::ArrayVec;
+use bgp_check_text::Settings;
 use bgp_connections::{Listed, Talks, cut_short_at, listed_in, selection_of, take_all};
 use bgp_import::{CutShort, Refusal, put_refusal, refused};
 use bgp_judge::Tracker;
@@ -166,8 +167,8 @@ fn settings_by(stopped: Option<Refusal>, settings: Settings) -> Settings
 /// told of both ends, first of that which opened it: the verdict, for which AS number of its peer
 /// it is told, of a yes each possible end, of a no and an unfinished why it is so, and with which
 /// options `bgp judge` gives the verdict; or why it isn't judged. Then why the file can't be read
-/// on, if it can't, that memory was refused for a list of the connections, if it was, and that the file
-/// was cut short, if it was; last how many ends there are of each verdict. It answers the exit
+/// on, if it can't, that memory was refused for a list of the connections, if it was, and that the
+/// file was cut short, if it was; last how many ends there are of each verdict. It answers the exit
 /// status over all ends, the first of 5, 4, 1, 3, 2, 0 for which there is something:
 ///
 /// * 0: a yes.

@@ -3,6 +3,7 @@
 ghost use Rattle.std.specs.Prelude.{◌≡◌, IfOk};
 ghost use Rattle.bgp_check.specs.Answered.{IsAnswerTo, answer_value};
 ghost use Rattle.bgp_check_reason.specs.Reason.{IsReasonTo, reason_text};
+ghost use Rattle.bgp_explain.specs.Places.{shown_places};
 ghost use Rattle.bgp_import.specs.Captures.{put_off};
 ghost use Rattle.bgp_recording.specs.Captured.{records_of};
 ghost use Rattle.bgp_recording.specs.Gathered.{IsClocked, IsCovered};
@@ -16,6 +17,7 @@ use crate::options::CheckOptions;
 use bgp_check::{Answer, check_end};
 use bgp_check_reason::{Reason, reason_of};
 use bgp_check_text::highest_state;
+use bgp_explain::Places;
 use bgp_import::notes_on;
 use bgp_judge::{Tracker, Verdict};
 use bgp_judge_line::{Asked, JudgeOptions};
@@ -95,7 +97,8 @@ pub(crate) fn told_by<A: Allocator + Copy, T: Tracker<A>>(
     ensures highest { IfOk result (λ told. told.highest
         ≡ highest_state (records_of made.now.recording.entries.items)) }
     ensures reason { IfOk result (λ told. IsReasonTo viewed.now.session
-        made.now.framings.sent.limit made.now.recording.entries.items (answer_value told.answer)
+        made.now.framings.sent.limit (shown_places made.now.recording.entries.items)
+        (records_of made.now.recording.entries.items) (answer_value told.answer)
         (reason_text told.reason)) }
     ensures unshown { IfOk result (λ told. (told.received ≡ made.now.recording.received)
         × (told.sent ≡ made.now.recording.sent)) }
@@ -110,7 +113,8 @@ pub(crate) fn told_by<A: Allocator + Copy, T: Tracker<A>>(
     let entries = recording.entries.as_slice();
     let records = records_of(alloc, entries)?;
     let answer = check_end::<A, T>(alloc, session, &records)?;
-    let reason = reason_of::<A, T>(alloc, session, sent, entries, &records, &answer)?;
+    let places = Places::Shown(entries);
+    let reason = reason_of::<A, T>(alloc, session, sent, places, &records, &answer)?;
     let judge = options_to(alloc, viewed, recording, &records, &answer)?;
     Ok(Told {
         end: viewed.end,

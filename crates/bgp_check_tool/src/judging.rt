@@ -7,40 +7,17 @@ ghost use Rattle.bgp_check.specs.Answered.{IsAnswerTo, IsJudged, answer_value};
 ghost use Rattle.bgp_recording.specs.Captured.{records_of};
 ghost use Rattle.bgp_recording.specs.Gathered.{IsClocked, IsCovered};
 ghost use Rattle.bgp_text.specs.Lines.{Writes};
-ghost use Rattle.bgp_check_tool.specs.Judging.{AreOptionsFor, AreOptionsTo, are_told};
-ghost use Rattle.bgp_check_tool.specs.Judging.{is_no_yes, judge_text};
+ghost use Rattle.bgp_check_text.specs.Settings.{are_told};
+ghost use Rattle.bgp_check_tool.specs.Judging.{AreOptionsFor, AreOptionsTo, judge_text};
 
 use crate::ending::Viewed;
-use crate::options::Settings;
 use bgp_check::{Answer, Judged};
 use bgp_check_reason::told_configuration;
-use bgp_judge::Verdict;
 use bgp_judge_line::{JudgeOptions, judge_options, put_judge_line};
 use bgp_recording::Recording;
 use bgp_text::Lines;
 use mrt::{Record, Sink};
 use std::alloc::{AllocError, Allocator};
-
-/// Whether the options of `bgp judge` are told after a verdict.
-fn are_told<A: Allocator>(settings: Settings, verdict: &Verdict<A>) -> bool
-    ensures { result ≡ are_told settings (verdict_value verdict.now) }
-{
-    match settings {
-        Settings::Never => false,
-        Settings::UnlessYes => is_no_yes(verdict),
-        Settings::Always => true,
-    }
-}
-
-/// Whether a verdict is a no or unfinished.
-fn is_no_yes<A: Allocator>(verdict: &Verdict<A>) -> bool
-    ensures { result ≡ is_no_yes (verdict_value verdict.now) }
-{
-    match verdict {
-        Verdict::Yes(_) => false,
-        Verdict::No(_) | Verdict::Unfinished => true,
-    }
-}
 
 /// The options by which `bgp judge` gives what is answered of the records that were made of an end,
 /// if it does and they are told.
@@ -86,7 +63,7 @@ fn options_for<A: Allocator + Copy>(
         (are_told viewed.now.options.settings (verdict_value judged.now.verdict))
         judged.now.peer_as judge) }
 {
-    if !are_told(viewed.options.settings, &judged.verdict) {
+    if !viewed.options.settings.are_told(&judged.verdict) {
         return Ok(None);
     }
     let Some(config) = told_configuration(&viewed.session, records, judged) else {

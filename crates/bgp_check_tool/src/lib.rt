@@ -22,11 +22,12 @@ mod nothing;
 mod options;
 mod seen;
 
+pub use bgp_check_text::Settings;
 pub use checking::{CheckedRecording, check_recording};
 pub use laws::{
     a_judge_line_gives_the_verdict, a_verdict_is_over_all_configurations, each_of_them_is_told,
     no_configuration_has_a_run, no_verdict_is_vacuous,
 };
 pub use nothing::NothingJudged;
-pub use options::{CheckOptions, Settings};
+pub use options::CheckOptions;
 pub use seen::seen_from;

@@ -1,15 +1,6 @@
 //! How a recording is checked.
 
-/// After which verdicts the options are told with which `bgp judge` gives them.
-#[derive(Clone, Copy, Debug)]
-pub enum Settings {
-    /// After none: `bgp judge` wouldn't give them.
-    Never,
-    /// After a no and an unfinished.
-    UnlessYes,
-    /// After each.
-    Always,
-}
+use bgp_check_text::Settings;
 
 /// How a recording is checked.
 #[derive(Clone, Copy, Debug)]

@@ -8,8 +8,7 @@ use Rattle.bgp_text.proofs.Pieces.{Joins, and_nothing, and_then}
 use Rattle.bgp_check_text.specs.declared.tally.Tally.{Tally}
 use Rattle.bgp_check_tool.specs.Checking.{PutsAll, nothing_by, refusals_in, tally_from, with_file}
 use Rattle.bgp_check_tool.specs.Judging.{options_by}
-use Rattle.bgp_check_tool.specs.declared.options.CheckOptions.{CheckOptions}
-use Rattle.bgp_check_tool.specs.declared.options.Settings.{Settings}
+use Rattle.bgp_check_text.specs.declared.settings.Settings.{Settings}
 use Rattle.bgp_recording_list.specs.Firsts.{AreApart, firsts_after, with_first}
 use Rattle.bgp_recording_list.proofs.AllListed.{none_apart}
 use Rattle.bgp_connections.specs.Reading.{IsMemory, IsReadTo, TakesAll, cut_short_at, failures_of, looked_at}

@@ -1,4 +1,4 @@
-use Rattle.std.proofs.Common.{◌≡◌, ◌∙◌, true, false, Some, ap, inl, inr, refl, subst, sym}
+use Rattle.std.proofs.Common.{◌≡◌, ◌∙◌, true, false, Some, ap, inr, refl, subst, sym}
 use Rattle.streams.specs.declared.passed.Side.{Side}
 use Rattle.bgp_connections.specs.Octets.{octets_from}
 use Rattle.bgp_import.specs.ListText.{other_side}

@@ -5,9 +5,10 @@ use Rattle.bgp_recording.specs.Captured.{records_of}
 use Rattle.bgp_recording.specs.Gathered.{IsClocked}
 use Rattle.bgp_check.specs.Answered.{IsAnswerTo, answer_value}
 use Rattle.bgp_check_reason.specs.Reason.{IsReasonTo, reason_text}
+use Rattle.bgp_explain.specs.Places.{shown_places}
 use Rattle.bgp_check_tool.specs.Judging.{AreOptionsTo}
 use Rattle.bgp_check_tool.specs.Made.{IsMade}
-use Rattle.bgp_check_tool.specs.Seen.{seen_from, session_from}
+use Rattle.bgp_check_tool.specs.Seen.{session_from}
 use Rattle.bgp_check_tool.proofs.OtherEnd.{clocked}
 use Rattle.bgp_check_tool.proofs.connection.check_side.Goals as goal
 
@@ -32,7 +33,9 @@ returns g c = λ clock.
       is_packet = is.packet;
       is_put_off = is.put_off;
       is_highest = is.highest;
-      explains = subst (λ (v : Session). IsReasonTo v framings.sent.limit made.entries.items (answer_value told.answer) (reason_text told.reason)) c.session_from.ensures is.reason;
+      explains = subst (λ (v : Session).
+          IsReasonTo v framings.sent.limit (shown_places made.entries.items) (records_of made.entries.items) (answer_value told.answer) (reason_text told.reason))
+          c.session_from.ensures is.reason;
       is_received = is.unshown.0;
       is_sent = is.unshown.1;
       judges = subst (λ (v : Connection).
