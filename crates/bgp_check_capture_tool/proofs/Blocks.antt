@@ -1,8 +1,9 @@
 -- The blocks of sessions that are put so far.
-use Rattle.std.proofs.Common.{◌≡◌, ◌∙◌, ◌+◌, ◌<◌, ◌≤◌, ◌++◌, ℕ, Bool, true, false, List, [], ◌∷◌, if◌then◌else◌, refl, sym, ap, subst, append-nil, length, take, get_or}
+use Rattle.std.proofs.Common.{◌≡◌, ◌∙◌, ◌+◌, ◌<◌, ◌≤◌, ◌++◌, ℕ, Bool, true, false, List, [], ◌∷◌, Option, if◌then◌else◌, refl, sym, ap, subst, append-nil, length, take, get_or}
 use Rattle.std.specs.List.{AllByRecursion, filter}
 use Rattle.std.proofs.lemmas.Grind.{flat_map-append}
 use Rattle.std.proofs.lemmas.List.{map-append, take_all, take_more}
+use Rattle.mrt.specs.declared.fault.CaptureFault.{CaptureFault}
 use Rattle.mrt.specs.declared.sink.Sink as sinks
 use Rattle.mrt_sessions.specs.File.{Located}
 use Rattle.mrt_sessions.specs.Sessions.{HoldsSessions, held_records, held_sessions, is_between, records_between, sessions_in}
@@ -13,11 +14,13 @@ use Rattle.bgp_text.specs.declared.lines.Lines.{Lines}
 use Rattle.bgp_text.proofs.Pieces.{Joins, and_then}
 use Rattle.bgp_check_text.specs.Tally.{no_tally}
 use Rattle.bgp_check_text.specs.declared.tally.Tally.{Tally}
-use Rattle.bgp_check_capture_tool.specs.Checking.{Block, IsBlock, PutsBlocks, block_text, blocks_text, tally_from, with_block}
+use Rattle.bgp_check_capture_tool.specs.Checking.{Block, IsBlock, PutsBlocks, block_text, blocks_text, faults_in, tally_from, with_block}
+use Rattle.bgp_check_capture_tool.specs.Firsts.{firsts_after, with_first}
 use Rattle.bgp_capture_list.specs.Text.{fault_text, session_line}
 use Rattle.bgp_check_capture_tool.specs.Ends.{IsSessionTold}
 use Rattle.bgp_check_capture_tool.specs.Putting.{PutsSession}
 use Rattle.bgp_check_capture_tool.specs.Text.{ends_text}
+use Rattle.bgp_check_capture_tool.specs.declared.telling.Telling.{Telling}
 
 -- what is left of a list is left of it again
 kept_twice : {X : Type 0} (p : X → Bool) (xs : List X) → filter p (filter p xs) ≡ filter p xs
@@ -38,6 +41,10 @@ text_of routes named blocks one =
     ap (λ (o : List ℕ). blocks_text routes named blocks ++ o) (sym (append-nil (block_text routes named one)))
     ∙ sym (flat_map-append (block_text routes named) blocks (one ∷ []))
 
+firsts_of : (firsts : List (Option CaptureFault)) (blocks : List Block) (one : Block) → with_first (firsts_after firsts (faults_in blocks)) one.fault ≡ firsts_after firsts (faults_in (blocks ++ one ∷ []))
+firsts_of firsts [] one = refl
+firsts_of firsts (b ∷ blocks) one = firsts_of (with_first firsts b.fault) blocks one
+
 tally_of : (tally : Tally) (blocks : List Block) (one : Block) → with_block (tally_from tally blocks) one ≡ tally_from tally (blocks ++ one ∷ [])
 tally_of tally [] one = refl
 tally_of tally (b ∷ blocks) one = tally_of (with_block tally b) blocks one
@@ -46,16 +53,16 @@ all_of : {X : Type 0} (P : X → Type 0) (xs : List X) (one : X) → AllByRecurs
 all_of P [] one all p = (p, tt)
 all_of P (b ∷ xs) one all p = (all.0, all_of P xs one all.1 p)
 
-pub none_put : {T : Type 0} {sink : sinks.Ghosts T} (routes : Bool) (named : List Located) (lines : Lines T sink) (tally : Tally) → Writes lines lines [] → tally ≡ no_tally
-    → PutsBlocks routes named [] lines lines no_tally tally
-none_put routes named lines tally wrote none = record { blocks = []; are = refl; told = tt; wrote = wrote; tallied = none }
+pub none_put : {T : Type 0} {sink : sinks.Ghosts T} (telling : Telling) (named : List Located) (lines : Lines T sink) (tally : Tally) (firsts : List (Option CaptureFault)) → Writes lines lines [] → tally ≡ no_tally
+    → firsts ≡ [] → PutsBlocks telling named [] lines lines no_tally tally [] firsts
+none_put telling named lines tally firsts wrote none nothing = record { blocks = []; are = refl; told = tt; wrote = wrote; tallied = none; added = nothing }
 
-pub one_put : {T Z : Type 0} {sink : sinks.Ghosts T} → Joins sink → (routes : Bool) (named : List Located) (sessions : Sessions Z) (known : List Addresses) (i : ℕ) (d : Addresses)
-    (lines middle lines' : Lines T sink) (between tally : Tally) → known ≡ held_sessions sessions → i < length known → HoldsSessions named sessions
-    → PutsBlocks routes named (take i (held_sessions sessions)) lines middle no_tally between
-    → PutsSession routes (get_or known i d) (held_records sessions (get_or known i d)) middle lines' between tally
-    → PutsBlocks routes named (take (i + 1) (held_sessions sessions)) lines lines' no_tally tally
-one_put {T} {Z} law routes named sessions known i d lines middle lines' between tally same within holds so_far puts =
+pub one_put : {T Z : Type 0} {sink : sinks.Ghosts T} → Joins sink → (telling : Telling) (named : List Located) (sessions : Sessions Z) (known : List Addresses) (i : ℕ) (d : Addresses)
+    (lines middle lines' : Lines T sink) (between tally : Tally) (among firsts : List (Option CaptureFault)) → known ≡ held_sessions sessions → i < length known → HoldsSessions named sessions
+    → PutsBlocks telling named (take i (held_sessions sessions)) lines middle no_tally between [] among
+    → PutsSession telling (get_or known i d) (held_records sessions (get_or known i d)) middle lines' between tally among firsts
+    → PutsBlocks telling named (take (i + 1) (held_sessions sessions)) lines lines' no_tally tally [] firsts
+one_put {T} {Z} law telling named sessions known i d lines middle lines' between tally among firsts same within holds so_far puts =
     let addresses = get_or known i d in
     let block : Block = record { addresses = addresses; ends = puts.ends; fault = puts.fault } in
     let mine = holds.each addresses in
@@ -63,14 +70,15 @@ one_put {T} {Z} law routes named sessions known i d lines middle lines' between 
       blocks = so_far.blocks ++ block ∷ [];
       are = map-append (λ (b : Block). b.addresses) so_far.blocks (block ∷ []) ∙ ap (λ (xs : List Addresses). xs ++ addresses ∷ []) so_far.are
           ∙ subst (λ (ks : List Addresses). take i ks ++ addresses ∷ [] ≡ take (i + 1) ks) same (sym (take_more known i d within));
-      told = all_of (IsBlock named) so_far.blocks block so_far.told (subst (λ (rs : List Located). IsSessionTold addresses rs puts.ends puts.fault) mine puts.told);
-      wrote = subst (λ (text : List ℕ). Writes lines lines' text) (text_of routes named so_far.blocks block) (and_then law so_far.wrote (subst (λ (rs : List Located). Writes middle lines' (session_line addresses rs ++ (ends_text routes addresses.local puts.ends ++ fault_text puts.fault))) mine puts.wrote));
+      told = all_of (IsBlock telling named) so_far.blocks block so_far.told (subst (λ (rs : List Located). IsSessionTold telling addresses rs puts.ends puts.fault) mine puts.told);
+      wrote = subst (λ (text : List ℕ). Writes lines lines' text) (text_of telling.routes named so_far.blocks block) (and_then law so_far.wrote (subst (λ (rs : List Located). Writes middle lines' (session_line addresses rs ++ (ends_text telling.routes addresses.local puts.ends ++ fault_text puts.fault))) mine puts.wrote));
       tallied = puts.tallied ∙ ap (λ (t : Tally). with_block t block) so_far.tallied ∙ tally_of no_tally so_far.blocks block;
+      added = puts.added ∙ ap (λ (fs : List (Option CaptureFault)). with_first fs block.fault) so_far.added ∙ firsts_of [] so_far.blocks block;
     }
 
-pub all_put : {T Z : Type 0} {sink : sinks.Ghosts T} (routes : Bool) (named : List Located) (sessions : Sessions Z) (known : List Addresses) (i : ℕ) (lines lines' : Lines T sink) (tally : Tally)
-    → known ≡ held_sessions sessions → length known ≤ i → HoldsSessions named sessions → PutsBlocks routes named (take i (held_sessions sessions)) lines lines' no_tally tally
-    → PutsBlocks routes named (sessions_in named) lines lines' no_tally tally
-all_put {T} {Z} routes named sessions known i lines lines' tally same past holds puts =
-    subst (λ (ks : List Addresses). PutsBlocks routes named ks lines lines' no_tally tally)
+pub all_put : {T Z : Type 0} {sink : sinks.Ghosts T} (telling : Telling) (named : List Located) (sessions : Sessions Z) (known : List Addresses) (i : ℕ) (lines lines' : Lines T sink) (tally : Tally) (firsts : List (Option CaptureFault))
+    → known ≡ held_sessions sessions → length known ≤ i → HoldsSessions named sessions → PutsBlocks telling named (take i (held_sessions sessions)) lines lines' no_tally tally [] firsts
+    → PutsBlocks telling named (sessions_in named) lines lines' no_tally tally [] firsts
+all_put {T} {Z} telling named sessions known i lines lines' tally firsts same past holds puts =
+    subst (λ (ks : List Addresses). PutsBlocks telling named ks lines lines' no_tally tally [] firsts)
     (take_all i (held_sessions sessions) (subst (λ (ks : List Addresses). length ks ≤ i) same past) ∙ holds.in_order) puts

@@ -4,7 +4,6 @@ use Rattle.std.proofs.lemmas.Grind.{flat_map-append}
 use Rattle.std.proofs.lemmas.List.{length-append}
 use Rattle.bgp_prefix.specs.Shown.{ShownRecord}
 use Rattle.bgp_prefix.specs.declared.address.Address.{Address}
-use Rattle.bgp_prefix.specs.declared.session.Session.{Session}
 use Rattle.mrt.specs.declared.sink.Sink as sinks
 use Rattle.bgp_machine.specs.Lists.{Each}
 use Rattle.bgp_text.specs.Lines.{Writes}
@@ -17,6 +16,7 @@ use Rattle.bgp_check_text.specs.declared.tally.Tally.{Tally}
 use Rattle.bgp_check_capture_tool.specs.Counted.{with_ends, with_one}
 use Rattle.bgp_check_capture_tool.specs.Ends.{AreTold, End, IsToldOf, front_ends}
 use Rattle.bgp_check_capture_tool.specs.Putting.{Puts, StretchesUpTo}
+use Rattle.bgp_check_capture_tool.specs.StretchEnd.{View}
 use Rattle.bgp_check_capture_tool.specs.Stretches.{AreCut, IsFirst, first_of}
 use Rattle.bgp_check_capture_tool.specs.Text.{end_text, ends_text}
 
@@ -54,39 +54,39 @@ text_more routes local ends end =
 
 -- ---- one stretch more
 
-told_more : (session : Session) (before : ℕ) (stretches : List (List ShownRecord)) (stretch behind : List ShownRecord) (ends : List End) (end : End)
-    → AreTold session before stretches (stretch ++ behind) ends → IsToldOf session (before + length (joined stretches)) stretch (first_of behind) end
-    → AreTold session before (stretches ++ stretch ∷ []) behind (ends ++ end ∷ [])
-told_more session before [] stretch behind [] end told is =
-    (subst (λ (n : ℕ). IsToldOf session n stretch (first_of behind) end) (let e : before + 0 ≡ before = omega arith in e) is, tt)
-told_more session before [] stretch behind (e ∷ ends) end told is = absurd told
-told_more session before (s ∷ stretches) stretch behind [] end told is = absurd told
-told_more session before (s ∷ stretches) stretch behind (e ∷ ends) end told is = (
-  subst (λ (xs : List ShownRecord). IsToldOf session before s (first_of xs) e) (sym (joined_more stretches stretch behind)) told.0,
-  told_more session (before + length s) stretches stretch behind ends end told.1
-      (subst (λ (n : ℕ). IsToldOf session n stretch (first_of behind) end)
+told_more : (view : View) (before : ℕ) (stretches : List (List ShownRecord)) (stretch behind : List ShownRecord) (ends : List End) (end : End)
+    → AreTold view before stretches (stretch ++ behind) ends → IsToldOf view (before + length (joined stretches)) stretch (first_of behind) end
+    → AreTold view before (stretches ++ stretch ∷ []) behind (ends ++ end ∷ [])
+told_more view before [] stretch behind [] end told is =
+    (subst (λ (n : ℕ). IsToldOf view n stretch (first_of behind) end) (let e : before + 0 ≡ before = omega arith in e) is, tt)
+told_more view before [] stretch behind (e ∷ ends) end told is = absurd told
+told_more view before (s ∷ stretches) stretch behind [] end told is = absurd told
+told_more view before (s ∷ stretches) stretch behind (e ∷ ends) end told is = (
+  subst (λ (xs : List ShownRecord). IsToldOf view before s (first_of xs) e) (sym (joined_more stretches stretch behind)) told.0,
+  told_more view (before + length s) stretches stretch behind ends end told.1
+      (subst (λ (n : ℕ). IsToldOf view n stretch (first_of behind) end)
       (let a = length-append s (joined stretches) in
       let e : before + length (joined (s ∷ stretches)) ≡ before + length s + length (joined stretches) = omega (arith, a) in e) is),
 )
 
 -- These records are told so far, of which so many are: what stands before the first stretch and some
 -- stretches. This rest is left.
-pub record SoFar {T : Type 0} {sink : sinks.Ghosts T} (routes : Bool) (session : Session) (records rest : List ShownRecord) (before : ℕ)
+pub record SoFar {T : Type 0} {sink : sinks.Ghosts T} (routes : Bool) (view : View) (records rest : List ShownRecord) (before : ℕ)
     (lines lines' : Lines T sink) (tally tally' : Tally) : Type 0 where
   pub front : List ShownRecord
   pub stretches : List (List ShownRecord)
   pub ends : List End
   pub cut : AreCut records front stretches rest
-  pub told : AreTold session (length front) stretches rest ends
+  pub told : AreTold view (length front) stretches rest ends
   pub many : before ≡ length front + length (joined stretches)
-  pub wrote : Writes lines lines' (ends_text routes session.local (front_ends front ++ ends))
+  pub wrote : Writes lines lines' (ends_text routes view.session.local (front_ends front ++ ends))
   pub tallied : tally' ≡ with_ends tally (front_ends front ++ ends)
 
 -- none is yet
-pub none_told : {T : Type 0} {sink : sinks.Ghosts T} (routes : Bool) (session : Session) (records front rest : List ShownRecord) (count before : ℕ) (lines lines' : Lines T sink) (tally tally' : Tally)
-    → before ≡ length front → (is : IsBeforeLeaving records count) → front ≡ is.front → rest ≡ is.rest → ((routes : Bool) → Writes lines lines' (ends_text routes session.local (front_ends front)))
-    → tally' ≡ with_ends tally (front_ends front) → SoFar routes session records rest before lines lines' tally tally'
-none_told {T} {sink} routes session records front rest count before lines lines' tally tally' is_before is is_front is_rest wrote tallied =
+pub none_told : {T : Type 0} {sink : sinks.Ghosts T} (routes : Bool) (view : View) (records front rest : List ShownRecord) (count before : ℕ) (lines lines' : Lines T sink) (tally tally' : Tally)
+    → before ≡ length front → (is : IsBeforeLeaving records count) → front ≡ is.front → rest ≡ is.rest → ((routes : Bool) → Writes lines lines' (ends_text routes view.session.local (front_ends front)))
+    → tally' ≡ with_ends tally (front_ends front) → SoFar routes view records rest before lines lines' tally tally'
+none_told {T} {sink} routes view records front rest count before lines lines' tally tally' is_before is is_front is_rest wrote tallied =
     let none : front_ends front ++ [] ≡ front_ends front = append-nil (front_ends front) in
     record {
       front = front;
@@ -100,16 +100,16 @@ none_told {T} {sink} routes session records front rest count before lines lines'
       };
       told = tt;
       many = omega (arith, is_before);
-      wrote = subst (λ (es : List End). Writes lines lines' (ends_text routes session.local es)) (sym none) (wrote routes);
+      wrote = subst (λ (es : List End). Writes lines lines' (ends_text routes view.session.local es)) (sym none) (wrote routes);
       tallied = tallied ∙ ap (with_ends tally) (sym none);
     }
 
 -- one more is
-pub one_told : {T : Type 0} {sink : sinks.Ghosts T} → Joins sink → (routes : Bool) (session : Session) (records rest stretch behind : List ShownRecord) (before count : ℕ) (end : End)
-    (lines middle lines' : Lines T sink) (tally between tally' : Tally) → SoFar routes session records rest before lines middle tally between
-    → IsFirst rest stretch behind → count ≡ length stretch → IsToldOf session before stretch (first_of behind) end → Writes middle lines' (end_text routes session.local end)
-    → tally' ≡ with_one between end → SoFar routes session records behind (before + count) lines lines' tally tally'
-one_told {T} {sink} law routes session records rest stretch behind before count end lines middle lines' tally between tally' so_far first is_count is wrote tallied =
+pub one_told : {T : Type 0} {sink : sinks.Ghosts T} → Joins sink → (routes : Bool) (view : View) (records rest stretch behind : List ShownRecord) (before count : ℕ) (end : End)
+    (lines middle lines' : Lines T sink) (tally between tally' : Tally) → SoFar routes view records rest before lines middle tally between
+    → IsFirst rest stretch behind → count ≡ length stretch → IsToldOf view before stretch (first_of behind) end → Writes middle lines' (end_text routes view.session.local end)
+    → tally' ≡ with_one between end → SoFar routes view records behind (before + count) lines lines' tally tally'
+one_told {T} {sink} law routes view records rest stretch behind before count end lines middle lines' tally between tally' so_far first is_count is wrote tallied =
     let front = so_far.front in
     let stretches = so_far.stretches in
     let longer : front_ends front ++ (so_far.ends ++ end ∷ []) ≡ (front_ends front ++ so_far.ends) ++ end ∷ [] = sym (append_assoc (front_ends front) so_far.ends (end ∷ [])) in
@@ -125,20 +125,20 @@ one_told {T} {sink} law routes session records rest stretch behind before count 
         each = each_more IsWholeStretch stretches stretch so_far.cut.each first.stretched;
         next = first.next;
       };
-      told = told_more session (length front) stretches stretch behind so_far.ends end
-          (subst (λ (xs : List ShownRecord). AreTold session (length front) stretches xs so_far.ends) first.whole so_far.told)
-          (subst (λ (n : ℕ). IsToldOf session n stretch (first_of behind) end) many is);
+      told = told_more view (length front) stretches stretch behind so_far.ends end
+          (subst (λ (xs : List ShownRecord). AreTold view (length front) stretches xs so_far.ends) first.whole so_far.told)
+          (subst (λ (n : ℕ). IsToldOf view n stretch (first_of behind) end) many is);
       many = omega (arith, many, lengths, is_count);
-      wrote = subst (λ (es : List End). Writes lines lines' (ends_text routes session.local es)) (sym longer)
-          (subst (λ (text : List ℕ). Writes lines lines' text) (text_more routes session.local (front_ends front ++ so_far.ends) end) (and_then law so_far.wrote wrote));
+      wrote = subst (λ (es : List End). Writes lines lines' (ends_text routes view.session.local es)) (sym longer)
+          (subst (λ (text : List ℕ). Writes lines lines' text) (text_more routes view.session.local (front_ends front ++ so_far.ends) end) (and_then law so_far.wrote wrote));
       tallied = tallied ∙ ap (λ (t : Tally). with_one t end) so_far.tallied ∙ counted_more tally (front_ends front ++ so_far.ends) end ∙ ap (with_ends tally) (sym longer);
     }
 
 -- all are, or all but the rest
-pub told_up_to : {T : Type 0} {sink : sinks.Ghosts T} (routes : Bool) (session : Session) (records rest : List ShownRecord) (before : ℕ) (all : Bool) (lines lines' : Lines T sink) (tally tally' : Tally)
-    → (IsTrue all → rest ≡ []) → SoFar routes session records rest before lines lines' tally tally'
-    → Puts routes session.local lines lines' tally tally' (StretchesUpTo session records all)
-told_up_to routes session records rest before all lines lines' tally tally' done so_far = record {
+pub told_up_to : {T : Type 0} {sink : sinks.Ghosts T} (routes : Bool) (view : View) (records rest : List ShownRecord) (before : ℕ) (all : Bool) (lines lines' : Lines T sink) (tally tally' : Tally)
+    → (IsTrue all → rest ≡ []) → SoFar routes view records rest before lines lines' tally tally'
+    → Puts routes view.session.local lines lines' tally tally' (StretchesUpTo view records all)
+told_up_to routes view records rest before all lines lines' tally tally' done so_far = record {
   ends = front_ends so_far.front ++ so_far.ends;
   told = (rest, done, record { front = so_far.front; stretches = so_far.stretches; later = so_far.ends; cut = so_far.cut; told = so_far.told; are = refl });
   wrote = so_far.wrote;

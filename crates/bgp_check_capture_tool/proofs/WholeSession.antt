@@ -13,17 +13,25 @@ use Rattle.bgp_text.specs.declared.lines.Lines.{Lines}
 use Rattle.bgp_check_capture.specs.Offers.{HearsOffer, SendsOffer}
 use Rattle.bgp_capture_list.specs.Listing.{no_memory}
 use Rattle.bgp_check_text.specs.declared.tally.Tally.{Tally}
-use Rattle.bgp_check_capture_tool.specs.Ends.{IsSessionTold, session_of}
+use Rattle.bgp_check_capture_tool.specs.Ends.{IsSessionTold, session_of, view_of}
+use Rattle.bgp_check_capture_tool.specs.Judging.{telling_where}
 use Rattle.bgp_check_capture_tool.specs.Putting.{Puts, RecordsUpTo}
+use Rattle.bgp_check_capture_tool.specs.StretchEnd.{View}
+use Rattle.bgp_check_capture_tool.specs.declared.telling.Telling.{Telling}
 
-pub all_told : {T : Type 0} {sink : sinks.Ghosts T} (routes : Bool) (addresses : Addresses) (named : List Located) (session : Session) (records shown : List ShownRecord) (extended : ExtendedMessages)
-    (refusal fault : Option CaptureFault) (all : Bool) (lines lines' : Lines T sink) (tally tally' : Tally) → session ≡ session_of addresses → records ≡ shown
+pub seen_as : (telling : Telling) (addresses : Addresses) (named : List Located) (extended : ExtendedMessages) (refusal : Option CaptureFault) (after : Telling) (session : Session)
+    → after ≡ telling_where refusal telling → session ≡ session_of addresses
+    → ◌≡◌ {A = View} (record { telling = after; session = session; named = named; extended = extended }) (view_of telling addresses named extended refusal)
+seen_as telling addresses named extended refusal after session is_after is_session = λ i. record { telling = is_after i; session = is_session i; named = named; extended = extended }
+
+pub all_told : {T : Type 0} {sink : sinks.Ghosts T} (telling : Telling) (addresses : Addresses) (named : List Located) (view : View) (records shown : List ShownRecord) (extended : ExtendedMessages)
+    (refusal fault : Option CaptureFault) (all : Bool) (lines lines' : Lines T sink) (tally tally' : Tally) → view ≡ view_of telling addresses named extended refusal → records ≡ shown
     → (IsTrue extended.received ↔ Has SendsOffer named) → (IsTrue extended.sent ↔ Has HearsOffer named) → IsReading addresses extended named shown refusal
-    → (IsTrue all × (fault ≡ refusal)) ⊎ (fault ≡ Some no_memory) → Puts routes session.local lines lines' tally tally' (RecordsUpTo session records all)
-    → Puts routes addresses.local lines lines' tally tally' (λ ends. IsSessionTold addresses named ends fault)
-all_told routes addresses named session records shown extended refusal fault all lines lines' tally tally' is_session is_records received sent reading how puts =
-    let p = subst (λ (rs : List ShownRecord). Puts routes addresses.local lines lines' tally tally' (RecordsUpTo (session_of addresses) rs all)) is_records
-    (subst (λ (s : Session). Puts routes s.local lines lines' tally tally' (RecordsUpTo s records all)) is_session puts) in
+    → (IsTrue all × (fault ≡ refusal)) ⊎ (fault ≡ Some no_memory) → Puts view.telling.routes view.session.local lines lines' tally tally' (RecordsUpTo view records all)
+    → Puts telling.routes addresses.local lines lines' tally tally' (λ ends. IsSessionTold telling addresses named ends fault)
+all_told telling addresses named view records shown extended refusal fault all lines lines' tally tally' is_view is_records received sent reading how puts =
+    let p = subst (λ (rs : List ShownRecord). Puts telling.routes addresses.local lines lines' tally tally' (RecordsUpTo (view_of telling addresses named extended refusal) rs all)) is_records
+    (subst (λ (v : View). Puts v.telling.routes v.session.local lines lines' tally tally' (RecordsUpTo v records all)) is_view puts) in
     record {
       ends = p.ends;
       told = inl record {

@@ -5,7 +5,7 @@ use Rattle.std.specs.List.{AllByRecursion, flat_map}
 use Rattle.mrt.specs.declared.fault.CaptureFault.{CaptureFault}
 use Rattle.mrt.specs.declared.fault.FaultKind.{FaultKind}
 use Rattle.mrt.specs.declared.sink.Sink as sinks
-use Rattle.mrt_sessions.specs.File.{HasRecords, Located, fault_by}
+use Rattle.mrt_sessions.specs.File.{HasSuchRecords, Located, fault_by}
 use Rattle.mrt_sessions.specs.Held.{IsHeld, failures_by}
 use Rattle.mrt_sessions.specs.Sessions.{records_between, sessions_in}
 use Rattle.mrt_sessions.specs.declared.addresses.Addresses.{Addresses}
@@ -19,7 +19,11 @@ use Rattle.bgp_check_text.specs.Tally.{has_verdict, is_empty, no_tally, status_o
 use Rattle.bgp_check_text.specs.declared.tally.Tally.{Tally}
 use Rattle.bgp_check_capture_tool.specs.Counted.{with_ends, with_fault}
 use Rattle.bgp_check_capture_tool.specs.Ends.{End, IsSessionTold}
+use Rattle.bgp_check_capture_tool.specs.Firsts.{firsts_after, with_first}
+use Rattle.bgp_check_capture_tool.specs.Judging.{telling_where}
 use Rattle.bgp_check_capture_tool.specs.Text.{ends_text}
+use Rattle.bgp_check_capture_tool.specs.declared.options.CaptureOptions.{CaptureOptions}
+use Rattle.bgp_check_capture_tool.specs.declared.telling.Telling.{Telling}
 
 -- ---- the blocks, one a session
 
@@ -30,9 +34,10 @@ pub record Block : Type 0 where
   pub fault : Option CaptureFault
 
 -- of the sessions of these records
-abbrev pub IsBlock : List Located → Block → Type 0
-IsBlock named block =
-    IsSessionTold block.addresses (records_between block.addresses named) block.ends block.fault
+abbrev pub IsBlock : Telling → List Located → Block → Type 0
+IsBlock telling named block =
+    IsSessionTold telling block.addresses (records_between block.addresses named) block.ends
+    block.fault
 
 abbrev pub block_text : Bool → List Located → Block → List ℕ
 block_text routes named block =
@@ -49,44 +54,64 @@ abbrev pub tally_from : Tally → List Block → Tally
 tally_from tally [] = tally
 tally_from tally (block ∷ blocks) = tally_from (with_block tally block) blocks
 
--- Blocks of these sessions were put, and are counted.
-pub record PutsBlocks {T : Type 0} {sink : sinks.Ghosts T} (routes : Bool) (named : List Located)
-    (sessions : List Addresses) (lines lines' : Lines T sink) (tally tally' : Tally) : Type 0 where
+-- why the sessions of these blocks aren't read to their ends, where they aren't
+abbrev pub faults_in : List Block → List (Option CaptureFault)
+faults_in blocks = map (λ (block : Block). block.fault) blocks
+
+-- Blocks of these sessions were put, and are counted; of their refusals the first of each number is
+-- added to those that are.
+pub record PutsBlocks {T : Type 0} {sink : sinks.Ghosts T} (telling : Telling)
+    (named : List Located) (sessions : List Addresses) (lines lines' : Lines T sink)
+    (tally tally' : Tally) (firsts firsts' : List (Option CaptureFault)) : Type 0 where
   pub blocks : List Block
   pub are : map (λ b. b.addresses) blocks ≡ sessions
-  pub told : AllByRecursion (IsBlock named) blocks
-  pub wrote : Writes lines lines' (blocks_text routes named blocks)
+  pub told : AllByRecursion (IsBlock telling named) blocks
+  pub wrote : Writes lines lines' (blocks_text telling.routes named blocks)
   pub tallied : tally' ≡ tally_from tally blocks
+  pub added : firsts' ≡ firsts_after firsts (faults_in blocks)
 
 -- ---- the file
 
+-- what is told besides of the sessions of a file that isn't read on for this, if it isn't: no
+-- record of it is too long for a session without extended messages, or one is
+abbrev pub telling_of : CaptureOptions → Bool → Option CaptureFault → Telling
+telling_of options plain fault = telling_where fault record {
+  routes = options.routes;
+  settings = options.settings;
+  is_plain = plain;
+}
+
 -- The sessions whose records these octets have are told, in the order of their first ones, and
 -- then why the file isn't read to its end, if it isn't.
-pub record TellsAll (routes : Bool) (octets : List ℕ) (ending : Ending) (text : List ℕ)
-    (tally : Tally) (fault : Option CaptureFault) : Type 0 where
-  pub named : List Located
-  pub offset : ℕ
-  pub refusal : Option FaultKind
-  pub has : HasRecords octets named offset refusal
-  pub blocks : List Block
-  pub are : map (λ b. b.addresses) blocks ≡ sessions_in named
-  pub told : AllByRecursion (IsBlock named) blocks
-  pub is_text : text ≡ blocks_text routes named blocks
-  pub is_tally : tally ≡ tally_from no_tally blocks
-  pub is_fault : fault ≡ fault_by ending refusal offset
+pub record TellsAll (options : CaptureOptions) (octets : List ℕ) (ending : Ending) (text : List ℕ)
+    (tally : Tally) (firsts : List (Option CaptureFault)) (fault : Option CaptureFault) : Type 0
+  where
+    pub named : List Located
+    pub offset : ℕ
+    pub refusal : Option FaultKind
+    pub plain : Bool
+    pub has : HasSuchRecords octets named offset refusal plain
+    pub blocks : List Block
+    pub are : map (λ b. b.addresses) blocks ≡ sessions_in named
+    pub told : AllByRecursion (IsBlock (telling_of options plain fault) named) blocks
+    pub is_text : text ≡ blocks_text options.routes named blocks
+    pub is_tally : tally ≡ tally_from no_tally blocks
+    pub are_firsts : firsts ≡ firsts_after [] (faults_in blocks)
+    pub is_fault : fault ≡ fault_by ending refusal offset
 
 -- or only that there was no memory for a list of the records
-abbrev pub Tells : Bool → List ℕ → Ending → List ℕ → Tally → Option CaptureFault → Type 0
-Tells routes octets ending text tally fault =
-    TellsAll routes octets ending text tally fault
-    ⊎ ((text ≡ []) × (tally ≡ no_tally) × (fault ≡ Some no_memory))
+abbrev pub Tells : CaptureOptions → List ℕ → Ending → List ℕ → Tally → List (Option CaptureFault)
+    → Option CaptureFault → Type 0
+Tells options octets ending text tally firsts fault =
+    TellsAll options octets ending text tally firsts fault
+    ⊎ ((text ≡ []) × (tally ≡ no_tally) × (firsts ≡ []) × (fault ≡ Some no_memory))
 
-pub record PutsFile {T : Type 0} {sink : sinks.Ghosts T} (routes : Bool) (octets : List ℕ)
-    (ending : Ending) (lines lines' : Lines T sink) (tally : Tally)
-    (fault : Option CaptureFault) : Type 0 where
+pub record PutsFile {T : Type 0} {sink : sinks.Ghosts T} (options : CaptureOptions)
+    (octets : List ℕ) (ending : Ending) (lines lines' : Lines T sink) (tally : Tally)
+    (firsts : List (Option CaptureFault)) (fault : Option CaptureFault) : Type 0 where
   pub text : List ℕ
   pub wrote : Writes lines lines' text
-  pub tells : Tells routes octets ending text tally fault
+  pub tells : Tells options octets ending text tally firsts fault
 
 -- that there is no session, where nothing was told
 abbrev pub nothing_text : Tally → List ℕ
@@ -101,21 +126,24 @@ nothing_by false None = true
 
 -- A source is held, and its sessions are told, and why it isn't read to its end; then that there is
 -- none, if so, and last how many ends there are of each verdict. All of that was written, if the
--- sink didn't fail.
+-- sink didn't fail. Of all refusals those are answered that are the first of their number.
 pub record ChecksCapture {S T : Type 0} (gives : S → S → List ℕ → Type 0) (has_ended : S → Bool)
     (takes : T → T → List ℕ → Type 0) (source_failures : S → ℕ) (failures : T → ℕ)
-    (routes : Bool) (source source' : S) (sink sink' : T) (status : ℕ)
-    (fault : Option CaptureFault) (nothing : Bool) : Type 0 where
-  pub octets : List ℕ
-  pub ending : Ending
-  pub held : IsHeld gives has_ended source source' octets ending
-  pub counted : source_failures source' ≡ source_failures source + failures_by ending
-  pub text : List ℕ
-  pub of_sessions : Tally
-  pub tells : Tells routes octets ending text of_sessions fault
-  pub tally : Tally
-  pub counts : tally ≡ with_fault of_sessions fault
-  pub is_nothing : nothing ≡ nothing_by (has_verdict tally) fault
-  pub written : IsWritten takes failures
-      (text ++ (fault_text fault ++ (nothing_text tally ++ tally_line tally)))
-      (status_of tally) sink sink' status
+    (options : CaptureOptions) (source source' : S) (sink sink' : T) (status : ℕ)
+    (firsts : List (Option CaptureFault)) (fault : Option CaptureFault) (nothing : Bool) : Type 0
+  where
+    pub octets : List ℕ
+    pub ending : Ending
+    pub held : IsHeld gives has_ended source source' octets ending
+    pub counted : source_failures source' ≡ source_failures source + failures_by ending
+    pub text : List ℕ
+    pub of_sessions : Tally
+    pub of_blocks : List (Option CaptureFault)
+    pub tells : Tells options octets ending text of_sessions of_blocks fault
+    pub tally : Tally
+    pub counts : tally ≡ with_fault of_sessions fault
+    pub are_firsts : firsts ≡ with_first of_blocks fault
+    pub is_nothing : nothing ≡ nothing_by (has_verdict tally) fault
+    pub written : IsWritten takes failures
+        (text ++ (fault_text fault ++ (nothing_text tally ++ tally_line tally)))
+        (status_of tally) sink sink' status

@@ -9,7 +9,7 @@ use Rattle.bgp_check_capture_tool.specs.Ends.{End, Silent, Staying, Stretch}
 abbrev pub with_one : Tally → End → Tally
 with_one tally (Silent part) = with_unjudged tally
 with_one tally (Staying part) = with_unjudged tally
-with_one tally (Stretch part told highest) = with_end tally told.answer
+with_one tally (Stretch end) = with_end tally end.told.answer
 
 abbrev pub with_ends : Tally → List End → Tally
 with_ends tally [] = tally

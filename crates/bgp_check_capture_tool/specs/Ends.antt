@@ -13,19 +13,20 @@ use Rattle.bgp_machine.specs.Lists.{Has}
 use Rattle.bgp_check.specs.Cut.{joined}
 use Rattle.bgp_check.specs.NotJudged.{SendsSome}
 use Rattle.bgp_check_capture.specs.Offers.{HearsOffer, SendsOffer}
-use Rattle.bgp_check_capture.specs.Told.{IsStretchTold, ToldValue}
 use Rattle.bgp_capture_list.specs.Listing.{no_memory}
-use Rattle.bgp_check_text.specs.Highest.{highest_state}
+use Rattle.bgp_check_capture_tool.specs.Judging.{telling_where}
+use Rattle.bgp_check_capture_tool.specs.StretchEnd.{IsStretchEnd, StretchEnd, View}
 use Rattle.bgp_check_capture_tool.specs.Stretches.{AreCut, first_of}
 use Rattle.bgp_check_capture_tool.specs.declared.part.Part.{Part}
+use Rattle.bgp_check_capture_tool.specs.declared.telling.Telling.{Telling}
 
 pub data End : Type 0 where
   -- these are all records of the session, and no message is sent
   Silent : Part → End
   -- these are the records before its first stretch
   Staying : Part → End
-  -- a stretch: what is told of it, and the number of the highest state that it tells
-  Stretch : Part → ToldValue → ℕ → End
+  -- a stretch
+  Stretch : StretchEnd → End
 
 -- a session's, whatever its OPENs offer
 abbrev pub session_of : Addresses → Session
@@ -38,24 +39,20 @@ session_of addresses = record {
 
 -- ---- its stretches
 
--- This is told of the stretch before which so many records stand, and which this one leaves.
-abbrev pub IsToldOf : Session → ℕ → List ShownRecord → Option ShownRecord → End → Type 0
-IsToldOf session before stretch leaving (Silent part) = ⊥
-IsToldOf session before stretch leaving (Staying part) = ⊥
-IsToldOf session before stretch leaving (Stretch part told highest) =
-    (part ≡ record { before = before; count = length stretch })
-    × IsStretchTold session stretch (length stretch) leaving told
-    × (highest ≡ highest_state stretch)
+abbrev pub IsToldOf : View → ℕ → List ShownRecord → Option ShownRecord → End → Type 0
+IsToldOf view before stretch leaving (Silent part) = ⊥
+IsToldOf view before stretch leaving (Staying part) = ⊥
+IsToldOf view before stretch leaving (Stretch end) = IsStretchEnd view before stretch leaving end
 
 -- Of each of these stretches this is told; the first record of the next one, or of what is left
 -- after them all, leaves it.
-abbrev pub AreTold : Session → ℕ → List (List ShownRecord) → List ShownRecord → List End → Type 0
-AreTold session before [] rest [] = Unit {0}
-AreTold session before [] rest (end ∷ ends) = ⊥
-AreTold session before (stretch ∷ stretches) rest [] = ⊥
-AreTold session before (stretch ∷ stretches) rest (end ∷ ends) =
-    IsToldOf session before stretch (first_of (joined stretches ++ rest)) end
-    × AreTold session (before + length stretch) stretches rest ends
+abbrev pub AreTold : View → ℕ → List (List ShownRecord) → List ShownRecord → List End → Type 0
+AreTold view before [] rest [] = Unit {0}
+AreTold view before [] rest (end ∷ ends) = ⊥
+AreTold view before (stretch ∷ stretches) rest [] = ⊥
+AreTold view before (stretch ∷ stretches) rest (end ∷ ends) =
+    IsToldOf view before stretch (first_of (joined stretches ++ rest)) end
+    × AreTold view (before + length stretch) stretches rest ends
 
 -- what stands before them is told of at once, if there is something
 abbrev pub front_ends : List ShownRecord → List End
@@ -64,13 +61,13 @@ front_ends (first ∷ records) =
     Staying (record { before = 0; count = length (first ∷ records) }) ∷ []
 
 -- of all stretches but those of the rest
-pub record TellsStretches (session : Session) (records rest : List ShownRecord)
+pub record TellsStretches (view : View) (records rest : List ShownRecord)
     (ends : List End) : Type 0 where
   pub front : List ShownRecord
   pub stretches : List (List ShownRecord)
   pub later : List End
   pub cut : AreCut records front stretches rest
-  pub told : AreTold session (length front) stretches rest later
+  pub told : AreTold view (length front) stretches rest later
   pub are : ends ≡ front_ends front ++ later
 
 -- ---- its records
@@ -81,17 +78,27 @@ silent_ends [] = []
 silent_ends (first ∷ records) =
     Silent (record { before = 0; count = length (first ∷ records) }) ∷ []
 
-abbrev pub TellsRecords : Session → List ShownRecord → List ShownRecord → List End → Type 0
-TellsRecords session records rest ends =
+abbrev pub TellsRecords : View → List ShownRecord → List ShownRecord → List End → Type 0
+TellsRecords view records rest ends =
     ((¬ SendsSome records) × (rest ≡ []) × (ends ≡ silent_ends records))
-    ⊎ (SendsSome records × TellsStretches session records rest ends)
+    ⊎ (SendsSome records × TellsStretches view records rest ends)
+
+-- a session of a file that has these records there, and of which this one is refused, if one is
+abbrev pub view_of : Telling → Addresses → List Located → ExtendedMessages → Option CaptureFault
+    → View
+view_of telling addresses named extended refusal = record {
+  telling = telling_where refusal telling;
+  session = session_of addresses;
+  named = named;
+  extended = extended;
+}
 
 -- This is told of the session that has these records in a file: of those that are read of it, and
 -- then why the next one is refused, if it is. The longest messages of each direction are those that
 -- an OPEN of its receiver offers. Where memory is refused for a stretch, that is told in its place,
 -- and nothing of what follows.
-pub record IsToldAsRead (addresses : Addresses) (named : List Located) (ends : List End)
-    (fault : Option CaptureFault) : Type 0 where
+pub record IsToldAsRead (telling : Telling) (addresses : Addresses) (named : List Located)
+    (ends : List End) (fault : Option CaptureFault) : Type 0 where
   pub extended : ExtendedMessages
   pub is_received : IsTrue extended.received ↔ Has SendsOffer named
   pub is_sent : IsTrue extended.sent ↔ Has HearsOffer named
@@ -99,10 +106,12 @@ pub record IsToldAsRead (addresses : Addresses) (named : List Located) (ends : L
   pub refusal : Option CaptureFault
   pub reading : IsReading addresses extended named records refusal
   pub rest : List ShownRecord
-  pub tells : TellsRecords (session_of addresses) records rest ends
+  pub tells : TellsRecords (view_of telling addresses named extended refusal) records rest ends
   pub is_fault : ((rest ≡ []) × (fault ≡ refusal)) ⊎ (fault ≡ Some no_memory)
 
 -- or only that memory was refused
-abbrev pub IsSessionTold : Addresses → List Located → List End → Option CaptureFault → Type 0
-IsSessionTold addresses named ends fault =
-    IsToldAsRead addresses named ends fault ⊎ ((ends ≡ []) × (fault ≡ Some no_memory))
+abbrev pub IsSessionTold : Telling → Addresses → List Located → List End → Option CaptureFault
+    → Type 0
+IsSessionTold telling addresses named ends fault =
+    IsToldAsRead telling addresses named ends fault
+    ⊎ ((ends ≡ []) × (fault ≡ Some no_memory))

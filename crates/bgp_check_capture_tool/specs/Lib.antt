@@ -1,6 +1,10 @@
 pub mod Stretches
+pub mod Judging
+pub mod StretchEnd
 pub mod Ends
 pub mod Text
 pub mod Counted
+pub mod Firsts
 pub mod Putting
 pub mod Checking
+pub mod Headline

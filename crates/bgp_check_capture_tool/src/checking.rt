@@ -1,6 +1,6 @@
 //! `bgp check` of a capture.
 
-ghost use Rattle.std.specs.Prelude.{◌≡◌, ◌<◌, List, map};
+ghost use Rattle.std.specs.Prelude.{◌≡◌, ◌<◌, [], List, map};
 ghost use Rattle.mrt_sessions.specs.File.{Located};
 ghost use Rattle.mrt_sessions.specs.Located.{located};
 ghost use Rattle.mrt_sessions.specs.Sessions.{HoldsSessions, held_records, records_between};
@@ -9,10 +9,15 @@ ghost use Rattle.bgp_text.specs.Lines.{Writes};
 ghost use Rattle.bgp_check_text.specs.Tally.{no_tally};
 ghost use Rattle.bgp_check_capture_tool.specs.Checking.{ChecksCapture, PutsBlocks, PutsFile};
 ghost use Rattle.bgp_check_capture_tool.specs.Checking.{nothing_by, nothing_text};
+ghost use Rattle.bgp_check_capture_tool.specs.Firsts.{AreApart};
 ghost use Rattle.bgp_check_capture_tool.specs.Putting.{PutsSession};
 
-use crate::counted::with_fault;
+use crate::counted::Counted;
 use crate::ends::{NO_MEMORY, put_ends};
+use crate::firsts::NUMBERS;
+use crate::options::CaptureOptions;
+use crate::telling::Telling;
+use arrayvec::ArrayVec;
 use bgp_capture_list::{put_fault, put_session};
 use bgp_check_text::Tally;
 use bgp_judge::Tracker;
@@ -23,96 +28,112 @@ use mrt_sessions::{Addresses, Ending, NamedRecord, Sessions, hold, records_in};
 use std::alloc::Allocator;
 
 /// How checking a capture ended.
-#[derive(Clone, Copy, Debug)]
+#[derive(Clone, Drop)]
 pub struct CheckedCapture {
     /// The exit status.
     pub status: u8,
+    /// The refusals in the lines, of each number the first, in their order: what helps against each
+    /// is to be told. None of them is `None`.
+    pub refusals: ArrayVec<Option<CaptureFault>, NUMBERS>,
     /// Why the file isn't read to its end, if it isn't.
     pub fault: Option<CaptureFault>,
     /// Whether no end is judged, of a file that was read to its end.
     pub nothing: bool,
 }
 
-/// Puts what is told of the session that has these records in a file, and answers the tally with
-/// it.
+/// Puts what is told of the session that has these records in a file, and counts it.
 fn put_one<A: Allocator + Copy, T: Tracker<A>, W: Sink>(
     alloc: A,
     addresses: Addresses,
     named: &[NamedRecord<'_>],
-    routes: bool,
+    telling: Telling,
     lines: &mut Lines<'_, W>,
-    tally: Tally,
-) -> Tally
+    counted: &mut Counted,
+)
     requires mine { records_between addresses (map located named.now) ≡ map located named.now }
-    ensures { PutsSession routes addresses (map located named.now) lines.old lines.new
-        tally result }
+    requires apart { AreApart counted.old.refusals.items }
+    ensures puts { PutsSession telling addresses (map located named.now) lines.old lines.new
+        counted.old.tally counted.new.tally counted.old.refusals.items
+        counted.new.refusals.items }
+    ensures apart { AreApart counted.new.refusals.items }
 {
     put_session(lines, addresses, named);
-    let (tally, fault) = put_ends::<A, T, W>(alloc, addresses, named, routes, lines, tally);
+    let tally = counted.tally;
+    let (tally, fault) = put_ends::<A, T, W>(alloc, addresses, named, telling, lines, tally);
     put_fault(lines, fault);
-    with_fault(tally, fault)
+    counted.tally = tally;
+    counted.add_fault(fault);
 }
 
-/// Puts what is told of one of the sessions, and answers the tally with it.
+/// Puts what is told of one of the sessions, and counts it.
 fn put_held<A: Allocator + Copy, T: Tracker<A>, W: Sink>(
     alloc: A,
     sessions: &Sessions<'_, A>,
     addresses: Addresses,
-    routes: bool,
+    telling: Telling,
     lines: &mut Lines<'_, W>,
-    tally: Tally,
-) -> Tally
+    counted: &mut Counted,
+)
     requires mine { records_between addresses (held_records sessions.now addresses)
         ≡ held_records sessions.now addresses }
-    ensures { PutsSession routes addresses (held_records sessions.now addresses)
-        lines.old lines.new tally result }
+    requires apart { AreApart counted.old.refusals.items }
+    ensures puts { PutsSession telling addresses (held_records sessions.now addresses) lines.old
+        lines.new counted.old.tally counted.new.tally counted.old.refusals.items
+        counted.new.refusals.items }
+    ensures apart { AreApart counted.new.refusals.items }
 {
     match sessions.records(addresses) {
-        Some(records) => put_one::<A, T, W>(alloc, addresses, records, routes, lines, tally),
-        None => put_one::<A, T, W>(alloc, addresses, &[], routes, lines, tally),
+        Some(records) => put_one::<A, T, W>(alloc, addresses, records, telling, lines, counted),
+        None => put_one::<A, T, W>(alloc, addresses, &[], telling, lines, counted),
     }
 }
 
-/// Puts what is told of all sessions, in the order of their first records, and answers the tally of
-/// it.
+/// Puts what is told of all sessions, in the order of their first records, and answers what is
+/// counted of it.
 fn put_sessions<A: Allocator + Copy, T: Tracker<A>, W: Sink>(
     alloc: A,
     sessions: &Sessions<'_, A>,
-    routes: bool,
+    telling: Telling,
     lines: &mut Lines<'_, W>,
-) -> Tally
+) -> Counted
     requires { (named : List Located) × HoldsSessions named sessions.now }
-    ensures { (named : List Located) → HoldsSessions named sessions.now
-        → PutsBlocks routes named (sessions_in named) lines.old lines.new no_tally result }
+    ensures puts { (named : List Located) → HoldsSessions named sessions.now
+        → PutsBlocks telling named (sessions_in named) lines.old lines.new no_tally result.tally
+        [] result.refusals.items }
+    ensures apart { AreApart result.refusals.items }
 {
-    let mut tally = Tally::new();
+    let mut counted = Counted::new();
     for addresses in sessions.in_order() {
-        tally = put_held::<A, T, W>(alloc, sessions, *addresses, routes, lines, tally);
+        put_held::<A, T, W>(alloc, sessions, *addresses, telling, lines, &mut counted);
     }
-    tally
+    counted
 }
 
-/// Puts what is told of all sessions whose records these octets have, and answers the tally of it,
-/// and why the file isn't read to its end, if it isn't.
+/// Puts what is told of all sessions whose records these octets have, and answers what is counted
+/// of it, and why the file isn't read to its end, if it isn't.
 fn put_file<A: Allocator + Copy, T: Tracker<A>, W: Sink>(
     alloc: A,
     octets: &[u8],
     ending: Ending,
-    routes: bool,
+    options: &CaptureOptions,
     lines: &mut Lines<'_, W>,
-) -> (Tally, Option<CaptureFault>)
-    ensures { PutsFile routes octets.now ending lines.old lines.new result.0 result.1 }
+) -> (Counted, Option<CaptureFault>)
+    ensures puts { PutsFile options.now octets.now ending lines.old lines.new result.0.tally
+        result.0.refusals.items result.1 }
+    ensures apart { AreApart result.0.refusals.items }
 {
     let Ok(file) = records_in(alloc, octets) else {
         lines.put(b"");
-        return (Tally::new(), Some(NO_MEMORY));
+        return (Counted::new(), Some(NO_MEMORY));
     };
     let Ok(sessions) = Sessions::of(alloc, file.records.as_slice()) else {
         lines.put(b"");
-        return (Tally::new(), Some(NO_MEMORY));
+        return (Counted::new(), Some(NO_MEMORY));
     };
-    let tally = put_sessions::<A, T, W>(alloc, &sessions, routes, lines);
-    (tally, file.fault(ending))
+    let fault = file.fault(ending);
+    let telling = Telling::of(options, file.is_plain, fault);
+    let counted = put_sessions::<A, T, W>(alloc, &sessions, telling, lines);
+    (counted, fault)
 }
 
 /// Puts that there is no session, where nothing was told.
@@ -141,8 +162,9 @@ fn nothing_by(judged: bool, fault: Option<CaptureFault>) -> bool
 /// the OPEN that it sent is its own. A stretch begins where the system leaves Idle.
 ///
 /// It writes a line for each session, in the order of their first records, and after it what is
-/// told of each of its stretches: the verdict, for which AS number of its peer it is told, and of a
-/// yes each possible end; or why it isn't judged. After them stands why the session's next record
+/// told of each of its stretches: the verdict, for which AS number of its peer it is told, of a yes
+/// each possible end, of a no and an unfinished why it is so, and, of one that is all of its
+/// session, with which options `bgp judge` gives it; or why it isn't judged. After them stands why the session's next record
 /// is refused, if one is, and after all sessions why the file can't be read on, if it can't; last
 /// how many ends there are of each verdict. It answers the exit status over all ends, the first of
 /// 5, 4, 1, 3, 2, 0 for which there is something:
@@ -157,26 +179,28 @@ fn nothing_by(judged: bool, fault: Option<CaptureFault>) -> bool
 /// The file is held whole.
 pub fn check_capture<A: Allocator + Copy, T: Tracker<A>, R: Source, W: Sink>(
     alloc: A,
-    routes: bool,
+    options: &CaptureOptions,
     source: &mut R,
     sink: &mut W,
 ) -> CheckedCapture
     requires source { R.failures source.old < u64.MAX }
     requires sink { W.failures sink.old < u64.MAX }
-    ensures { ChecksCapture R.gives R.has_ended W.takes R.failures W.failures routes
-        source.old source.new sink.old sink.new result.status result.fault result.nothing }
+    ensures { ChecksCapture R.gives R.has_ended W.takes R.failures W.failures options.now
+        source.old source.new sink.old sink.new result.status result.refusals.items
+        result.fault result.nothing }
 {
     let held = hold(alloc, source);
     let mut lines = Lines::new(sink);
-    let (tally, fault) = put_file::<A, T, W>(
+    let (mut counted, fault) = put_file::<A, T, W>(
         alloc,
         held.octets.as_slice(),
         held.ending,
-        routes,
+        options,
         &mut lines,
     );
     put_fault(&mut lines, fault);
-    let tally = with_fault(tally, fault);
+    counted.add_fault(fault);
+    let Counted { tally, refusals } = counted;
     put_nothing(&mut lines, tally);
     tally.put(&mut lines);
     let status = hand_over(&mut lines, tally.status());
@@ -184,6 +208,7 @@ pub fn check_capture<A: Allocator + Copy, T: Tracker<A>, R: Source, W: Sink>(
     lines.into_sink();
     CheckedCapture {
         status: status.code(),
+        refusals,
         fault,
         nothing: nothing_by(tally.has_verdict(), fault),
     }

@@ -1,23 +1,25 @@
 //! What is told of a session, end by end.
 
-ghost use Rattle.std.specs.Prelude.{◌≡◌, ◌↔◌, Bool, IsTrue, map};
+ghost use Rattle.std.specs.Prelude.{◌≡◌, Bool, map};
 ghost use Rattle.mrt.specs.Reader.{shown_of};
 ghost use Rattle.mrt_sessions.specs.Located.{located};
 ghost use Rattle.mrt_sessions.specs.Sessions.{records_between};
-ghost use Rattle.bgp_check.specs.NotJudged.{SendsSome};
 ghost use Rattle.bgp_text.specs.Lines.{Writes};
-ghost use Rattle.bgp_check_capture.specs.Told.{told_value};
 ghost use Rattle.bgp_check_capture_tool.specs.Counted.{with_ends, with_one};
 ghost use Rattle.bgp_check_capture_tool.specs.Ends.{IsSessionTold, Stretch, front_ends};
 ghost use Rattle.bgp_check_capture_tool.specs.Ends.{session_of, silent_ends};
 ghost use Rattle.bgp_check_capture_tool.specs.Putting.{Puts, RecordsUpTo, StretchesUpTo};
+ghost use Rattle.bgp_check_capture_tool.specs.StretchEnd.{stretch_value, view_value};
 ghost use Rattle.bgp_check_capture_tool.specs.Text.{end_text, ends_text};
 
 use crate::cutting::{first_of, first_stretch};
 use crate::lines::{put_silent, put_staying, put_stretch};
 use crate::part::Part;
-use bgp_check_capture::{StretchTold, before_leaving, check_stretch, extended_messages};
-use bgp_check_text::{Tally, highest_state};
+use crate::stretch_end::{StretchEnd, View, end_of};
+use crate::telling::Telling;
+use bgp_check::sends_some;
+use bgp_check_capture::{before_leaving, extended_messages};
+use bgp_check_text::Tally;
 use bgp_judge::Tracker;
 use bgp_prefix::{Address, RouteRefresh, Session};
 use bgp_text::Lines;
@@ -41,19 +43,6 @@ fn session_of(addresses: Addresses) -> Session
         refresh: RouteRefresh::NotOffered,
         extended: false,
     }
-}
-
-/// Whether a message is sent.
-fn sends_some(records: &[Record<'_>]) -> bool
-    ensures { IsTrue result ↔ SendsSome (map shown_of records.now) }
-{
-    for record in records {
-        match record {
-            Record::Out(..) => return true,
-            Record::In(..) | Record::Change(..) => {}
-        }
-    }
-    false
 }
 
 /// Puts what is told of all records of a session in which no message is sent, if there are some,
@@ -108,48 +97,41 @@ fn put_front<W: Sink>(
 fn put_told<W: Sink, A: Allocator>(
     lines: &mut Lines<'_, W>,
     local: Address,
-    part: Part,
-    told: StretchTold<A>,
-    highest: u16,
+    end: StretchEnd<'_, A>,
     routes: bool,
     tally: Tally,
 ) -> Tally
     ensures wrote { Writes lines.old lines.new
-        (end_text routes local (Stretch part (told_value told) highest)) }
-    ensures tallied { result ≡ with_one tally (Stretch part (told_value told) highest) }
+        (end_text routes local (Stretch (stretch_value end.entry))) }
+    ensures tallied { result ≡ with_one tally (Stretch (stretch_value end.entry)) }
 {
-    put_stretch(lines, local, part, &told, highest, routes);
-    tally.with_end(&told.answer)
+    put_stretch(lines, local, &end, routes);
+    tally.with_end(&end.told.answer)
 }
 
 /// Puts what is told of the stretches of these records and of what stands before them, and answers
 /// the tally with it, and whether that is all: it isn't where memory was refused.
 fn put_stretches<A: Allocator + Copy, T: Tracker<A>, W: Sink>(
     alloc: A,
-    session: &Session,
+    view: &View<'_>,
     records: &[Record<'_>],
-    routes: bool,
     lines: &mut Lines<'_, W>,
     tally: Tally,
 ) -> (Tally, bool)
-    ensures { Puts routes session.now.local lines.old lines.new tally result.0
-        (StretchesUpTo session.now (map shown_of records.now) result.1) }
+    ensures { Puts view.now.telling.routes view.now.session.local lines.old lines.new tally
+        result.0 (StretchesUpTo (view_value view.now) (map shown_of records.now) result.1) }
 {
+    let local = view.session.local;
     let (front, mut rest) = records.split_at(before_leaving(records));
-    let mut tally = put_front(lines, session.local, front, tally);
+    let mut tally = put_front(lines, local, front, tally);
     let mut before = front.len();
     while !rest.is_empty() {
         let (stretch, behind) = first_stretch(rest);
         let leaving = first_of(behind);
-        let Ok(told) = check_stretch::<A, T>(alloc, session, stretch, leaving) else {
+        let Ok(end) = end_of::<A, T>(alloc, view, before, stretch, leaving) else {
             return (tally, false);
         };
-        let part = Part {
-            before,
-            count: stretch.len(),
-        };
-        let highest = highest_state(stretch);
-        tally = put_told(lines, session.local, part, told, highest, routes, tally);
+        tally = put_told(lines, local, end, view.telling.routes, tally);
         before = records.len() - behind.len();
         rest = behind;
     }
@@ -160,19 +142,21 @@ fn put_stretches<A: Allocator + Copy, T: Tracker<A>, W: Sink>(
 /// all.
 fn put_records<A: Allocator + Copy, T: Tracker<A>, W: Sink>(
     alloc: A,
-    session: &Session,
+    view: &View<'_>,
     records: &[Record<'_>],
-    routes: bool,
     lines: &mut Lines<'_, W>,
     tally: Tally,
 ) -> (Tally, bool)
-    ensures { Puts routes session.now.local lines.old lines.new tally result.0
-        (RecordsUpTo session.now (map shown_of records.now) result.1) }
+    ensures { Puts view.now.telling.routes view.now.session.local lines.old lines.new tally
+        result.0 (RecordsUpTo (view_value view.now) (map shown_of records.now) result.1) }
 {
     if sends_some(records) {
-        put_stretches::<A, T, W>(alloc, session, records, routes, lines, tally)
+        put_stretches::<A, T, W>(alloc, view, records, lines, tally)
     } else {
-        (put_all_silent(lines, session.local, records, tally), true)
+        (
+            put_all_silent(lines, view.session.local, records, tally),
+            true,
+        )
     }
 }
 
@@ -182,28 +166,26 @@ pub(crate) fn put_ends<A: Allocator + Copy, T: Tracker<A>, W: Sink>(
     alloc: A,
     addresses: Addresses,
     named: &[NamedRecord<'_>],
-    routes: bool,
+    telling: Telling,
     lines: &mut Lines<'_, W>,
     tally: Tally,
 ) -> (Tally, Option<CaptureFault>)
     requires mine { records_between addresses (map located named.now) ≡ map located named.now }
-    ensures { Puts routes addresses.local lines.old lines.new tally result.0
-        (λ ends. IsSessionTold addresses (map located named.now) ends result.1) }
+    ensures { Puts telling.routes addresses.local lines.old lines.new tally result.0
+        (λ ends. IsSessionTold telling addresses (map located named.now) ends result.1) }
 {
     let extended = extended_messages(named);
     let Ok(read) = read_session(alloc, addresses, extended, named) else {
         lines.put(b"");
         return (tally, Some(NO_MEMORY));
     };
-    let session = session_of(addresses);
-    let (tally, is_all) = put_records::<A, T, W>(
-        alloc,
-        &session,
-        &read.records,
-        routes,
-        lines,
-        tally,
-    );
+    let view = View {
+        telling: telling.where_refused(read.fault),
+        session: session_of(addresses),
+        named,
+        extended,
+    };
+    let (tally, is_all) = put_records::<A, T, W>(alloc, &view, &read.records, lines, tally);
     if is_all {
         (tally, read.fault)
     } else {

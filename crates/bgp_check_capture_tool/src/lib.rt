@@ -3,7 +3,8 @@
 //! setting.
 //!
 //! ```text
-//! let checked = check_capture::<_, CompactTracker<_>, _, _>(alloc, routes, &mut source, &mut sink);
+//! let checked =
+//!     check_capture::<_, CompactTracker<_>, _, _>(alloc, &options, &mut source, &mut sink);
 //! std::process::exit(checked.status);
 //! ```
 #![tactic(auto)]
@@ -12,9 +13,17 @@ mod checking;
 mod counted;
 mod cutting;
 mod ends;
+mod firsts;
+mod judging;
+mod laws;
 mod lines;
 mod nothing;
+mod options;
 mod part;
+mod stretch_end;
+mod telling;
 
 pub use checking::{CheckedCapture, check_capture};
+pub use laws::{no_configuration_has_a_run, no_verdict_is_vacuous};
 pub use nothing::NothingJudged;
+pub use options::CaptureOptions;

@@ -6,17 +6,19 @@ ghost use Rattle.bgp_judge.specs.Ends.{end_value};
 ghost use Rattle.bgp_judge.specs.Verdict.{verdict_value};
 ghost use Rattle.bgp_text.specs.Lines.{Writes};
 ghost use Rattle.bgp_check.specs.declared.not_judged.NotJudged.TheVariants.{NothingSent};
-ghost use Rattle.bgp_check_capture.specs.Told.{told_value};
 ghost use Rattle.bgp_check_reason.specs.Unshown.{passed_notes};
 ghost use Rattle.bgp_check_text.specs.Text.{as_text, ending_text, peer_text, why_text};
 ghost use Rattle.bgp_check_capture_tool.specs.Ends.{Stretch};
+ghost use Rattle.bgp_check_capture_tool.specs.Judging.{judge_text};
+ghost use Rattle.bgp_check_capture_tool.specs.StretchEnd.{stretch_value, text_in};
 ghost use Rattle.bgp_check_capture_tool.specs.Text.{end_text, no_text, part_text};
 ghost use Rattle.bgp_check_capture_tool.specs.Text.{unjudged_line, verdict_text, whose_text};
 
+use crate::judging::put_judge;
 use crate::part::Part;
+use crate::stretch_end::StretchEnd;
 use bgp_check::{Answer, Judged, NotJudged, PeerAs};
-use bgp_check_capture::StretchTold;
-use bgp_check_reason::put_passed_over;
+use bgp_check_reason::{Reason, put_passed_over, put_reason};
 use bgp_check_text::{put_as, put_endings, put_peer, put_why};
 use bgp_judge::Verdict;
 use bgp_prefix::Address;
@@ -93,53 +95,64 @@ fn put_whose<W: Sink>(
     lines.put(b"\n");
 }
 
+/// Why a verdict is a no or unfinished, where that is told.
+fn put_reason_in<W: Sink, A: Allocator>(lines: &mut Lines<'_, W>, reason: &Option<Reason<A>>)
+    ensures { Writes lines.old lines.new (text_in reason.now) }
+{
+    match reason {
+        Some(reason) => put_reason(lines, reason),
+        None => lines.put(b""),
+    }
+}
+
 /// The lines of a stretch's verdict.
 fn put_verdict<W: Sink, A: Allocator>(
     lines: &mut Lines<'_, W>,
     local: Address,
-    part: Part,
-    told: &StretchTold<A>,
+    end: &StretchEnd<'_, A>,
     judged: &Judged<A>,
-    highest: u16,
     routes: bool,
 )
-    ensures { Writes lines.old lines.new (verdict_text routes local part (told_value told.now)
-        highest judged.now.as_number judged.now.peer_as (verdict_value judged.now.verdict)) }
+    ensures { Writes lines.old lines.new (verdict_text routes local (stretch_value end.now)
+        judged.now.as_number judged.now.peer_as (verdict_value judged.now.verdict)) }
 {
+    let (received, sent) = (end.told.received, end.told.sent);
     match &judged.verdict {
         Verdict::Yes(endings) => {
             lines.put(b"yes");
-            put_whose(lines, local, part, judged.as_number, judged.peer_as);
-            put_endings(lines, endings.as_slice(), highest, routes);
-            put_passed_over(lines, told.received, told.sent);
+            put_whose(lines, local, end.part, judged.as_number, judged.peer_as);
+            put_endings(lines, endings.as_slice(), end.highest, routes);
+            put_passed_over(lines, received, sent);
+            put_judge(lines, end.judge);
         }
         Verdict::No(_) => {
-            put_no(lines, part, told.impossible.unwrap_or(0));
-            put_whose(lines, local, part, judged.as_number, judged.peer_as);
-            put_passed_over(lines, told.received, told.sent);
+            put_no(lines, end.part, end.told.impossible.unwrap_or(0));
+            put_whose(lines, local, end.part, judged.as_number, judged.peer_as);
+            put_reason_in(lines, &end.reason);
+            put_passed_over(lines, received, sent);
+            put_judge(lines, end.judge);
         }
         Verdict::Unfinished => {
             lines.put(b"unfinished");
-            put_whose(lines, local, part, judged.as_number, judged.peer_as);
-            put_passed_over(lines, told.received, told.sent);
+            put_whose(lines, local, end.part, judged.as_number, judged.peer_as);
+            put_reason_in(lines, &end.reason);
+            put_passed_over(lines, received, sent);
+            put_judge(lines, end.judge);
         }
     }
 }
 
-/// The lines of a stretch that tells no higher state than this.
+/// The lines of a stretch.
 pub(crate) fn put_stretch<W: Sink, A: Allocator>(
     lines: &mut Lines<'_, W>,
     local: Address,
-    part: Part,
-    told: &StretchTold<A>,
-    highest: u16,
+    end: &StretchEnd<'_, A>,
     routes: bool,
 )
-    ensures { Writes lines.old lines.new
-        (end_text routes local (Stretch part (told_value told.now) highest)) }
+    ensures { Writes lines.old lines.new (end_text routes local (Stretch (stretch_value end.now))) }
 {
-    match &told.answer {
-        Answer::NotJudged(why) => put_not_judged(lines, local, part, *why),
-        Answer::Judged(judged) => put_verdict(lines, local, part, told, judged, highest, routes),
+    match &end.told.answer {
+        Answer::NotJudged(why) => put_not_judged(lines, local, end.part, *why),
+        Answer::Judged(judged) => put_verdict(lines, local, end, judged, routes),
     }
 }

@@ -3,7 +3,7 @@
 use crate::devices::tell_note;
 use crate::recordings::tell_unwritten;
 use bgp_capture_list::list_capture;
-use bgp_check_capture_tool::{NothingJudged, check_capture};
+use bgp_check_capture_tool::{CaptureOptions, NothingJudged, check_capture};
 use bgp_compact::CompactTracker;
 use bgp_tool::Note;
 use mrt::{CaptureFault, FaultKind, FromRead, FromWrite, Sink};
@@ -31,7 +31,7 @@ pub(crate) fn list_records<R: Print + Eprint + AllocGlobal, F: Read + Drop>(
 /// Checks the sessions of the capture that a reader gives, and answers the exit status.
 pub(crate) fn check_records<R: Print + Eprint + AllocGlobal, F: Read + Drop>(
     rt: &R,
-    routes: bool,
+    options: &CaptureOptions,
     file: &str,
     reader: F,
 ) -> u8 {
@@ -39,7 +39,7 @@ pub(crate) fn check_records<R: Print + Eprint + AllocGlobal, F: Read + Drop>(
     let mut sink = FromWrite::new(io::writer(rt));
     let checked = check_capture::<Global, CompactTracker<Global>, _, _>(
         rt.alloc(),
-        routes,
+        options,
         &mut source,
         &mut sink,
     );
@@ -47,14 +47,16 @@ pub(crate) fn check_records<R: Print + Eprint + AllocGlobal, F: Read + Drop>(
         tell_unwritten(rt, &sink);
         return checked.status;
     }
-    tell_fault(rt, file, &source, checked.fault);
+    for fault in &checked.refusals {
+        tell_fault(rt, file, &source, *fault);
+    }
     if checked.nothing {
         let _ = eprintln!(rt; "bgp: {}", NothingJudged);
     }
     checked.status
 }
 
-/// Tells why a capture can't be read on, if it can't.
+/// Tells what is wrong with a capture, or with one of its sessions, if something is, and what helps.
 fn tell_fault<R: Eprint, F: Read>(
     rt: &R,
     file: &str,

@@ -8,6 +8,7 @@ ghost use Rattle.bgp_tool.specs.declared.status.Status.TheVariants.{Usage};
 use crate::captures::{check_records, list_records};
 use crate::devices::{buffered, open, tell, tell_cut_short, tell_note};
 use crate::made_file::MadeFile;
+use bgp_check_capture_tool::CaptureOptions;
 use bgp_check_tool::{CheckOptions, check_recording};
 use bgp_compact::CompactTracker;
 use bgp_import::{Cause, Import, Imported, Refusal, Stopped, import_recording};
@@ -22,8 +23,8 @@ use std::io::{Read, Write};
 use std::rt::Files;
 
 /// Runs `import` on a recording, or on standard input for `-`, and answers the exit status. The
-/// capture's file is made, or emptied, at the first octet that is written, so where the recording is
-/// refused it is as it was; `-` is standard output. One name for both is none of a capture.
+/// capture's file is made, or emptied, at the first octet that is written, so where the recording
+/// is refused it is as it was; `-` is standard output. One name for both is none of a capture.
 pub fn import<R: Files + Input + Print + Eprint + AllocGlobal>(
     rt: &R,
     session: &Session,
@@ -84,7 +85,10 @@ fn check_from<R: Print + Eprint + AllocGlobal, F: Read + Drop>(
     if peeked.is_recording() {
         check_packets(rt, options, file, peeked)
     } else {
-        check_records(rt, options.routes, file, peeked)
+        let CheckOptions {
+            routes, settings, ..
+        } = *options;
+        check_records(rt, &CaptureOptions { routes, settings }, file, peeked)
     }
 }
 

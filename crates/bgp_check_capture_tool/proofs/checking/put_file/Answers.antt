@@ -1,34 +1,48 @@
-use Rattle.std.proofs.Common.{[], List, inl, inr, map, refl, subst}
+use Rattle.std.proofs.Common.{[], List, Option, inl, inr, map, refl, subst, sym}
+use Rattle.mrt.specs.declared.fault.CaptureFault.{CaptureFault}
+use Rattle.std.specs.List.{AllByRecursion}
 use Rattle.mrt_sessions.specs.Located.{located}
 use Rattle.mrt_sessions.specs.Sessions.{HoldsSessions}
 use Rattle.mrt_sessions.specs.declared.named.NamedRecord.{NamedRecord}
-use Rattle.bgp_check_capture_tool.specs.Checking.{blocks_text}
+use Rattle.bgp_text.specs.Lines.{Writes}
+use Rattle.bgp_check_capture_tool.specs.Checking.{IsBlock, blocks_text}
+use Rattle.bgp_check_capture_tool.specs.Firsts.{AreApart}
+use Rattle.bgp_check_capture_tool.specs.declared.telling.Telling.{Telling}
+use Rattle.bgp_check_capture_tool.proofs.Apart.{none_apart}
 use Rattle.bgp_check_capture_tool.proofs.checking.put_file.Goals as goal
 
-pub returns-in_default : goal.returns-in_default
-returns-in_default g c = record { text = []; wrote = c.put.ensures; tells = inr (refl, c.new.ensures, refl) }
+pub returns-in_default-clause-puts : goal.returns-in_default-clause-puts
+returns-in_default-clause-puts g c = record { text = []; wrote = c.put.ensures; tells = inr (refl, c.new.ensures.tally, c.new.ensures.refusals, refl) }
 
-pub put_sessions-tally-requires : goal.put_sessions-tally-requires
-put_sessions-tally-requires g c = (map located c.as_slice.result.now, c.in-Ok-of.ensures)
+pub returns-in_default-clause-apart : goal.returns-in_default-clause-apart
+returns-in_default-clause-apart g c = subst (λ (fs : List (Option CaptureFault)). AreApart fs) (sym c.new.ensures.refusals) none_apart
 
-pub returns : goal.returns
-returns g c =
+pub returns-in_default-of-clause-apart : goal.returns-in_default-of-clause-apart
+returns-in_default-of-clause-apart g c = subst (λ (fs : List (Option CaptureFault)). AreApart fs) (sym c.new-in_default-of.ensures.refusals) none_apart
+
+pub put_sessions-counted-requires : goal.put_sessions-counted-requires
+put_sessions-counted-requires g c = (map located c.as_slice.result.now, c.in-Ok-of.ensures)
+
+pub returns-clause-puts : goal.returns-clause-puts
+returns-clause-puts g c =
     let named = map located c.in-Ok.file.records.items in
     let holds = subst (λ (rs : List NamedRecord). HoldsSessions (map located rs) c.in-Ok-of.sessions) c.as_slice.ensures.value c.in-Ok-of.ensures in
-    let puts = c.put_sessions-tally.ensures named holds in
+    let puts = c.put_sessions-counted.ensures.puts named holds in
     record {
-      text = blocks_text c.args.routes named puts.blocks;
-      wrote = puts.wrote;
+      text = blocks_text c.args.options.now.routes named puts.blocks;
+      wrote = subst (λ (telling : Telling). Writes c.args.lines.now c.put_sessions-counted.new.lines (blocks_text telling.routes named puts.blocks)) c.of-telling.ensures puts.wrote;
       tells = inl record {
         named = named;
         offset = c.in-Ok.file.offset;
         refusal = c.in-Ok.file.refusal;
-        has = c.in-Ok.ensures;
+        plain = c.in-Ok.file.is_plain;
+        has = c.in-Ok.ensures.plain;
         blocks = puts.blocks;
         are = puts.are;
-        told = puts.told;
+        told = subst (λ (telling : Telling). AllByRecursion (IsBlock telling named) puts.blocks) c.of-telling.ensures puts.told;
         is_text = refl;
         is_tally = puts.tallied;
-        is_fault = c.fault.ensures;
+        are_firsts = puts.added;
+        is_fault = c.fault-fault.ensures;
       };
     }

@@ -4,8 +4,8 @@ use Rattle.bgp_check_text.specs.declared.tally.Tally.{Tally}
 use Rattle.bgp_check_capture_tool.specs.Counted.{with_fault}
 use Rattle.bgp_check_capture_tool.proofs.checking.put_one.Goals as goal
 
-pub returns : goal.returns
-returns g c =
+pub returns-clause-puts : goal.returns-clause-puts
+returns-clause-puts g c =
     let law : Joins g.W.Sink = record { joined = g.met.W.Sink.joined } in
     let puts = c.put_ends-fault.ensures in
     record {
@@ -13,5 +13,6 @@ returns g c =
       fault = c.put_ends-fault.result.1;
       told = puts.told;
       wrote = and_then law c.put_session.ensures (and_then law puts.wrote c.put_fault.ensures);
-      tallied = c.with_fault.ensures ∙ ap (λ (t : Tally). with_fault t c.put_ends-fault.result.1) puts.tallied;
+      tallied = c.add_fault.ensures.tallied ∙ ap (λ (t : Tally). with_fault t c.put_ends-fault.result.1) puts.tallied;
+      added = c.add_fault.ensures.added;
     }

@@ -3,7 +3,7 @@ use Rattle.mrt.specs.Reader.{shown_of}
 use Rattle.mrt_sessions.specs.File.{Located}
 use Rattle.mrt_sessions.specs.Located.{located}
 use Rattle.mrt_sessions.specs.Reading.{IsReading}
-use Rattle.bgp_check_capture_tool.proofs.WholeSession.{all_told}
+use Rattle.bgp_check_capture_tool.proofs.WholeSession.{all_told, seen_as}
 use Rattle.bgp_check_capture_tool.proofs.ends.put_ends.Goals as goal
 
 pub returns-in_default : goal.returns-in_default
@@ -12,13 +12,15 @@ returns-in_default g c = record { ends = []; told = inr (refl, refl); wrote = c.
 pub returns-then-is_all : goal.returns-then-is_all
 returns-then-is_all g c =
     let reading = subst (λ (ls : List Located). IsReading c.args.addresses c.extended_messages-extended.result ls (map shown_of c.in-Ok.read.records.items) c.in-Ok.read.fault) c.requires.mine c.in-Ok.ensures in
-    all_told c.args.routes c.args.addresses (map located c.args.named.now) c.session_of-session.result _ (map shown_of c.in-Ok.read.records.items) c.extended_messages-extended.result
-    c.in-Ok.read.fault _ c.put_records-is_all.result.1 c.args.lines.now _ c.args.tally _ c.session_of-session.ensures (ap (map shown_of) c.deref.ensures.value)
+    all_told c.args.telling c.args.addresses (map located c.args.named.now) _ _ (map shown_of c.in-Ok.read.records.items) c.extended_messages-extended.result
+    c.in-Ok.read.fault _ c.put_records-is_all.result.1 c.args.lines.now _ c.args.tally _ (seen_as c.args.telling c.args.addresses (map located c.args.named.now) c.extended_messages-extended.result c.in-Ok.read.fault _ _ c.where_refused.ensures c.session_of.ensures)
+    (ap (map shown_of) c.deref.ensures.value)
     c.extended_messages-extended.ensures.received c.extended_messages-extended.ensures.sent reading (inl (c.if-is_all.true, refl)) c.put_records-is_all.ensures
 
 pub returns : goal.returns
 returns g c =
     let reading = subst (λ (ls : List Located). IsReading c.args.addresses c.extended_messages-extended.result ls (map shown_of c.in-Ok.read.records.items) c.in-Ok.read.fault) c.requires.mine c.in-Ok.ensures in
-    all_told c.args.routes c.args.addresses (map located c.args.named.now) c.session_of-session.result _ (map shown_of c.in-Ok.read.records.items) c.extended_messages-extended.result
-    c.in-Ok.read.fault _ c.put_records-is_all.result.1 c.args.lines.now _ c.args.tally _ c.session_of-session.ensures (ap (map shown_of) c.deref.ensures.value)
+    all_told c.args.telling c.args.addresses (map located c.args.named.now) _ _ (map shown_of c.in-Ok.read.records.items) c.extended_messages-extended.result
+    c.in-Ok.read.fault _ c.put_records-is_all.result.1 c.args.lines.now _ c.args.tally _ (seen_as c.args.telling c.args.addresses (map located c.args.named.now) c.extended_messages-extended.result c.in-Ok.read.fault _ _ c.where_refused.ensures c.session_of.ensures)
+    (ap (map shown_of) c.deref.ensures.value)
     c.extended_messages-extended.ensures.received c.extended_messages-extended.ensures.sent reading (inr refl) c.put_records-is_all.ensures

@@ -4,10 +4,8 @@ use Rattle.std.proofs.lemmas.List.{length-map}
 use Rattle.bgp_prefix.specs.Shown.{ShownRecord}
 use Rattle.mrt.specs.Reader.{shown_of}
 use Rattle.bgp_text.proofs.Pieces.{Joins}
-use Rattle.bgp_check_capture.specs.Told.{IsStretchTold, told_value}
 use Rattle.bgp_check_capture_tool.specs.Ends.{Stretch}
-use Rattle.bgp_check_capture_tool.specs.Stretches.{first_of}
-use Rattle.bgp_check_capture_tool.specs.declared.part.Part.{Part}
+use Rattle.bgp_check_capture_tool.specs.StretchEnd.{IsStretchEnd, stretch_value, view_value}
 use Rattle.bgp_check_capture_tool.proofs.Fronts.{left_are, taken_are}
 use Rattle.bgp_check_capture_tool.proofs.ToldSoFar.{SoFar, both_lengths, none_left, none_told, one_told, shorter, told_up_to}
 use Rattle.bgp_check_capture_tool.proofs.ends.put_stretches.Goals as goal
@@ -21,7 +19,7 @@ loop-rest-init g c =
     let front_len = c.split_at.ensures.front_len in
     let back_len = c.split_at.ensures.back_len in
     record {
-      so_far = none_told c.args.routes c.args.session.now (map shown_of c.args.records.now) (map shown_of c.split_at.result.0.now) (map shown_of c.split_at.result.1.now) n _ c.args.lines.now _ c.args.tally _
+      so_far = none_told c.args.view.now.telling.routes (view_value c.args.view.now) (map shown_of c.args.records.now) (map shown_of c.split_at.result.0.now) (map shown_of c.split_at.result.1.now) n _ c.args.lines.now _ c.args.tally _
           (sym (length-map c.split_at.result.0.now shown_of)) is front rest c.put_front-tally.ensures.wrote c.put_front-tally.ensures.tallied;
       all = omega (arith, front_len, back_len);
     }
@@ -29,9 +27,17 @@ loop-rest-init g c =
 pub first_stretch-requires-clause-leaving : goal.first_stretch-requires-clause-leaving
 first_stretch-requires-clause-leaving g c = c.loop-rest.invariant.so_far.cut.next
 
+pub end_of-requires : goal.end_of-requires
+end_of-requires g c =
+    let lengths = both_lengths (map shown_of c.loop-rest.rest.now) (map shown_of c.first_stretch.result.0.now) (map shown_of c.first_stretch.result.1.now) c.first_stretch.ensures in
+    let one = length-map c.loop-rest.rest.now shown_of in
+    let other = length-map c.first_stretch.result.0.now shown_of in
+    let all = c.loop-rest.invariant.all in
+    record { few = omega (arith, lengths, one, other, all) }
+
 pub returns-in_default : goal.returns-in_default
 returns-in_default g c =
-    told_up_to c.args.routes c.args.session.now (map shown_of c.args.records.now) (map shown_of c.loop-rest.rest.now) c.loop-rest.before false c.args.lines.now _ c.args.tally _
+    told_up_to c.args.view.now.telling.routes (view_value c.args.view.now) (map shown_of c.args.records.now) (map shown_of c.loop-rest.rest.now) c.loop-rest.before false c.args.lines.now _ c.args.tally _
     (λ no. absurd (let k : ⊥ = cc in k)) c.loop-rest.invariant.so_far
 
 pub overflow_sub-before : goal.overflow_sub-before
@@ -52,21 +58,19 @@ loop-rest-smaller g c =
 pub loop-rest-preserved : goal.loop-rest-preserved
 loop-rest-preserved g c =
     let law : Joins g.W.Sink = record { joined = g.met.W.Sink.joined } in
-    let session = c.args.session.now in
+    let view = view_value c.args.view.now in
+    let routes = c.args.view.now.telling.routes in
     let records = map shown_of c.args.records.now in
     let rest = map shown_of c.loop-rest.rest.now in
     let stretch = map shown_of c.first_stretch.result.0.now in
     let behind = map shown_of c.first_stretch.result.1.now in
     let before = c.loop-rest.before in
     let count = length c.first_stretch.result.0.now in
-    let told = told_value c.in-Ok.told in
-    let highest = c.highest_state-highest.result in
+    let end = stretch_value c.in-Ok.end in
     let len : length stretch ≡ count = length-map c.first_stretch.result.0.now shown_of in
-    let by = subst (λ (o : Option ShownRecord). IsStretchTold session stretch count o told) c.first_of-leaving.ensures c.in-Ok.ensures in
-    let is_told = subst (λ (n : ℕ). IsStretchTold session stretch n (first_of behind) told) (sym len) by in
-    let is_part = ap (λ (n : ℕ). (let p : Part = record { before = before; count = n } in p)) (sym len) in
-    let more = one_told law c.args.routes session records rest stretch behind before count (Stretch (record { before = before; count = count }) told highest)
-    c.args.lines.now c.loop-rest.lines _ c.args.tally c.loop-rest.tally _ c.loop-rest.invariant.so_far c.first_stretch.ensures (sym len) (is_part, is_told, c.highest_state-highest.ensures)
+    let is_end = subst (λ (o : Option ShownRecord). IsStretchEnd view before stretch o end) c.first_of-leaving.ensures c.in-Ok.ensures in
+    let more = one_told law routes view records rest stretch behind before count (Stretch end)
+    c.args.lines.now c.loop-rest.lines _ c.args.tally c.loop-rest.tally _ c.loop-rest.invariant.so_far c.first_stretch.ensures (sym len) is_end
     c.put_told-tally.ensures.wrote c.put_told-tally.ensures.tallied in
     let lengths = both_lengths rest stretch behind c.first_stretch.ensures in
     let one = length-map c.loop-rest.rest.now shown_of in
@@ -74,11 +78,11 @@ loop-rest-preserved g c =
     let all = c.loop-rest.invariant.all in
     let same : before + count ≡ length c.args.records.now - length c.first_stretch.result.1.now = omega (arith, lengths, one, other, all, len) in
     record {
-      so_far = subst (λ (n : ℕ). SoFar c.args.routes session records behind n c.args.lines.now c.put_told-tally.new.lines c.args.tally c.put_told-tally.result) same more;
+      so_far = subst (λ (n : ℕ). SoFar routes view records behind n c.args.lines.now c.put_told-tally.new.lines c.args.tally c.put_told-tally.result) same more;
       all = omega (arith, lengths, one, other, all, len);
     }
 
 pub returns : goal.returns
 returns g c =
-    told_up_to c.args.routes c.args.session.now (map shown_of c.args.records.now) (map shown_of c.loop-rest.rest.now) c.loop-rest.before true c.args.lines.now _ c.args.tally _
+    told_up_to c.args.view.now.telling.routes (view_value c.args.view.now) (map shown_of c.args.records.now) (map shown_of c.loop-rest.rest.now) c.loop-rest.before true c.args.lines.now _ c.args.tally _
     (λ yes. ap (map shown_of) (none_left c.loop-rest.rest.now (eqb-true (length c.loop-rest.rest.now) 0 (sym c.is_empty.ensures ∙ c.loop-rest-test.false)))) c.loop-rest.invariant.so_far

@@ -1,0 +1,147 @@
+-- What a verdict on a stretch is worth that is told of a session in a capture.
+use Rattle.std.proofs.Common.{◌≡◌, ◌∙◌, ◌+◌, ◌++◌, ℕ, Bool, true, false, IsTrue, List, [], ◌∷◌, Option, None, Some, inl, inr, length, refl, sym, ap, subst, take}
+use Rattle.std.specs.Prelude.{option_map}
+use Rattle.bgp_prefix.specs.Shown.{ShownRecord}
+use Rattle.bgp_prefix.specs.declared.session.Session.{Session}
+use Rattle.mrt.specs.declared.fault.CaptureFault.{CaptureFault}
+use Rattle.mrt_sessions.specs.File.{Located}
+use Rattle.mrt_sessions.specs.declared.addresses.Addresses.{Addresses}
+use Rattle.bgp_open.specs.Open.{OpenFields, open_of}
+use Rattle.bgp_open.specs.declared.config.Config.{Config}
+use Rattle.bgp_machine.specs.Lists.{Each, Has}
+use Rattle.bgp_machine.specs.Run.{Begins}
+use Rattle.bgp_judge.specs.Verdict.{No, Unfinished, VerdictValue, Yes}
+use Rattle.bgp_check.specs.Answered.{AnswerValue, IsAnswerTo, JudgedAs, Unjudged}
+use Rattle.bgp_check.specs.Configurations.{IsOf}
+use Rattle.bgp_check.specs.Cut.{IsWholeStretch, joined}
+use Rattle.bgp_check.specs.NotJudged.{IsWhyNot, SendsSome, why_not}
+use Rattle.bgp_check.specs.Opens.{HasOwnOpen}
+use Rattle.bgp_check.specs.Stretch.{IsStretch}
+use Rattle.bgp_check.specs.declared.peer_as.PeerAs.{PeerAs}
+use Rattle.bgp_check.specs.declared.peer_as.PeerAs.TheVariants.{Any}
+use Rattle.bgp_check_capture.specs.Cut.{IsAtLeaving}
+use Rattle.bgp_check_capture.specs.StretchLaws as stretch
+use Rattle.bgp_check_capture.specs.StretchLaws.{IsLeftSo, JudgedAreStretches}
+use Rattle.bgp_check_capture.specs.Told.{answer_by, left_answer, with_leaving}
+use Rattle.bgp_check_capture_tool.specs.Ends.{AreTold, End, IsSessionTold, Silent, Staying, Stretch, TellsStretches, front_ends, session_of, silent_ends, view_of}
+use Rattle.bgp_check_capture_tool.specs.Headline.{IsToldAmong, NoConfigurationHasARun, NothingIsVacuous}
+use Rattle.bgp_check_capture_tool.specs.StretchEnd.{IsStretchEnd, StretchEnd, View}
+use Rattle.bgp_check_capture_tool.specs.Stretches.{first_of}
+use Rattle.bgp_check_capture_tool.specs.declared.telling.Telling.{Telling}
+
+-- the stretch of which it is told
+record IsFound (session : Session) (end : StretchEnd) : Type 0 where
+  pub view : View
+  pub before : ℕ
+  pub stretch : List ShownRecord
+  pub leaving : Option ShownRecord
+  pub is_session : view.session ≡ session
+  pub is : IsStretchEnd view before stretch leaving end
+  pub whole : IsWholeStretch stretch
+  pub so : IsLeftSo leaving
+
+left_so : (stretches : List (List ShownRecord)) (rest : List ShownRecord) → Each IsWholeStretch stretches → IsAtLeaving rest → IsLeftSo (first_of (joined stretches ++ rest))
+left_so [] [] each next = tt
+left_so [] (first ∷ rest) each next = next
+left_so ([] ∷ stretches) rest each next = absurd each.0
+left_so ((first ∷ records) ∷ stretches) rest each next = each.0.0
+
+module _ (view : View) (end : StretchEnd) where
+  found_in : (before : ℕ) (stretches : List (List ShownRecord)) (rest : List ShownRecord) (ends : List End) → AreTold view before stretches rest ends
+      → Each IsWholeStretch stretches → IsAtLeaving rest → Has (λ one. one ≡ Stretch end) ends → IsFound view.session end
+  found_in before [] rest [] told each next among = absurd among
+  found_in before [] rest (one ∷ ends) told each next among = absurd told
+  found_in before (s ∷ stretches) rest [] told each next among = absurd among
+  found_in before (s ∷ stretches) rest (one ∷ ends) told each next (inr later) = found_in (before + length s) stretches rest ends told.1 each.1 next later
+  found_in before (s ∷ stretches) rest (Silent part ∷ ends) told each next (inl same) = absurd told.0
+  found_in before (s ∷ stretches) rest (Staying part ∷ ends) told each next (inl same) = absurd told.0
+  found_in before (s ∷ stretches) rest (Stretch one ∷ ends) told each next (inl same) = record {
+    view = view;
+    before = before;
+    stretch = s;
+    leaving = first_of (joined stretches ++ rest);
+    is_session = refl;
+    is = subst (λ (e : StretchEnd). IsStretchEnd view before s (first_of (joined stretches ++ rest)) e) (inner same) told.0;
+    whole = each.0;
+    so = left_so stretches rest each.1 next;
+  } where
+    held : End → StretchEnd
+    held (Silent part) = end
+    held (Staying part) = end
+    held (Stretch e) = e
+
+    inner : {a : StretchEnd} → Stretch a ≡ Stretch end → a ≡ end
+    inner e = ap held e
+
+  not_before : (front : List ShownRecord) (later : List End) → Has (λ one. one ≡ Stretch end) (front_ends front ++ later) → Has (λ one. one ≡ Stretch end) later
+  not_before [] later among = among
+  not_before (first ∷ records) later (inl same) = let k : ⊥ = cc in absurd k
+  not_before (first ∷ records) later (inr among) = among
+
+  found_of : (records rest : List ShownRecord) (ends : List End) → TellsStretches view records rest ends → Has (λ one. one ≡ Stretch end) ends → IsFound view.session end
+  found_of records rest ends tells among =
+      found_in (length tells.front) tells.stretches rest tells.later tells.told tells.cut.each tells.cut.next
+      (not_before tells.front tells.later (subst (Has (λ one. one ≡ Stretch end)) tells.are among))
+
+  not_silent : (records : List ShownRecord) → Has (λ one. one ≡ Stretch end) (silent_ends records) → ⊥
+  not_silent [] among = among
+  not_silent (first ∷ records) (inl same) = let k : ⊥ = cc in k
+  not_silent (first ∷ records) (inr none) = none
+
+found : (telling : Telling) (addresses : Addresses) (named : List Located) (end : StretchEnd) (is : IsToldAmong telling addresses named end)
+    → IsFound (session_of addresses) end
+found telling addresses named end is = by is.told where
+  by : IsSessionTold telling addresses named is.ends is.fault → IsFound (session_of addresses) end
+  by (inr none) = absurd (subst (Has (λ one. one ≡ Stretch end)) none.0 is.among)
+  by (inl read) = elim read.tells [
+    | inl silent ↦ absurd (not_silent (view_of telling addresses named read.extended read.refusal) end read.records (subst (Has (λ one. one ≡ Stretch end)) silent.2 is.among))
+    | inr sends ↦ found_of (view_of telling addresses named read.extended read.refusal) end read.records read.rest is.ends sends.1 is.among
+  ]
+
+-- ---- a no
+
+pub no_run : stretch.NoConfigurationHasARun → NoConfigurationHasARun
+no_run law telling addresses named end number peer count own config told is_no has of =
+    let f = found telling addresses named end told in
+    let is = f.is.is_told in
+    let has_it = subst (λ (rs : List ShownRecord). HasOwnOpen rs own) is.are_records has in
+    subst (λ (rs : List ShownRecord). ¬ Begins config (take (count + 1) rs)) (sym is.are_records)
+    (law f.view.session f.stretch (length f.stretch) f.leaving end.told number peer count own config is f.whole f.so is_no has_it (subst (λ (s : Session). IsOf s own config) (sym f.is_session) of))
+
+-- ---- nothing is vacuous
+
+sends_by : (sends extended : Bool) (own told : Option OpenFields) → None ≡ why_not sends extended own told → IsTrue sends
+sends_by false extended own told is = let k : ⊥ = cc in absurd k
+sends_by true extended own told is = refl
+
+sends_some : (records : List ShownRecord) → IsWhyNot records None → SendsSome records
+sends_some records none = none.is_sends.0 (sends_by none.sends none.extended (option_map open_of none.own) none.told none.is_why)
+
+abbrev number_in : AnswerValue → Option ℕ
+number_in (Unjudged why) = None
+number_in (JudgedAs number peer verdict) = number
+
+abbrev peer_in : AnswerValue → PeerAs
+peer_in (Unjudged why) = Any
+peer_in (JudgedAs number peer verdict) = peer
+
+left_judged : (answer : AnswerValue) (number : Option ℕ) (peer : PeerAs) (verdict : VerdictValue) → left_answer answer ≡ JudgedAs number peer verdict
+    → (before : VerdictValue) × (answer ≡ JudgedAs number peer before)
+left_judged (Unjudged why) number peer verdict e = let k : ⊥ = cc in absurd k
+left_judged (JudgedAs n p v) number peer verdict e = (v, λ i. JudgedAs (ap number_in e i) (ap peer_in e i) v)
+
+was_judged : (leaving : Option ShownRecord) (answer : AnswerValue) (number : Option ℕ) (peer : PeerAs) (verdict : VerdictValue) → answer_by leaving answer ≡ JudgedAs number peer verdict
+    → (before : VerdictValue) × (answer ≡ JudgedAs number peer before)
+was_judged None answer number peer verdict e = (verdict, e)
+was_judged (Some leaving) answer number peer verdict e = left_judged answer number peer verdict e
+
+pub not_vacuous : JudgedAreStretches → NothingIsVacuous
+not_vacuous law telling addresses named end number peer verdict told is_judged =
+    let f = found telling addresses named end told in
+    let is = f.is.is_told in
+    let judged = with_leaving is.left.records f.leaving in
+    let before = was_judged f.leaving is.answer number peer verdict (sym is.is_answer ∙ is_judged) in
+    let answer : IsAnswerTo f.view.session judged (JudgedAs number peer before.0) = subst (λ (a : AnswerValue). IsAnswerTo f.view.session judged a) before.1 is.answers in (
+      subst IsStretch (sym is.are_records) (law f.view.session f.stretch (length f.stretch) f.leaving end.told is f.whole f.so),
+      subst SendsSome (sym is.are_records) (sends_some judged answer.none),
+    )

@@ -1,0 +1,83 @@
+-- What is told of a stretch of a session in a capture.
+use Rattle.std.specs.Prelude.{◌≡◌, ◌+◌, ℕ, List, [], Option, None, Some, length, map}
+use Rattle.bgp_prefix.specs.Shown.{ShownRecord}
+use Rattle.bgp_prefix.specs.declared.session.Session.{Session}
+use Rattle.mrt_sessions.specs.File.{Located}
+use Rattle.mrt_sessions.specs.Located.{located}
+use Rattle.mrt_sessions.specs.declared.lengths.ExtendedMessages.{ExtendedMessages}
+use Rattle.bgp_wire.specs.Header.{limit_with}
+use Rattle.bgp_check_capture.specs.Told.{IsStretchTold, ToldValue, told_value}
+use Rattle.bgp_check_reason.specs.Reason.{IsReasonTo, reason_text}
+use Rattle.bgp_check_reason.specs.declared.reason.Reason.{Reason}
+use Rattle.bgp_check_text.specs.Highest.{highest_state}
+use Rattle.bgp_explain.specs.Places.{numbered_places}
+use Rattle.bgp_judge_line.specs.declared.options.JudgeOptions.{JudgeOptions}
+use Rattle.bgp_check_capture_tool.specs.Judging.{AreOptionsOf}
+use Rattle.bgp_check_capture_tool.specs.declared.part.Part.{Part}
+use Rattle.bgp_check_capture_tool.specs.declared.stretch_end.StretchEnd.{StretchEnd as Held}
+use Rattle.bgp_check_capture_tool.specs.declared.stretch_end.View.{View as HeldView}
+use Rattle.bgp_check_capture_tool.specs.declared.telling.Telling.{Telling}
+
+-- what is told of a stretch
+pub record StretchEnd : Type 0 where
+  -- which records of the session it is
+  pub part : Part
+  pub told : ToldValue
+  -- the number of the highest state that it tells
+  pub highest : ℕ
+  -- the lines on why it is a no or unfinished, where it is
+  pub reason : List ℕ
+  -- how `bgp judge` gives the verdict, where it does and that is told
+  pub judge : Option JudgeOptions
+
+-- the lines of a reason, where there is one
+abbrev pub text_in : {X : Type 0} → Option (Reason X) → List ℕ
+text_in None = []
+text_in (Some reason) = reason_text reason
+
+-- as it is held
+abbrev pub stretch_value : {X : Type 0} → Held X → StretchEnd
+stretch_value end = record {
+  part = end.part;
+  told = told_value end.told;
+  highest = end.highest;
+  reason = text_in end.reason;
+  judge = end.judge;
+}
+
+-- What is told besides, and the session: how it is judged, its records in the file, and which of
+-- its messages may be extended ones.
+pub record View : Type 0 where
+  pub telling : Telling
+  pub session : Session
+  pub named : List Located
+  pub extended : ExtendedMessages
+
+abbrev pub view_value : HeldView → View
+view_value view = record {
+  telling = view.telling;
+  session = view.session;
+  named = map located view.named.now;
+  extended = view.extended;
+}
+
+-- the numbers that the judged records of a stretch have in their session
+abbrev pub numbers_of : ℕ → List ℕ → List ℕ
+numbers_of before places = map (λ place. before + place + 1) places
+
+-- why what is told of it is so, where it is a no or unfinished: the line of a message that was sent
+-- goes by the limit of its receiver
+abbrev pub IsReasonFor : View → ℕ → ToldValue → List ℕ → Type 0
+IsReasonFor view before told reason =
+    IsReasonTo view.session (limit_with view.extended.sent)
+    (numbered_places (numbers_of before told.places)) told.records told.answer reason
+
+-- This is told of the stretch before which so many records stand, and which this one leaves: what
+-- is answered of it, and why, and how `bgp judge` gives it.
+pub record IsStretchEnd (view : View) (before : ℕ) (stretch : List ShownRecord)
+    (leaving : Option ShownRecord) (end : StretchEnd) : Type 0 where
+  pub is_part : end.part ≡ record { before = before; count = length stretch }
+  pub is_told : IsStretchTold view.session stretch (length stretch) leaving end.told
+  pub is_highest : end.highest ≡ highest_state stretch
+  pub explains : IsReasonFor view before end.told end.reason
+  pub judges : AreOptionsOf view.telling view.session view.named end.told before leaving end.judge

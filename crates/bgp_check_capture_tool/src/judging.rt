@@ -1,0 +1,98 @@
+//! How `bgp judge` gives a verdict that is told of a stretch.
+
+ghost use Rattle.std.specs.Prelude.{◌≡◌, List, length, map, option_map};
+ghost use Rattle.bgp_prefix.specs.Shown.{ShownRecord};
+ghost use Rattle.mrt.specs.Reader.{shown_of};
+ghost use Rattle.mrt_sessions.specs.Located.{located};
+ghost use Rattle.bgp_judge.specs.Verdict.{verdict_value};
+ghost use Rattle.bgp_check.specs.Answered.{IsAnswerTo, IsJudged, answer_value};
+ghost use Rattle.bgp_check_capture.specs.Told.{IsStretchTold, told_value};
+ghost use Rattle.bgp_check_text.specs.Settings.{are_told};
+ghost use Rattle.bgp_text.specs.Lines.{Writes};
+ghost use Rattle.bgp_check_capture_tool.specs.Judging.{AreOptionsFor, AreOptionsOf, AreOptionsTo};
+ghost use Rattle.bgp_check_capture_tool.specs.Judging.{judge_text, passes_over};
+
+use crate::stretch_end::View;
+use bgp_check::{Answer, Judged};
+use bgp_check_capture::StretchTold;
+use bgp_check_reason::told_configuration;
+use bgp_judge_line::{JudgeOptions, capture_options, put_judge_line};
+use bgp_text::Lines;
+use mrt::{Record, Sink};
+use std::alloc::Allocator;
+
+/// Whether ROUTE-REFRESH messages of a stretch are passed over.
+fn passes_over<A: Allocator>(told: &StretchTold<'_, A>) -> bool
+    ensures { result ≡ passes_over (told_value told.now) }
+{
+    0 < told.received || 0 < told.sent
+}
+
+/// The options by which `bgp judge` gives a verdict that is told of all of a session's records, if
+/// it does and they are told.
+fn options_for<A: Allocator>(
+    view: &View<'_>,
+    told: &StretchTold<'_, A>,
+    judged: &Judged<A>,
+) -> Option<JudgeOptions>
+    requires judged { IsJudged view.now.session (map shown_of told.now.records.items)
+        judged.now.as_number judged.now.peer_as (verdict_value judged.now.verdict) }
+    ensures { AreOptionsFor view.now.telling view.now.session (map located view.now.named.now)
+        (told_value told.now) (are_told view.now.telling.settings
+        (verdict_value judged.now.verdict)) judged.now.peer_as result }
+{
+    if !view.telling.settings.are_told(&judged.verdict) {
+        return None;
+    }
+    let config = told_configuration(&view.session, &told.records, judged)?;
+    let is_plain = view.telling.is_plain;
+    capture_options(
+        config,
+        is_plain,
+        view.named,
+        &told.records,
+        passes_over(told),
+    )
+}
+
+/// Those by which it gives what is answered of them.
+fn options_to<A: Allocator>(view: &View<'_>, told: &StretchTold<'_, A>) -> Option<JudgeOptions>
+    requires answer { IsAnswerTo view.now.session (map shown_of told.now.records.items)
+        (answer_value told.now.answer) }
+    ensures { AreOptionsTo view.now.telling view.now.session (map located view.now.named.now)
+        (told_value told.now) (answer_value told.now.answer) result }
+{
+    match &told.answer {
+        Answer::NotJudged(_) => None,
+        Answer::Judged(judged) => options_for(view, told, judged),
+    }
+}
+
+/// Those by which it gives what is answered of a stretch before which so many records stand, and
+/// which this one leaves, if one does: none, unless it is all of its session.
+pub(crate) fn options_of<A: Allocator>(
+    view: &View<'_>,
+    before: usize,
+    leaving: Option<Record<'_>>,
+    told: &StretchTold<'_, A>,
+) -> Option<JudgeOptions>
+    requires told { (stretch : List ShownRecord) × IsStretchTold view.now.session stretch
+        (length stretch) (option_map shown_of leaving) (told_value told.now) }
+    ensures { AreOptionsOf view.now.telling view.now.session (map located view.now.named.now)
+        (told_value told.now) before (option_map shown_of leaving.entry) result }
+{
+    match (before, leaving) {
+        (0, None) => options_to(view, told),
+        _ => None,
+    }
+}
+
+/// Puts the line with the options of `bgp judge`, where they are told.
+pub(crate) fn put_judge<W: Sink>(lines: &mut Lines<'_, W>, judge: Option<JudgeOptions>)
+    ensures { Writes lines.old lines.new (judge_text judge) }
+{
+    match judge {
+        Some(options) => put_judge_line(lines, &options),
+        None => lines.put(b""),
+    }
+}

@@ -1,0 +1,25 @@
+//! Laws of what is told of a stretch of a session in a capture, each on a function that does
+//! nothing.
+
+ghost use Rattle.bgp_check_capture_tool.specs.Headline.{NoConfigurationHasARun, NothingIsVacuous};
+
+use bgp_check_capture::{
+    no_configuration_has_a_run as no_configuration_explains_a_stretch, what_is_judged_is_a_stretch,
+};
+
+/// A no of [`check_capture`](crate::check_capture) says that no configuration under which the OPEN
+/// that was sent is the local system's own has a run that shows the records of the stretch, even
+/// those before the one that it names, and that one.
+pub fn no_configuration_has_a_run()
+    ensures { NoConfigurationHasARun }
+{
+    no_configuration_explains_a_stretch();
+}
+
+/// A verdict is told only of a stretch in which a message is sent, and of records that begin where
+/// the local system leaves Idle: no yes is vacuous.
+pub fn no_verdict_is_vacuous()
+    ensures { NothingIsVacuous }
+{
+    what_is_judged_is_a_stretch();
+}

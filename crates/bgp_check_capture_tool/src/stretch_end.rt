@@ -1,0 +1,148 @@
+//! What is told of a stretch of a session.
+
+ghost use Rattle.std.specs.Prelude.{◌≡◌, ◌<◌, ◌+◌, IfOk, length, map, option_map};
+ghost use Rattle.std.specs.List.{AllByRecursion};
+ghost use Rattle.mrt.specs.Reader.{shown_of};
+ghost use Rattle.mrt_sessions.specs.Located.{located};
+ghost use Rattle.bgp_check.specs.Answered.{IsAnswerTo, answer_value};
+ghost use Rattle.bgp_check_capture.specs.Told.{told_value};
+ghost use Rattle.bgp_check_reason.specs.Reason.{reason_text};
+ghost use Rattle.bgp_check_capture_tool.specs.Judging.{IsToldOfSome};
+ghost use Rattle.bgp_check_capture_tool.specs.StretchEnd.{IsReasonFor, IsStretchEnd, stretch_value};
+ghost use Rattle.bgp_check_capture_tool.specs.StretchEnd.{numbers_of, text_in, view_value};
+
+use crate::judging::options_of;
+use crate::part::Part;
+use crate::telling::Telling;
+use bgp_check::Answer;
+use bgp_check_capture::{StretchTold, check_stretch};
+use bgp_check_reason::{Reason, reason_of};
+use bgp_check_text::{highest_state, is_no_yes};
+use bgp_explain::Places;
+use bgp_judge::Tracker;
+use bgp_judge_line::JudgeOptions;
+use bgp_prefix::Session;
+use bgp_wire::Limit;
+use mrt::Record;
+use mrt_sessions::{ExtendedMessages, NamedRecord};
+use std::alloc::{AllocError, Allocator};
+
+/// A session of a file, and what is told of it besides its verdicts.
+#[derive(Clone, Copy)]
+pub(crate) struct View<'a> {
+    pub(crate) telling: Telling,
+    /// How it is judged, whatever its OPENs offer.
+    pub(crate) session: Session,
+    /// Its records in the file.
+    pub(crate) named: &'a [NamedRecord<'a>],
+    /// Which of its messages may be extended ones (RFC 8654).
+    pub(crate) extended: ExtendedMessages,
+}
+
+/// What is told of a stretch.
+#[derive(Drop)]
+pub(crate) struct StretchEnd<'a, A: Allocator> {
+    /// Which records of the session it is.
+    pub(crate) part: Part,
+    /// What is answered of it.
+    pub(crate) told: StretchTold<'a, A>,
+    /// The number of the highest state that it tells (RFC 6396, 4.4.1).
+    pub(crate) highest: u16,
+    /// Why it is a no or unfinished, where it is.
+    pub(crate) reason: Option<Reason<A>>,
+    /// How `bgp judge` gives the verdict, where it does and that is told.
+    pub(crate) judge: Option<JudgeOptions>,
+}
+
+/// The numbers that the judged records of a stretch have in their session, before which so many
+/// stand.
+fn numbers_of<A: Allocator + Copy>(
+    alloc: A,
+    before: usize,
+    places: &[usize],
+) -> Result<Vec<u64, A>, AllocError>
+    requires few { AllByRecursion (λ place. before + place < usize.MAX) places.now }
+    ensures { IfOk result (λ numbers. numbers.items ≡ numbers_of before places.now) }
+{
+    let mut numbers = Vec::new(alloc);
+    for place in places {
+        numbers.push((before + *place) as u64 + 1)?;
+    }
+    Ok(numbers)
+}
+
+/// Why a verdict on a stretch that isn't yes is so.
+fn explained<A: Allocator + Copy, T: Tracker<A>>(
+    alloc: A,
+    view: &View<'_>,
+    before: usize,
+    told: &StretchTold<'_, A>,
+) -> Result<Reason<A>, AllocError>
+    requires places { AllByRecursion (λ place. before + place < usize.MAX)
+        told.now.places.items }
+    requires answer { IsAnswerTo view.now.session (map shown_of told.now.records.items)
+        (answer_value told.now.answer) }
+    ensures { IfOk result (λ reason. IsReasonFor (view_value view.now) before
+        (told_value told.now) (reason_text reason)) }
+{
+    let numbers = numbers_of(alloc, before, &told.places)?;
+    let places = Places::Numbered(&numbers);
+    let sent = Limit::with_extended(view.extended.sent);
+    reason_of::<A, T>(
+        alloc,
+        &view.session,
+        sent,
+        places,
+        &told.records,
+        &told.answer,
+    )
+}
+
+/// Why a verdict on a stretch is a no or unfinished, where it is.
+fn reason_for<A: Allocator + Copy, T: Tracker<A>>(
+    alloc: A,
+    view: &View<'_>,
+    before: usize,
+    told: &StretchTold<'_, A>,
+) -> Result<Option<Reason<A>>, AllocError>
+    requires places { AllByRecursion (λ place. before + place < usize.MAX)
+        told.now.places.items }
+    requires told { IsToldOfSome view.now.session (told_value told.now) }
+    ensures { IfOk result (λ reason. IsReasonFor (view_value view.now) before
+        (told_value told.now) (text_in reason)) }
+{
+    match &told.answer {
+        Answer::Judged(judged) if is_no_yes(&judged.verdict) => {
+            Ok(Some(explained::<A, T>(alloc, view, before, told)?))
+        }
+        Answer::Judged(_) | Answer::NotJudged(_) => Ok(None),
+    }
+}
+
+/// What is told of a stretch of a session, before which so many records stand, and which this one
+/// leaves, if one does. `AllocError` is answered where memory is refused, and then nothing else.
+pub(crate) fn end_of<'a, A: Allocator + Copy, T: Tracker<A>>(
+    alloc: A,
+    view: &View<'_>,
+    before: usize,
+    stretch: &[Record<'a>],
+    leaving: Option<Record<'a>>,
+) -> Result<StretchEnd<'a, A>, AllocError>
+    requires few { before + length stretch.now < usize.MAX }
+    ensures { IfOk result (λ end. IsStretchEnd (view_value view.now) before
+        (map shown_of stretch.now) (option_map shown_of leaving.entry) (stretch_value end)) }
+{
+    let told = check_stretch::<A, T>(alloc, &view.session, stretch, leaving)?;
+    let reason = reason_for::<A, T>(alloc, view, before, &told)?;
+    let judge = options_of(view, before, leaving, &told);
+    Ok(StretchEnd {
+        part: Part {
+            before,
+            count: stretch.len(),
+        },
+        told,
+        highest: highest_state(stretch),
+        reason,
+        judge,
+    })
+}
