@@ -2,7 +2,7 @@
 
 use crate::case::{Case, Kind, malformed};
 use crate::words::options_of;
-use bgp_check_capture_tool::check_capture;
+use bgp_check_capture_tool::{CaptureOptions, check_capture};
 use bgp_check_tool::{CheckOptions, check_recording};
 use bgp_compact::CompactTracker;
 use bgp_import::Refusal;
@@ -73,9 +73,14 @@ fn check_records<T: Tracker<Global>>(
 ) -> io::Result<String> {
     let mut source = MemSource::new(Vec::from_slice(alloc, file)?);
     let mut sink = MemSink::new(alloc);
+    let CheckOptions {
+        routes,
+        settings,
+        ..
+    } = *options;
     let checked = check_capture::<Global, T, MemSource, MemSink>(
         alloc,
-        options.routes,
+        &CaptureOptions { routes, settings },
         &mut source,
         &mut sink,
     );

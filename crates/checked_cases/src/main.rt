@@ -63,20 +63,6 @@ fn compare_cases<R: Files + Print + AllocGlobal>(
     Ok(all)
 }
 
-/// How many verdicts on a case are told with options of `bgp judge`, if that gives each of them:
-/// none of a capture.
-fn repeated_of(
-    alloc: Global,
-    kind: Kind,
-    case: &Case<'_>,
-    answer: &str,
-) -> io::Result<Option<u64>> {
-    match kind {
-        Kind::Recording => repeated(alloc, case, answer),
-        Kind::Capture => Ok(Some(0)),
-    }
-}
-
 /// Prints a case if it is not so, or if `bgp judge` gives another verdict for one that is told with
 /// its options. Answers how many of these there are, where it is so.
 fn compare_case<R: Files + Print + AllocGlobal>(
@@ -87,7 +73,7 @@ fn compare_case<R: Files + Print + AllocGlobal>(
     let case = read_case(rt.alloc(), block)?;
     let answer = answer_to(rt.alloc(), kind, &case)?;
     if answer.as_str() == case.answer {
-        let count = repeated_of(rt.alloc(), kind, &case, answer.as_str())?;
+        let count = repeated(rt.alloc(), kind, &case, answer.as_str())?;
         if count.is_none() {
             println!(rt; "case {} is judged otherwise", case.name)?;
         }

@@ -1,16 +1,16 @@
 //! Whether `bgp judge` gives each verdict that is told with its options.
 
-use crate::case::{Case, malformed};
+use crate::case::{Case, Kind, malformed};
 use bgp_compact::CompactTracker;
+use bgp_explain::explain_capture;
 use bgp_recording_explain::explain_recording;
 use bgp_words::{Command, command_line};
 use mrt::{MemSink, MemSource};
 use std::alloc::Global;
 use std::io;
 
-/// What `bgp judge --explain` prints of a case's recording, where it is asked by the words of a
-/// line.
-fn judged(alloc: Global, case: &Case<'_>, line: &str) -> io::Result<String> {
+/// What `bgp judge --explain` prints of a case's file, where it is asked by the words of a line.
+fn judged(alloc: Global, kind: Kind, case: &Case<'_>, line: &str) -> io::Result<String> {
     let mut words = Vec::new(alloc);
     words.push("bgp")?;
     for word in line.split(' ') {
@@ -29,19 +29,39 @@ fn judged(alloc: Global, case: &Case<'_>, line: &str) -> io::Result<String> {
     };
     let mut source = MemSource::new(Vec::from_slice(alloc, case.file.as_slice())?);
     let mut sink = MemSink::new(alloc);
-    explain_recording::<Global, CompactTracker<Global>, MemSource, MemSink>(
-        alloc,
-        &config,
-        &options,
-        &mut source,
-        &mut sink,
-    );
+    match kind {
+        Kind::Recording => {
+            explain_recording::<Global, CompactTracker<Global>, MemSource, MemSink>(
+                alloc,
+                &config,
+                &options,
+                &mut source,
+                &mut sink,
+            );
+        }
+        Kind::Capture => {
+            explain_capture::<Global, CompactTracker<Global>, MemSource, MemSink>(
+                alloc,
+                &config,
+                &mut source,
+                &mut sink,
+            );
+        }
+    }
     String::from_utf8(sink.into_octets()).map_err(|_| malformed())
 }
 
-/// Whether a line is told as another is printed: in full; its beginning, where it is cut, or where
+/// A line around the number of a record that it names.
+fn around_number(line: &str) -> (&str, &str) {
+    match line.split_once("record ") {
+        Some((front, rest)) => (front, rest.trim_start_matches(|c: char| c.is_ascii_digit())),
+        None => (line, ""),
+    }
+}
+
+/// Whether a text is told as another is printed: in full; its beginning, where it is cut, or where
 /// any number but one is configured; or with more after it, of an end.
-fn is_told_so(told: &str, printed: &str) -> bool {
+fn is_alike(told: &str, printed: &str) -> bool {
     if let Some((front, _)) = told.split_once(" ..") {
         return printed.starts_with(front);
     }
@@ -51,12 +71,24 @@ fn is_told_so(told: &str, printed: &str) -> bool {
     told == printed || (told.starts_with("end ") && told.starts_with(printed))
 }
 
+/// Whether a line is told as another is printed, or but for the number of a record: where messages
+/// of a capture are passed over, `bgp judge` counts its records without them.
+fn is_told_so(told: &str, printed: &str, counts_alike: bool) -> bool {
+    if counts_alike {
+        return is_alike(told, printed);
+    }
+    let (told_front, told_rest) = around_number(told);
+    let (front, rest) = around_number(printed);
+    is_alike(told_front, front) && is_alike(told_rest, rest)
+}
+
 /// Whether what is printed is told: a verdict, and in the lines after it each possible end, or each
-/// line of the reason. No routes are compared.
-fn is_told(verdict: &str, details: &[&str], printed: &str) -> bool {
+/// line of the reason, and then only notes. No routes are compared.
+fn is_told(verdict: &str, details: &[&str], printed: &str, counts_alike: bool) -> bool {
     let mut lines = printed.lines();
-    if lines.next() != Some(verdict) {
-        return false;
+    match lines.next() {
+        Some(line) if is_told_so(verdict, line, counts_alike) => {}
+        _ => return false,
     }
     let mut places = details.iter();
     for line in lines {
@@ -64,11 +96,11 @@ fn is_told(verdict: &str, details: &[&str], printed: &str) -> bool {
             continue;
         }
         match places.next() {
-            Some(told) if is_told_so(told, line) => {}
+            Some(told) if is_told_so(told, line, counts_alike) => {}
             _ => return false,
         }
     }
-    true
+    places.all(|told| told.starts_with("note "))
 }
 
 /// The verdict in the line of an end.
@@ -85,7 +117,12 @@ fn verdict_in(line: &str) -> &str {
 
 /// How many verdicts of an answer are told with the options of `bgp judge`: `None` where it gives
 /// another for one of them.
-pub(crate) fn repeated(alloc: Global, case: &Case<'_>, answer: &str) -> io::Result<Option<u64>> {
+pub(crate) fn repeated(
+    alloc: Global,
+    kind: Kind,
+    case: &Case<'_>,
+    answer: &str,
+) -> io::Result<Option<u64>> {
     let mut count = 0u64;
     let mut verdict = "";
     let mut details = Vec::new(alloc);
@@ -103,8 +140,12 @@ pub(crate) fn repeated(alloc: Global, case: &Case<'_>, answer: &str) -> io::Resu
             details.push(detail)?;
             continue;
         }
-        let printed = judged(alloc, case, detail)?;
-        if !is_told(verdict, &details, printed.as_str()) {
+        let counts_alike = match kind {
+            Kind::Recording => true,
+            Kind::Capture => !detail.contains(" --skip-refresh"),
+        };
+        let printed = judged(alloc, kind, case, detail)?;
+        if !is_told(verdict, &details, printed.as_str(), counts_alike) {
             return Ok(None);
         }
         count = count.saturating_add(1);
