@@ -28,6 +28,11 @@ HearsOffer named =
     (form_of (header_of named.octets).subtype ≡ Some forms.Received)
     × OffersExtended (content_of named)
 
+-- there is an OPEN, and it offers them
+abbrev pub extended_in : Option (List ℕ) → Bool
+extended_in None = false
+extended_in (Some octets) = offer.offers_extended (open_of octets).capabilities
+
 -- ---- route refresh (RFC 2918, 2)
 
 -- there is an OPEN, and it offers that

@@ -1,5 +1,5 @@
 -- What is told of a stretch of a session.
-use Rattle.std.specs.Prelude.{◌≡◌, ◌++◌, ℕ, List, [], ◌∷◌, Option, None, Some, map}
+use Rattle.std.specs.Prelude.{◌≡◌, ◌++◌, Bool, ℕ, List, [], ◌∷◌, Option, None, Some, map}
 use Rattle.std.specs.Prelude.{slice_index_or}
 use Rattle.bgp_prefix.specs.Shown.{ShownRecord}
 use Rattle.bgp_prefix.specs.declared.session.Session.{Session}
@@ -11,7 +11,7 @@ use Rattle.bgp_check.specs.Answered.{AnswerValue, IsAnswerTo, JudgedAs, Unjudged
 use Rattle.bgp_check.specs.Opens.{HasHeardOpen, HasOwnOpen}
 use Rattle.bgp_check_capture.specs.declared.passing.RefreshOffers.{RefreshOffers}
 use Rattle.bgp_check_capture.specs.declared.stretch.StretchTold.{StretchTold}
-use Rattle.bgp_check_capture.specs.Offers.{refresh_in}
+use Rattle.bgp_check_capture.specs.Offers.{extended_in, refresh_in}
 use Rattle.bgp_check_capture.specs.Passed.{Keeps, Left, nothing_left}
 
 -- ---- where the stretch is left
@@ -69,6 +69,8 @@ pub record ToldValue : Type 0 where
   pub places : List ℕ
   pub received : ℕ
   pub sent : ℕ
+  -- an extended message may be sent
+  pub extended : Bool
 
 abbrev pub told_value : {X : Type 0} → StretchTold X → ToldValue
 told_value told = record {
@@ -78,6 +80,7 @@ told_value told = record {
   places = told.places.items;
   received = told.received;
   sent = told.sent;
+  extended = told.extended;
 }
 
 -- This is told of a stretch of the session with so many records, and with the one that leaves it,
@@ -98,3 +101,4 @@ pub record IsStretchTold (session : Session) (stretch : List ShownRecord) (all :
   pub are_places : told.places ≡ with_place left.places leaving all
   pub is_received : told.received ≡ left.received
   pub is_sent : told.sent ≡ left.sent
+  pub is_extended : told.extended ≡ extended_in heard

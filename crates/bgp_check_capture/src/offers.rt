@@ -5,7 +5,7 @@ ghost use Rattle.bgp_machine.specs.Lists.{Has};
 ghost use Rattle.bgp_open.specs.OpenFault.{IsWellFormed};
 ghost use Rattle.mrt_sessions.specs.Located.{located};
 ghost use Rattle.bgp_check_capture.specs.Offers.{HearsOffer, OffersExtended, SendsOffer};
-ghost use Rattle.bgp_check_capture.specs.Offers.{refresh_in};
+ghost use Rattle.bgp_check_capture.specs.Offers.{extended_in, refresh_in};
 
 use bgp_check::offer_of;
 use bgp_open::read_open;
@@ -75,6 +75,20 @@ pub fn extended_messages(records: &[NamedRecord<'_>]) -> ExtendedMessages
     ExtendedMessages {
         received: sends_an_offer(records),
         sent: hears_an_offer(records),
+    }
+}
+
+/// Whether there is an OPEN, and it offers extended messages.
+pub(crate) fn extended_in(octets: Option<&[u8]>) -> bool
+    requires { IfSome octets (λ o. IsWellFormed o.now) }
+    ensures { result ≡ extended_in (option_map (λ o. o.now) octets.entry) }
+{
+    let Some(octets) = octets else {
+        return false;
+    };
+    match read_open(octets) {
+        Ok(message) => offer_of(&message).extended,
+        Err(_) => unreachable!(),
     }
 }
 

@@ -7,7 +7,7 @@ ghost use Rattle.bgp_check_capture.specs.Told.{IsStretchTold, answer_by, place_o
 ghost use Rattle.bgp_check_capture.specs.Told.{with_leaving, with_place};
 
 use crate::leaving::left_answer;
-use crate::offers::refresh_in;
+use crate::offers::{extended_in, refresh_in};
 use crate::passing::{Kept, RefreshOffers, keep};
 use bgp_check::{Answer, check_end, heard_open, own_open};
 use bgp_judge::{Tracker, Verdict};
@@ -32,6 +32,9 @@ pub struct StretchTold<'a, A: Allocator = Global> {
     pub received: usize,
     /// And that it sent.
     pub sent: usize,
+    /// Whether the OPEN that it received offers extended messages (RFC 8654): how long a message
+    /// may be that it sent.
+    pub extended: bool,
 }
 
 /// How many records of the stretch stand before the first impossible one.
@@ -114,9 +117,10 @@ pub fn check_stretch<'a, A: Allocator + Copy, T: Tracker<A>>(
     ensures { IfOk result (λ told. IsStretchTold session.now (map shown_of stretch.now)
         (length stretch.now) (option_map shown_of leaving.entry) (told_value told)) }
 {
+    let heard = heard_open(stretch);
     let offers = RefreshOffers {
         received: refresh_in(own_open(stretch)),
-        sent: refresh_in(heard_open(stretch)),
+        sent: refresh_in(heard),
     };
     let Kept {
         records,
@@ -134,5 +138,6 @@ pub fn check_stretch<'a, A: Allocator + Copy, T: Tracker<A>>(
         places: with_place(places, leaving, stretch.len())?,
         received,
         sent,
+        extended: extended_in(heard),
     })
 }
