@@ -30,12 +30,14 @@ use Rattle.bgp_check_capture_tool.specs.Stretches.{first_of}
 use Rattle.bgp_check_capture_tool.specs.declared.telling.Telling.{Telling}
 
 -- the stretch of which it is told
-record IsFound (session : Session) (end : StretchEnd) : Type 0 where
+pub record IsFound (session : Session) (named : List Located) (plain : Bool) (end : StretchEnd) : Type 0 where
   pub view : View
   pub before : ℕ
   pub stretch : List ShownRecord
   pub leaving : Option ShownRecord
   pub is_session : view.session ≡ session
+  pub is_named : view.named ≡ named
+  pub is_plain : view.telling.is_plain ≡ plain
   pub is : IsStretchEnd view before stretch leaving end
   pub whole : IsWholeStretch stretch
   pub so : IsLeftSo leaving
@@ -48,7 +50,7 @@ left_so ((first ∷ records) ∷ stretches) rest each next = each.0.0
 
 module _ (view : View) (end : StretchEnd) where
   found_in : (before : ℕ) (stretches : List (List ShownRecord)) (rest : List ShownRecord) (ends : List End) → AreTold view before stretches rest ends
-      → Each IsWholeStretch stretches → IsAtLeaving rest → Has (λ one. one ≡ Stretch end) ends → IsFound view.session end
+      → Each IsWholeStretch stretches → IsAtLeaving rest → Has (λ one. one ≡ Stretch end) ends → IsFound view.session view.named view.telling.is_plain end
   found_in before [] rest [] told each next among = absurd among
   found_in before [] rest (one ∷ ends) told each next among = absurd told
   found_in before (s ∷ stretches) rest [] told each next among = absurd among
@@ -61,6 +63,8 @@ module _ (view : View) (end : StretchEnd) where
     stretch = s;
     leaving = first_of (joined stretches ++ rest);
     is_session = refl;
+    is_named = refl;
+    is_plain = refl;
     is = subst (λ (e : StretchEnd). IsStretchEnd view before s (first_of (joined stretches ++ rest)) e) (inner same) told.0;
     whole = each.0;
     so = left_so stretches rest each.1 next;
@@ -78,7 +82,7 @@ module _ (view : View) (end : StretchEnd) where
   not_before (first ∷ records) later (inl same) = let k : ⊥ = cc in absurd k
   not_before (first ∷ records) later (inr among) = among
 
-  found_of : (records rest : List ShownRecord) (ends : List End) → TellsStretches view records rest ends → Has (λ one. one ≡ Stretch end) ends → IsFound view.session end
+  found_of : (records rest : List ShownRecord) (ends : List End) → TellsStretches view records rest ends → Has (λ one. one ≡ Stretch end) ends → IsFound view.session view.named view.telling.is_plain end
   found_of records rest ends tells among =
       found_in (length tells.front) tells.stretches rest tells.later tells.told tells.cut.each tells.cut.next
       (not_before tells.front tells.later (subst (Has (λ one. one ≡ Stretch end)) tells.are among))
@@ -88,14 +92,14 @@ module _ (view : View) (end : StretchEnd) where
   not_silent (first ∷ records) (inl same) = let k : ⊥ = cc in k
   not_silent (first ∷ records) (inr none) = none
 
-found : (telling : Telling) (addresses : Addresses) (named : List Located) (end : StretchEnd) (is : IsToldAmong telling addresses named end)
-    → IsFound (session_of addresses) end
+pub found : (telling : Telling) (addresses : Addresses) (named : List Located) (end : StretchEnd) (is : IsToldAmong telling addresses named end)
+    → IsFound (session_of addresses) named telling.is_plain end
 found telling addresses named end is = by is.told where
-  by : IsSessionTold telling addresses named is.ends is.fault → IsFound (session_of addresses) end
+  by : IsSessionTold telling addresses named is.ends is.fault → IsFound (session_of addresses) named telling.is_plain end
   by (inr none) = absurd (subst (Has (λ one. one ≡ Stretch end)) none.0 is.among)
   by (inl read) = elim read.tells [
-    | inl silent ↦ absurd (not_silent (view_of telling addresses named read.extended read.refusal) end read.records (subst (Has (λ one. one ≡ Stretch end)) silent.2 is.among))
-    | inr sends ↦ found_of (view_of telling addresses named read.extended read.refusal) end read.records read.rest is.ends sends.1 is.among
+    | inl silent ↦ absurd (not_silent (view_of telling addresses named read.refusal) end read.records (subst (Has (λ one. one ≡ Stretch end)) silent.2 is.among))
+    | inr sends ↦ found_of (view_of telling addresses named read.refusal) end read.records read.rest is.ends sends.1 is.among
   ]
 
 -- ---- a no

@@ -6,3 +6,4 @@ pub mod WholeSession
 pub mod Blocks
 pub mod Statuses
 pub mod Headline
+pub mod Repeated

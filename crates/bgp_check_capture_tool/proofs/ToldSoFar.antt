@@ -1,5 +1,5 @@
 -- The ends of a session that are told so far.
-use Rattle.std.proofs.Common.{◌≡◌, ◌∙◌, ◌+◌, ◌<◌, ◌++◌, ℕ, Bool, IsTrue, List, [], ◌∷◌, refl, sym, ap, subst, append-nil, append_assoc, arith, length}
+use Rattle.std.proofs.Common.{◌≡◌, ◌↔◌, ◌∙◌, ◌+◌, ◌<◌, ◌++◌, ℕ, Bool, IsTrue, List, [], ◌∷◌, refl, sym, ap, subst, append-nil, append_assoc, arith, length}
 use Rattle.std.proofs.lemmas.Grind.{flat_map-append}
 use Rattle.std.proofs.lemmas.List.{length-append}
 use Rattle.bgp_prefix.specs.Shown.{ShownRecord}
@@ -136,7 +136,7 @@ one_told {T} {sink} law routes view records rest stretch behind before count end
 
 -- all are, or all but the rest
 pub told_up_to : {T : Type 0} {sink : sinks.Ghosts T} (routes : Bool) (view : View) (records rest : List ShownRecord) (before : ℕ) (all : Bool) (lines lines' : Lines T sink) (tally tally' : Tally)
-    → (IsTrue all → rest ≡ []) → SoFar routes view records rest before lines lines' tally tally'
+    → (IsTrue all ↔ rest ≡ []) → SoFar routes view records rest before lines lines' tally tally'
     → Puts routes view.session.local lines lines' tally tally' (StretchesUpTo view records all)
 told_up_to routes view records rest before all lines lines' tally tally' done so_far = record {
   ends = front_ends so_far.front ++ so_far.ends;

@@ -19,18 +19,18 @@ use Rattle.bgp_check_capture_tool.specs.Putting.{Puts, RecordsUpTo}
 use Rattle.bgp_check_capture_tool.specs.StretchEnd.{View}
 use Rattle.bgp_check_capture_tool.specs.declared.telling.Telling.{Telling}
 
-pub seen_as : (telling : Telling) (addresses : Addresses) (named : List Located) (extended : ExtendedMessages) (refusal : Option CaptureFault) (after : Telling) (session : Session)
+pub seen_as : (telling : Telling) (addresses : Addresses) (named : List Located) (refusal : Option CaptureFault) (after : Telling) (session : Session)
     → after ≡ telling_where refusal telling → session ≡ session_of addresses
-    → ◌≡◌ {A = View} (record { telling = after; session = session; named = named; extended = extended }) (view_of telling addresses named extended refusal)
-seen_as telling addresses named extended refusal after session is_after is_session = λ i. record { telling = is_after i; session = is_session i; named = named; extended = extended }
+    → ◌≡◌ {A = View} (record { telling = after; session = session; named = named }) (view_of telling addresses named refusal)
+seen_as telling addresses named refusal after session is_after is_session = λ i. record { telling = is_after i; session = is_session i; named = named }
 
 pub all_told : {T : Type 0} {sink : sinks.Ghosts T} (telling : Telling) (addresses : Addresses) (named : List Located) (view : View) (records shown : List ShownRecord) (extended : ExtendedMessages)
-    (refusal fault : Option CaptureFault) (all : Bool) (lines lines' : Lines T sink) (tally tally' : Tally) → view ≡ view_of telling addresses named extended refusal → records ≡ shown
+    (refusal fault : Option CaptureFault) (all : Bool) (lines lines' : Lines T sink) (tally tally' : Tally) → view ≡ view_of telling addresses named refusal → records ≡ shown
     → (IsTrue extended.received ↔ Has SendsOffer named) → (IsTrue extended.sent ↔ Has HearsOffer named) → IsReading addresses extended named shown refusal
-    → (IsTrue all × (fault ≡ refusal)) ⊎ (fault ≡ Some no_memory) → Puts view.telling.routes view.session.local lines lines' tally tally' (RecordsUpTo view records all)
+    → (IsTrue all × (fault ≡ refusal)) ⊎ ((¬ IsTrue all) × (fault ≡ Some no_memory)) → Puts view.telling.routes view.session.local lines lines' tally tally' (RecordsUpTo view records all)
     → Puts telling.routes addresses.local lines lines' tally tally' (λ ends. IsSessionTold telling addresses named ends fault)
 all_told telling addresses named view records shown extended refusal fault all lines lines' tally tally' is_view is_records received sent reading how puts =
-    let p = subst (λ (rs : List ShownRecord). Puts telling.routes addresses.local lines lines' tally tally' (RecordsUpTo (view_of telling addresses named extended refusal) rs all)) is_records
+    let p = subst (λ (rs : List ShownRecord). Puts telling.routes addresses.local lines lines' tally tally' (RecordsUpTo (view_of telling addresses named refusal) rs all)) is_records
     (subst (λ (v : View). Puts v.telling.routes v.session.local lines lines' tally tally' (RecordsUpTo v records all)) is_view puts) in
     record {
       ends = p.ends;
@@ -44,8 +44,8 @@ all_told telling addresses named view records shown extended refusal fault all l
         rest = p.told.0;
         tells = p.told.2;
         is_fault = elim how [
-          | inl so ↦ inl (p.told.1 so.0, so.1)
-          | inr none ↦ inr none
+          | inl so ↦ inl (p.told.1.0 so.0, so.1)
+          | inr none ↦ inr (λ rest. none.0 (p.told.1.1 rest), none.1)
         ];
       };
       wrote = p.wrote;

@@ -84,19 +84,17 @@ TellsRecords view records rest ends =
     ⊎ (SendsSome records × TellsStretches view records rest ends)
 
 -- a session of a file that has these records there, and of which this one is refused, if one is
-abbrev pub view_of : Telling → Addresses → List Located → ExtendedMessages → Option CaptureFault
-    → View
-view_of telling addresses named extended refusal = record {
+abbrev pub view_of : Telling → Addresses → List Located → Option CaptureFault → View
+view_of telling addresses named refusal = record {
   telling = telling_where refusal telling;
   session = session_of addresses;
   named = named;
-  extended = extended;
 }
 
 -- This is told of the session that has these records in a file: of those that are read of it, and
 -- then why the next one is refused, if it is. The longest messages of each direction are those that
 -- an OPEN of its receiver offers. Where memory is refused for a stretch, that is told in its place,
--- and nothing of what follows.
+-- and nothing of what follows: the rest begins with it.
 pub record IsToldAsRead (telling : Telling) (addresses : Addresses) (named : List Located)
     (ends : List End) (fault : Option CaptureFault) : Type 0 where
   pub extended : ExtendedMessages
@@ -106,8 +104,9 @@ pub record IsToldAsRead (telling : Telling) (addresses : Addresses) (named : Lis
   pub refusal : Option CaptureFault
   pub reading : IsReading addresses extended named records refusal
   pub rest : List ShownRecord
-  pub tells : TellsRecords (view_of telling addresses named extended refusal) records rest ends
-  pub is_fault : ((rest ≡ []) × (fault ≡ refusal)) ⊎ (fault ≡ Some no_memory)
+  pub tells : TellsRecords (view_of telling addresses named refusal) records rest ends
+  pub is_fault :
+      ((rest ≡ []) × (fault ≡ refusal)) ⊎ ((¬ (rest ≡ [])) × (fault ≡ Some no_memory))
 
 -- or only that memory was refused
 abbrev pub IsSessionTold : Telling → Addresses → List Located → List End → Option CaptureFault

@@ -8,3 +8,4 @@ pub mod Firsts
 pub mod Putting
 pub mod Checking
 pub mod Headline
+pub mod Repeated

@@ -1,5 +1,5 @@
 -- What putting the lines of a session comes to.
-use Rattle.std.specs.Prelude.{◌≡◌, ◌++◌, Bool, IsTrue, List, [], Option}
+use Rattle.std.specs.Prelude.{◌≡◌, ◌↔◌, ◌++◌, Bool, IsTrue, List, [], Option}
 use Rattle.bgp_prefix.specs.Shown.{ShownRecord}
 use Rattle.bgp_prefix.specs.declared.address.Address.{Address}
 use Rattle.mrt.specs.declared.fault.CaptureFault.{CaptureFault}
@@ -29,12 +29,12 @@ pub record Puts {T : Type 0} {sink : sinks.Ghosts T} (routes : Bool) (local : Ad
 -- those of all of these records, or of all but a rest
 abbrev pub StretchesUpTo : View → List ShownRecord → Bool → List End → Type 0
 StretchesUpTo view records all ends =
-    (rest : List ShownRecord) × (IsTrue all → rest ≡ [])
+    (rest : List ShownRecord) × (IsTrue all ↔ rest ≡ [])
     × TellsStretches view records rest ends
 
 abbrev pub RecordsUpTo : View → List ShownRecord → Bool → List End → Type 0
 RecordsUpTo view records all ends =
-    (rest : List ShownRecord) × (IsTrue all → rest ≡ [])
+    (rest : List ShownRecord) × (IsTrue all ↔ rest ≡ [])
     × TellsRecords view records rest ends
 
 -- A session was put, and is counted; its refusal is added to those that are the first of their

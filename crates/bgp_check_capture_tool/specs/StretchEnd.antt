@@ -4,7 +4,6 @@ use Rattle.bgp_prefix.specs.Shown.{ShownRecord}
 use Rattle.bgp_prefix.specs.declared.session.Session.{Session}
 use Rattle.mrt_sessions.specs.File.{Located}
 use Rattle.mrt_sessions.specs.Located.{located}
-use Rattle.mrt_sessions.specs.declared.lengths.ExtendedMessages.{ExtendedMessages}
 use Rattle.bgp_wire.specs.Header.{limit_with}
 use Rattle.bgp_check_capture.specs.Told.{IsStretchTold, ToldValue, told_value}
 use Rattle.bgp_check_reason.specs.Reason.{IsReasonTo, reason_text}
@@ -51,14 +50,12 @@ pub record View : Type 0 where
   pub telling : Telling
   pub session : Session
   pub named : List Located
-  pub extended : ExtendedMessages
 
 abbrev pub view_value : HeldView → View
 view_value view = record {
   telling = view.telling;
   session = view.session;
   named = map located view.named.now;
-  extended = view.extended;
 }
 
 -- the numbers that the judged records of a stretch have in their session
@@ -66,10 +63,10 @@ abbrev pub numbers_of : ℕ → List ℕ → List ℕ
 numbers_of before places = map (λ place. before + place + 1) places
 
 -- why what is told of it is so, where it is a no or unfinished: the line of a message that was sent
--- goes by the limit of its receiver
+-- goes by what the OPEN of its receiver offers that is heard in the stretch
 abbrev pub IsReasonFor : View → ℕ → ToldValue → List ℕ → Type 0
 IsReasonFor view before told reason =
-    IsReasonTo view.session (limit_with view.extended.sent)
+    IsReasonTo view.session (limit_with told.extended)
     (numbered_places (numbers_of before told.places)) told.records told.answer reason
 
 -- This is told of the stretch before which so many records stand, and which this one leaves: what

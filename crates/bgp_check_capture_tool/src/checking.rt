@@ -164,10 +164,10 @@ fn nothing_by(judged: bool, fault: Option<CaptureFault>) -> bool
 /// It writes a line for each session, in the order of their first records, and after it what is
 /// told of each of its stretches: the verdict, for which AS number of its peer it is told, of a yes
 /// each possible end, of a no and an unfinished why it is so, and, of one that is all of its
-/// session, with which options `bgp judge` gives it; or why it isn't judged. After them stands why the session's next record
-/// is refused, if one is, and after all sessions why the file can't be read on, if it can't; last
-/// how many ends there are of each verdict. It answers the exit status over all ends, the first of
-/// 5, 4, 1, 3, 2, 0 for which there is something:
+/// session, with which options `bgp judge` gives it; or why it isn't judged. After them stands why
+/// the session's next record is refused, if one is, and after all sessions why the file can't be
+/// read on, if it can't; last how many ends there are of each verdict. It answers the exit status
+/// over all ends, the first of 5, 4, 1, 3, 2, 0 for which there is something:
 ///
 /// * 0: a yes.
 /// * 1: a no.

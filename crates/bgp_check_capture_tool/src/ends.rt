@@ -183,7 +183,6 @@ pub(crate) fn put_ends<A: Allocator + Copy, T: Tracker<A>, W: Sink>(
         telling: telling.where_refused(read.fault),
         session: session_of(addresses),
         named,
-        extended,
     };
     let (tally, is_all) = put_records::<A, T, W>(alloc, &view, &read.records, lines, tally);
     if is_all {

@@ -24,6 +24,6 @@ mod stretch_end;
 mod telling;
 
 pub use checking::{CheckedCapture, check_capture};
-pub use laws::{no_configuration_has_a_run, no_verdict_is_vacuous};
+pub use laws::{a_judge_line_gives_the_verdict, no_configuration_has_a_run, no_verdict_is_vacuous};
 pub use nothing::NothingJudged;
 pub use options::CaptureOptions;

@@ -24,7 +24,7 @@ use bgp_judge_line::JudgeOptions;
 use bgp_prefix::Session;
 use bgp_wire::Limit;
 use mrt::Record;
-use mrt_sessions::{ExtendedMessages, NamedRecord};
+use mrt_sessions::NamedRecord;
 use std::alloc::{AllocError, Allocator};
 
 /// A session of a file, and what is told of it besides its verdicts.
@@ -35,8 +35,6 @@ pub(crate) struct View<'a> {
     pub(crate) session: Session,
     /// Its records in the file.
     pub(crate) named: &'a [NamedRecord<'a>],
-    /// Which of its messages may be extended ones (RFC 8654).
-    pub(crate) extended: ExtendedMessages,
 }
 
 /// What is told of a stretch.
@@ -87,7 +85,7 @@ fn explained<A: Allocator + Copy, T: Tracker<A>>(
 {
     let numbers = numbers_of(alloc, before, &told.places)?;
     let places = Places::Numbered(&numbers);
-    let sent = Limit::with_extended(view.extended.sent);
+    let sent = Limit::with_extended(told.extended);
     reason_of::<A, T>(
         alloc,
         &view.session,

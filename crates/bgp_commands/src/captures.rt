@@ -56,7 +56,7 @@ pub(crate) fn check_records<R: Print + Eprint + AllocGlobal, F: Read + Drop>(
     checked.status
 }
 
-/// Tells what is wrong with a capture, or with one of its sessions, if something is, and what helps.
+/// Tells what is wrong with a capture or with one of its sessions, if something is, and what helps.
 fn tell_fault<R: Eprint, F: Read>(
     rt: &R,
     file: &str,

@@ -86,7 +86,9 @@ fn check_from<R: Print + Eprint + AllocGlobal, F: Read + Drop>(
         check_packets(rt, options, file, peeked)
     } else {
         let CheckOptions {
-            routes, settings, ..
+            routes,
+            settings,
+            ..
         } = *options;
         check_records(rt, &CaptureOptions { routes, settings }, file, peeked)
     }

@@ -13,7 +13,7 @@ pub returns-then-is_all : goal.returns-then-is_all
 returns-then-is_all g c =
     let reading = subst (λ (ls : List Located). IsReading c.args.addresses c.extended_messages-extended.result ls (map shown_of c.in-Ok.read.records.items) c.in-Ok.read.fault) c.requires.mine c.in-Ok.ensures in
     all_told c.args.telling c.args.addresses (map located c.args.named.now) _ _ (map shown_of c.in-Ok.read.records.items) c.extended_messages-extended.result
-    c.in-Ok.read.fault _ c.put_records-is_all.result.1 c.args.lines.now _ c.args.tally _ (seen_as c.args.telling c.args.addresses (map located c.args.named.now) c.extended_messages-extended.result c.in-Ok.read.fault _ _ c.where_refused.ensures c.session_of.ensures)
+    c.in-Ok.read.fault _ c.put_records-is_all.result.1 c.args.lines.now _ c.args.tally _ (seen_as c.args.telling c.args.addresses (map located c.args.named.now) c.in-Ok.read.fault _ _ c.where_refused.ensures c.session_of.ensures)
     (ap (map shown_of) c.deref.ensures.value)
     c.extended_messages-extended.ensures.received c.extended_messages-extended.ensures.sent reading (inl (c.if-is_all.true, refl)) c.put_records-is_all.ensures
 
@@ -21,6 +21,6 @@ pub returns : goal.returns
 returns g c =
     let reading = subst (λ (ls : List Located). IsReading c.args.addresses c.extended_messages-extended.result ls (map shown_of c.in-Ok.read.records.items) c.in-Ok.read.fault) c.requires.mine c.in-Ok.ensures in
     all_told c.args.telling c.args.addresses (map located c.args.named.now) _ _ (map shown_of c.in-Ok.read.records.items) c.extended_messages-extended.result
-    c.in-Ok.read.fault _ c.put_records-is_all.result.1 c.args.lines.now _ c.args.tally _ (seen_as c.args.telling c.args.addresses (map located c.args.named.now) c.extended_messages-extended.result c.in-Ok.read.fault _ _ c.where_refused.ensures c.session_of.ensures)
+    c.in-Ok.read.fault _ c.put_records-is_all.result.1 c.args.lines.now _ c.args.tally _ (seen_as c.args.telling c.args.addresses (map located c.args.named.now) c.in-Ok.read.fault _ _ c.where_refused.ensures c.session_of.ensures)
     (ap (map shown_of) c.deref.ensures.value)
-    c.extended_messages-extended.ensures.received c.extended_messages-extended.ensures.sent reading (inr refl) c.put_records-is_all.ensures
+    c.extended_messages-extended.ensures.received c.extended_messages-extended.ensures.sent reading (inr (λ yes. (let f = c.if-is_all.false in cc), refl)) c.put_records-is_all.ensures

@@ -11,7 +11,7 @@ returns-then-sends_some g c =
 pub returns-else-sends_some : goal.returns-else-sends_some
 returns-else-sends_some g c = record {
   ends = silent_ends (map shown_of c.args.records.now);
-  told = ([], λ yes. refl, inl (λ sends. (let k = c.sends_some.ensures.1 sends in let f = c.if-sends_some.false in cc), refl, refl));
+  told = ([], (λ yes. refl, λ none. refl), inl (λ sends. (let k = c.sends_some.ensures.1 sends in let f = c.if-sends_some.false in cc), refl, refl));
   wrote = c.put_all_silent.ensures.wrote c.args.view.now.telling.routes;
   tallied = c.put_all_silent.ensures.tallied;
 }

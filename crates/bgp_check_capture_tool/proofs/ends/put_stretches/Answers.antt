@@ -1,4 +1,4 @@
-use Rattle.std.proofs.Common.{◌≡◌, ◌∙◌, ◌+◌, ◌-◌, ap, arith, length, map, sym, true, false, Option, ℕ, subst}
+use Rattle.std.proofs.Common.{◌≡◌, ◌∙◌, ◌+◌, ◌-◌, List, ap, arith, length, map, refl, sym, true, false, Option, ℕ, subst}
 use Rattle.std.proofs.lemmas.Bool.{eqb-true}
 use Rattle.std.proofs.lemmas.List.{length-map}
 use Rattle.bgp_prefix.specs.Shown.{ShownRecord}
@@ -37,8 +37,13 @@ end_of-requires g c =
 
 pub returns-in_default : goal.returns-in_default
 returns-in_default g c =
-    told_up_to c.args.view.now.telling.routes (view_value c.args.view.now) (map shown_of c.args.records.now) (map shown_of c.loop-rest.rest.now) c.loop-rest.before false c.args.lines.now _ c.args.tally _
-    (λ no. absurd (let k : ⊥ = cc in k)) c.loop-rest.invariant.so_far
+    told_up_to c.args.view.now.telling.routes (view_value c.args.view.now) (map shown_of c.args.records.now) (map shown_of c.loop-rest.rest.now) c.loop-rest.before false c.args.lines.now _ c.args.tally _ (
+      λ no. absurd (let k : ⊥ = cc in k),
+      λ none.
+          let less = shorter (map shown_of c.loop-rest.rest.now) (map shown_of c.first_stretch.result.0.now) (map shown_of c.first_stretch.result.1.now) c.first_stretch.ensures in
+          let empty = ap (λ (xs : List ShownRecord). length xs) none in
+          absurd (omega (arith, less, empty)),
+    ) c.loop-rest.invariant.so_far
 
 pub overflow_sub-before : goal.overflow_sub-before
 overflow_sub-before g c =
@@ -85,4 +90,4 @@ loop-rest-preserved g c =
 pub returns : goal.returns
 returns g c =
     told_up_to c.args.view.now.telling.routes (view_value c.args.view.now) (map shown_of c.args.records.now) (map shown_of c.loop-rest.rest.now) c.loop-rest.before true c.args.lines.now _ c.args.tally _
-    (λ yes. ap (map shown_of) (none_left c.loop-rest.rest.now (eqb-true (length c.loop-rest.rest.now) 0 (sym c.is_empty.ensures ∙ c.loop-rest-test.false)))) c.loop-rest.invariant.so_far
+    (λ yes. ap (map shown_of) (none_left c.loop-rest.rest.now (eqb-true (length c.loop-rest.rest.now) 0 (sym c.is_empty.ensures ∙ c.loop-rest-test.false))), λ none. refl) c.loop-rest.invariant.so_far
