@@ -76,7 +76,7 @@ static IMPORTS: [Import; 8] = [
 ];
 
 /// Command lines that write no file. `made.mrt` is there by now.
-static READERS: [&str; 10] = [
+static READERS: [&str; 11] = [
     "bgp list session.pcap",
     "bgp list half.pcap",
     "bgp list --port 1179 session.pcap",
@@ -86,6 +86,7 @@ static READERS: [&str; 10] = [
     "bgp judge --local-as 65001 --peer-as 65002 --local-id 192.0.2.1 --local 192.0.2.1 --peer 192.0.2.2 --families both made.mrt",
     "bgp judge --explain --local-as 65001 --peer-as 65003 --local-id 192.0.2.1 --local 192.0.2.1 --peer 192.0.2.2 --families both session.pcap",
     "bgp check --routes session.pcap",
+    "bgp check --routes --settings made.mrt",
     "bgp list",
 ];
 
