@@ -3,14 +3,12 @@ use Rattle.std.proofs.Common.{◌≡◌, ◌∙◌, ◌+◌, ◌++◌, ℕ, Bool
 use Rattle.std.specs.Prelude.{option_map}
 use Rattle.bgp_prefix.specs.Shown.{ShownRecord}
 use Rattle.bgp_prefix.specs.declared.session.Session.{Session}
-use Rattle.mrt.specs.declared.fault.CaptureFault.{CaptureFault}
 use Rattle.mrt_sessions.specs.File.{Located}
 use Rattle.mrt_sessions.specs.declared.addresses.Addresses.{Addresses}
 use Rattle.bgp_open.specs.Open.{OpenFields, open_of}
-use Rattle.bgp_open.specs.declared.config.Config.{Config}
 use Rattle.bgp_machine.specs.Lists.{Each, Has}
 use Rattle.bgp_machine.specs.Run.{Begins}
-use Rattle.bgp_judge.specs.Verdict.{No, Unfinished, VerdictValue, Yes}
+use Rattle.bgp_judge.specs.Verdict.{VerdictValue}
 use Rattle.bgp_check.specs.Answered.{AnswerValue, IsAnswerTo, JudgedAs, Unjudged}
 use Rattle.bgp_check.specs.Configurations.{IsOf}
 use Rattle.bgp_check.specs.Cut.{IsWholeStretch, joined}

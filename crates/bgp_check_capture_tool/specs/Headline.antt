@@ -1,6 +1,5 @@
 -- What a verdict on a stretch is worth that is told of a session in a capture.
 use Rattle.std.specs.Prelude.{◌≡◌, ◌+◌, ℕ, List, Option, take}
-use Rattle.bgp_prefix.specs.declared.session.Session.{Session}
 use Rattle.mrt.specs.declared.fault.CaptureFault.{CaptureFault}
 use Rattle.mrt_sessions.specs.File.{Located}
 use Rattle.mrt_sessions.specs.declared.addresses.Addresses.{Addresses}

@@ -1,4 +1,4 @@
-use Rattle.std.proofs.Common.{◌+◌, ◌<◌, ℕ, List, arith, length, map, subst, sym}
+use Rattle.std.proofs.Common.{◌+◌, ◌<◌, ℕ, arith, map, subst, sym}
 use Rattle.std.specs.Prelude.{option_map}
 use Rattle.std.proofs.lemmas.List.{length-map}
 use Rattle.std.below.core.specs.declared.int.usize.TheConstants.{MAX}

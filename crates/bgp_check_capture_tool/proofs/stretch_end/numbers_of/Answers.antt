@@ -1,4 +1,4 @@
-use Rattle.std.proofs.Common.{◌∙◌, ap, length, take}
+use Rattle.std.proofs.Common.{◌∙◌, ap}
 use Rattle.std.proofs.lemmas.List.{take_all}
 use Rattle.bgp_check_capture_tool.specs.StretchEnd.{numbers_of}
 use Rattle.bgp_check_capture_tool.proofs.Numbers.{grown}
