@@ -8,8 +8,12 @@ use std::alloc::{AllocError, Global};
 use std::io;
 use std::num::NonZeroUsize;
 
+/// The longest pieces in which streams are read, apart from whole: as long as one with a message of
+/// each type.
+const LONGEST_PIECE: usize = 134;
+
 /// Whether a stream has its lines and its status: where a source gives it and a sink takes them at
-/// once, where both do so octet by octet, and in memory.
+/// once, where both do so octet by octet or in longer pieces, and in memory.
 pub(crate) fn is_stream(alloc: Global, block: &str) -> io::Result<bool> {
     let case = read_case(alloc, block)?;
     let [stream] = case.pieces.as_slice() else {
@@ -22,9 +26,19 @@ pub(crate) fn is_stream(alloc: Global, block: &str) -> io::Result<bool> {
 fn are_lines(alloc: Global, stream: &Piece, status: u8) -> Result<bool, AllocError> {
     Ok(
         is_decoded(alloc, stream, status, NonZeroUsize::MAX)?
-            && is_decoded(alloc, stream, status, NonZeroUsize::MIN)?
+            && is_decoded_in_pieces(alloc, stream, status)?
             && is_decoded_in_memory(alloc, stream, status)?,
     )
+}
+
+/// Whether a stream is decoded so in pieces of one octet, of two, and so on.
+fn is_decoded_in_pieces(alloc: Global, stream: &Piece, status: u8) -> Result<bool, AllocError> {
+    let mut all = true;
+    for most in 1..=stream.octets.len().min(LONGEST_PIECE) {
+        let most = NonZeroUsize::new(most).unwrap_or(NonZeroUsize::MIN);
+        all &= is_decoded(alloc, stream, status, most)?;
+    }
+    Ok(all)
 }
 
 /// Whether a stream is decoded so from a source and into a sink that give and take at most so many

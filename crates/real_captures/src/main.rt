@@ -7,24 +7,30 @@
 //! once it knew large communities, too (RFC 8092); `rules.txt` was worked out by hand from RFC
 //! 6396.
 //!
-//! Judged are six tables, by the plain tracker and by the compact one. A program that was written
+//! Judged are seven tables, by the plain tracker and by the compact one. A program that was written
 //! apart from this one answered `judged.txt`, random captures, `judged-extended.txt` and
 //! `judged-large.txt`, more of them as it answered later, and `recordings.txt`, those of real
 //! routers' sessions; `sessions.txt` was worked out by hand from RFC 4271, one session for each
-//! thing that it teaches, and `cuts.txt` is two records cut to each length. And each capture of
-//! `judged.txt` is altered twice: there both trackers answer alike. And the examples of `bgp judge`
-//! are, by both trackers, from the words of the command line on; and a thousand sessions by chance.
+//! thing that it teaches, `rows-by-hand.txt` has each row of the session machine
+//! (docs/SESSION-MACHINE.md) where it holds and where its guard fails by one, and `cuts.txt` is two
+//! records cut to each length. And each capture of `judged.txt` is altered twice: there both
+//! trackers answer alike. And the examples of `bgp judge` are, by both trackers, from the words of
+//! the command line on; and a thousand sessions by chance.
 //!
 //! Then the streams of real routers are decoded, whose UPDATEs are clean; and the outcomes of
 //! UPDATEs and the texts of addresses are compared with tables that other programs made, and those
 //! of UPDATEs with one that was worked out by hand (docs/UPDATE-ERRORS.md), too. So were the lines
 //! of the streams in `streams-by-hand.txt`, and what is found in the OPENs of `opens-by-hand.txt`.
+//!
+//! `told.txt` and `breaks.txt` were, too: commands over readers and writers that may fail, with what
+//! they tell on standard error.
 #![tactic(auto)]
 
 mod addresses;
 mod altered;
 mod case;
 mod chance;
+mod devices;
 mod examples;
 mod judged;
 mod lines;
@@ -36,6 +42,7 @@ mod runs;
 mod sessions;
 mod streams;
 mod table;
+mod told;
 mod updates;
 mod walk;
 

@@ -3,14 +3,15 @@
 //!
 //! A line of `case` says what a block teaches, `config` gives the configuration and `octets` the
 //! OPEN. Each line behind them tells one thing: whether there is such a configuration
-//! (`configured`), whether it may send the OPEN itself (`own`), the subcodes that a peer's has to
-//! be refused with and those that it may be (`must`, `may`), and what a peer's settles (`link`).
+//! (`configured`), whether it may send the OPEN itself (`own`) and does (`written`), the subcodes
+//! that a peer's has to be refused with and those that it may be (`must`, `may`), what a peer's
+//! settles (`link`), and the number of the fault where it is none (`malformed`).
 
 use crate::case::{malformed, octets_of};
 use crate::updates::families_of;
 use bgp_open::{
     Config, ConfigParts, Families, Link, OpenSubcodes, is_own_open, negotiate, open_faults,
-    read_open,
+    read_open, write_own_open,
 };
 use bgp_prefix::{Address, RouteRefresh, Session, read_address};
 use std::alloc::{AllocError, Global};
@@ -106,9 +107,11 @@ fn is_told(alloc: Global, config: &Config, octets: &[u8], line: &str) -> io::Res
     match word {
         "configured" => Ok(told == "yes"),
         "own" => Ok(is_own_open(config, octets) == (told == "yes")),
+        "written" => Ok(is_written(alloc, config, octets)? == (told == "yes")),
         "must" => Ok(are_subcodes(alloc, &open_faults(config, octets).must, told)?),
         "may" => Ok(are_subcodes(alloc, &open_faults(config, octets).may, told)?),
         "link" => Ok(is_settled(alloc, config, octets, told)?),
+        "malformed" => Ok(is_malformed(octets, told)),
         _ => Err(malformed()),
     }
 }
@@ -124,6 +127,21 @@ fn are_subcodes(alloc: Global, set: &OpenSubcodes, told: &str) -> Result<bool, A
         }
     }
     Ok(set.is_empty() == told.is_empty() && text.as_str().trim_end() == told)
+}
+
+/// Whether the system writes just these octets for its OPEN, behind another one.
+fn is_written(alloc: Global, config: &Config, octets: &[u8]) -> Result<bool, AllocError> {
+    let mut out = Vec::from_slice(alloc, &[9])?;
+    let is_written = write_own_open(config, &mut out).is_ok();
+    Ok(is_written && out.split_first() == Some((&9, octets)))
+}
+
+/// Whether octets are no OPEN, and their fault has this number.
+fn is_malformed(octets: &[u8], number: &str) -> bool {
+    match read_open(octets) {
+        Ok(_) => false,
+        Err(fault) => number.parse::<u8>() == Ok(fault.number()),
+    }
 }
 
 /// How a set of families is told.

@@ -4,6 +4,7 @@ use crate::judged::is_judged_by_both;
 use crate::lines::is_stream;
 use crate::opens::is_open;
 use crate::runs::is_decoded;
+use crate::told::is_told;
 use crate::updates::is_outcome;
 use std::rt::Files;
 use std::{fs, io};
@@ -23,10 +24,12 @@ enum Told {
     StreamLines,
     /// What is found in an OPEN.
     Open,
+    /// What a command prints and tells.
+    Command,
 }
 
 /// The tables, and what their cases tell of.
-static TABLES: [(&str, Told); 15] = [
+static TABLES: [(&str, Told); 18] = [
     ("cases.txt", Told::Lines),
     ("rules.txt", Told::LinesAnywhere),
     ("cases-extended.txt", Told::Lines),
@@ -35,6 +38,7 @@ static TABLES: [(&str, Told); 15] = [
     ("judged-extended.txt", Told::Verdict),
     ("judged-large.txt", Told::Verdict),
     ("sessions.txt", Told::Verdict),
+    ("rows-by-hand.txt", Told::Verdict),
     ("cuts.txt", Told::Verdict),
     ("recordings.txt", Told::Verdict),
     ("updates.txt", Told::Outcomes),
@@ -42,6 +46,8 @@ static TABLES: [(&str, Told); 15] = [
     ("updates-by-hand.txt", Told::Outcomes),
     ("streams-by-hand.txt", Told::StreamLines),
     ("opens-by-hand.txt", Told::Open),
+    ("told.txt", Told::Command),
+    ("breaks.txt", Told::Command),
 ];
 
 /// Goes through the tables. Answers whether all their cases are so.
@@ -94,5 +100,6 @@ fn is_so<R: Files + AllocGlobal>(rt: &R, block: &str, told: Told) -> io::Result<
         Told::Outcomes => is_outcome(rt.alloc(), block),
         Told::StreamLines => is_stream(rt.alloc(), block),
         Told::Open => is_open(rt.alloc(), block),
+        Told::Command => is_told(rt.alloc(), block),
     }
 }

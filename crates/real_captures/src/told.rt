@@ -1,0 +1,241 @@
+//! Commands that read what a reader gives: what they print, the exit status, and what they tell on
+//! standard error, told by blocks of lines.
+//!
+//! A line of `case` says what a block teaches; `args` has the words of the command without a file,
+//! `file` the file's name, and `octets` what is in it. Where `reading` is there, the reader fails
+//! behind the octets by the error that it names, and where `opening` is, the file can't be opened;
+//! `writing` says for how many octets the writer has room, and by which error it then fails.
+//! `status` is the exit status, `>` a line that is printed, of which the writer takes what it has
+//! room for, and `!` one that is told. `skipped` says how many records were skipped: of other
+//! kinds, of other sessions, and ROUTE-REFRESH messages that were received and sent.
+
+use crate::case::{malformed, octets_of};
+use crate::devices::{Given, Paper};
+use bgp_compact::CompactTracker;
+use bgp_judge::{PlainTracker, Tracker};
+use bgp_tool::{
+    Command, Outcome, announce_note, command_line, decode_opened, decode_opened_capture,
+    judge_opened, passed_over,
+};
+use bgp_wire::Limit;
+use mrt::{FromWrite, SkippedRecords};
+use std::alloc::{AllocError, Global};
+use std::fmt;
+use std::io::{self, ErrorKind};
+
+/// The errors of devices, by their names.
+static ERRORS: [(&str, ErrorKind); 6] = [
+    ("BrokenPipe", ErrorKind::BrokenPipe),
+    ("NotFound", ErrorKind::NotFound),
+    ("OutOfMemory", ErrorKind::OutOfMemory),
+    ("PermissionDenied", ErrorKind::PermissionDenied),
+    ("StorageFull", ErrorKind::StorageFull),
+    ("TimedOut", ErrorKind::TimedOut),
+];
+
+/// Whether a command does what its block says: with the plain tracker and with the compact one, and
+/// from a reader that gives all at once and from one that gives octet by octet.
+pub(crate) fn is_told(alloc: Global, block: &str) -> io::Result<bool> {
+    let mut words = Vec::new(alloc);
+    words.push("bgp")?;
+    for word in line_of(block, "args ").unwrap_or("").split(' ') {
+        words.push(word)?;
+    }
+    words.push("FILE")?;
+    match command_line(alloc, words.as_slice()) {
+        Ok(command) => is_done(alloc, &command, block),
+        Err(_) => Err(malformed()),
+    }
+}
+
+/// Whether this command does so.
+fn is_done(alloc: Global, command: &Command<'_>, block: &str) -> io::Result<bool> {
+    if let Command::Speak {
+        config,
+        speaking,
+        ..
+    } = command
+    {
+        let note = announce_note(config.parts.families, speaking);
+        return Ok(are_lines(alloc, block, "! ", told_of(alloc, note)?.as_str())?);
+    }
+    let octets = octets_of(alloc, line_of(block, "octets ").unwrap_or("-"))?;
+    Ok(
+        is_done_by::<PlainTracker<Global>>(alloc, command, block, octets.as_slice())?
+            && is_done_by::<CompactTracker<Global>>(alloc, command, block, octets.as_slice())?,
+    )
+}
+
+/// Whether it does so with this tracker.
+fn is_done_by<T: Tracker<Global>>(
+    alloc: Global,
+    command: &Command<'_>,
+    block: &str,
+    octets: &[u8],
+) -> Result<bool, AllocError> {
+    Ok(
+        is_done_in_pieces::<T>(alloc, command, block, octets, usize::MAX)?
+            && is_done_in_pieces::<T>(alloc, command, block, octets, 1)?,
+    )
+}
+
+/// Whether it does so where the reader gives at most so many octets at a time.
+fn is_done_in_pieces<T: Tracker<Global>>(
+    alloc: Global,
+    command: &Command<'_>,
+    block: &str,
+    octets: &[u8],
+    most: usize,
+) -> Result<bool, AllocError> {
+    let opened = opened_of(block, octets, most);
+    let paper = Paper::new(alloc, room_of(block));
+    match ended::<T>(alloc, command, file_of(block), opened, paper) {
+        Some((outcome, written)) => {
+            Ok(is_outcome(alloc, block, &outcome)? && is_text(alloc, block, written.as_slice())?)
+        }
+        None => Ok(false),
+    }
+}
+
+/// How a command ends, and what it prints: `None` where it is one that reads no such file.
+fn ended<'a, T: Tracker<Global>>(
+    alloc: Global,
+    command: &Command<'_>,
+    file: &'a str,
+    opened: io::Result<Given<'_>>,
+    paper: Paper,
+) -> Option<(Outcome<'a>, Vec<u8>)> {
+    let mut sink = FromWrite::new(paper);
+    let outcome = match command {
+        Command::Decode { extended, .. } => {
+            let limit = Limit::with_extended(*extended);
+            decode_opened(limit, alloc, file, opened, &mut sink)
+        }
+        Command::Capture { session, .. } => {
+            decode_opened_capture(alloc, session, file, opened, &mut sink)
+        }
+        Command::Judge { config, .. } => {
+            judge_opened::<Global, T, _, _>(alloc, config, file, opened, &mut sink)
+        }
+        _ => return None,
+    };
+    Some((outcome, sink.into_inner().written))
+}
+
+/// Whether a command ends with the status, the skipped records and the sentences of its block.
+fn is_outcome(alloc: Global, block: &str, outcome: &Outcome<'_>) -> Result<bool, AllocError> {
+    let mut told = String::new(alloc);
+    if let Some(skipped) = outcome.skipped {
+        let (received, sent) = passed_over(&skipped);
+        told.push_str(told_of(alloc, received)?.as_str())?;
+        told.push_str(told_of(alloc, sent)?.as_str())?;
+    }
+    told.push_str(told_of(alloc, outcome.note)?.as_str())?;
+    let status = line_of(block, "status ").and_then(|status| status.parse::<u8>().ok());
+    Ok(
+        status == Some(outcome.status)
+            && are_skipped(alloc, block, outcome.skipped)?
+            && are_lines(alloc, block, "! ", told.as_str())?,
+    )
+}
+
+/// Whether so many records were skipped, if the block says how many.
+fn are_skipped(
+    alloc: Global,
+    block: &str,
+    skipped: Option<SkippedRecords>,
+) -> Result<bool, AllocError> {
+    match (line_of(block, "skipped "), skipped) {
+        (Some(line), Some(skipped)) => {
+            let (kinds, sessions) = (skipped.other_kinds, skipped.other_sessions);
+            let (received, sent) = (skipped.received_refreshes, skipped.sent_refreshes);
+            let text = format!(in alloc; "{kinds} {sessions} {received} {sent}")?;
+            Ok(text.as_str() == line)
+        }
+        (line, _) => Ok(line.is_none()),
+    }
+}
+
+/// A sentence, and the end of its line: nothing where there is none.
+fn told_of<T: fmt::Display + Drop>(alloc: Global, note: Option<T>) -> Result<String, AllocError> {
+    match note {
+        Some(note) => format!(in alloc; "{note}\n"),
+        None => Ok(String::new(alloc)),
+    }
+}
+
+/// What stands behind a mark in the first line that begins with it.
+fn line_of<'a>(block: &'a str, mark: &str) -> Option<&'a str> {
+    for line in block.split('\n') {
+        if let Some(rest) = line.strip_prefix(mark) {
+            return Some(rest);
+        }
+    }
+    None
+}
+
+/// What stands behind a mark in the lines that begin with it, each with its end.
+fn lines_of(alloc: Global, block: &str, mark: &str) -> Result<String, AllocError> {
+    let mut text = String::new(alloc);
+    for line in block.split('\n') {
+        if let Some(rest) = line.strip_prefix(mark) {
+            text.push_str(rest)?;
+            text.push_str("\n")?;
+        }
+    }
+    Ok(text)
+}
+
+/// Whether this is what stands there.
+fn are_lines(alloc: Global, block: &str, mark: &str, text: &str) -> Result<bool, AllocError> {
+    Ok(lines_of(alloc, block, mark)?.as_str() == text)
+}
+
+/// Whether this is what is printed, as far as the writer has room for it.
+fn is_text(alloc: Global, block: &str, written: &[u8]) -> Result<bool, AllocError> {
+    let text = lines_of(alloc, block, "> ")?;
+    let (room, _) = room_of(block);
+    let count = text.len().min(room);
+    Ok(text.as_bytes().get(..count) == Some(written))
+}
+
+/// The name of the file: two quotation marks stand for one without characters.
+fn file_of(block: &str) -> &str {
+    match line_of(block, "file ") {
+        Some("\"\"") | None => "",
+        Some(name) => name,
+    }
+}
+
+/// A reader of the file, which gives at most so many octets at a time, if it can be opened.
+fn opened_of<'a>(block: &str, octets: &'a [u8], most: usize) -> io::Result<Given<'a>> {
+    match line_of(block, "opening ").and_then(|name| error_named(name)) {
+        Some(error) => Err(io::Error::from(error)),
+        None => Ok(Given {
+            octets,
+            most,
+            error: line_of(block, "reading ").and_then(|name| error_named(name)),
+        }),
+    }
+}
+
+/// For how many octets the writer has room, and by which error it then fails.
+fn room_of(block: &str) -> (usize, ErrorKind) {
+    named_room_of(block).unwrap_or((usize::MAX, ErrorKind::WriteZero))
+}
+
+/// The same, if the block says it.
+fn named_room_of(block: &str) -> Option<(usize, ErrorKind)> {
+    let (room, error) = line_of(block, "writing ")?.split_once(' ')?;
+    Some((room.parse::<usize>().ok()?, error_named(error)?))
+}
+
+/// The error of a device that has this name.
+fn error_named(name: &str) -> Option<ErrorKind> {
+    for (known, error) in &ERRORS {
+        if *known == name {
+            return Some(*error);
+        }
+    }
+    None
+}
