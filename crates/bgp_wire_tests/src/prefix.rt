@@ -1,5 +1,5 @@
-//! Values from outside: RFC 4271, 4.3, RFC 4291, 2.2 and 2.3, RFC 5952, 1 to 4, and RFC 5737.
+//! Values from outside: RFC 4271, 4.3. (Texts of addresses and prefixes are compared by the program
+//! `real_captures`.)
 
 mod octets;
 mod order;
-mod texts;

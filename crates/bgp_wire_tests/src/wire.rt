@@ -10,7 +10,7 @@ mod octets;
 
 use bgp_wire::vectors::*;
 use bgp_wire::*;
-use std::alloc::{AllocError, Global};
+use std::alloc::{AllocError, Allocator, Global};
 
 /// A header of this Length and Type code.
 fn header(length: u16, code: u8) -> [u8; HEADER_LEN] {
@@ -28,6 +28,16 @@ fn bad_length(length: u16) -> HeaderFaults {
         length: Some(length),
         kind: None,
     }
+}
+
+/// Whether a splitter gives this frame next.
+fn gives<A: Allocator + Copy>(frames: &mut Frames<A>, kind: MessageType, message: &[u8]) -> bool {
+    frames.next() == Next::Frame(kind, message)
+}
+
+/// Whether it waits for more, and holds so many octets.
+fn waits<A: Allocator + Copy>(frames: &mut Frames<A>, held: usize) -> bool {
+    frames.next() == Next::More && frames.len() == held
 }
 
 /// A message of each type.

@@ -2,8 +2,7 @@
 
 use bgp_prefix::*;
 use linked_list_allocator::LocalHeap;
-use std::alloc::Allocator;
-use std::test::Fail;
+use std::alloc::{Allocator, Global};
 
 /// What octets begin with: an address, how many bits of it, and how many octets spell them.
 type Begins = Result<(Address, u8, usize), PrefixFault>;
@@ -64,8 +63,8 @@ fn begin_with(family: Family, octets: &[u8], expected: &Begins) -> bool {
 
 #[test]
 fn octets_begin_with_a_prefix_or_have_a_fault(rt: HostRuntime) {
-    for (row, (family, octets, expected)) in READ.iter().enumerate() {
-        assert!(rt; begin_with(*family, octets, expected), "row {row}");
+    for (family, octets, expected) in &READ {
+        assert!(rt; begin_with(*family, octets, expected));
     }
 }
 
@@ -103,22 +102,79 @@ fn written<A: Allocator>(out: &mut Vec<u8, A>) -> Option<usize> {
 
 #[test]
 fn ample_memory(rt: HostRuntime) {
-    let mut out = Vec::new(rt.alloc());
-    assert!(rt; written(&mut out) == Some(WRITTEN.len()));
+    assert!(rt; written(&mut Vec::new(rt.alloc())) == Some(WRITTEN.len()));
+}
+
+/// How many octets are written in a heap of this size.
+fn written_in(alloc: Global, size: usize) -> Option<usize> {
+    let heap = LocalHeap::new(alloc, size).ok()?;
+    written(&mut Vec::new(&heap))
+}
+
+/// Whether all are written once a heap is large enough, and not in each before.
+fn are_refused_and_written(alloc: Global) -> bool {
+    let (mut refused, mut done) = (false, false);
+    for step in 1usize..64 {
+        match written_in(alloc, 16 * step) {
+            Some(end) if end == WRITTEN.len() => done = true,
+            Some(_) => refused = true,
+            None => return false,
+        }
+    }
+    refused && done
 }
 
 #[test]
-fn a_refused_growth_appends_nothing(rt: HostRuntime) -> Result<(), Fail> {
-    let mut refusals = 0u32;
-    for size in (16usize..1 << 16).step_by(16) {
-        let heap = LocalHeap::new(rt.alloc(), size)?;
-        let end = written(&mut Vec::new(&heap));
-        assert!(rt; end.is_some(), "a heap of {size} octets");
-        if end == Some(WRITTEN.len()) {
-            assert!(rt; 0 < refusals);
-            return Ok(());
-        }
-        refusals = refusals.saturating_add(1);
+fn a_refused_growth_appends_nothing(rt: HostRuntime) {
+    assert!(rt; are_refused_and_written(rt.alloc()));
+}
+
+/// Whether a prefix of this length is written in the fewest octets, its length first.
+fn is_written_short(alloc: Global, prefix: Prefix, length: u8) -> bool {
+    let mut out = Vec::new(alloc);
+    let count = 1 + usize::from(length).div_ceil(8);
+    prefix.write(&mut out).is_ok()
+        && out.len() == count
+        && prefix.octet_len() == count
+        && out.first() == Some(&length)
+}
+
+/// Whether the prefixes of zeros, of each length up to this, are.
+fn are_written_short(alloc: Global, zeros: Address, most: u8) -> bool {
+    let mut are_written = true;
+    for length in 0..=most {
+        are_written &= match Prefix::new(zeros, length) {
+            Some(prefix) => is_written_short(alloc, prefix, length),
+            None => false,
+        };
     }
-    Err(Fail::from("no heap was large enough"))
+    are_written
+}
+
+#[test]
+fn prefixes_of_every_length_are_written(rt: HostRuntime) {
+    let alloc = rt.alloc();
+    assert!(rt;
+        are_written_short(alloc, Address::V4(0), 32)
+            && are_written_short(alloc, Address::V6(0), 128)
+    );
+}
+
+/// Whether a fault has this number and this text.
+fn tells(alloc: Global, fault: PrefixFault, number: u8, text: &str) -> bool {
+    let is_shown = match format!(in alloc; "{fault}") {
+        Ok(shown) => shown.as_str() == text,
+        Err(_) => false,
+    };
+    is_shown && fault.number() == number
+}
+
+#[test]
+fn faults_have_their_numbers_and_texts(rt: HostRuntime) {
+    let (long, short) = (PrefixFault::TooLong, PrefixFault::Short);
+    let alloc = rt.alloc();
+    assert!(rt;
+        tells(alloc, long, 1, "a prefix has more bits than an address")
+            && tells(alloc, short, 2, "the octets end inside a prefix")
+    );
 }

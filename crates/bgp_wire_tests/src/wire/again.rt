@@ -1,16 +1,13 @@
 //! A piece that is refused can be fed again.
 
-use bgp_wire::vectors::*;
-use bgp_wire::*;
+use super::*;
 use linked_list_allocator::LocalHeap;
-use std::alloc::Global;
 
 /// Whether a splitter holds these two messages, and no more.
 fn holds_both(frames: &mut Frames<&LocalHeap>) -> bool {
-    frames.next() == Next::Frame(MessageType::Keepalive, &KEEPALIVE)
-        && frames.next() == Next::Frame(MessageType::Update, &ANNOUNCES_2001_DB8)
-        && frames.next() == Next::More
-        && frames.len() == 0
+    gives(frames, MessageType::Keepalive, &KEEPALIVE)
+        && gives(frames, MessageType::Update, &ANNOUNCES_2001_DB8)
+        && waits(frames, 0)
 }
 
 /// Whether an UPDATE is refused to a splitter that holds a KEEPALIVE, with so many octets of its
@@ -31,14 +28,17 @@ fn is_refused_with(alloc: Global, left: usize) -> Option<bool> {
     is_refused(&heap, left)
 }
 
-#[test]
-fn a_refused_piece_can_be_fed_again(rt: HostRuntime) {
+/// Whether it is refused with little memory, and at last is not.
+fn is_refused_at_first(alloc: Global) -> Option<bool> {
     let (mut refused, mut done) = (false, false);
     for step in 0..32 {
-        let answer = is_refused_with(rt.alloc(), 16 * step);
-        assert!(rt; answer.is_some(), "{step}");
-        done = answer == Some(false);
+        done = !is_refused_with(alloc, 16 * step)?;
         refused = refused || !done;
     }
-    assert!(rt; refused && done);
+    Some(refused && done)
+}
+
+#[test]
+fn a_refused_piece_can_be_fed_again(rt: HostRuntime) {
+    assert!(rt; is_refused_at_first(rt.alloc()) == Some(true));
 }

@@ -1,13 +1,6 @@
 //! Extended messages (RFC 8654, 4): UPDATE and NOTIFICATION may have 65535 octets, no other type.
 
 use super::*;
-use std::test::Fail;
-
-#[test]
-fn messages_may_be_extended_or_not(rt: HostRuntime) {
-    let (may, may_not) = (Limit::with_extended(true), Limit::with_extended(false));
-    assert!(rt; may == Limit::Extended && may_not == Limit::Plain);
-}
 
 /// A limit, a Length, and whether it is a bad one of a message of a type that isn't known.
 static UNKNOWN: [(Limit, u16, bool); 6] = [
@@ -29,12 +22,17 @@ fn has_faults(code: u8, (limit, length, is_bad): &(Limit, u16, bool)) -> bool {
     check_header(&header(*length, code), *limit) == HeaderVerdict::Faulty(faults)
 }
 
+/// Whether each such header has.
+fn have_faults(row: &(Limit, u16, bool)) -> bool {
+    has_faults(0, row) && has_faults(5, row) && has_faults(6, row) && has_faults(255, row)
+}
+
 #[test]
-fn a_type_that_is_not_known_is_never_extended(rt: HostRuntime) {
+fn messages_may_be_extended_but_those_of_a_type_that_is_not_known(rt: HostRuntime) {
+    let (may, may_not) = (Limit::with_extended(true), Limit::with_extended(false));
+    assert!(rt; may == Limit::Extended && may_not == Limit::Plain);
     for row in &UNKNOWN {
-        for code in &[0u8, 5, 6, 255] {
-            assert!(rt; has_faults(*code, row), "type {code}: {row:?}");
-        }
+        assert!(rt; have_faults(row));
     }
 }
 
@@ -62,29 +60,32 @@ fn message(alloc: Global, kind: MessageType, length: u16) -> Result<Vec<u8>, All
     Ok(octets)
 }
 
-/// Whether the octets of the row are a frame and come as one, or else their header as a fault.
+/// Whether these octets are a frame and come as one, or else their header as a fault.
 fn is_framed(
-    frames: &mut Frames,
     octets: &[u8],
+    frames: &mut Frames,
     (limit, kind, length, is_whole): &(Limit, MessageType, u16, bool),
-) -> Result<bool, AllocError> {
-    frames.feed(octets)?;
+) -> bool {
     let front = header(*length, kind.code());
     let wanted = if *is_whole {
         Next::Frame(*kind, octets)
     } else {
         Next::Fault(bad_length(*length), &front)
     };
-    Ok(frames.next() == wanted && is_frame(*limit, octets) == *is_whole)
+    frames.next() == wanted && is_frame(*limit, octets) == *is_whole
+}
+
+/// Whether those of a row are or do, fed to a splitter.
+fn is_row_framed(alloc: Global, row: &(Limit, MessageType, u16, bool)) -> Option<bool> {
+    let octets = message(alloc, row.1, row.2).ok()?;
+    let mut frames = Frames::new(alloc, row.0);
+    frames.feed(&octets).ok()?;
+    Some(is_framed(&octets, &mut frames, row))
 }
 
 #[test]
-fn an_extended_message_is_one_frame(rt: HostRuntime) -> Result<(), Fail> {
+fn an_extended_message_is_one_frame(rt: HostRuntime) {
     for row in &LONG {
-        let octets = message(rt.alloc(), row.1, row.2)?;
-        let mut frames = Frames::new(rt.alloc(), row.0);
-        let answer = is_framed(&mut frames, &octets, row);
-        assert!(rt; matches!(answer, Ok(true)), "{row:?}");
+        assert!(rt; is_row_framed(rt.alloc(), row) == Some(true));
     }
-    Ok(())
 }

@@ -1,4 +1,4 @@
-//! Headers, and their faults.
+//! Headers, and their faults. (That each octet of a marker counts is a row of `real_captures`.)
 
 use super::*;
 
@@ -67,68 +67,46 @@ fn is_judged(limit: Limit, kind: MessageType, length: u16, is_whole: bool) -> bo
     check_header(&header(length, kind.code()), limit) == wanted
 }
 
+/// Whether headers of this type and these Lengths are all judged so.
+fn are_judged(limit: Limit, kind: MessageType, lengths: &[u16], is_whole: bool) -> bool {
+    let mut are_judged = true;
+    for length in lengths {
+        are_judged &= is_judged(limit, kind, *length, is_whole);
+    }
+    are_judged
+}
+
 #[test]
 fn each_type_has_its_least_and_its_greatest_length(rt: HostRuntime) {
     for (limit, kind, good, bad) in &LENGTHS {
-        for length in *good {
-            assert!(rt;
-                is_judged(*limit, *kind, *length, true),
-                "{length} is a Length"
-            );
-        }
-        for length in *bad {
-            assert!(rt;
-                is_judged(*limit, *kind, *length, false),
-                "{length} is no Length"
-            );
-        }
+        assert!(rt; are_judged(*limit, *kind, good, true) && are_judged(*limit, *kind, bad, false));
     }
 }
 
-#[test]
-fn a_type_that_is_not_known_is_bad_by_itself(rt: HostRuntime) {
-    for code in &[0u8, 5, 128, 255] {
-        let faults = HeaderFaults {
-            marker: false,
-            length: None,
-            kind: Some(*code),
-        };
-        let header = header(19, *code);
-        let verdict = check_header(&header, Limit::Plain);
-        let is_bad = verdict == HeaderVerdict::Faulty(faults) && read_type(&header) == *code;
-        assert!(rt; is_bad, "type {code}");
-    }
+/// Whether a type that isn't known is all that is bad of a header.
+fn is_bad_type(code: u8) -> bool {
+    let faults = HeaderFaults {
+        marker: false,
+        length: None,
+        kind: Some(code),
+    };
+    let header = header(19, code);
+    check_header(&header, Limit::Plain) == HeaderVerdict::Faulty(faults)
+        && read_type(&header) == code
 }
 
-/// The faults of a header whose marker alone is bad.
-const BAD_MARKER: HeaderFaults = HeaderFaults {
+/// All three faults, of zeros.
+const OF_ZEROS: HeaderFaults = HeaderFaults {
     marker: true,
-    length: None,
-    kind: None,
+    length: Some(0),
+    kind: Some(0),
 };
 
 #[test]
-fn each_octet_of_the_marker_counts(rt: HostRuntime) {
-    for place in 0..16 {
-        let mut header = KEEPALIVE;
-        header[place] = 254;
-        let verdict = check_header(&header, Limit::Plain);
-        assert!(rt;
-            verdict == HeaderVerdict::Faulty(BAD_MARKER),
-            "octet {place}"
-        );
-    }
-}
-
-#[test]
-fn nineteen_zero_octets_have_all_three_faults(rt: HostRuntime) {
-    let faults = HeaderFaults {
-        marker: true,
-        length: Some(0),
-        kind: Some(0),
-    };
+fn a_type_that_is_not_known_is_bad_by_itself_and_zeros_in_all(rt: HostRuntime) {
+    let are_bad = is_bad_type(0) && is_bad_type(5) && is_bad_type(128) && is_bad_type(255);
     let verdict = check_header(&[0; 19], Limit::Plain);
-    assert!(rt; !faults.is_empty() && verdict == HeaderVerdict::Faulty(faults));
+    assert!(rt; are_bad && !OF_ZEROS.is_empty() && verdict == HeaderVerdict::Faulty(OF_ZEROS));
 }
 
 /// The header of RFC 4271, 6.1, with a bad Length.
@@ -161,21 +139,14 @@ static NAMES: [(HeaderFaults, u8, &[u8], bool); 10] = [
 
 #[test]
 fn a_fault_is_named_by_its_subcode_and_the_field(rt: HostRuntime) {
-    for (row, (faults, subcode, detail, is_named)) in NAMES.iter().enumerate() {
-        assert!(rt; faults.contains(*subcode, detail) == *is_named, "row {row}");
+    for (faults, subcode, detail, is_named) in &NAMES {
+        assert!(rt; faults.contains(*subcode, detail) == *is_named);
     }
 }
 
 /// Sets of header faults, and of each the subcode and the data that are named first.
 static LEAST: [(HeaderFaults, Option<(u8, &[u8])>); 5] = [
-    (
-        HeaderFaults {
-            marker: true,
-            length: Some(0),
-            kind: Some(0),
-        },
-        Some((1, &[])),
-    ),
+    (OF_ZEROS, Some((1, &[]))),
     (
         HeaderFaults {
             marker: false,
@@ -223,6 +194,6 @@ fn names_first(faults: &HeaderFaults, wanted: &Option<(u8, &[u8])>) -> bool {
 #[test]
 fn the_least_fault_is_named_with_the_field(rt: HostRuntime) {
     for (faults, wanted) in &LEAST {
-        assert!(rt; names_first(faults, wanted), "of {faults:?}");
+        assert!(rt; names_first(faults, wanted));
     }
 }

@@ -5,135 +5,146 @@ use linked_list_allocator::LocalHeap;
 use std::test::Fail;
 
 /// Whether a splitter and its copy both give what was fed.
-fn copies(frames: &mut Frames) -> Result<bool, AllocError> {
+fn copies(alloc: Global) -> Result<bool, AllocError> {
+    let mut frames = Frames::new(alloc, Limit::Plain);
     frames.feed(&ANNOUNCES_10)?;
     let mut copy = frames.copy()?;
-    let message = Next::Frame(MessageType::Update, &ANNOUNCES_10);
-    Ok(copy.next() == message && frames.next() == message)
+    let is_copied = gives(&mut copy, MessageType::Update, &ANNOUNCES_10);
+    Ok(is_copied && gives(&mut frames, MessageType::Update, &ANNOUNCES_10))
+}
+
+/// Whether a KEEPALIVE is put.
+fn puts_keepalive(alloc: Global) -> bool {
+    let mut out = Vec::new(alloc);
+    put_keepalive(&mut out).is_ok() && out.as_slice() == KEEPALIVE.as_slice()
 }
 
 #[test]
 fn ample_memory(rt: HostRuntime) {
-    let mut frames = Frames::new(rt.alloc(), Limit::Plain);
-    assert!(rt; matches!(copies(&mut frames), Ok(true)));
+    assert!(rt; matches!(copies(rt.alloc()), Ok(true)) && puts_keepalive(rt.alloc()));
 }
 
-/// Whether a KEEPALIVE is put.
-fn puts_keepalive(out: &mut Vec<u8>) -> Result<bool, AllocError> {
-    put_keepalive(out)?;
-    Ok(out.as_slice() == KEEPALIVE.as_slice())
-}
-
-#[test]
-fn ample_memory_for_a_keepalive(rt: HostRuntime) {
-    assert!(rt; matches!(puts_keepalive(&mut Vec::new(rt.alloc())), Ok(true)));
-}
-
-#[test]
-fn a_keepalive_that_has_no_room_is_not_begun(rt: HostRuntime) -> Result<(), Fail> {
-    let heap = LocalHeap::new(rt.alloc(), 16)?;
+/// Whether a KEEPALIVE that has no room isn't begun.
+fn begins_nothing(alloc: Global) -> Option<bool> {
+    let heap = LocalHeap::new(alloc, 16).ok()?;
     let mut out = Vec::new(&heap);
-    assert!(rt; put_keepalive(&mut out).is_err() && out.is_empty());
-    Ok(())
+    Some(put_keepalive(&mut out).is_err() && out.is_empty())
+}
+
+#[test]
+fn a_keepalive_that_has_no_room_is_not_begun(rt: HostRuntime) {
+    assert!(rt; begins_nothing(rt.alloc()) == Some(true));
 }
 
 /// Whether a splitter holds a KEEPALIVE first, and so many octets after it.
 fn begins_with_keepalive(frames: &mut Frames<&LocalHeap>, rest: usize) -> bool {
-    let is_first = frames.next() == Next::Frame(MessageType::Keepalive, &KEEPALIVE);
-    is_first && frames.len() == rest
+    gives(frames, MessageType::Keepalive, &KEEPALIVE) && frames.len() == rest
 }
 
 /// At which call a splitter's growth was refused.
-#[derive(Clone, Copy)]
+#[derive(Clone, Copy, PartialEq, Eq)]
 enum Refused {
     FirstPiece,
     SecondPiece,
     Copy,
     Nothing,
+    /// At one, and not all is as before.
+    Wrongly,
+}
+
+/// The same, if what is held is right.
+fn refused_if(is_right: bool, refused: Refused) -> Refused {
+    if is_right { refused } else { Refused::Wrongly }
+}
+
+/// Copies a splitter that holds a KEEPALIVE, and so many octets after it.
+fn copies_or_keeps(frames: &mut Frames<&LocalHeap>, rest: usize) -> Refused {
+    match frames.copy() {
+        Ok(mut copy) => refused_if(begins_with_keepalive(&mut copy, rest), Refused::Nothing),
+        Err(_) => Refused::Copy,
+    }
+}
+
+/// Feeds a large piece to a splitter that holds a KEEPALIVE, and copies it.
+fn feeds_or_keeps(frames: &mut Frames<&LocalHeap>, piece: &[u8]) -> Refused {
+    let is_fed = frames.feed(piece).is_ok();
+    let rest = if is_fed { PIECE_LEN } else { 0 };
+    let copied = copies_or_keeps(frames, rest);
+    let is_right = begins_with_keepalive(frames, rest) && copied != Refused::Wrongly;
+    let refused = if is_fed { copied } else { Refused::SecondPiece };
+    refused_if(is_right, refused)
 }
 
 /// Feeds a KEEPALIVE and then a large piece to a splitter on a heap that may be too small, and
-/// copies it. It is `None` where a growth was refused and not all is as before.
-fn feeds_or_keeps(frames: &mut Frames<&LocalHeap>, piece: &[u8]) -> Option<Refused> {
-    if frames.feed(&KEEPALIVE).is_err() {
-        let is_empty = frames.len() == 0 && frames.next() == Next::More;
-        return if is_empty {
-            Some(Refused::FirstPiece)
-        } else {
-            None
-        };
+/// copies it.
+fn begins_or_keeps(heap: &LocalHeap, piece: &[u8]) -> Refused {
+    let mut frames = Frames::new(heap, Limit::Plain);
+    if frames.feed(&KEEPALIVE).is_ok() {
+        feeds_or_keeps(&mut frames, piece)
+    } else {
+        refused_if(waits(&mut frames, 0), Refused::FirstPiece)
     }
-    let is_fed = frames.feed(piece).is_ok();
-    let rest = if is_fed { PIECE_LEN } else { 0 };
-    let copied = match frames.copy() {
-        Ok(mut copy) => Some(begins_with_keepalive(&mut copy, rest)),
-        Err(_) => None,
-    };
-    if copied == Some(false) || !begins_with_keepalive(frames, rest) {
-        return None;
+}
+
+/// The same on a heap of so many octets.
+fn begins_or_keeps_in(alloc: Global, size: usize, piece: &[u8]) -> Refused {
+    match LocalHeap::new(alloc, size) {
+        Ok(heap) => begins_or_keeps(&heap, piece),
+        Err(_) => Refused::Wrongly,
     }
-    Some(match (is_fed, copied.is_some()) {
-        (false, _) => Refused::SecondPiece,
-        (true, false) => Refused::Copy,
-        (true, true) => Refused::Nothing,
-    })
+}
+
+/// Whether at each call a growth is refused, in heaps from 16 octets on, each larger than the one
+/// before, until nothing is.
+fn is_each_refused(alloc: Global) -> Option<bool> {
+    let piece = longest_messages(alloc).ok()?;
+    let (mut first, mut second, mut copy) = (false, false, false);
+    for step in 1usize..200 {
+        match begins_or_keeps_in(alloc, 16 * step * step, &piece) {
+            Refused::FirstPiece => first = true,
+            Refused::SecondPiece => second = true,
+            Refused::Copy => copy = true,
+            Refused::Nothing => return Some(first && second && copy),
+            Refused::Wrongly => return None,
+        }
+    }
+    None
 }
 
 #[test]
-fn a_refused_growth_leaves_what_was_held(rt: HostRuntime) -> Result<(), Fail> {
-    let piece = longest_messages(rt.alloc())?;
-    let mut met = [false; 3];
-    for step in 1usize..200 {
-        // From 16 octets on, each heap larger than the one before.
-        let heap = LocalHeap::new(rt.alloc(), 16 * step * step)?;
-        match feeds_or_keeps(&mut Frames::new(&heap, Limit::Plain), &piece) {
-            Some(Refused::FirstPiece) => met[0] = true,
-            Some(Refused::SecondPiece) => met[1] = true,
-            Some(Refused::Copy) => met[2] = true,
-            Some(Refused::Nothing) => {
-                let are_met = met[0] && met[1] && met[2];
-                assert!(rt; are_met, "at each call a growth was refused");
-                return Ok(());
-            }
-            None => return Err(Fail::from("what was held has changed")),
-        }
-    }
-    Err(Fail::from("no heap was large enough"))
+fn a_refused_growth_leaves_what_was_held(rt: HostRuntime) {
+    assert!(rt; is_each_refused(rt.alloc()) == Some(true));
 }
 
 /// Whether a splitter on a heap takes memory for a piece alone.
-fn takes_no_more(heap: &LocalHeap) -> Result<bool, AllocError> {
+fn takes_no_more(heap: &LocalHeap) -> Option<bool> {
     let before = heap.used();
     let mut frames = Frames::new(heap, Limit::Plain);
     let made = heap.used();
-    frames.feed(&KEEPALIVE)?;
+    frames.feed(&KEEPALIVE).ok()?;
     let fed = heap.used();
-    let is_whole = begins_with_keepalive(&mut frames, 0) && frames.next() == Next::More;
-    Ok(made == before && is_whole && heap.used() == fed)
+    let is_whole = begins_with_keepalive(&mut frames, 0) && waits(&mut frames, 0);
+    Some(made == before && is_whole && heap.used() == fed)
+}
+
+/// Whether a splitter gives a message that it is fed.
+fn gives_announcement(frames: &mut Frames<&LocalHeap>) -> bool {
+    frames.feed(&ANNOUNCES_10).is_ok() && gives(frames, MessageType::Update, &ANNOUNCES_10)
+}
+
+/// Whether what a splitter on a heap holds does not grow with the stream.
+fn gives_announcements(heap: &LocalHeap) -> bool {
+    let mut frames = Frames::new(heap, Limit::Plain);
+    let mut are_given = true;
+    for _ in 0..20_000 {
+        are_given = are_given && gives_announcement(&mut frames);
+    }
+    are_given
 }
 
 #[test]
 fn a_splitter_takes_no_memory_but_for_a_piece(rt: HostRuntime) -> Result<(), Fail> {
-    let heap = LocalHeap::new(rt.alloc(), 1 << 16)?;
-    assert!(rt; matches!(takes_no_more(&heap), Ok(true)));
-    Ok(())
-}
-
-/// Whether a splitter gives a message that it is fed.
-fn gives_announcement(frames: &mut Frames<&LocalHeap>) -> Result<bool, AllocError> {
-    frames.feed(&ANNOUNCES_10)?;
-    Ok(frames.next() == Next::Frame(MessageType::Update, &ANNOUNCES_10))
-}
-
-#[test]
-fn what_is_held_does_not_grow_with_the_stream(rt: HostRuntime) -> Result<(), Fail> {
     let heap = LocalHeap::new(rt.alloc(), 1 << 17)?;
-    let mut frames = Frames::new(&heap, Limit::Plain);
-    for turn in 0..20_000 {
-        assert!(rt;
-            matches!(gives_announcement(&mut frames), Ok(true)),
-            "turn {turn}"
-        );
-    }
+    assert!(rt; takes_no_more(&heap) == Some(true) && gives_announcements(&heap));
     Ok(())
 }
