@@ -1,253 +1,296 @@
-//! What a command over a recording answers, told as a case tells it.
+//! What a command over a file answers, told as a case tells it.
 
-ghost use Rattle.std.specs.Prelude.{◌<◌, ◌^◌, IfOk};
-ghost use Rattle.mrt.specs.MemSource.{source_state};
-
-use crate::case::{Case, malformed};
-use crate::words::{config_of, has_flag, import_of, options_of, port_of, session_of};
+use crate::case::malformed;
+use crate::file::File;
+use crate::told::Told;
+use crate::words::{command_of, import_of, words_of};
+use bgp_check_capture_tool::{CaptureOptions, check_capture};
+use bgp_check_tool::{CheckOptions, Settings, check_recording};
 use bgp_compact::CompactTracker;
 use bgp_explain::explain_capture;
-use bgp_import::{Cause, Refusal, Stopped, import_recording};
+use bgp_import::{Imported, Stopped, import_recording};
 use bgp_judge::{PlainTracker, Tracker};
 use bgp_open::Config;
-use bgp_recording_list::list_recording;
+use bgp_prefix::Session;
+use bgp_recording_explain::explain_recording;
+use bgp_recording_list::{ListedRecording, list_recording};
 use bgp_recording_tool::{Judged, decode_recording, judge_recording};
+use bgp_words::{Command, RecordingOptions};
 use mrt::{MemSink, MemSource};
-use std::alloc::{AllocError, Global};
-use std::fmt::Write;
+use std::alloc::Global;
 use std::io;
-use std::num::NonZeroUsize;
 
-/// A case's file, which is read so many octets at a time at the most.
-fn source_of(alloc: Global, case: &Case<'_>, most: NonZeroUsize) -> io::Result<MemSource>
-    ensures { IfOk result (λ source. source.failures < 2 ^ 63) }
-{
-    let file = Vec::from_slice(alloc, case.file.as_slice())?;
-    Ok(MemSource::new(file).in_pieces_of(most))
-}
-
-/// The lines of the answer to a case, whose file is read so many octets at a time at the most.
-pub(crate) fn answer_to(alloc: Global, case: &Case<'_>, most: NonZeroUsize) -> io::Result<String> {
-    let Some(command) = case.words.split(' ').next() else {
+/// The lines of the answer to the words of a command over a file.
+pub(crate) fn answer_to(alloc: Global, words: &str, file: &File<'_>) -> io::Result<String> {
+    let words = words_of(alloc, words)?;
+    let Ok(command) = command_of(alloc, words.as_slice()) else {
         return Err(malformed());
     };
-    if command == "judge" {
-        return judged_by_both(alloc, case, most);
-    }
-    let mut source = source_of(alloc, case, most)?;
+    answer_of(alloc, &command, file)
+}
+
+/// The lines of the answer to a command.
+fn answer_of(alloc: Global, command: &Command<'_>, file: &File<'_>) -> io::Result<String> {
     match command {
-        "import" => import(alloc, case.words, &mut source),
-        "list" => list(alloc, case.words, &mut source),
-        "decode" => decode(alloc, case.words, &mut source),
+        Command::Capture {
+            session,
+            recording,
+            ..
+        } => decode(alloc, session, recording, file),
+        Command::Import {
+            session,
+            recording,
+            ..
+        } => import(alloc, session, recording, file),
+        Command::List { port, .. } => list(alloc, *port, file),
+        _ => answer_by_both(alloc, command, file),
+    }
+}
+
+/// The lines of the answer to a command that judges, by both trackers.
+pub(crate) fn answer_by_both(
+    alloc: Global,
+    command: &Command<'_>,
+    file: &File<'_>,
+) -> io::Result<String> {
+    let plain = answer_by::<PlainTracker<Global>>(alloc, command, file)?;
+    let compact = answer_by::<CompactTracker<Global>>(alloc, command, file)?;
+    if plain == compact {
+        Ok(compact)
+    } else {
+        Ok(format!(in alloc; "the trackers differ: {plain}\nand\n{compact}")?)
+    }
+}
+
+/// The lines of the answer to a command that judges, by one.
+pub(crate) fn answer_by<T: Tracker<Global>>(
+    alloc: Global,
+    command: &Command<'_>,
+    file: &File<'_>,
+) -> io::Result<String> {
+    match command {
+        Command::Judge {
+            config,
+            recording,
+            explain: false,
+            ..
+        } => judge::<T>(alloc, config, recording, file),
+        Command::Judge {
+            config,
+            recording,
+            explain: true,
+            ..
+        } => explain::<T>(alloc, config, recording, file),
+        Command::Check {
+            port,
+            within,
+            routes,
+            settings,
+            ..
+        } => {
+            let options = CheckOptions {
+                port: *port,
+                within: *within,
+                routes: *routes,
+                settings: if *settings {
+                    Settings::Always
+                } else {
+                    Settings::UnlessYes
+                },
+            };
+            check::<T>(alloc, &options, file)
+        }
         _ => Err(malformed()),
     }
 }
 
-/// What `bgp judge` answers by both trackers.
-fn judged_by_both(alloc: Global, case: &Case<'_>, most: NonZeroUsize) -> io::Result<String> {
-    let plain = judged_by::<PlainTracker<Global>>(alloc, case, most)?;
-    let compact = judged_by::<CompactTracker<Global>>(alloc, case, most)?;
-    if plain.as_str() == compact.as_str() {
-        Ok(compact)
-    } else {
-        Ok(format!(in alloc; "the trackers differ")?)
-    }
+/// A status, and the lines that were printed.
+fn printed(alloc: Global, status: u8, sink: MemSink) -> io::Result<String> {
+    let mut told = Told::with_status(alloc, status);
+    told.put_printed(sink.octets());
+    told.end()
 }
 
-/// What `bgp judge` answers by a tracker: of a recording, or with `--explain` of a capture.
-fn judged_by<T: Tracker<Global>>(
-    alloc: Global,
-    case: &Case<'_>,
-    most: NonZeroUsize,
-) -> io::Result<String> {
-    let Some(config) = config_of(case.words) else {
-        return Err(malformed());
-    };
-    let mut source = source_of(alloc, case, most)?;
-    if has_flag(case.words, "--explain") {
-        explain::<T>(alloc, &config, &mut source)
-    } else {
-        judge::<T>(alloc, case.words, &config, &mut source)
-    }
-}
-
-/// The status and the lines of a capture that a tracker explains.
-pub(crate) fn explain<T: Tracker<Global>>(
-    alloc: Global,
-    config: &Config,
-    source: &mut MemSource,
-) -> io::Result<String>
-    requires { (source_state source.old).failures < 2 ^ 63 }
-{
-    let mut sink = MemSink::new(alloc);
-    let status = explain_capture::<Global, T, MemSource, MemSink>(alloc, config, source, &mut sink);
-    printed(alloc, status, sink.into_octets())
-}
-
-/// The status, and the lines that were printed.
-pub(crate) fn printed(alloc: Global, status: u8, octets: Vec<u8>) -> io::Result<String> {
-    let mut text = String::new(alloc);
-    add(&mut text, "status ")?;
-    add(&mut text, status)?;
-    add_lines(text, octets)
-}
-
-/// The exit status of a recording that is refused.
-fn refused_status(refusal: Refusal) -> u8 {
-    match refusal.cause() {
-        Cause::Recording => 3,
-        Cause::Memory => 4,
-        Cause::Device => 5,
-    }
-}
-
-/// The exit status of an import that doesn't end well.
-fn status_of(stopped: Stopped) -> u8 {
-    match stopped {
-        Stopped::Refused(refusal) => refused_status(refusal),
-        Stopped::Unwritten => 5,
-    }
-}
-
-/// Appends what is told.
-fn add<T: std::fmt::Display + Drop>(text: &mut String, piece: T) -> io::Result<()> {
-    match write!(text, "{piece}") {
-        Ok(()) => Ok(()),
-        Err(_) => Err(io::Error::from(AllocError)),
-    }
-}
-
-/// What `bgp import` answers.
-fn import(alloc: Global, words: &str, source: &mut MemSource) -> io::Result<String>
-    requires { (source_state source.old).failures < u64.MAX }
-{
-    let Some(import) = import_of(words) else {
-        return Err(malformed());
-    };
-    let mut sink = MemSink::new(alloc);
-    let mut text = String::new(alloc);
-    let imported = import_recording(alloc, &import, source, &mut sink);
-    match imported.ended {
-        Ok(notes) => {
-            add(&mut text, "status 0")?;
-            add_note(&mut text, imported.cut_short)?;
-            for note in notes.in_order() {
-                add_note(&mut text, note)?;
-            }
-            add(&mut text, "\ncapture ")?;
-        }
-        Err(stopped) => {
-            add(&mut text, "status ")?;
-            add(&mut text, status_of(stopped))?;
-            if let Stopped::Refused(refusal) = stopped {
-                add(&mut text, "\nrefusal ")?;
-                add(&mut text, refusal)?;
-            }
-            add_note(&mut text, imported.cut_short)?;
-            if let Stopped::Refused(refusal) = stopped {
-                add_note(&mut text, refusal.help())?;
-            }
-        }
-    }
-    add_hex(alloc, &mut text, sink.octets())?;
-    Ok(text)
-}
-
-/// Appends a line with what is told on standard error, if anything is.
-fn add_note<T: std::fmt::Display + Drop>(text: &mut String, note: Option<T>) -> io::Result<()> {
-    match note {
-        Some(note) => {
-            add(text, "\nnote ")?;
-            add(text, note)
-        }
-        None => Ok(()),
-    }
-}
-
-/// Appends octets in hexadecimal.
-fn add_hex(alloc: Global, text: &mut String, octets: &[u8]) -> io::Result<()> {
-    let digits = hex::encode(alloc, octets)?;
-    text.push_str(digits.as_str())?;
-    Ok(())
-}
-
-/// What `bgp list` answers.
-fn list(alloc: Global, words: &str, source: &mut MemSource) -> io::Result<String>
-    requires { (source_state source.old).failures < u64.MAX }
-{
-    let Some(port) = port_of(words) else {
-        return Err(malformed());
-    };
-    let mut sink = MemSink::new(alloc);
-    let listed = list_recording(alloc, port, source, &mut sink);
-    let nothing = listed.nothing();
-    let mut text = String::new(alloc);
-    add(&mut text, "status ")?;
-    add(&mut text, listed.status)?;
-    add_note(&mut text, listed.cut_short)?;
-    for refusal in listed.refusals.iter().flatten() {
-        add_note(&mut text, refusal.help())?;
-    }
-    add_note(&mut text, nothing)?;
-    if nothing.is_some() {
-        for not_looked_into in listed.wrapped.in_order() {
-            add_note(&mut text, not_looked_into)?;
-        }
-    }
-    add_lines(text, sink.into_octets())
-}
-
-/// The status, what is told on standard error, and the lines that were printed.
-fn told(alloc: Global, judged: &Judged<Global>, octets: Vec<u8>) -> io::Result<String> {
-    let mut text = String::new(alloc);
-    add(&mut text, "status ")?;
-    add(&mut text, judged.status)?;
-    add_note(&mut text, judged.cut_short)?;
+/// What judging or decoding a recording answers.
+fn judged(alloc: Global, judged: &Judged<Global>, sink: MemSink) -> io::Result<String> {
+    let mut told = Told::with_status(alloc, judged.status);
+    told.put_note(judged.cut_short);
     for remark in &judged.remarks {
-        add_note(&mut text, Some(*remark))?;
+        told.put_note(Some(*remark));
     }
-    add_lines(text, octets)
+    told.put_printed(sink.octets());
+    told.end()
 }
 
-/// The text with the lines that were printed.
-fn add_lines(mut text: String, octets: Vec<u8>) -> io::Result<String> {
-    let Ok(lines) = String::from_utf8(octets) else {
-        return Err(malformed());
-    };
-    for line in lines.as_str().lines() {
-        add(&mut text, "\n> ")?;
-        add(&mut text, line)?;
-    }
-    Ok(text)
+/// What `bgp decode --mrt` answers of a recording.
+fn decode(
+    alloc: Global,
+    session: &Session,
+    options: &RecordingOptions,
+    file: &File<'_>,
+) -> io::Result<String> {
+    let mut source = file.source(alloc)?;
+    let mut sink = MemSink::new(alloc);
+    let decoded = decode_recording(alloc, session, options, &mut source, &mut sink);
+    judged(alloc, &decoded, sink)
 }
 
 /// What `bgp judge` answers of a recording, by a tracker.
 fn judge<T: Tracker<Global>>(
     alloc: Global,
-    words: &str,
     config: &Config,
-    source: &mut MemSource,
-) -> io::Result<String>
-    requires { (source_state source.old).failures < 2 ^ 63 }
-{
-    let Some(options) = options_of(words) else {
-        return Err(malformed());
-    };
+    options: &RecordingOptions,
+    file: &File<'_>,
+) -> io::Result<String> {
+    let mut source = file.source(alloc)?;
     let mut sink = MemSink::new(alloc);
-    let judged = judge_recording::<Global, T, MemSource, MemSink>(
-        alloc, config, &options, source, &mut sink,
+    let answer = judge_recording::<Global, T, MemSource, MemSink>(
+        alloc,
+        config,
+        options,
+        &mut source,
+        &mut sink,
     );
-    told(alloc, &judged, sink.into_octets())
+    judged(alloc, &answer, sink)
 }
 
-/// What `bgp decode --mrt` answers.
-fn decode(alloc: Global, words: &str, source: &mut MemSource) -> io::Result<String>
-    requires { (source_state source.old).failures < 2 ^ 63 }
-{
-    let (Some(session), Some(options)) = (session_of(words), options_of(words)) else {
+/// What `bgp judge --explain` answers, by a tracker.
+fn explain<T: Tracker<Global>>(
+    alloc: Global,
+    config: &Config,
+    options: &RecordingOptions,
+    file: &File<'_>,
+) -> io::Result<String> {
+    let mut source = file.source(alloc)?;
+    let mut sink = MemSink::new(alloc);
+    if file.is_recording() {
+        let answer = explain_recording::<Global, T, MemSource, MemSink>(
+            alloc,
+            config,
+            options,
+            &mut source,
+            &mut sink,
+        );
+        return judged(alloc, &answer, sink);
+    }
+    let status = explain_capture::<Global, T, MemSource, MemSink>(
+        alloc,
+        config,
+        &mut source,
+        &mut sink,
+    );
+    printed(alloc, status, sink)
+}
+
+/// What `bgp check` answers, by a tracker.
+fn check<T: Tracker<Global>>(
+    alloc: Global,
+    options: &CheckOptions,
+    file: &File<'_>,
+) -> io::Result<String> {
+    let mut source = file.source(alloc)?;
+    let mut sink = MemSink::new(alloc);
+    if file.is_recording() {
+        let checked = check_recording::<Global, T, MemSource, MemSink>(
+            alloc,
+            options,
+            &mut source,
+            &mut sink,
+        );
+        let mut told = Told::with_status(alloc, checked.status);
+        told.put_printed(sink.octets());
+        for refusal in checked.refusals.iter().flatten() {
+            told.put_note(refusal.help());
+        }
+        return told.end();
+    }
+    let CheckOptions {
+        routes,
+        settings,
+        ..
+    } = *options;
+    let checked = check_capture::<Global, T, MemSource, MemSink>(
+        alloc,
+        &CaptureOptions { routes, settings },
+        &mut source,
+        &mut sink,
+    );
+    printed(alloc, checked.status, sink)
+}
+
+/// What `bgp list` answers of a recording.
+fn list(alloc: Global, port: u16, file: &File<'_>) -> io::Result<String> {
+    let mut source = file.source(alloc)?;
+    let mut sink = MemSink::new(alloc);
+    let listed = list_recording(alloc, port, &mut source, &mut sink);
+    let mut told = Told::with_status(alloc, listed.status);
+    put_list_notes(&mut told, &listed);
+    told.put_printed(sink.octets());
+    told.end()
+}
+
+/// Puts what is told of a list on standard error.
+fn put_list_notes(told: &mut Told, listed: &ListedRecording) {
+    told.put_note(listed.cut_short);
+    for refusal in listed.refusals.iter().flatten() {
+        told.put_note(refusal.help());
+    }
+    let nothing = listed.nothing();
+    told.put_note(nothing);
+    if nothing.is_some() {
+        for not_looked_into in listed.wrapped.in_order() {
+            told.put_note(not_looked_into);
+        }
+    }
+}
+
+/// The exit status of an import.
+fn status_of(imported: &Imported) -> u8 {
+    match imported.ended {
+        Ok(_) => 0,
+        Err(Stopped::Refused(refusal)) => bgp_recording_tool::status_of(refusal).code(),
+        Err(Stopped::Unwritten) => 5,
+    }
+}
+
+/// What `bgp import` answers.
+fn import(
+    alloc: Global,
+    session: &Session,
+    options: &RecordingOptions,
+    file: &File<'_>,
+) -> io::Result<String> {
+    let Some(import) = import_of(session, options) else {
         return Err(malformed());
     };
+    let mut source = file.source(alloc)?;
     let mut sink = MemSink::new(alloc);
-    let decoded = decode_recording(alloc, &session, &options, source, &mut sink);
-    told(alloc, &decoded, sink.into_octets())
+    let imported = import_recording(alloc, &import, &mut source, &mut sink);
+    let digits = hex::encode(alloc, sink.octets())?;
+    let mut told = Told::with_status(alloc, status_of(&imported));
+    put_import_notes(&mut told, &imported);
+    if imported.ended.is_ok() {
+        told.put("\ncapture ");
+    }
+    told.put(digits);
+    told.end()
+}
+
+/// Puts what is told of an import on standard error, its refusal first.
+fn put_import_notes(told: &mut Told, imported: &Imported) {
+    match imported.ended {
+        Ok(notes) => {
+            told.put_note(imported.cut_short);
+            for note in notes.in_order() {
+                told.put_note(note);
+            }
+        }
+        Err(Stopped::Refused(refusal)) => {
+            told.put("\nrefusal ");
+            told.put(refusal);
+            told.put_note(imported.cut_short);
+            told.put_note(refusal.help());
+        }
+        Err(Stopped::Unwritten) => told.put_note(imported.cut_short),
+    }
 }

@@ -1,15 +1,18 @@
 //! A file and what a command answers of it, told by a block of lines.
 
+use crate::answer::answer_to;
+use crate::file::File;
+use crate::repeated::repeated;
 use hex::FromHexError;
 use std::alloc::{AllocError, Global};
 use std::io;
 
 /// A file, the words of a command over it, and the lines that tell its answer.
-#[derive(Drop)]
+#[derive(Clone, Copy)]
 pub(crate) struct Case<'a> {
     pub(crate) name: &'a str,
     pub(crate) words: &'a str,
-    pub(crate) file: Vec<u8>,
+    pub(crate) file: &'a [u8],
     pub(crate) answer: &'a str,
 }
 
@@ -30,30 +33,59 @@ fn octets_of(alloc: Global, digits: &str) -> io::Result<Vec<u8>> {
     }
 }
 
-/// What a line tells after its word.
-fn told<'a>(line: &'a str, word: &str) -> io::Result<&'a str> {
+/// Takes the first line of a text, which begins with this word, and answers what it tells after it,
+/// and the other lines.
+fn told<'a>(text: &'a str, word: &str) -> io::Result<(&'a str, &'a str)> {
+    let (line, rest) = text.split_once('\n').unwrap_or((text, ""));
     match line.split_once(' ') {
-        Some((first, rest)) if first == word => Ok(rest),
+        Some((first, told)) if first == word => Ok((told, rest)),
         _ => Err(malformed()),
     }
 }
 
-/// Takes the first line of a text.
-fn first_line(text: &str) -> (&str, &str) {
-    text.split_once('\n').unwrap_or((text, ""))
+/// Compares the case of a block of lines: `case` and its name; `args` and the words of the command;
+/// `octets` and the file; and then the lines of the answer: `status` and a number, `refusal` and
+/// its text, `note` and a sentence, `capture` and its octets, `>` and a line that is printed.
+pub(crate) fn compare_case<R: Print + AllocGlobal>(rt: &R, block: &str) -> io::Result<Option<u64>> {
+    let (name, rest) = told(block, "case")?;
+    let (words, rest) = told(rest, "args")?;
+    let (digits, answer) = told(rest, "octets")?;
+    let file = octets_of(rt.alloc(), digits)?;
+    let case = Case {
+        name,
+        words,
+        file: file.as_slice(),
+        answer,
+    };
+    compare(rt, &case)
 }
 
-/// Reads a block of lines: `case` and its name; `args` and the words of the command; `octets` and
-/// the file; and then the lines of the answer: `status` and a number, `refusal` and its text,
-/// `note` and a sentence, `capture` and its octets, `>` and a line that is printed.
-pub(crate) fn read_case(alloc: Global, block: &str) -> io::Result<Case<'_>> {
-    let (name, rest) = first_line(block);
-    let (words, rest) = first_line(rest);
-    let (octets, answer) = first_line(rest);
-    Ok(Case {
-        name: told(name, "case")?,
-        words: told(words, "args")?,
-        file: octets_of(alloc, told(octets, "octets")?)?,
-        answer,
-    })
+/// Prints a case if it is not so, or if `bgp judge` gives another verdict for one that is told with
+/// its options. Answers how many of these there are, where it is so.
+pub(crate) fn compare<R: Print + AllocGlobal>(rt: &R, case: &Case<'_>) -> io::Result<Option<u64>> {
+    let file = File::read_at_once(case.file);
+    if !is_so(rt, case, &file)? || !is_so(rt, case, &File::read_by_octets(case.file))? {
+        return Ok(None);
+    }
+    let count = repeated(rt.alloc(), &file, case.answer)?;
+    if count.is_none() {
+        println!(rt; "case {} is judged otherwise", case.name)?;
+    }
+    Ok(count)
+}
+
+/// Prints a case if it is not so, whose file is read like this. Answers whether it is so.
+fn is_so<R: Print + AllocGlobal>(rt: &R, case: &Case<'_>, file: &File<'_>) -> io::Result<bool> {
+    let answer = answer_to(rt.alloc(), case.words, file)?;
+    if answer.as_str() == case.answer {
+        return Ok(true);
+    }
+    let Case {
+        name,
+        words,
+        answer: known,
+        ..
+    } = *case;
+    println!(rt; "case {name} is not so: {words}\n{answer}\nand not\n{known}\n")?;
+    Ok(false)
 }

@@ -1,57 +1,37 @@
 //! Recordings of real sessions, explained as the captures that are made of them.
 
-use crate::answer::{explain, printed};
+use crate::answer::answer_by_both;
 use crate::case::malformed;
-use crate::session::{SESSIONS, read_recording, read_settings};
-use crate::words::import_between;
-use bgp_compact::CompactTracker;
+use crate::file::File;
+use crate::words::{command_of, import_of, words_of};
 use bgp_import::import_recording;
-use bgp_judge::{PlainTracker, Tracker};
 use bgp_open::{Config, ConfigParts};
-use bgp_recording_explain::explain_recording;
-use bgp_recording_tool::RecordingOptions;
-use mrt::{MemSink, MemSource};
+use bgp_words::{Command, RecordingOptions};
+use mrt::MemSink;
 use std::alloc::Global;
 use std::io;
-use std::rt::Files;
 
 /// How many connections of a recording are looked at.
 const CONNECTIONS: usize = 4;
 
-/// A connection of a recording, and how it is judged.
+/// How a connection of a recording is judged.
 #[derive(Clone, Copy)]
-struct Talk<'a> {
-    config: &'a Config,
+struct Talk {
+    config: Config,
     options: RecordingOptions,
-    recording: &'a [u8],
 }
 
 /// The capture that is made of the connection, if there is such a one.
-fn capture_of(alloc: Global, talk: &Talk<'_>) -> io::Result<Option<Vec<u8>>> {
-    let session = &talk.config.parts.session;
-    let Some(import) = import_between(session, &talk.options) else {
+fn capture_of(alloc: Global, talk: &Talk, recording: &File<'_>) -> io::Result<Option<Vec<u8>>> {
+    let Some(import) = import_of(&talk.config.parts.session, &talk.options) else {
         return Err(malformed());
     };
-    let mut source = MemSource::new(Vec::from_slice(alloc, talk.recording)?);
+    let mut source = recording.source(alloc)?;
     let mut sink = MemSink::new(alloc);
     match import_recording(alloc, &import, &mut source, &mut sink).ended {
         Ok(_) => Ok(Some(sink.into_octets())),
         Err(_) => Ok(None),
     }
-}
-
-/// The status and the lines of the connection that a tracker explains.
-fn explained<T: Tracker<Global>>(alloc: Global, talk: &Talk<'_>) -> io::Result<String> {
-    let mut source = MemSource::new(Vec::from_slice(alloc, talk.recording)?);
-    let mut sink = MemSink::new(alloc);
-    let judged = explain_recording::<Global, T, MemSource, MemSink>(
-        alloc,
-        talk.config,
-        &talk.options,
-        &mut source,
-        &mut sink,
-    );
-    printed(alloc, judged.status, sink.into_octets())
 }
 
 /// The line without the packet that shows its record.
@@ -66,82 +46,66 @@ fn without_packet(line: &str) -> &str {
     }
 }
 
-/// A text whose lines have no packets.
-fn without_packets(alloc: Global, text: &str) -> io::Result<String> {
-    let mut lines = String::new(alloc);
-    for line in text.lines() {
-        lines.push_str(without_packet(line))?;
-        lines.push_str("\n")?;
-    }
-    Ok(lines)
-}
-
-/// A text without the lines on what a capture skips: of a recording there are none.
-fn without_skipped(alloc: Global, text: &str) -> io::Result<String> {
-    let mut lines = String::new(alloc);
-    for line in text.lines() {
-        if !line.starts_with("> skipped ") {
-            lines.push_str(line)?;
-            lines.push_str("\n")?;
+/// Whether a connection's answer is its capture's, but for packets, for what is told of a recording
+/// besides, and for what a capture skips: of a recording there is nothing.
+fn is_same(answer: &str, known: &str) -> bool {
+    let mut known = known.lines().filter(|line| !line.starts_with("> skipped "));
+    for line in answer.lines().filter(|line| !line.starts_with("note ")) {
+        match known.next() {
+            Some(other) if other == without_packet(line) => {}
+            _ => return false,
         }
     }
-    Ok(lines)
-}
-
-/// The text of both trackers, if it is one.
-fn explained_by_both(alloc: Global, talk: &Talk<'_>) -> io::Result<Option<String>> {
-    let plain = explained::<PlainTracker<Global>>(alloc, talk)?;
-    let compact = explained::<CompactTracker<Global>>(alloc, talk)?;
-    Ok((plain == compact).then_some(plain))
-}
-
-/// Whether a connection's text is its capture's, but for packets and what is skipped.
-fn is_same(alloc: Global, text: &str, known: &str) -> io::Result<bool> {
-    Ok(without_packets(alloc, text)? == without_skipped(alloc, known)?)
+    known.next().is_none() && answer.starts_with("status ")
 }
 
 /// Prints a connection that isn't explained as its capture, by both trackers. Answers whether it
 /// is.
-fn compare_texts<R: Print + AllocGlobal>(
+fn compare_answers<R: Print + AllocGlobal>(
     rt: &R,
-    talk: &Talk<'_>,
-    capture: Vec<u8>,
+    talk: &Talk,
+    recording: &File<'_>,
+    capture: &File<'_>,
 ) -> io::Result<bool> {
-    let alloc = rt.alloc();
-    let known = explain::<CompactTracker<Global>>(
-        alloc,
-        talk.config,
-        &mut MemSource::new(capture),
-    )?;
-    let Some(text) = explained_by_both(alloc, talk)? else {
-        println!(rt; "the trackers differ, where there is\n{known}")?;
-        return Ok(false);
+    let explain = Command::Judge {
+        config: talk.config,
+        recording: talk.options,
+        explain: true,
+        file: "-",
     };
-    let is_so = is_same(alloc, text.as_str(), known.as_str())?;
+    let known = answer_by_both(rt.alloc(), &explain, capture)?;
+    let answer = answer_by_both(rt.alloc(), &explain, recording)?;
+    let is_so = is_same(answer.as_str(), known.as_str());
     if !is_so {
-        println!(rt; "{text}\nbut\n{known}")?;
+        println!(rt; "{answer}\nbut\n{known}")?;
     }
     Ok(is_so)
 }
 
 /// The same of a connection if there is such a one.
-fn compare_talk<R: Print + AllocGlobal>(rt: &R, talk: &Talk<'_>) -> io::Result<Option<bool>> {
-    match capture_of(rt.alloc(), talk)? {
-        Some(capture) => Ok(Some(compare_texts(rt, talk, capture)?)),
+fn compare_talk<R: Print + AllocGlobal>(
+    rt: &R,
+    talk: &Talk,
+    recording: &File<'_>,
+) -> io::Result<Option<bool>> {
+    match capture_of(rt.alloc(), talk, recording)? {
+        Some(capture) => {
+            let capture = File::read_at_once(capture.as_slice());
+            Ok(Some(compare_answers(rt, talk, recording, &capture)?))
+        }
         None => Ok(None),
     }
 }
 
-/// Compares each connection of a recording under a configuration. Answers how many there are, and
-/// whether all are so.
-fn compare_recording<R: Print + AllocGlobal>(
+/// Compares each connection of a recording under a configuration. Answers how many there are, where
+/// all are so.
+fn compare_talks<R: Print + AllocGlobal>(
     rt: &R,
-    config: &Config,
+    config: Config,
     options: RecordingOptions,
-    recording: &[u8],
-) -> io::Result<(u64, bool)> {
+    recording: &File<'_>,
+) -> io::Result<Option<u64>> {
     let mut count = 0u64;
-    let mut all = true;
     for number in 1..=CONNECTIONS {
         let talk = Talk {
             config,
@@ -149,29 +113,46 @@ fn compare_recording<R: Print + AllocGlobal>(
                 connection: Some(number),
                 ..options
             },
-            recording,
         };
-        if let Some(is_so) = compare_talk(rt, &talk)? {
-            count = count.saturating_add(1);
-            all &= is_so;
+        match compare_talk(rt, &talk, recording)? {
+            Some(true) => count = count.saturating_add(1),
+            Some(false) => return Ok(None),
+            None => {}
         }
     }
-    Ok((count, all))
+    Ok(Some(count))
 }
 
-/// Compares a recording from one end, under its configuration, and under one with another Hold Time
-/// and one with another AS number of the peer, by which most are a no. Answers how many connections
-/// there are, and whether all are so.
-fn compare_end<R: Files + Print + AllocGlobal>(
+/// Compares a recording that is judged by these words: under their configuration, under one with
+/// another Hold Time, and one with another AS number of the peer, by which most are a no. Answers
+/// how many connections there are, where all are so.
+pub(crate) fn compare_explained<R: Print + AllocGlobal>(
     rt: &R,
-    name: &str,
-    end: &str,
-) -> io::Result<(u64, bool)> {
-    let recording = read_recording(rt, name)?;
-    let (config, options) = read_settings(rt, name, end)?;
-    let parts = config.parts;
-    let mut count = 0u64;
-    let mut all = true;
+    words: &str,
+    recording: &[u8],
+) -> io::Result<Option<u64>> {
+    let words = words_of(rt.alloc(), words)?;
+    let Ok(
+        Command::Judge {
+            config,
+            recording: options,
+            ..
+        },
+    ) = command_of(rt.alloc(), words.as_slice())
+    else {
+        return Err(malformed());
+    };
+    compare_configured(rt, &config.parts, options, &File::read_at_once(recording))
+}
+
+/// The same of a recording that is judged with these parts.
+fn compare_configured<R: Print + AllocGlobal>(
+    rt: &R,
+    parts: &ConfigParts,
+    options: RecordingOptions,
+    recording: &File<'_>,
+) -> io::Result<Option<u64>> {
+    let mut sum = 0u64;
     for (hold, peer_as) in [
         (parts.hold, parts.peer_as),
         (180, parts.peer_as),
@@ -180,27 +161,13 @@ fn compare_end<R: Files + Print + AllocGlobal>(
         let config = Config::new(ConfigParts {
             hold,
             peer_as,
-            ..parts
+            ..*parts
         })
         .ok_or_else(malformed)?;
-        let (some, are_so) = compare_recording(rt, &config, options, recording.as_slice())?;
-        count = count.saturating_add(some);
-        all &= are_so;
-    }
-    Ok((count, all))
-}
-
-/// Prints each connection that is not so, and then how many there were. Answers whether all are so.
-pub(crate) fn compare_explained<R: Files + Print + AllocGlobal>(rt: &R) -> io::Result<bool> {
-    let mut count = 0u64;
-    let mut all = true;
-    for (name, _, _) in SESSIONS {
-        for end in ["a", "b"] {
-            let (some, are_so) = compare_end(rt, name, end)?;
-            count = count.saturating_add(some);
-            all &= are_so;
+        match compare_talks(rt, config, options, recording)? {
+            Some(count) => sum = sum.saturating_add(count),
+            None => return Ok(None),
         }
     }
-    println!(rt; "{count} connections are explained as their captures")?;
-    Ok(all)
+    Ok(Some(sum))
 }

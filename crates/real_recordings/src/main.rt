@@ -1,12 +1,19 @@
-//! Imports, lists, judges and explains recordings, and explains captures, whose answers are known
-//! from elsewhere: from a program that was written apart from this one.
+//! Recordings of packets, captures and command lines whose answers are known from elsewhere: most
+//! from a program that was written apart from this one, some worked out by hand (docs/TESTING.md).
 //!
-//! `cases.txt` has packet captures made at random and by hand, with the capture that is made of
-//! each or why it is refused, and lists; `judged.txt` has some that are judged, by the plain
-//! tracker and by the compact one, and decoded. `explained.txt` and `explained-by-hand.txt` have
-//! captures, which both trackers explain. `sessions` has recordings of real sessions between five
-//! daemons: each is listed, judged from both ends by both trackers, and explained as the captures
-//! that are made of it, but for the packets.
+//! First tables are gone through. `cases.txt` has recordings made at random and by hand, with the
+//! capture that is made of each or why it is refused, and lists; `judged.txt` has some that are
+//! judged, and decoded. `explained.txt` and `explained-by-hand.txt` have captures whose verdict is
+//! explained. `checked.txt` and `captures.txt` have recordings and captures that are checked, whose
+//! settings aren't known: by hand, at random with planted oddities, and of real sessions; and where
+//! a verdict is told with the options of `bgp judge`, that is asked by them for the same. Each file
+//! is read at once and octet by octet, and what judges does so by the plain tracker and by the
+//! compact one. `words.txt` has command lines, and the command that each spells, or the status and
+//! what is told.
+//!
+//! Then recordings of real sessions between five daemons, in `sessions`, are listed, judged from
+//! both ends, and explained as the captures that are made of them, but for the packets. Last some
+//! command lines are run over real files.
 //!
 //! Of the other program's 300 explained captures five are in the table by hand, with what differs:
 //! four in which large communities are an attribute without a name, and one that tells from when on
@@ -16,20 +23,25 @@
 mod answer;
 mod case;
 mod explained;
+mod file;
+mod repeated;
+mod runs;
 mod session;
+mod spelled;
+mod table;
+mod told;
 mod words;
 
-use answer::answer_to;
-use case::{Case, read_case};
-use explained::compare_explained;
+use runs::run_all;
 use session::compare_sessions;
-use std::num::NonZeroUsize;
+use std::io;
+use std::net::Net;
 use std::process::ExitCode;
-use std::rt::Files;
-use std::{fs, io};
+use std::rt::{Clock, Files};
+use table::compare_tables;
 
 fn main(rt: HostRuntime) -> ExitCode {
-    match compare_all(&rt) {
+    match go_through_all(&rt, &rt.stderr()) {
         Ok(true) => ExitCode::SUCCESS,
         Ok(false) => ExitCode::FAILURE,
         Err(error) => {
@@ -39,60 +51,14 @@ fn main(rt: HostRuntime) -> ExitCode {
     }
 }
 
-/// The tables of cases.
-const TABLES: [&str; 4] = [
-    "cases.txt",
-    "judged.txt",
-    "explained.txt",
-    "explained-by-hand.txt",
-];
-
-/// Prints what is not so, and how much was compared. Answers whether all is so.
-fn compare_all<R: Files + Print + AllocGlobal>(rt: &R) -> io::Result<bool> {
-    let mut all = true;
-    for table in TABLES {
-        all &= compare_cases(rt, table)?;
-    }
-    all &= compare_sessions(rt)?;
-    all &= compare_explained(rt)?;
-    Ok(all)
-}
-
-/// Prints each case of a table that is not so, and then how many there were. Answers whether all
-/// are so.
-fn compare_cases<R: Files + Print + AllocGlobal>(rt: &R, name: &str) -> io::Result<bool> {
-    let table = fs::read_to_string(rt, name)?;
-    let mut cases = 0u64;
-    let mut all = true;
-    for block in table.split("\n\n") {
-        let block = block.trim_end();
-        if block.is_empty() {
-            continue;
-        }
-        cases = cases.saturating_add(1);
-        all &= compare_case(rt, block)?;
-    }
-    println!(rt; "{name}: {cases} cases")?;
-    Ok(all)
-}
-
-/// Prints a case if it is not so, read at once or octet by octet. Answers whether it is so.
-fn compare_case<R: Files + Print + AllocGlobal>(rt: &R, block: &str) -> io::Result<bool> {
-    let case = read_case(rt.alloc(), block)?;
-    Ok(is_so(rt, &case, NonZeroUsize::MAX)? && is_so(rt, &case, NonZeroUsize::MIN)?)
-}
-
-/// Prints a case if it is not so, read so many octets at a time at the most. Answers whether it is
-/// so.
-fn is_so<R: Print + AllocGlobal>(rt: &R, case: &Case<'_>, most: NonZeroUsize) -> io::Result<bool> {
-    let answer = answer_to(rt.alloc(), case, most)?;
-    if answer.as_str() == case.answer {
-        return Ok(true);
-    }
-    let Case { name, words, .. } = case;
-    println!(rt;
-        "case {name} is not so: {words}\n{answer}\nand not\n{}\n",
-        case.answer
-    )?;
-    Ok(false)
+/// Prints what is not so, how much was compared, and what the command lines print that are run.
+/// Answers whether all that is compared is so.
+fn go_through_all<R: Files + Net + Clock + Input + Print + Eprint + AllocGlobal, E: Print>(
+    rt: &R,
+    errors: &E,
+) -> io::Result<bool> {
+    let tables = compare_tables(rt)?;
+    let sessions = compare_sessions(rt)?;
+    run_all(rt, errors)?;
+    Ok(tables && sessions)
 }

@@ -1,7 +1,7 @@
 use Rattle.std.proofs.Common.{◌≡◌, ℕ, ◌+◌, ◌-◌, ◌*◌, ◌<◌, ◌≤◌, length}
 use denote.Text.{Utf8}
 use denote.Shadow.{shadow}
-use Rattle.checked_cases.proofs.repeated.repeated.Given as goal
+use Rattle.real_recordings.proofs.repeated.repeated.Given as goal
 
 -- the verdict is text
 abbrev pub invariant-loop-line : goal.invariant-loop-line

@@ -1,54 +1,35 @@
 //! Whether `bgp judge` gives each verdict that is told with its options.
 
-use crate::case::{Case, Kind, malformed};
+use crate::answer::answer_by;
+use crate::case::malformed;
+use crate::file::File;
+use crate::words::{command_of, words_of};
 use bgp_compact::CompactTracker;
-use bgp_explain::explain_capture;
-use bgp_recording_explain::explain_recording;
-use bgp_words::{Command, command_line};
-use mrt::{MemSink, MemSource};
+use bgp_words::Command;
 use std::alloc::Global;
 use std::io;
 
-/// What `bgp judge --explain` prints of a case's file, where it is asked by the words of a line.
-fn judged(alloc: Global, kind: Kind, case: &Case<'_>, line: &str) -> io::Result<String> {
-    let mut words = Vec::new(alloc);
-    words.push("bgp")?;
-    for word in line.split(' ') {
-        words.push(word)?;
-    }
-    words.push("-")?;
-    let (config, options) = match command_line(alloc, &words) {
-        Ok(
-            Command::Judge {
-                config,
-                recording,
-                ..
-            },
-        ) => (config, recording),
-        _ => return Err(malformed()),
+/// What `bgp judge --explain` answers of a file, where it is asked by the words of a line.
+fn judged(alloc: Global, file: &File<'_>, line: &str) -> io::Result<String> {
+    let words = words_of(alloc, line)?;
+    let Ok(
+        Command::Judge {
+            config,
+            recording,
+            file: name,
+            ..
+        },
+    ) = command_of(alloc, words.as_slice())
+    else {
+        return Err(malformed());
     };
-    let mut source = MemSource::new(Vec::from_slice(alloc, case.file.as_slice())?);
-    let mut sink = MemSink::new(alloc);
-    match kind {
-        Kind::Recording => {
-            explain_recording::<Global, CompactTracker<Global>, MemSource, MemSink>(
-                alloc,
-                &config,
-                &options,
-                &mut source,
-                &mut sink,
-            );
-        }
-        Kind::Capture => {
-            explain_capture::<Global, CompactTracker<Global>, MemSource, MemSink>(
-                alloc,
-                &config,
-                &mut source,
-                &mut sink,
-            );
-        }
-    }
-    String::from_utf8(sink.into_octets()).map_err(|_| malformed())
+    let explain = Command::Judge {
+        config,
+        recording,
+        explain: true,
+        file: name,
+    };
+    answer_by::<CompactTracker<Global>>(alloc, &explain, file)
 }
 
 /// A line around the number of a record that it names.
@@ -84,8 +65,8 @@ fn is_told_so(told: &str, printed: &str, counts_alike: bool) -> bool {
 
 /// Whether what is printed is told: a verdict, and in the lines after it each possible end, or each
 /// line of the reason, and then only notes. No routes are compared.
-fn is_told(verdict: &str, details: &[&str], printed: &str, counts_alike: bool) -> bool {
-    let mut lines = printed.lines();
+fn is_told(verdict: &str, details: &[&str], answer: &str, counts_alike: bool) -> bool {
+    let mut lines = answer.lines().filter_map(|line| line.strip_prefix("> "));
     match lines.next() {
         Some(line) if is_told_so(verdict, line, counts_alike) => {}
         _ => return false,
@@ -117,12 +98,7 @@ fn verdict_in(line: &str) -> &str {
 
 /// How many verdicts of an answer are told with the options of `bgp judge`: `None` where it gives
 /// another for one of them.
-pub(crate) fn repeated(
-    alloc: Global,
-    kind: Kind,
-    case: &Case<'_>,
-    answer: &str,
-) -> io::Result<Option<u64>> {
+pub(crate) fn repeated(alloc: Global, file: &File<'_>, answer: &str) -> io::Result<Option<u64>> {
     let mut count = 0u64;
     let mut verdict = "";
     let mut details = Vec::new(alloc);
@@ -140,11 +116,8 @@ pub(crate) fn repeated(
             details.push(detail)?;
             continue;
         }
-        let counts_alike = match kind {
-            Kind::Recording => true,
-            Kind::Capture => !detail.contains(" --skip-refresh"),
-        };
-        let printed = judged(alloc, kind, case, detail)?;
+        let counts_alike = file.is_recording() || !detail.contains(" --skip-refresh");
+        let printed = judged(alloc, file, detail)?;
         if !is_told(verdict, &details, printed.as_str(), counts_alike) {
             return Ok(None);
         }

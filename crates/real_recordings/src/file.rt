@@ -1,0 +1,47 @@
+//! A file that a command reads.
+
+ghost use Rattle.std.specs.Prelude.{◌<◌, ◌^◌, IfOk};
+
+use bgp_recording_tool::Peeked;
+use mrt::MemSource;
+use std::alloc::Global;
+use std::io;
+use std::num::NonZeroUsize;
+
+/// The octets of a file, which is read so many at a time at the most.
+#[derive(Clone, Copy)]
+pub(crate) struct File<'a> {
+    octets: &'a [u8],
+    most: NonZeroUsize,
+}
+
+impl<'a> File<'a> {
+    /// A file that is read at once.
+    pub(crate) fn read_at_once(octets: &'a [u8]) -> File<'a> {
+        File {
+            octets,
+            most: NonZeroUsize::MAX,
+        }
+    }
+
+    /// A file that is read octet by octet.
+    pub(crate) fn read_by_octets(octets: &'a [u8]) -> File<'a> {
+        File {
+            octets,
+            most: NonZeroUsize::MIN,
+        }
+    }
+
+    /// Whether it is a recording, and no capture.
+    pub(crate) fn is_recording(&self) -> bool {
+        Peeked::new(self.octets).is_recording()
+    }
+
+    /// What reads it.
+    pub(crate) fn source(&self, alloc: Global) -> io::Result<MemSource>
+        ensures { IfOk result (λ source. source.failures < 2 ^ 63) }
+    {
+        let octets = Vec::from_slice(alloc, self.octets)?;
+        Ok(MemSource::new(octets).in_pieces_of(self.most))
+    }
+}
