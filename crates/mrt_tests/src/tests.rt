@@ -13,21 +13,26 @@ use std::alloc::{AllocError, Allocator, Global};
 use std::io;
 use std::io::{ErrorKind, Read, Write};
 use std::num::NonZeroUsize;
-use std::test::Fail;
 
-/// What a device answers to one call.
-type Answer = Result<usize, Failed>;
+/// Whether a device answers so to one call: by a digit, which says how many octets, or `!` where it
+/// fails.
+fn is_answer(answer: Result<usize, Failed>, wanted: u8) -> bool {
+    match answer {
+        Ok(count) => count < 10 && wanted == b'0' + count as u8,
+        Err(_) => wanted == b'!',
+    }
+}
 
 /// Whether a source answers so to reads with room for two octets, and gives just these octets.
-fn gives<R: Source>(source: &mut R, answers: &[Answer], octets: &[u8]) -> bool {
+fn gives<R: Source>(source: &mut R, answers: &str, octets: &[u8]) -> bool {
     let mut left = octets;
     let mut buffer = [0; 2];
-    for wanted in answers {
+    for wanted in answers.as_bytes() {
         if source.failures() == u64::MAX {
             return false;
         }
         let answer = source.read(&mut buffer);
-        if answer != *wanted {
+        if !is_answer(answer, *wanted) {
             return false;
         }
         if let Ok(count) = answer {
@@ -41,9 +46,9 @@ fn gives<R: Source>(source: &mut R, answers: &[Answer], octets: &[u8]) -> bool {
 }
 
 /// Whether a sink answers so to writes of `abc`.
-fn takes<W: Sink>(sink: &mut W, answers: &[Answer]) -> bool {
-    for wanted in answers {
-        if sink.failures() == u64::MAX || sink.write(b"abc") != *wanted {
+fn takes<W: Sink>(sink: &mut W, answers: &str) -> bool {
+    for wanted in answers.as_bytes() {
+        if sink.failures() == u64::MAX || !is_answer(sink.write(b"abc"), *wanted) {
             return false;
         }
     }
@@ -113,29 +118,23 @@ impl Write for FaultyWriter {
 /// Whether a reader of `abcde` gives it, and then its end.
 fn is_given() -> bool {
     let mut source = FromRead::new(b"abcde".as_slice());
-    let answers = [Ok(2), Ok(2), Ok(1), Ok(0), Ok(0)];
-    gives(&mut source, &answers, b"abcde")
+    gives(&mut source, "22100", b"abcde")
         && source.failures() == 0
         && source.given() == 5
         && source.into_inner().is_empty()
 }
 
-#[test]
-fn a_reader_gives_its_octets_and_then_its_end(rt: HostRuntime) {
-    assert!(rt; is_given());
-}
-
 /// The call of a reader of `abc` that fails, and what five reads are answered.
-const READS: [(u32, [Answer; 5]); 5] = [
-    (0, [Err(Failed), Ok(1), Ok(1), Ok(1), Ok(0)]),
-    (1, [Ok(1), Err(Failed), Ok(1), Ok(1), Ok(0)]),
-    (2, [Ok(1), Ok(1), Err(Failed), Ok(1), Ok(0)]),
-    (3, [Ok(1), Ok(1), Ok(1), Err(Failed), Ok(0)]),
-    (4, [Ok(1), Ok(1), Ok(1), Ok(0), Err(Failed)]),
+static READS: [(u32, &str); 5] = [
+    (0, "!1110"),
+    (1, "1!110"),
+    (2, "11!10"),
+    (3, "111!0"),
+    (4, "1110!"),
 ];
 
 /// Whether an error of a reader of `abc` in this call is one failure, and these are the answers.
-fn fails_once_by(calls_before: u32, error: ErrorKind, answers: &[Answer]) -> bool {
+fn fails_once_by(calls_before: u32, error: ErrorKind, answers: &str) -> bool {
     let mut source = FromRead::new(FailingReader {
         octets: b"abc",
         calls_before,
@@ -148,13 +147,14 @@ fn fails_once_by(calls_before: u32, error: ErrorKind, answers: &[Answer]) -> boo
 }
 
 /// Whether each error of a reader of `abc` in this call is one failure.
-fn fails_once(calls_before: u32, answers: &[Answer]) -> bool {
+fn fails_once(calls_before: u32, answers: &str) -> bool {
     fails_once_by(calls_before, ErrorKind::Other, answers)
         && fails_once_by(calls_before, ErrorKind::Interrupted, answers)
 }
 
 #[test]
-fn each_error_of_a_reader_is_one_failure(rt: HostRuntime) {
+fn a_reader_gives_its_octets_and_each_error_is_one_failure(rt: HostRuntime) {
+    assert!(rt; is_given());
     for (call, answers) in &READS {
         assert!(rt; fails_once(*call, answers), "at {call}");
     }
@@ -168,10 +168,10 @@ fn takes_ab<W: Sink>(sink: &mut W) -> bool {
         && write_all(sink, b"").is_ok()
 }
 
-#[test]
-fn a_vector_takes_all_that_is_written(rt: HostRuntime) {
-    let mut sink = FromWrite::new(Vec::new(rt.alloc()));
-    assert!(rt; takes_ab(&mut sink) && sink.into_inner().as_slice() == b"ab".as_slice());
+/// Whether a vector takes all that is written.
+fn is_all_taken(alloc: Global) -> bool {
+    let mut sink = FromWrite::new(Vec::new(alloc));
+    takes_ab(&mut sink) && sink.into_inner().as_slice() == b"ab".as_slice()
 }
 
 /// What a writer does in its second call, and the error that is told.
@@ -191,7 +191,7 @@ fn is_one_failure(alloc: Global, fault: WriterFault, error: ErrorKind) -> bool {
         calls_before: 1,
         fault,
     });
-    let is_told = takes(&mut sink, &[Ok(2), Err(Failed), Ok(2)])
+    let is_told = takes(&mut sink, "2!2")
         && sink.failures() == 1
         && sink.last_error() == Some(error)
         && sink.taken() == 4;
@@ -199,7 +199,8 @@ fn is_one_failure(alloc: Global, fault: WriterFault, error: ErrorKind) -> bool {
 }
 
 #[test]
-fn an_error_and_a_write_that_takes_nothing_are_each_one_failure(rt: HostRuntime) {
+fn a_writer_takes_octets_and_each_fault_is_one_failure(rt: HostRuntime) {
+    assert!(rt; is_all_taken(rt.alloc()));
     for (fault, error) in &WRITER_FAULTS {
         assert!(rt; is_one_failure(rt.alloc(), *fault, *error), "{error:?}");
     }
@@ -210,76 +211,41 @@ fn at_most(count: usize) -> NonZeroUsize {
     NonZeroUsize::new(count).unwrap_or(NonZeroUsize::MIN)
 }
 
-/// A call, what a source of `abcde` does in it, what five reads are answered, and what it gives.
-type SourceRow = (u64, SourceUpset, [Answer; 5], &'static str);
+/// A call; what a source of `abcde` does in it: `!` where it fails, `.` where it ends, and else how
+/// many octets it gives at most; what five reads are answered, and what it gives.
+type SourceRow = (u64, u8, &'static str, &'static str);
 
-const UPSET_SOURCES: [SourceRow; 7] = [
-    (
-        0,
-        SourceUpset::Fail,
-        [Err(Failed), Ok(2), Ok(2), Ok(1), Ok(0)],
-        "abcde",
-    ),
-    (
-        1,
-        SourceUpset::Fail,
-        [Ok(2), Err(Failed), Ok(2), Ok(1), Ok(0)],
-        "abcde",
-    ),
-    (
-        3,
-        SourceUpset::Fail,
-        [Ok(2), Ok(2), Ok(1), Err(Failed), Ok(0)],
-        "abcde",
-    ),
-    (
-        9,
-        SourceUpset::Fail,
-        [Ok(2), Ok(2), Ok(1), Ok(0), Ok(0)],
-        "abcde",
-    ),
-    (
-        1,
-        SourceUpset::Short(NonZeroUsize::MIN),
-        [Ok(2), Ok(1), Ok(2), Ok(0), Ok(0)],
-        "abcde",
-    ),
-    (0, SourceUpset::End, [Ok(0), Ok(0), Ok(0), Ok(0), Ok(0)], ""),
-    (
-        1,
-        SourceUpset::End,
-        [Ok(2), Ok(0), Ok(0), Ok(0), Ok(0)],
-        "ab",
-    ),
+static UPSET_SOURCES: [SourceRow; 8] = [
+    (0, b'!', "!2210", "abcde"),
+    (1, b'!', "2!210", "abcde"),
+    (3, b'!', "221!0", "abcde"),
+    (9, b'!', "22100", "abcde"),
+    (1, b'1', "21200", "abcde"),
+    (1, b'5', "22100", "abcde"),
+    (0, b'.', "00000", ""),
+    (1, b'.', "20000", "ab"),
 ];
+
+/// What this character says.
+fn upset_by(character: u8) -> SourceUpset {
+    match character {
+        b'!' => SourceUpset::Fail,
+        b'.' => SourceUpset::End,
+        digit => SourceUpset::Short(at_most(usize::from(digit.saturating_sub(b'0')))),
+    }
+}
 
 /// Whether a source that is upset so answers so, and gives these octets.
 fn is_source_upset(alloc: Global, (call, upset, answers, given): &SourceRow) -> bool {
     let Ok(octets) = b"abcde".to_vec(alloc) else {
         return false;
     };
-    let mut source = MemSource::new(octets).upset_at(*call, *upset);
-    let failed = answers.contains(&Err(Failed));
+    let mut source = MemSource::new(octets).upset_at(*call, upset_by(*upset));
+    let has_failed = answers.as_bytes().contains(&b'!');
     gives(&mut source, answers, given.as_bytes())
-        && source.failures() == u64::from(failed)
+        && source.failures() == u64::from(has_failed)
         && source.given() == given.len()
         && source.octets() == b"abcde".as_slice()
-}
-
-/// Whether a source that gives at most five octets in its second call, which has room for two,
-/// gives two.
-fn is_long_read_whole(alloc: Global) -> bool {
-    let long = SourceUpset::Short(at_most(5));
-    let answers = [Ok(2), Ok(2), Ok(1), Ok(0), Ok(0)];
-    is_source_upset(alloc, &(1, long, answers, "abcde"))
-}
-
-#[test]
-fn a_source_in_memory_is_upset_once_and_ends_for_good(rt: HostRuntime) {
-    for (row, upset) in UPSET_SOURCES.iter().enumerate() {
-        assert!(rt; is_source_upset(rt.alloc(), upset), "{row}");
-    }
-    assert!(rt; is_long_read_whole(rt.alloc()));
 }
 
 /// Whether a source of `abc` gives it in pieces of one octet.
@@ -288,24 +254,27 @@ fn is_in_pieces(alloc: Global) -> bool {
         return false;
     };
     let mut source = MemSource::new(octets).in_pieces_of(NonZeroUsize::MIN);
-    source.read(&mut []) == Ok(0) && gives(&mut source, &[Ok(1), Ok(1), Ok(1), Ok(0)], b"abc")
+    source.read(&mut []) == Ok(0) && gives(&mut source, "1110", b"abc")
 }
 
 #[test]
-fn a_source_in_memory_gives_in_pieces(rt: HostRuntime) {
+fn a_source_in_memory_is_upset_once_and_ends_for_good(rt: HostRuntime) {
+    for (row, upset) in UPSET_SOURCES.iter().enumerate() {
+        assert!(rt; is_source_upset(rt.alloc(), upset), "{row}");
+    }
     assert!(rt; is_in_pieces(rt.alloc()));
 }
 
 /// A call of a sink, how many octets it takes then (`None`: it fails), what three writes of `abc`
 /// are answered, and what it took.
-type SinkRow = (u64, Option<usize>, [Answer; 3], &'static str);
+type SinkRow = (u64, Option<usize>, &'static str, &'static str);
 
-const UPSET_SINKS: [SinkRow; 5] = [
-    (0, None, [Err(Failed), Ok(3), Ok(3)], "abcabc"),
-    (1, None, [Ok(3), Err(Failed), Ok(3)], "abcabc"),
-    (1, Some(2), [Ok(3), Ok(2), Ok(3)], "abcababc"),
-    (1, Some(4), [Ok(3), Ok(3), Ok(3)], "abcabcabc"),
-    (3, None, [Ok(3), Ok(3), Ok(3)], "abcabcabc"),
+static UPSET_SINKS: [SinkRow; 5] = [
+    (0, None, "!33", "abcabc"),
+    (1, None, "3!3", "abcabc"),
+    (1, Some(2), "323", "abcababc"),
+    (1, Some(4), "333", "abcabcabc"),
+    (3, None, "333", "abcabcabc"),
 ];
 
 /// Whether a sink that is upset so answers so, and takes these octets.
@@ -314,19 +283,12 @@ fn is_sink_upset(alloc: Global, (call, most, answers, taken): &SinkRow) -> bool 
         Some(most) => SinkUpset::Short(at_most(*most)),
         None => SinkUpset::Fail,
     };
-    let failed = answers.contains(&Err(Failed));
+    let has_failed = answers.as_bytes().contains(&b'!');
     let mut sink = MemSink::new(alloc).upset_at(*call, upset);
     sink.write(b"") == Ok(0)
         && takes(&mut sink, answers)
-        && sink.failures() == u64::from(failed)
+        && sink.failures() == u64::from(has_failed)
         && sink.octets() == taken.as_bytes()
-}
-
-#[test]
-fn a_sink_in_memory_is_upset_once(rt: HostRuntime) {
-    for (row, upset) in UPSET_SINKS.iter().enumerate() {
-        assert!(rt; is_sink_upset(rt.alloc(), upset), "{row}");
-    }
 }
 
 /// Whether `write_all` stops at the call that fails, where each call takes one octet.
@@ -340,11 +302,24 @@ fn stops_at(alloc: Global, call: u64, text: &[u8]) -> bool {
     is_written != fails && sink.failures() == u64::from(fails) && sink.octets() == &text[..taken]
 }
 
+/// Whether octets are written one behind another.
+fn are_written(alloc: Global) -> bool {
+    let mut sink = MemSink::new(alloc);
+    sink.write(b"octets") == Ok(6)
+        && write_all(&mut sink, b" and more").is_ok()
+        && sink.into_octets().as_slice() == b"octets and more".as_slice()
+}
+
+/// And so is a write of all octets, which stops there.
 #[test]
-fn write_all_stops_at_the_write_that_fails(rt: HostRuntime) {
+fn a_sink_in_memory_is_upset_once(rt: HostRuntime) {
+    for (row, upset) in UPSET_SINKS.iter().enumerate() {
+        assert!(rt; is_sink_upset(rt.alloc(), upset), "{row}");
+    }
     for call in 0..7 {
         assert!(rt; stops_at(rt.alloc(), call, b"abcde"), "at {call}");
     }
+    assert!(rt; are_written(rt.alloc()));
 }
 
 /// Whether a sink that takes seven octets a call holds all of a text, or what it took of it.
@@ -374,28 +349,18 @@ fn is_written_over(alloc: Global, size: usize) -> Option<bool> {
     }
 }
 
+/// Whether each of some heaps is told of, the smallest of which has too little memory, and the
+/// largest enough.
+fn is_written_or_refused(alloc: Global) -> bool {
+    for steps in 1..100 {
+        if is_written_over(alloc, 16 * steps).is_none() {
+            return false;
+        }
+    }
+    is_written_over(alloc, 16) == Some(false) && is_written_over(alloc, 1584) == Some(true)
+}
+
 #[test]
 fn a_sink_keeps_what_it_took_where_memory_is_refused(rt: HostRuntime) {
-    let (mut refused, mut done) = (false, false);
-    for steps in 1..100 {
-        let answer = is_written_over(rt.alloc(), 16 * steps);
-        assert!(rt; answer.is_some(), "{steps}");
-        done = answer == Some(true);
-        refused = refused || !done;
-    }
-    assert!(rt; refused && done);
-}
-
-/// Whether octets are written one behind another.
-fn are_written(alloc: Global) -> bool {
-    let mut sink = MemSink::new(alloc);
-    sink.write(b"octets") == Ok(6)
-        && write_all(&mut sink, b" and more").is_ok()
-        && sink.into_octets().as_slice() == b"octets and more".as_slice()
-}
-
-/// Every call that takes memory, with enough of it.
-#[test]
-fn ample_memory(rt: HostRuntime) {
-    assert!(rt; are_written(rt.alloc()));
+    assert!(rt; is_written_or_refused(rt.alloc()));
 }

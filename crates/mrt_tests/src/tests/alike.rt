@@ -3,7 +3,7 @@
 
 use super::captures::{CHANGE, RECEIVED, SESSION};
 use super::extended::{message, message_front, record};
-use super::refreshes::{PASSING, WITHOUT};
+use super::refreshes::session_with;
 use super::*;
 use bgp_prefix::{Address, Session};
 use bgp_wire::vectors::KEEPALIVE;
@@ -39,17 +39,16 @@ static BODIES: [(Body, bool); 6] = [
 ];
 
 /// Whether that is told, of a file that is read to its end.
-fn is_plain_told(alloc: Global, (body, is_plain): &(Body, bool)) -> Result<bool, AllocError> {
-    let octets = file_with(alloc, *body)?;
-    let file = records_in(alloc, octets.as_slice())?;
-    Ok(file.refusal.is_none() && file.is_plain == *is_plain)
+fn is_plain_told(alloc: Global, (body, is_plain): &(Body, bool)) -> Option<bool> {
+    let octets = file_with(alloc, *body).ok()?;
+    let file = records_in(alloc, octets.as_slice()).ok()?;
+    Some(file.refusal.is_none() && file.is_plain == *is_plain)
 }
 
 #[test]
 fn a_plain_file_has_no_body_of_8193_octets(rt: HostRuntime) {
     for (row, body) in BODIES.iter().enumerate() {
-        let answer = is_plain_told(rt.alloc(), body);
-        assert!(rt; matches!(answer, Ok(true)), "row {row}");
+        assert!(rt; is_plain_told(rt.alloc(), body) == Some(true), "row {row}");
     }
 }
 
@@ -67,76 +66,71 @@ const OTHER: Session = Session {
     ..SESSION
 };
 
-/// Whether a change and a KEEPALIVE are read as these two records, and as no others.
-fn are_both_read(alloc: Global) -> Result<bool, AllocError> {
-    let mut octets = CHANGE.to_vec(alloc)?;
-    octets.extend_from_slice(&RECEIVED)?;
-    let file = octets.as_slice();
-    let change = Record::Change(100, 1, 2);
-    let received = Record::In(101, &KEEPALIVE);
-    Ok(
-        is_read(alloc, &SESSION, file, &[change, received])
-            && !is_read(alloc, &SESSION, file, &[change])
-            && !is_read(alloc, &SESSION, file, &[change, received, received])
-            && !is_read(alloc, &SESSION, file, &[received, change])
-            && !is_read(
-                alloc,
-                &SESSION,
-                file,
-                &[change, Record::In(102, &KEEPALIVE)],
-            )
-            && !is_read(
-                alloc,
-                &SESSION,
-                file,
-                &[change, Record::Out(101, &KEEPALIVE)],
-            )
-            && !is_read(alloc, &OTHER, file, &[change, received])
-            && !is_read(alloc, &OTHER, file, &[]),
-    )
-}
+/// A change, and a KEEPALIVE that was received.
+const CHANGED: Record<'static> = Record::Change(100, 1, 2);
 
-#[test]
-fn a_session_has_just_its_records(rt: HostRuntime) -> Result<(), Fail> {
-    let is_so = are_both_read(rt.alloc())?;
-    assert!(rt; is_so);
-    Ok(())
-}
+const KEPT: Record<'static> = Record::In(101, &KEEPALIVE);
 
-/// A session, the first octet of the marker of a ROUTE-REFRESH of 23 octets that stands between a
-/// change and a KEEPALIVE, and whether all three are read as records; whether all but that are.
-static REFRESHES: [(Session, u8, bool, bool); 4] = [
-    (PASSING, 255, false, true),
-    (PASSING, 254, true, false),
-    (WITHOUT, 255, true, false),
-    (SESSION, 255, false, false),
+/// Whether another session is asked for, and whether the records of a file of these two are read as
+/// these.
+static LISTS: [(bool, &[Record<'static>], bool); 8] = [
+    (false, &[CHANGED, KEPT], true),
+    (false, &[CHANGED], false),
+    (false, &[CHANGED, KEPT, KEPT], false),
+    (false, &[KEPT, CHANGED], false),
+    (false, &[CHANGED, Record::In(102, &KEEPALIVE)], false),
+    (false, &[CHANGED, Record::Out(101, &KEEPALIVE)], false),
+    (true, &[CHANGED, KEPT], false),
+    (true, &[], false),
 ];
 
 /// Whether that is told.
-fn is_refresh_told(
+fn is_list_told(
     alloc: Global,
-    (session, marker, with, without): &(Session, u8, bool, bool),
-) -> Result<bool, AllocError> {
-    let mut front = message_front(23, 5);
-    front[0] = *marker;
-    let refresh = message(alloc, &front, 23)?;
+    (is_other, records, is_so): &(bool, &[Record<'_>], bool),
+) -> Option<bool> {
+    let mut octets = CHANGE.to_vec(alloc).ok()?;
+    octets.extend_from_slice(&RECEIVED).ok()?;
+    let session = if *is_other { &OTHER } else { &SESSION };
+    Some(is_read(alloc, session, octets.as_slice(), records) == *is_so)
+}
+
+#[test]
+fn a_session_has_just_its_records(rt: HostRuntime) {
+    for (row, list) in LISTS.iter().enumerate() {
+        assert!(rt; is_list_told(rt.alloc(), list) == Some(true), "row {row}");
+    }
+}
+
+/// The octets of a change, a ROUTE-REFRESH and a KEEPALIVE.
+fn file_of(alloc: Global, refresh: &[u8]) -> Result<Vec<u8>, AllocError> {
     let mut octets = CHANGE.to_vec(alloc)?;
-    octets.extend_from_slice(record(alloc, 4, 43, refresh.as_slice())?.as_slice())?;
+    octets.extend_from_slice(record(alloc, 4, 43, refresh)?.as_slice())?;
     octets.extend_from_slice(&RECEIVED)?;
-    let file = octets.as_slice();
-    let change = Record::Change(100, 1, 2);
-    let received = Record::In(101, &KEEPALIVE);
-    let all = [change, Record::In(101, refresh.as_slice()), received];
-    Ok(
-        is_read(alloc, session, file, &all) == *with
-            && is_read(alloc, session, file, &[change, received]) == *without,
-    )
+    Ok(octets)
+}
+
+/// Whether a session reads a ROUTE-REFRESH of 23 octets, the first octet of whose marker is this,
+/// between a change and a KEEPALIVE, as a record; and whether it passes over it.
+fn is_refresh_read(alloc: Global, session: &Session, marker: u8) -> Option<(bool, bool)> {
+    let mut front = message_front(23, 5);
+    front[0] = marker;
+    let refresh = message(alloc, &front, 23).ok()?;
+    let file = file_of(alloc, refresh.as_slice()).ok()?;
+    let all = [CHANGED, Record::In(101, refresh.as_slice()), KEPT];
+    Some((
+        is_read(alloc, session, file.as_slice(), &all),
+        is_read(alloc, session, file.as_slice(), &[CHANGED, KEPT]),
+    ))
 }
 
 #[test]
 fn a_refresh_is_passed_over_or_kept_or_refused(rt: HostRuntime) {
-    for (row, refresh) in REFRESHES.iter().enumerate() {
-        let answer = is_refresh_told(rt.alloc(), refresh);
-        assert!(rt; matches!(answer, Ok(true)), "row {row}");
-    }
+    let passing = session_with(true, false);
+    let without = session_with(false, false);
+    let is_passed_over = is_refresh_read(rt.alloc(), &passing, 255) == Some((false, true));
+    let is_faulty = is_refresh_read(rt.alloc(), &passing, 254) == Some((true, false));
+    let is_kept = is_refresh_read(rt.alloc(), &without, 255) == Some((true, false));
+    let is_refused = is_refresh_read(rt.alloc(), &SESSION, 255) == Some((false, false));
+    assert!(rt; is_passed_over && is_faulty && is_kept && is_refused);
 }

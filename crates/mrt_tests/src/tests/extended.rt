@@ -6,11 +6,14 @@ use super::written::{OVER_IPV6, answers};
 use super::*;
 use bgp_prefix::Session;
 
-/// The session of 192.0.2.1 with 192.0.2.2, where the local system offers extended messages.
-const EXTENDED: Session = Session {
-    extended: true,
-    ..SESSION
-};
+/// A session over IPv4 or IPv6, where the local system offers extended messages or not.
+fn session_of(is_v6: bool, extended: bool) -> Session {
+    let session = if is_v6 { OVER_IPV6 } else { SESSION };
+    Session {
+        extended,
+        ..session
+    }
+}
 
 /// What stands before the message in the body of a record of that session.
 const NUMBERS: [u8; 20] = [
@@ -68,123 +71,123 @@ fn is_answered(
     is_next(&mut reader, &mut source, session, &wanted)
 }
 
-/// A session, how many octets a body has, and whether that is too long.
-static BODIES: [(Session, u32, bool); 8] = [
-    (SESSION, 8192, false),
-    (SESSION, 8193, true),
-    (SESSION, 65583, true),
-    (SESSION, 65584, true),
-    (EXTENDED, 8192, false),
-    (EXTENDED, 8193, false),
-    (EXTENDED, 65583, false),
-    (EXTENDED, 65584, true),
-];
+/// Whether messages are extended, and how many octets a body has, which isn't too long.
+static BODIES: [(bool, u32); 4] = [(false, 8192), (true, 8192), (true, 8193), (true, 65583)];
 
-/// Whether a body of so many octets, whose message has no marker, is read or refused as too long.
-fn is_body_read(
-    alloc: Global,
-    (session, count, is_long): &(Session, u32, bool),
-) -> Result<bool, AllocError> {
-    let message = message(alloc, &[], (*count as usize).saturating_sub(20))?;
-    let capture = record(alloc, 4, *count, &message)?;
-    let fault = is_long.then_some(FaultKind::TooLong);
+/// Whether a body of so many octets, whose message has no marker, is read.
+fn is_body_read(alloc: Global, (extended, count): &(bool, u32)) -> Option<bool> {
+    let message = message(alloc, &[], count.saturating_sub(20) as usize).ok()?;
+    let capture = record(alloc, 4, *count, &message).ok()?;
+    let session = session_of(false, *extended);
     let shown = Record::In(101, &message);
-    Ok(is_answered(alloc, session, capture, &shown, fault))
+    Some(is_answered(alloc, &session, capture, &shown, None))
 }
 
-#[test]
-fn a_body_has_8192_octets_or_where_messages_are_extended_65583(rt: HostRuntime) {
-    for (row, body) in BODIES.iter().enumerate() {
-        let answer = is_body_read(rt.alloc(), body);
-        assert!(rt; matches!(answer, Ok(true)), "row {row}");
-    }
-}
-
-/// A session, a message's Type and Length, how many octets it has, and whether that is refused: it
-/// is where the header is sound by the session's limit.
-static MESSAGES: [(Session, u8, u16, u16, bool); 9] = [
-    (SESSION, 2, 4096, 4097, true),
-    (SESSION, 2, 4097, 4097, false),
-    (SESSION, 2, 4097, 4098, false),
-    (EXTENDED, 2, 4097, 4097, false),
-    (EXTENDED, 2, 4097, 4098, true),
-    (EXTENDED, 3, 4097, 4096, true),
-    (EXTENDED, 2, 65535, 65535, false),
-    (EXTENDED, 2, 65535, 65534, true),
-    (EXTENDED, 1, 4097, 4098, false),
+/// Whether messages are extended, a message's Type and Length, how many octets it has, and whether
+/// that is refused: it is where the header is sound by the session's limit.
+static MESSAGES: [(bool, u8, u16, u16, bool); 9] = [
+    (false, 2, 4096, 4097, true),
+    (false, 2, 4097, 4097, false),
+    (false, 2, 4097, 4098, false),
+    (true, 2, 4097, 4097, false),
+    (true, 2, 4097, 4098, true),
+    (true, 3, 4097, 4096, true),
+    (true, 2, 65535, 65535, false),
+    (true, 2, 65535, 65534, true),
+    (true, 1, 4097, 4098, false),
 ];
 
-/// Whether the message is read or refused, both where it was received and where it was sent.
+/// Whether the message is read or refused, where it was received, or where it was sent.
 fn is_message_read(
     alloc: Global,
-    (session, code, length, count, is_refused): &(Session, u8, u16, u16, bool),
-) -> Result<bool, AllocError> {
-    let message = message(alloc, &message_front(*length, *code), usize::from(*count))?;
-    let body = u32::from(*count) + 20;
+    is_sent: bool,
+    (extended, code, length, count, is_refused): &(bool, u8, u16, u16, bool),
+) -> Option<bool> {
+    let message = message(alloc, &message_front(*length, *code), usize::from(*count)).ok()?;
+    let subtype = if is_sent { 7 } else { 4 };
+    let capture = record(alloc, subtype, u32::from(*count) + 20, &message).ok()?;
+    let session = session_of(false, *extended);
     let fault = is_refused.then_some(FaultKind::NotAMessage);
-    let received = record(alloc, 4, body, &message)?;
-    let sent = record(alloc, 7, body, &message)?;
-    let (input, output) = (Record::In(101, &message), Record::Out(101, &message));
-    let is_read = is_answered(alloc, session, received, &input, fault);
-    Ok(is_read && is_answered(alloc, session, sent, &output, fault))
+    let shown = if is_sent {
+        Record::Out(101, &message)
+    } else {
+        Record::In(101, &message)
+    };
+    Some(is_answered(alloc, &session, capture, &shown, fault))
 }
 
+/// And a body has 8192 octets, or 65583 where messages are extended.
 #[test]
 fn a_sound_length_is_the_count_of_the_octets(rt: HostRuntime) {
+    for (row, body) in BODIES.iter().enumerate() {
+        assert!(rt; is_body_read(rt.alloc(), body) == Some(true), "body {row}");
+    }
     for (row, message) in MESSAGES.iter().enumerate() {
-        let answer = is_message_read(rt.alloc(), message);
-        assert!(rt; matches!(answer, Ok(true)), "row {row}");
+        let is_received = is_message_read(rt.alloc(), false, message) == Some(true);
+        let is_sent = is_message_read(rt.alloc(), true, message) == Some(true);
+        assert!(rt; is_received && is_sent, "row {row}");
     }
 }
 
-/// A session over IPv6 where the local system offers extended messages.
-const EXTENDED_OVER_IPV6: Session = Session {
-    extended: true,
-    ..OVER_IPV6
-};
-
-/// A session, how many octets a message has, and whether a record of it can be written: the body
-/// has 20 more over IPv4, and 44 over IPv6.
-static WRITABLE: [(Session, usize, bool); 8] = [
-    (SESSION, 8172, true),
-    (SESSION, 8173, false),
-    (OVER_IPV6, 8148, true),
-    (OVER_IPV6, 8149, false),
-    (EXTENDED, 65563, true),
-    (EXTENDED, 65564, false),
-    (EXTENDED_OVER_IPV6, 65539, true),
-    (EXTENDED_OVER_IPV6, 65540, false),
+/// Whether a session is over IPv6, and its messages are extended; how many octets a message has,
+/// and whether a record of it can be written: the body has 20 more over IPv4, and 44 over IPv6.
+static WRITABLE: [(bool, bool, usize, bool); 8] = [
+    (false, false, 8172, true),
+    (false, false, 8173, false),
+    (true, false, 8148, true),
+    (true, false, 8149, false),
+    (false, true, 65563, true),
+    (false, true, 65564, false),
+    (true, true, 65539, true),
+    (true, true, 65540, false),
 ];
 
-/// Whether that is told of a message of that many octets.
-fn is_told(octets: &[u8], (session, count, is_so): &(Session, usize, bool)) -> bool {
+/// Whether that is told of a message of that many octets, received and sent.
+fn is_told(octets: &[u8], (is_v6, extended, count, is_so): &(bool, bool, usize, bool)) -> bool {
+    let session = session_of(*is_v6, *extended);
     match octets.get(..*count) {
-        Some(message) => is_writable(session, &Record::Out(101, message)) == *is_so,
+        Some(message) => {
+            is_writable(&session, &Record::In(101, message)) == *is_so
+                && is_writable(&session, &Record::Out(101, message)) == *is_so
+        }
         None => false,
     }
 }
 
-#[test]
-fn what_is_too_long_to_read_is_not_writable(rt: HostRuntime) -> Result<(), Fail> {
-    let octets = vec![in rt.alloc(); 0; 65564]?;
-    for (count, row) in WRITABLE.iter().enumerate() {
-        assert!(rt; is_told(&octets, row), "row {count}");
+/// Whether all of that is told.
+fn are_told(alloc: Global) -> Option<bool> {
+    let octets = vec![in alloc; 0; 65564].ok()?;
+    for row in &WRITABLE {
+        if !is_told(&octets, row) {
+            return Some(false);
+        }
     }
-    Ok(())
+    Some(true)
+}
+
+/// And so is a record between two families.
+#[test]
+fn what_is_too_long_to_read_is_not_writable(rt: HostRuntime) {
+    let mixed = Session {
+        local: OVER_IPV6.local,
+        ..SESSION
+    };
+    let is_mixed = is_writable(&mixed, &Record::Change(100, 1, 2));
+    assert!(rt; are_told(rt.alloc()) == Some(true) && !is_mixed);
 }
 
 /// Whether an UPDATE of 65535 octets is read as it was written.
-fn is_read_back(alloc: Global) -> Result<bool, AllocError> {
-    let message = message(alloc, &message_front(65535, 2), 65535)?;
+fn is_read_back(alloc: Global) -> Option<bool> {
+    let message = message(alloc, &message_front(65535, 2), 65535).ok()?;
     let sent = Record::Out(101, &message);
+    let session = session_of(false, true);
     let mut sink = MemSink::new(alloc);
-    let is_written = answers(&mut sink, &EXTENDED, &sent, Ok(()));
-    let capture = sink.octets().to_vec(alloc)?;
-    Ok(is_written && is_answered(alloc, &EXTENDED, capture, &sent, None))
+    let is_written = answers(&mut sink, &session, &sent, Ok(()));
+    let capture = sink.octets().to_vec(alloc).ok()?;
+    Some(is_written && is_answered(alloc, &session, capture, &sent, None))
 }
 
 #[test]
 fn the_longest_message_is_read_as_it_was_written(rt: HostRuntime) {
-    let answer = is_read_back(rt.alloc());
-    assert!(rt; matches!(answer, Ok(true)));
+    assert!(rt; is_read_back(rt.alloc()) == Some(true));
 }

@@ -117,7 +117,8 @@ fn is_held(alloc: Global, call: u64, upset: SourceUpset, octets: &[u8], ending: 
 #[test]
 fn what_was_read_before_a_failure_is_held(rt: HostRuntime) {
     let front = &CHANGE[..20];
-    assert!(rt; is_held(rt.alloc(), 1, SourceUpset::Fail, front, Ending::Device));
-    assert!(rt; is_held(rt.alloc(), 1, SourceUpset::End, front, Ending::End));
-    assert!(rt; is_held(rt.alloc(), 9, SourceUpset::Fail, &CHANGE, Ending::End));
+    let is_cut = is_held(rt.alloc(), 1, SourceUpset::Fail, front, Ending::Device);
+    let is_ended = is_held(rt.alloc(), 1, SourceUpset::End, front, Ending::End);
+    let is_whole = is_held(rt.alloc(), 9, SourceUpset::Fail, &CHANGE, Ending::End);
+    assert!(rt; is_cut && is_ended && is_whole);
 }

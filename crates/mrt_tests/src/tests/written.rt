@@ -50,17 +50,17 @@ fn is_joined(octets: &[u8], parts: &[&[u8]]) -> bool {
     left.is_empty()
 }
 
-#[test]
-fn records_are_written_octet_by_octet(rt: HostRuntime) {
-    let mut sink = MemSink::new(rt.alloc());
+/// Whether three records are written octet by octet.
+fn are_written(alloc: Global) -> bool {
+    let mut sink = MemSink::new(alloc);
     let change = Record::Change(100, 1, 2);
     let received = Record::In(101, &KEEPALIVE);
     let sent = Record::Out(7, &KEEPALIVE);
-    let are_written = answers(&mut sink, &SESSION, &change, Ok(()))
-        && answers(&mut sink, &SESSION, &received, Ok(()))
-        && answers(&mut sink, &OVER_IPV6, &sent, Ok(()));
     let wanted: [&[u8]; 4] = [&CHANGE, &RECEIVED, &SENT, &KEEPALIVE];
-    assert!(rt; are_written && is_joined(sink.octets(), &wanted));
+    answers(&mut sink, &SESSION, &change, Ok(()))
+        && answers(&mut sink, &SESSION, &received, Ok(()))
+        && answers(&mut sink, &OVER_IPV6, &sent, Ok(()))
+        && is_joined(sink.octets(), &wanted)
 }
 
 /// Whether a record's beginning is written, up to the octet that the sink refuses.
@@ -74,8 +74,10 @@ fn is_begun(alloc: Global, call: u64) -> bool {
     is_refused && sink.failures() == 1 && taken.len() as u64 == call && RECEIVED.starts_with(taken)
 }
 
+/// And a sink that fails has a beginning.
 #[test]
-fn a_sink_that_fails_has_a_beginning(rt: HostRuntime) {
+fn records_are_written_octet_by_octet(rt: HostRuntime) {
+    assert!(rt; are_written(rt.alloc()));
     for call in 0..51 {
         assert!(rt; is_begun(rt.alloc(), call), "{call}");
     }
@@ -106,31 +108,20 @@ fn is_refused_with(alloc: Global, left: usize) -> Option<bool> {
     is_refused_beside(&heap, left)
 }
 
-#[test]
-fn a_refused_record_can_be_written_again(rt: HostRuntime) {
-    let (mut refused, mut done) = (false, false);
+/// Whether each of some is told of, one of which is refused, and the last one written.
+fn is_refused_or_written(alloc: Global) -> bool {
+    let (mut was_refused, mut is_written) = (false, false);
     for step in 0..16 {
-        let answer = is_refused_with(rt.alloc(), 16 * step);
-        assert!(rt; answer.is_some(), "{step}");
-        done = answer == Some(false);
-        refused = refused || !done;
+        let Some(is_refused) = is_refused_with(alloc, 16 * step) else {
+            return false;
+        };
+        was_refused = was_refused || is_refused;
+        is_written = !is_refused;
     }
-    assert!(rt; refused && done);
+    was_refused && is_written
 }
 
 #[test]
-fn a_record_of_two_families_or_too_long_a_body_is_not_writable(
-    rt: HostRuntime,
-) -> Result<(), Fail> {
-    let mixed = Session {
-        local: OVER_IPV6.local,
-        ..SESSION
-    };
-    let change = Record::Change(100, 1, 2);
-    let octets = vec![in rt.alloc(); 0; 8173]?;
-    let is_so = !is_writable(&mixed, &change)
-        && is_writable(&SESSION, &Record::In(101, &octets[..8172]))
-        && !is_writable(&SESSION, &Record::In(101, octets.as_slice()));
-    assert!(rt; is_so);
-    Ok(())
+fn a_refused_record_can_be_written_again(rt: HostRuntime) {
+    assert!(rt; is_refused_or_written(rt.alloc()));
 }
