@@ -25,26 +25,25 @@ impl Dice {
             .checked_rem(limit)
             .unwrap_or(0)
     }
-}
 
-/// The family of a number's prefix.
-fn family_of(number: u32) -> Family {
-    if number % 2 == 0 {
-        Family::V4
-    } else {
-        Family::V6
+    /// Some prefixes, up to five of them, some twice.
+    fn numbers(&mut self) -> Numbers {
+        (self.below(220), self.below(20), self.below(6))
     }
-}
 
-/// The prefix of a number: those of a family ascend with it, some one inside another.
-fn prefix_of(rt: &impl Abort, number: u32) -> Prefix {
-    let network = number / 12;
-    let more = u8::try_from(number % 12 / 2).unwrap_or(0);
-    let (address, length) = match family_of(number) {
-        Family::V4 => (Address::V4(network << 22), 10),
-        Family::V6 => (Address::V6(u128::from(network) << 100), 28),
-    };
-    Prefix::new(address, more.saturating_add(length)).expect(rt, "no prefix")
+    /// Changes with up to two groups, whose marks no other turn has.
+    fn told(&mut self, turn: u32) -> Told {
+        let groups = self.below(3);
+        let mark = turn.saturating_mul(2);
+        let first = (mark, self.numbers());
+        let second = (mark.saturating_add(1), self.numbers());
+        let remove = self.numbers();
+        (
+            remove,
+            (groups > 0).then_some(first),
+            (groups > 1).then_some(second),
+        )
+    }
 }
 
 /// For each number the mark of its route's path, where there is a route; and what is disabled.
@@ -55,143 +54,91 @@ struct Plain {
 }
 
 impl Plain {
-    /// Sets the mark of a number's route, or takes the route away.
+    /// Whether the family of a number's prefix is disabled.
+    fn is_disabled(&self, number: u32) -> bool {
+        match family_of(number) {
+            Family::V4 => self.disabled.v4,
+            Family::V6 => self.disabled.v6,
+        }
+    }
+
+    /// Sets the mark of a number's route, or takes the route away, if its family isn't disabled.
     fn set(&mut self, number: u32, mark: Option<u32>) {
         let index = number as usize;
-        if index < self.marks.len() {
+        if index < self.marks.len() && !self.is_disabled(number) {
             self.marks[index] = mark;
         }
     }
 
-    /// The mark of a number's route.
-    fn get(&self, number: u32) -> Option<u32> {
-        *self.marks.get(number as usize)?
-    }
-
-    /// Takes all routes of a family away.
-    fn hide(&mut self, family: Family) {
-        for number in 0..PREFIXES {
-            if family_of(number) == family {
-                self.set(number, None);
-            }
+    /// The same of several.
+    fn set_all(&mut self, numbers: Numbers, mark: Option<u32>) {
+        for index in 0..numbers.2 {
+            self.set(number_at(numbers, index), mark);
         }
     }
 
-    /// Disables a family.
+    /// Puts a group, where there is one.
+    fn put(&mut self, told: Option<Group>) {
+        if let Some((mark, numbers)) = told {
+            self.set_all(numbers, Some(mark));
+        }
+    }
+
+    /// Makes changes.
+    fn change(&mut self, told: &Told) {
+        let (remove, first, second) = *told;
+        self.set_all(remove, None);
+        self.put(first);
+        self.put(second);
+    }
+
+    /// Takes the routes of a family away, and disables it.
     fn disable(&mut self, family: Family) {
-        self.hide(family);
         match family {
-            Family::V4 => self.disabled.v4 = true,
-            Family::V6 => self.disabled.v6 = true,
+            Family::V4 => {
+                self.set_all((0, 2, PREFIXES / 2), None);
+                self.disabled.v4 = true;
+            }
+            Family::V6 => {
+                self.set_all((1, 2, PREFIXES / 2), None);
+                self.disabled.v6 = true;
+            }
         }
     }
 
     /// Clears all.
     fn clear(&mut self) {
-        self.hide(Family::V4);
-        self.hide(Family::V6);
         self.disabled = NONE;
+        self.set_all((0, 1, PREFIXES), None);
     }
 
-    /// Puts or removes the prefixes that the dice is about to tell.
-    fn note(&mut self, mut dice: Dice, mark: Option<u32>) {
-        for _ in 0..dice.below(6) {
-            let number = dice.below(PREFIXES);
-            let is_disabled = match family_of(number) {
-                Family::V4 => self.disabled.v4,
-                Family::V6 => self.disabled.v6,
-            };
-            if !is_disabled {
-                self.set(number, mark);
+    /// Whether the next routes are those of a family, which begin with this number.
+    fn is_begun(&self, routes: &mut RouteIter<'_, Global>, first: u32) -> bool {
+        for index in 0..PREFIXES / 2 {
+            let number = number_at((first, 2, 0), index);
+            if let Some(Some(mark)) = self.marks.get(number as usize)
+                && !is_next(routes, number, *mark)
+            {
+                return false;
             }
         }
+        true
     }
 
     /// Whether these are the routes, those of IPv4 first, and each family's in ascending order.
-    fn is_listed(&self, rt: &impl Abort, rib: &RibIn) -> bool {
-        let mut found = rib.routes();
-        for first in 0..2 {
-            for half in 0..PREFIXES / 2 {
-                let number = 2 * half + first;
-                let Some(told) = self.get(number) else {
-                    continue;
-                };
-                match found.next() {
-                    Some((prefix, path))
-                        if *prefix == prefix_of(rt, number) && mark(path) == told => {}
-                    _ => return false,
-                }
-            }
-        }
-        found.next().is_none() && rib.disabled() == self.disabled
+    fn is_listed(&self, rib: &RibIn) -> bool {
+        let mut routes = rib.routes();
+        self.is_begun(&mut routes, 0)
+            && self.is_begun(&mut routes, 1)
+            && routes.next().is_none()
+            && rib.disabled() == self.disabled
+            && rib.len() == self.marks.iter().filter(|mark| mark.is_some()).count()
     }
-
-    /// How many routes there are.
-    fn count(&self) -> usize {
-        self.marks.iter().filter(|mark| mark.is_some()).count()
-    }
-}
-
-/// Some prefixes, up to five of them.
-fn some_prefixes(
-    rt: &impl Abort,
-    alloc: Global,
-    dice: &mut Dice,
-) -> Result<Vec<Prefix>, AllocError> {
-    let mut prefixes = Vec::new(alloc);
-    for _ in 0..dice.below(6) {
-        prefixes.push(prefix_of(rt, dice.below(PREFIXES)))?;
-    }
-    Ok(prefixes)
-}
-
-/// Puts some prefixes in the list with that mark, and answers them as a group; or none.
-fn some_group(
-    rt: &impl Abort,
-    alloc: Global,
-    dice: &mut Dice,
-    mark: Option<u32>,
-    plain: &mut Plain,
-) -> Result<Option<Put>, AllocError> {
-    let Some(number) = mark else {
-        return Ok(None);
-    };
-    plain.note(*dice, mark);
-    let prefixes = some_prefixes(rt, alloc, dice)?;
-    let path = path(alloc, number)?;
-    Ok(Some(Put { path, prefixes }))
-}
-
-/// Changes the list, and answers the same for the table.
-fn some_changes(
-    rt: &impl Abort,
-    alloc: Global,
-    dice: &mut Dice,
-    turn: u32,
-    plain: &mut Plain,
-) -> Result<Changes, AllocError> {
-    plain.note(*dice, None);
-    let remove = some_prefixes(rt, alloc, dice)?;
-    let groups = dice.below(3);
-    let number = turn.saturating_mul(2);
-    let first = if groups > 0 { Some(number) } else { None };
-    let second = if groups > 1 {
-        Some(number.saturating_add(1))
-    } else {
-        None
-    };
-    let nlri = some_group(rt, alloc, dice, first, plain)?;
-    let mp_reach_nlri = some_group(rt, alloc, dice, second, plain)?;
-    Ok(Changes {
-        remove,
-        nlri,
-        mp_reach_nlri,
-    })
 }
 
 /// Changes the table and the list alike.
-fn take_turn<R: Abort + AllocGlobal>(
-    rt: &R,
+fn take_turn(
+    alloc: Global,
     dice: &mut Dice,
     turn: u32,
     rib: &mut RibIn,
@@ -202,45 +149,45 @@ fn take_turn<R: Abort + AllocGlobal>(
         0 => {
             rib.disable(family);
             plain.disable(family);
+            Ok(())
         }
         1 | 2 => {
             rib.clear();
             plain.clear();
+            Ok(())
         }
         _ => {
-            let changes = some_changes(rt, rt.alloc(), dice, turn, plain)?;
-            return rib.apply(&changes);
+            let told = dice.told(turn);
+            plain.change(&told);
+            change(rib, alloc, &told)
         }
     }
-    Ok(())
 }
 
-/// Whether table and list have the same once both were changed.
-fn is_alike_after<R: Abort + AllocGlobal>(
-    rt: &R,
-    dice: &mut Dice,
-    turn: u32,
-    rib: &mut RibIn,
-    plain: &mut Plain,
-) -> bool {
-    take_turn(rt, dice, turn, rib, plain).is_ok()
-        && plain.is_listed(rt, rib)
-        && rib.len() == plain.count()
+/// How many turns table and list have the same after each, up to all.
+fn turns_alike(alloc: Global, rib: &mut RibIn, plain: &mut Plain) -> u32 {
+    let mut dice = Dice(1);
+    for turn in 0..CHANGES {
+        let is_done = take_turn(alloc, &mut dice, turn, rib, plain).is_ok();
+        if !(is_done && plain.is_listed(rib)) {
+            return turn;
+        }
+    }
+    CHANGES
+}
+
+/// The same of a table and a list of its own.
+fn turns_of_its_own(alloc: Global) -> Result<u32, AllocError> {
+    let mut plain = Plain {
+        marks: vec![in alloc; None; 300]?,
+        disabled: NONE,
+    };
+    let mut rib = RibIn::new(alloc);
+    Ok(turns_alike(alloc, &mut rib, &mut plain))
 }
 
 #[test]
-fn ten_thousand_changes_leave_what_a_sorted_list_has(rt: HostRuntime) -> Result<(), Fail> {
-    let mut plain = Plain {
-        marks: vec![in rt.alloc(); None; 300]?,
-        disabled: NONE,
-    };
-    let mut dice = Dice(1);
-    let mut rib = RibIn::new(rt.alloc());
-    for turn in 0..CHANGES {
-        assert!(rt;
-            is_alike_after(&rt, &mut dice, turn, &mut rib, &mut plain),
-            "turn {turn}"
-        );
-    }
-    Ok(())
+fn ten_thousand_changes_leave_what_a_sorted_list_has(rt: HostRuntime) {
+    let turns = turns_of_its_own(rt.alloc()).unwrap_or(0);
+    assert!(rt; turns == CHANGES, "turn {turns}");
 }

@@ -1,334 +1,411 @@
 //! Memory: enough of it, and growths that are refused.
 
 use super::*;
-use Named::{Numbers, Texts};
+use linked_list_allocator::LocalHeap;
 
-/// A table that these changes were made to, one after another.
-fn made_of<A: Allocator + Copy>(
-    rt: &impl Abort,
+/// An UPDATE: changes, and whether IPv6 is disabled then.
+type Update = (Told, bool);
+
+/// A call that takes memory.
+#[derive(Clone, Copy)]
+enum Call {
+    /// An UPDATE is applied.
+    Apply,
+    /// UPDATEs are applied together.
+    ApplyEach,
+    /// A copy is made.
+    Copy,
+}
+
+/// A call of the table that some UPDATEs made, and the UPDATEs that it applies, in a heap of this
+/// size; how many octets more of it are left each time, and whether it is refused at first.
+struct Case {
+    call: Call,
+    before: &'static [Update],
+    asked: &'static [Update],
+    size: usize,
+    step: usize,
+    grows: bool,
+}
+
+/// All prefixes that an UPDATE of 4096 octets has room for, if they have 24 bits each and three
+/// attributes, are put, of one family and then of the other one.
+static MOST_OF_BOTH: [Update; 2] = [
+    ((NOTHING, Some((6, (1, 2, 1013))), None), false),
+    ((NOTHING, Some((4, (0, 2, 1013))), None), false),
+];
+
+/// What they leave.
+static MOST: [Group; 2] = [(4, (0, 2, 1013)), (6, (1, 2, 1013))];
+
+/// Those of IPv4 are withdrawn.
+static WITHOUT_V4: [Update; 1] = [(((0, 2, 1013), None, None), false)];
+
+/// What a table holds at first: three routes, of both families.
+const THREE: Update = ((NOTHING, Some((1, (0, 1, 3))), None), false);
+
+/// Twelve prefixes, of which two are removed and one is put again.
+const TWELVE: Update = (
+    ((0, 2, 3), Some((2, (0, 6, 5))), Some((3, (8, 3, 5)))),
+    false,
+);
+
+/// The same, and IPv6 is disabled.
+const DISABLING: Update = (
+    ((0, 2, 3), Some((2, (0, 6, 5))), Some((3, (8, 3, 5)))),
+    true,
+);
+
+/// So many routes are put.
+macro_rules! put {
+    ($count:literal) => {
+        &[((NOTHING, Some((1, (0, 2, $count))), None), false)]
+    };
+}
+
+/// The first is taken away, and so many are put behind the last, whose number is this.
+macro_rules! put_more {
+    ($first:literal, $count:literal) => {
+        &[(
+            ((0, 0, 1), Some((1, ($first, 2, $count))), None),
+            false,
+        )]
+    };
+}
+
+/// A known prefix is put.
+const AGAIN: Update = ((NOTHING, Some((4, (0, 0, 1))), None), false);
+
+/// Another one is withdrawn.
+const GONE: Update = (((2, 0, 1), None, None), false);
+
+/// Where an UPDATE is applied or a copy made.
+///
+/// A leaf of the map has 15 entries, so an empty map grows at its first route, and one of 14 at
+/// the second: what is written by then, and what is taken away, has to be written back. Of 14
+/// routes and one more the map doesn't grow, and the log has the room that the first change took.
+/// Of one route and 13 more it's the log alone that grows.
+static CASES: [Case; 9] = [
+    Case {
+        call: Call::Apply,
+        before: &[THREE],
+        asked: &[TWELVE],
+        size: 1 << 13,
+        step: 16,
+        grows: true,
+    },
+    Case {
+        call: Call::Copy,
+        before: &[DISABLING],
+        asked: &[],
+        size: 1 << 13,
+        step: 16,
+        grows: true,
+    },
+    Case {
+        call: Call::Apply,
+        before: put!(14),
+        asked: put_more!(28, 1),
+        size: 1 << 12,
+        step: 16,
+        grows: false,
+    },
+    Case {
+        call: Call::Apply,
+        before: put!(0),
+        asked: put_more!(0, 1),
+        size: 1 << 12,
+        step: 16,
+        grows: true,
+    },
+    Case {
+        call: Call::Apply,
+        before: put!(14),
+        asked: put_more!(28, 2),
+        size: 1 << 12,
+        step: 16,
+        grows: true,
+    },
+    Case {
+        call: Call::Apply,
+        before: put!(15),
+        asked: put_more!(30, 1),
+        size: 1 << 12,
+        step: 16,
+        grows: true,
+    },
+    Case {
+        call: Call::Apply,
+        before: put!(1),
+        asked: put_more!(2, 13),
+        size: 1 << 12,
+        step: 16,
+        grows: true,
+    },
+    Case {
+        call: Call::Apply,
+        before: &[THREE],
+        asked: &[AGAIN],
+        size: 1 << 12,
+        step: 16,
+        grows: false,
+    },
+    Case {
+        call: Call::Apply,
+        before: &[THREE, AGAIN],
+        asked: &[GONE],
+        size: 1 << 12,
+        step: 16,
+        grows: false,
+    },
+];
+
+/// A route of each family.
+const TWO: Update = ((NOTHING, Some((1, (0, 1, 2))), None), false);
+
+/// The first of three UPDATEs, each of which makes the map of a table grow, or the log.
+const FIRST: Update = (
+    ((0, 0, 1), Some((2, (100, 2, 4))), Some((3, (101, 2, 4)))),
+    false,
+);
+
+/// The second takes away what was there, and what the first put, and disables IPv6.
+const SECOND: Update = (
+    ((100, 2, 2), Some((4, (104, 2, 8))), Some((5, (0, 1, 2)))),
+    true,
+);
+
+const THIRD: Update = (
+    ((0, 1, 2), Some((6, (120, 2, 20))), Some((7, (109, 2, 4)))),
+    false,
+);
+
+/// Where they are applied together.
+static TOGETHER: [Case; 3] = [
+    Case {
+        call: Call::ApplyEach,
+        before: &[TWO],
+        asked: &[FIRST],
+        size: 1 << 14,
+        step: 64,
+        grows: true,
+    },
+    Case {
+        call: Call::ApplyEach,
+        before: &[TWO],
+        asked: &[FIRST, SECOND],
+        size: 1 << 14,
+        step: 64,
+        grows: true,
+    },
+    Case {
+        call: Call::ApplyEach,
+        before: &[TWO],
+        asked: &[FIRST, SECOND, THIRD],
+        size: 1 << 14,
+        step: 64,
+        grows: true,
+    },
+];
+
+/// Applies UPDATEs to a table, one after another.
+fn make<A: Allocator + Copy>(
+    rib: &mut RibIn<A>,
+    alloc: A,
+    updates: &[Update],
+) -> Result<(), AllocError> {
+    for (told, is_disabling) in updates {
+        change(rib, alloc, told)?;
+        if *is_disabling {
+            rib.disable(Family::V6);
+        }
+    }
+    Ok(())
+}
+
+/// The table that UPDATEs make, and then others.
+fn made<A: Allocator + Copy>(
     heap: A,
     ample: A,
-    told: &'static [Told],
+    before: &[Update],
+    then: &[Update],
 ) -> Result<RibIn<A>, AllocError> {
     let mut rib = RibIn::new(heap);
-    for told in told {
-        change(rt, &mut rib, ample, *told)?;
-    }
+    make(&mut rib, ample, before)?;
+    make(&mut rib, ample, then)?;
     Ok(rib)
 }
 
-/// Whether a table equals one that these changes were made to.
-fn is_made_of<A: Allocator + Copy>(
-    rt: &impl Abort,
-    ample: A,
+/// Whether a table equals that one.
+fn is_made<A: Allocator + Copy>(
     rib: &RibIn<A>,
-    told: &'static [Told],
+    ample: A,
+    before: &[Update],
+    then: &[Update],
 ) -> bool {
-    match made_of(rt, ample, ample, told) {
+    match made(ample, ample, before, then) {
         Ok(same) => *rib == same && rib.len() == same.len(),
         Err(_) => false,
     }
 }
 
-/// All prefixes that an UPDATE has room for are put, of one family and then of the other one.
-static MOST_OF_BOTH: [Told; 2] = [
-    (NOTHING, &[(6, Numbers(Family::V6, 0, MOST))]),
-    (NOTHING, &[(4, Numbers(Family::V4, 0, MOST))]),
-];
+/// Applies UPDATEs together.
+fn apply_each<A: Allocator + Copy>(
+    rib: &mut RibIn<A>,
+    alloc: A,
+    asked: &[Update],
+) -> Result<(), AllocError> {
+    let mut updates = Vec::new(alloc);
+    for (told, v6) in asked {
+        let changes = changes(alloc, told)?;
+        let disabled = Families { v6: *v6, ..NONE };
+        updates.push(Applied { changes, disabled })?;
+    }
+    rib.apply_each(&updates)
+}
 
-/// Those of IPv4 are withdrawn.
-static WITHOUT_V4: Told = (Numbers(Family::V4, 0, MOST), &[]);
+/// Whether a copy is made: `None` where it differs.
+fn is_copied<A: Allocator + Copy>(rib: &RibIn<A>) -> Option<bool> {
+    match rib.copy() {
+        Ok(copy) => (copy == *rib).then_some(true),
+        Err(_) => Some(false),
+    }
+}
+
+/// Whether the call of a case is done: `None` where a copy differs.
+fn is_done<A: Allocator + Copy>(rib: &mut RibIn<A>, ample: A, case: &Case) -> Option<bool> {
+    match case.call {
+        Call::Apply => Some(make(rib, ample, case.asked).is_ok()),
+        Call::ApplyEach => Some(apply_each(rib, ample, case.asked).is_ok()),
+        Call::Copy => is_copied(rib),
+    }
+}
+
+/// Takes all but so many octets of a heap, in small pieces, so that what is left lies together.
+fn ballast<'a>(
+    heap: &'a LocalHeap,
+    ample: &'a LocalHeap,
+    left: usize,
+) -> Result<Vec<Vec<u8, &'a LocalHeap>, &'a LocalHeap>, AllocError> {
+    let mut pieces = Vec::new(ample);
+    for _ in 0..heap.size() / 16 {
+        if heap.free() <= left {
+            break;
+        }
+        let Ok(piece) = Vec::with_capacity(heap, 16) else {
+            break;
+        };
+        pieces.push(piece)?;
+    }
+    Ok(pieces)
+}
+
+/// Whether the call of a case is done with so many octets left of the table's heap.
+fn is_done_with<'a>(
+    rib: &mut RibIn<&'a LocalHeap>,
+    heap: &'a LocalHeap,
+    ample: &'a LocalHeap,
+    case: &Case,
+    left: usize,
+) -> Option<bool> {
+    let ballast = ballast(heap, ample, left).ok()?;
+    let is_done = is_done(rib, ample, case);
+    drop(ballast);
+    is_done
+}
+
+/// Whether a table whose call was refused is as it was, and is called again, with memory.
+fn is_kept<A: Allocator + Copy>(rib: &mut RibIn<A>, ample: A, case: &Case) -> bool {
+    is_made(rib, ample, case.before, &[]) && is_done(rib, ample, case) == Some(true)
+}
+
+/// Whether the call of a case is done with so many octets left: `None` where the table isn't right
+/// then. Refused it leaves all, and again, with memory, it is done.
+fn is_called<'a>(
+    rib: &mut RibIn<&'a LocalHeap>,
+    heap: &'a LocalHeap,
+    ample: &'a LocalHeap,
+    case: &Case,
+    left: usize,
+) -> Option<bool> {
+    let is_done = is_done_with(rib, heap, ample, case, left)?;
+    let is_right = is_done || is_kept(rib, ample, case);
+    (is_right && is_made(rib, ample, case.before, case.asked)).then_some(is_done)
+}
+
+/// The same of a table of its own.
+fn is_called_of_its_own(
+    heap: &LocalHeap,
+    ample: &LocalHeap,
+    case: &Case,
+    left: usize,
+) -> Option<bool> {
+    let mut rib = made(heap, ample, case.before, &[]).ok()?;
+    is_called(&mut rib, heap, ample, case, left)
+}
+
+/// The same in heaps of its own.
+fn is_called_in_heaps(alloc: Global, case: &Case, left: usize) -> Option<bool> {
+    let ample = LocalHeap::new(alloc, case.size.saturating_mul(8)).ok()?;
+    let heap = LocalHeap::new(alloc, case.size).ok()?;
+    is_called_of_its_own(&heap, &ample, case, left)
+}
+
+/// How often the call of a case is refused as more and more memory is left: `None` where what
+/// follows is wrong, or where it is refused to the end.
+fn refusals(alloc: Global, case: &Case) -> Option<usize> {
+    let mut count = 0;
+    for step in 0..128 {
+        if !is_called_in_heaps(alloc, case, case.step.saturating_mul(step))? {
+            count = step + 1;
+        }
+    }
+    (count < 128).then_some(count)
+}
+
+#[test]
+fn a_refused_growth_changes_nothing(rt: HostRuntime) {
+    for case in &CASES {
+        let refusals = refusals(rt.alloc(), case);
+        assert!(rt;
+            refusals.map(|count| 0 < count) == Some(case.grows),
+            "{refusals:?}"
+        );
+    }
+}
+
+#[test]
+fn a_growth_refused_to_one_update_undoes_all(rt: HostRuntime) {
+    let mut last = Some(0);
+    for case in &TOGETHER {
+        let refusals = refusals(rt.alloc(), case);
+        assert!(rt; last < refusals, "{refusals:?}");
+        last = refusals;
+    }
+}
 
 /// Whether a table and a copy of it have the routes of both families, and then the table those of
 /// one alone.
-fn have_most<A: Allocator + Copy>(
-    rt: &impl Abort,
-    alloc: A,
-    rib: &mut RibIn<A>,
-    copy: &RibIn<A>,
-) -> bool {
-    let both = [(Family::V4, 4), (Family::V6, 6)];
-    let are_whole = rib.len() == 2026 && are_most(rt, rib, &both) && *copy == *rib;
-    let is_changed = change(rt, rib, alloc, WITHOUT_V4).is_ok();
-    let are_left = are_most(rt, rib, &[(Family::V6, 6)]) && are_most(rt, copy, &both);
+fn have_most<A: Allocator + Copy>(rib: &mut RibIn<A>, copy: &RibIn<A>, alloc: A) -> bool {
+    let are_whole = rib.len() == 2026 && are(rib.routes(), &MOST) && *copy == *rib;
+    let is_changed = make(rib, alloc, &WITHOUT_V4).is_ok();
+    let are_left = are(rib.routes(), &MOST[1..]) && are(copy.routes(), &MOST);
     are_whole && is_changed && are_left
 }
 
 /// The same of a copy of its own.
-fn has_most<A: Allocator + Copy>(rt: &impl Abort, alloc: A, rib: &mut RibIn<A>) -> bool {
+fn has_most<A: Allocator + Copy>(rib: &mut RibIn<A>, alloc: A) -> bool {
     match rib.copy() {
-        Ok(copy) => have_most(rt, alloc, rib, &copy),
-        Err(_) => false,
-    }
-}
-
-/// The same of a table of its own.
-fn holds_most<A: Allocator + Copy>(rt: &impl Abort, alloc: A) -> bool {
-    match made_of(rt, alloc, alloc, &MOST_OF_BOTH) {
-        Ok(mut rib) => has_most(rt, alloc, &mut rib),
+        Ok(copy) => have_most(rib, &copy, alloc),
         Err(_) => false,
     }
 }
 
 #[test]
 fn ample_memory(rt: HostRuntime) {
-    assert!(rt; holds_most(&rt, rt.alloc()));
-}
-
-/// What the tables of a test hold at first; and what is to change then: twelve prefixes, of which
-/// two are removed and one is put again.
-static BEFORE_AND_THEN: [Told; 2] = [
-    (
-        NOTHING,
-        &[(1, Texts(&["10.0.0.0/8", "10.1.0.0/16", "2001:db8::/32"]))],
-    ),
-    (
-        Texts(&["10.0.0.0/8", "10.1.0.0/16", "192.0.2.0/24"]),
-        &[
-            (
-                2,
-                Texts(&[
-                    "10.0.0.0/8",
-                    "10.2.0.0/16",
-                    "10.3.0.0/16",
-                    "10.4.0.0/16",
-                    "10.5.0.0/16",
-                ]),
-            ),
-            (
-                3,
-                Texts(&[
-                    "10.6.0.0/16",
-                    "10.7.0.0/16",
-                    "10.8.0.0/16",
-                    "10.9.0.0/16",
-                    "::/0",
-                ]),
-            ),
-        ],
-    ),
-];
-
-/// Whether the table, of this heap, takes the changes with so many octets left.
-fn takes<'a>(
-    rt: &impl Abort,
-    heap: &'a LocalHeap,
-    ample: &'a LocalHeap,
-    rib: &mut RibIn<&'a LocalHeap>,
-    told: Told,
-    left: usize,
-) -> Option<bool> {
-    let ballast = ballast(heap, ample, left).ok()?;
-    let is_done = change(rt, rib, ample, told).is_ok();
-    drop(ballast);
-    Some(is_done)
-}
-
-/// Whether the second of two changes of a table was done with so many octets left: `None` where the
-/// table isn't right then. Refused it leaves all, and again, with memory, it is done.
-fn is_changed<'a>(
-    rt: &impl Abort,
-    heap: &'a LocalHeap,
-    ample: &'a LocalHeap,
-    rib: &mut RibIn<&'a LocalHeap>,
-    told: &'static [Told; 2],
-    left: usize,
-) -> Option<bool> {
-    let is_done = takes(rt, heap, ample, rib, told[1], left)?;
-    let is_kept = is_done
-        || is_made_of(rt, ample, rib, &told[..1]) && change(rt, rib, ample, told[1]).is_ok();
-    (is_kept && is_made_of(rt, ample, rib, told)).then_some(is_done)
-}
-
-/// The same of a table that the first change made.
-fn applies(
-    rt: &impl Abort,
-    heap: &LocalHeap,
-    ample: &LocalHeap,
-    told: &'static [Told; 2],
-    left: usize,
-) -> Option<bool> {
-    let mut rib = made_of(rt, heap, ample, &told[..1]).ok()?;
-    is_changed(rt, heap, ample, &mut rib, told, left)
-}
-
-/// A table with routes and a disabled family.
-fn filled<A: Allocator + Copy>(rt: &impl Abort, heap: A, ample: A) -> Result<RibIn<A>, AllocError> {
-    let mut rib = made_of(rt, heap, ample, &BEFORE_AND_THEN[1..])?;
-    rib.disable(Family::V6);
-    Ok(rib)
-}
-
-/// Whether a table equals that one.
-fn is_filled<A: Allocator + Copy>(rt: &impl Abort, ample: A, rib: &RibIn<A>) -> bool {
-    match filled(rt, ample, ample) {
-        Ok(same) => *rib == same,
-        Err(_) => false,
-    }
-}
-
-/// Whether a copy of a table equals that one: `None` where it is refused.
-fn is_copy_filled<A: Allocator + Copy>(rt: &impl Abort, ample: A, rib: &RibIn<A>) -> Option<bool> {
-    match rib.copy() {
-        Ok(copy) => Some(is_filled(rt, ample, &copy)),
-        Err(_) => None,
-    }
-}
-
-/// Whether a copy is refused with so many octets left: `None` where it is made and differs.
-fn is_copy_refused<'a>(
-    rt: &impl Abort,
-    heap: &'a LocalHeap,
-    ample: &'a LocalHeap,
-    rib: &RibIn<&'a LocalHeap>,
-    left: usize,
-) -> Option<bool> {
-    let ballast = ballast(heap, ample, left).ok()?;
-    let answer = is_copy_filled(rt, ample, rib);
-    drop(ballast);
-    match answer {
-        Some(is_equal) => is_equal.then_some(false),
-        None => Some(true),
-    }
-}
-
-/// Whether a copy of that table was made with so many octets left: `None` where it or the table
-/// isn't right then. Refused it leaves all, and again, with memory, it is equal.
-fn is_copied<'a>(
-    rt: &impl Abort,
-    heap: &'a LocalHeap,
-    ample: &'a LocalHeap,
-    rib: &RibIn<&'a LocalHeap>,
-    left: usize,
-) -> Option<bool> {
-    let is_refused = is_copy_refused(rt, heap, ample, rib, left)?;
-    let is_equal = !is_refused || is_copy_filled(rt, ample, rib) == Some(true);
-    (is_equal && is_filled(rt, ample, rib)).then_some(!is_refused)
-}
-
-/// The same of a table of its own.
-fn copies(rt: &impl Abort, heap: &LocalHeap, ample: &LocalHeap, left: usize) -> Option<bool> {
-    let rib = filled(rt, heap, ample).ok()?;
-    is_copied(rt, heap, ample, &rib, left)
-}
-
-/// What is asked of heaps where so many octets are left.
-#[derive(Clone, Copy)]
-enum Asked {
-    /// Whether the second of two changes is done.
-    Change(&'static [Told; 2]),
-    /// Whether a copy is made.
-    Copy,
-}
-
-/// Whether it is, in a heap of this size: `None` where what follows is wrong.
-fn is_done(rt: &impl Abort, alloc: Global, size: usize, asked: Asked, left: usize) -> Option<bool> {
-    let ample = LocalHeap::new(alloc, size.saturating_mul(8)).ok()?;
-    let heap = LocalHeap::new(alloc, size).ok()?;
-    match asked {
-        Asked::Change(told) => applies(rt, &heap, &ample, told, left),
-        Asked::Copy => copies(rt, &heap, &ample, left),
-    }
-}
-
-/// Whether it is refused and done as more and more memory is free.
-fn is_refused_and_done(rt: &impl Abort, alloc: Global, asked: Asked) -> bool {
-    let (mut refused, mut done) = (false, false);
-    for step in 0..128 {
-        let answer = is_done(rt, alloc, 1 << 13, asked, 16 * step);
-        assert!(rt; answer.is_some(), "{step}");
-        refused = refused || answer == Some(false);
-        done = done || answer == Some(true);
-    }
-    refused && done
-}
-
-#[test]
-fn a_refused_growth_changes_nothing(rt: HostRuntime) {
-    let asked = Asked::Change(&BEFORE_AND_THEN);
-    assert!(rt; is_refused_and_done(&rt, rt.alloc(), asked));
-    assert!(rt; is_refused_and_done(&rt, rt.alloc(), Asked::Copy));
-}
-
-/// The least room, in steps of 16 octets, with which the second of two changes is done.
-fn least_room(rt: &impl Abort, alloc: Global, told: &'static [Told; 2]) -> usize {
-    for step in 0..128 {
-        let answer = is_done(rt, alloc, 1 << 12, Asked::Change(told), 16 * step);
-        assert!(rt; answer.is_some(), "{step}");
-        if answer == Some(true) {
-            return step;
-        }
-    }
-    128
-}
-
-/// So many routes are put; and then the first is taken away, and so many are put behind the last.
-macro_rules! routes_and_more {
-    ($count:literal, $more:literal) => {
-        [
-            (NOTHING, &[(1, Numbers(Family::V4, 0, $count))]),
-            (
-                Numbers(Family::V4, 0, 1),
-                &[(1, Numbers(Family::V4, $count, $more))],
-            ),
-        ]
-    };
-}
-
-/// Changes, and whether the second one asks for memory.
-///
-/// A leaf of the map has 15 entries, so an empty map grows at its first route, and one of 14 at
-/// the second: what is written by then, and what is taken away, has to be written back. Of 14
-/// routes and one more the map doesn't grow, and the log has the room that the first change took.
-/// Of one route and 13 more it's the log alone that grows.
-static GROWTHS: [(&'static [Told; 2], bool); 5] = [
-    (&routes_and_more!(14, 1), false),
-    (&routes_and_more!(0, 1), true),
-    (&routes_and_more!(14, 2), true),
-    (&routes_and_more!(15, 1), true),
-    (&routes_and_more!(1, 13), true),
-];
-
-#[test]
-fn each_growth_of_a_change_may_be_refused(rt: HostRuntime) {
-    for (told, grows) in &GROWTHS {
-        let room = least_room(&rt, rt.alloc(), told);
-        assert!(rt; room < 128 && (0 < room) == *grows, "{room}");
-    }
-}
-
-/// A known prefix is put.
-static AGAIN: Told = (NOTHING, &[(4, Texts(&["10.0.0.0/8"]))]);
-
-/// Another one is withdrawn.
-static GONE: Told = (Texts(&["10.1.0.0/16"]), &[]);
-
-/// Whether a table takes both where there is nothing left of its heap.
-fn takes_both<'a>(
-    rt: &impl Abort,
-    heap: &'a LocalHeap,
-    ample: &'a LocalHeap,
-    rib: &mut RibIn<&'a LocalHeap>,
-) -> bool {
-    takes(rt, heap, ample, rib, AGAIN, 0) == Some(true)
-        && takes(rt, heap, ample, rib, GONE, 0) == Some(true)
-        && are(rt, rib.routes(), &[("10.0.0.0/8", 4), ("2001:db8::/32", 1)])
-}
-
-/// The same of a table of its own.
-fn changes_without_memory(rt: &impl Abort, heap: &LocalHeap, ample: &LocalHeap) -> bool {
-    match made_of(rt, heap, ample, &BEFORE_AND_THEN[..1]) {
-        Ok(mut rib) => takes_both(rt, heap, ample, &mut rib),
-        Err(_) => false,
-    }
-}
-
-#[test]
-fn known_prefixes_take_no_memory(rt: HostRuntime) -> Result<(), Fail> {
-    let ample = LocalHeap::new(rt.alloc(), 1 << 15)?;
-    let heap = LocalHeap::new(rt.alloc(), 1 << 12)?;
-    assert!(rt; changes_without_memory(&rt, &heap, &ample));
-    Ok(())
+    let mut rib = RibIn::new(rt.alloc());
+    let is_made = make(&mut rib, rt.alloc(), &MOST_OF_BOTH).is_ok();
+    assert!(rt; is_made && has_most(&mut rib, rt.alloc()));
 }
 
 /// Whether two tables differ, and the first has ten routes that can be listed.
@@ -337,12 +414,7 @@ fn are_asked<A: Allocator>(rib: &RibIn<A>, other: &RibIn<A>) -> bool {
     *rib != *other && rib.len() == 10 && is_listed && rib.disabled() == NONE
 }
 
-/// Whether a table is as a new one.
-fn is_empty<A: Allocator + Copy>(alloc: A, rib: &RibIn<A>) -> bool {
-    *rib == RibIn::new(alloc)
-}
-
-/// Whether tables, of which the first has one route of IPv6, are asked and emptied, and take no
+/// Whether tables, of which the first has two routes of IPv6, are asked and emptied, and take no
 /// memory for it.
 fn are_emptied<'a>(
     heap: &'a LocalHeap,
@@ -352,10 +424,10 @@ fn are_emptied<'a>(
     let used = heap.used();
     let is_asked = are_asked(rib, other) && heap.used() == used;
     rib.disable(Family::V6);
-    let is_nine = rib.len() == 9 && heap.used() <= used;
+    let is_eight = rib.len() == 8 && heap.used() <= used;
     rib.clear();
     other.clear();
-    is_asked && is_nine && is_empty(heap, rib)
+    is_asked && is_eight && *rib == *other && rib.len() == 0
 }
 
 /// The same where there is nothing left of their heap, which is unused then.
@@ -374,19 +446,23 @@ fn needs_no_memory<'a>(
 }
 
 /// Whether tables are made, asked and emptied so.
-fn are_made(rt: &impl Abort, heap: &LocalHeap, ample: &LocalHeap) -> bool {
+fn are_made(heap: &LocalHeap, ample: &LocalHeap) -> bool {
     let mut rib = RibIn::new(heap);
     let mut other = RibIn::new(heap);
     heap.used() == 0
-        && change(rt, &mut other, ample, BEFORE_AND_THEN[0]).is_ok()
-        && change(rt, &mut rib, ample, BEFORE_AND_THEN[1]).is_ok()
+        && make(&mut other, ample, &[THREE]).is_ok()
+        && make(&mut rib, ample, &[TWELVE]).is_ok()
         && needs_no_memory(heap, ample, &mut rib, &mut other)
 }
 
+/// The same in heaps of their own.
+fn are_made_in_heaps(alloc: Global) -> Result<bool, AllocError> {
+    let ample = LocalHeap::new(alloc, 1 << 16)?;
+    let heap = LocalHeap::new(alloc, 1 << 13)?;
+    Ok(are_made(&heap, &ample))
+}
+
 #[test]
-fn a_table_is_made_asked_and_emptied_without_memory(rt: HostRuntime) -> Result<(), Fail> {
-    let ample = LocalHeap::new(rt.alloc(), 1 << 16)?;
-    let heap = LocalHeap::new(rt.alloc(), 1 << 13)?;
-    assert!(rt; are_made(&rt, &heap, &ample));
-    Ok(())
+fn a_table_is_made_asked_and_emptied_without_memory(rt: HostRuntime) {
+    assert!(rt; are_made_in_heaps(rt.alloc()) == Ok(true));
 }
