@@ -1,26 +1,14 @@
-//! What both trackers answer where memory is refused, and up to four ends; and what the compact
-//! one holds. The verdicts of both on sessions are asked for by `real_captures`. Messages have the
-//! names of `bgp_wire::vectors`.
+//! What both trackers answer where memory is refused, and what the compact one holds. The verdicts
+//! of both on sessions are asked for by `real_captures`. Messages have the names of
+//! `bgp_wire::vectors`.
 
 mod memory;
-mod sessions;
 
-use crate::judge::{Expected, NONE, V6, are_ends, router_a};
+use crate::judge::{Expected, are_ends, router_a};
 use bgp_compact::CompactTracker;
 use bgp_judge::{PlainTracker, Tracker, Verdict, judge_records};
-use bgp_machine::Fsm;
-use bgp_open::Families;
 use mrt::Record;
 use std::alloc::{AllocError, Allocator, Global};
-
-/// IPv4 alone.
-const V4: Families = Families {
-    v4: true,
-    v6: false,
-};
-
-/// Both families.
-const BOTH: Families = Families { v4: true, v6: true };
 
 /// Whether records are judged, with enough memory for it, and the verdict is yes with just these
 /// ends: `None` where it is another.

@@ -29,22 +29,6 @@ fn has_ends<A: Allocator + Copy, T: Tracker<A>>(tracker: &T, expected: &[Expecte
     }
 }
 
-/// Whether a tracker takes the session and answers its ends.
-fn is_tracked<A: Allocator + Copy, T: Tracker<A>>(alloc: A) -> bool {
-    match started::<A, T>(alloc) {
-        Some(mut tracker) => {
-            takes_all::<A, T>(&mut tracker, &TWO_ENDS) && has_ends::<A, T>(&tracker, &ENDS)
-        }
-        None => false,
-    }
-}
-
-#[test]
-fn ample_memory(rt: HostRuntime) {
-    assert!(rt; is_tracked::<_, PlainTracker>(rt.alloc()));
-    assert!(rt; is_tracked::<_, CompactTracker>(rt.alloc()));
-}
-
 /// Takes all but so many octets of a heap, in small pieces, so that what is left lies together.
 fn ballast<'a>(
     heap: &'a LocalHeap,
@@ -146,22 +130,28 @@ fn refusals_with(alloc: Global, left: usize) -> Option<(usize, usize)> {
     Some((plain, compact))
 }
 
+/// How often it is refused to them with no octets left, and then with more and more.
+fn refusals_until_ample(alloc: Global) -> Option<((usize, usize), (usize, usize))> {
+    let first = refusals_with(alloc, 0)?;
+    let mut last = first;
+    for left in (32usize..4096).step_by(32) {
+        last = refusals_with(alloc, left)?;
+    }
+    Some((first, last))
+}
+
+/// Whether it is refused with no octets left for the list of ends, and for both UPDATEs with their
+/// changes, and not at all with many.
+fn are_taken_again(alloc: Global) -> bool {
+    match refusals_until_ample(alloc) {
+        Some((first, last)) => first.0 > 2 && first.1 > 2 && last == (0, 0),
+        None => false,
+    }
+}
+
 #[test]
 fn a_refused_record_can_be_taken_again(rt: HostRuntime) {
-    let mut first = (0, 0);
-    let mut last = (0, 0);
-    for step in 0..128 {
-        last = refusals_with(rt.alloc(), 32 * step).expect(&rt, "a record or the ends differ");
-        if step == 0 {
-            first = last;
-        }
-    }
-    // The list of ends, and both UPDATEs with their changes; to the end nothing is refused.
-    let is_refused = first.0 > 2 && first.1 > 2;
-    assert!(rt;
-        is_refused && last == (0, 0),
-        "{first:?} refusals, then {last:?}"
-    );
+    assert!(rt; are_taken_again(rt.alloc()));
 }
 
 /// Whether the plain tracker and the compact one judge the session with a heap of this size: `None`
@@ -173,15 +163,21 @@ fn are_judged(alloc: Global, size: usize) -> Option<(bool, bool)> {
     Some((plain, compact))
 }
 
-#[test]
-fn a_refused_growth_gives_no_verdict(rt: HostRuntime) {
+/// Whether each of them has no verdict with some heap and one with the largest: `None` where a
+/// verdict is wrong.
+fn are_judged_at_last(alloc: Global) -> Option<bool> {
     let mut is_refused = (false, false);
     let mut is_done = (false, false);
-    for step in 1..1024 {
-        is_done = are_judged(rt.alloc(), 16 * step).expect(&rt, "another verdict");
+    for size in (16usize..1 << 14).step_by(16) {
+        is_done = are_judged(alloc, size)?;
         is_refused = (is_refused.0 || !is_done.0, is_refused.1 || !is_done.1);
     }
-    assert!(rt; is_refused == (true, true) && is_done == (true, true));
+    Some(is_refused == (true, true) && is_done == (true, true))
+}
+
+#[test]
+fn a_refused_growth_gives_no_verdict(rt: HostRuntime) {
+    assert!(rt; are_judged_at_last(rt.alloc()) == Some(true));
 }
 
 /// An UPDATE that announces 10.`high`.`low`.0/24.

@@ -32,53 +32,39 @@ const OTHER_ENDS: Option<Endpoints> = Some(Endpoints {
     local: Address::V4(0xc000_0202),
 });
 
-/// Records, whether one of them is the session's, and the addresses of the first other one.
-type Row = (&'static [&'static [u8]], bool, Option<Endpoints>);
-
-static ROWS: [Row; 4] = [
-    (&[], false, None),
-    (&[&CHANGE], true, None),
-    (&[&EXCHANGED], false, OTHER_ENDS),
-    (&[&CHANGE, &EXCHANGED], true, OTHER_ENDS),
+/// [`CHANGE`], and then [`EXCHANGED`].
+const BOTH: [u8; 72] = [
+    0, 0, 0, 100, 0, 16, 0, 5, 0, 0, 0, 24, 0, 0, 0xfd, 0xea, 0, 0, 0xfd, 0xe9, 0, 0, 0, 1, //
+    192, 0, 2, 2, 192, 0, 2, 1, 0, 1, 0, 2, //
+    0, 0, 0, 100, 0, 16, 0, 5, 0, 0, 0, 24, 0, 0, 0xfd, 0xea, 0, 0, 0xfd, 0xe9, 0, 0, 0, 1, //
+    192, 0, 2, 1, 192, 0, 2, 2, 0, 1, 0, 2,
 ];
 
-/// The octets that these parts join to.
-fn join(alloc: Global, parts: &[&[u8]]) -> Result<Vec<u8>, AllocError> {
-    let mut octets = Vec::new(alloc);
-    for part in parts {
-        octets.extend_from_slice(part)?;
-    }
-    Ok(octets)
-}
+/// A capture, whether a record of it is the session's, and the addresses of the first other one.
+static ROWS: [(&[u8], bool, Option<Endpoints>); 4] = [
+    (&[], false, None),
+    (&CHANGE, true, None),
+    (&EXCHANGED, false, OTHER_ENDS),
+    (&BOTH, true, OTHER_ENDS),
+];
 
-/// Whether a reader has answered a record of the session, and which ends of another one it skipped
-/// first, once the capture was judged.
-fn found(alloc: Global, config: &Config, capture: Vec<u8>) -> Option<(bool, Option<Endpoints>)> {
-    let mut source = MemSource::new(capture);
+/// Whether a capture is judged, and its reader has found this: whether a record is the session's,
+/// and the ends of another one that it skipped first.
+fn has_found(
+    alloc: Global,
+    (capture, is_shown, other): &(&[u8], bool, Option<Endpoints>),
+) -> Option<bool> {
+    let config = router_a()?;
+    let mut source = MemSource::new(Vec::from_slice(alloc, capture).ok()?);
     let mut reader = Reader::new(alloc);
-    let is_judged = judge_with::<_, PlainTracker, _>(
-        &mut reader,
-        alloc,
-        config,
-        &mut source,
-    ).is_ok();
-    is_judged.then_some((reader.has_answered(), reader.first_other()))
-}
-
-/// Whether it has found what a row says.
-fn has_found(alloc: Global, (records, is_shown, other): &Row) -> bool {
-    let Some(config) = router_a() else {
-        return false;
-    };
-    match join(alloc, records) {
-        Ok(capture) => found(alloc, &config, capture) == Some((*is_shown, *other)),
-        Err(_) => false,
-    }
+    let judged = judge_with::<_, PlainTracker, _>(&mut reader, alloc, &config, &mut source);
+    let is_found = reader.has_answered() == *is_shown && reader.first_other() == *other;
+    Some(judged.is_ok() && is_found)
 }
 
 #[test]
 fn a_reader_tells_what_it_found(rt: HostRuntime) {
-    for (count, row) in ROWS.iter().enumerate() {
-        assert!(rt; has_found(rt.alloc(), row), "{count}");
+    for row in &ROWS {
+        assert!(rt; has_found(rt.alloc(), row) == Some(true));
     }
 }

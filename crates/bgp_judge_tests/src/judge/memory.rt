@@ -90,93 +90,77 @@ fn is_capture_told(alloc: Global) -> bool {
     }
 }
 
-#[test]
-fn ample_memory(rt: HostRuntime) {
-    assert!(rt; opens_two(rt.alloc()) == Some(true) && is_capture_told(rt.alloc()));
-}
-
 /// Whether memory for the steps is given by a heap of this size: `None` where they are wrong.
 fn opens_two_with(alloc: Global, size: usize) -> Option<bool> {
     let heap = LocalHeap::new(alloc, size).ok()?;
     opens_two(&heap)
 }
 
+/// Whether memory for the steps is refused on small heaps, and given by larger ones: `None` where
+/// the steps are wrong.
+fn are_refused_and_given(alloc: Global) -> Option<bool> {
+    let (mut refused, mut given) = (false, false);
+    for size in (16usize..2048).step_by(16) {
+        let is_given = opens_two_with(alloc, size)?;
+        refused = refused || !is_given;
+        given = given || is_given;
+    }
+    Some(refused && given)
+}
+
 #[test]
 fn refused_steps_are_no_steps(rt: HostRuntime) {
-    let (mut refused, mut done) = (false, false);
-    for step in 1..128 {
-        let answer = opens_two_with(rt.alloc(), 16 * step);
-        assert!(rt; answer.is_some(), "{step}");
-        refused = refused || answer == Some(false);
-        done = done || answer == Some(true);
-    }
-    assert!(rt; refused && done);
+    assert!(rt; opens_two(rt.alloc()) == Some(true));
+    assert!(rt; are_refused_and_given(rt.alloc()) == Some(true));
 }
-
-/// What came of a capture with little memory.
-#[derive(Clone, Copy)]
-enum Outcome {
-    /// The right verdict.
-    Verdict,
-    /// Memory was refused at this octet.
-    Refused(u64),
-    /// Another verdict, or another fault.
-    Wrong,
-}
-
-/// What comes of a capture of the session with this memory. With less there is no verdict.
-fn outcome_of<A: Allocator + Copy>(alloc: A, config: &Config, capture: Vec<u8>) -> Outcome {
-    let mut source = MemSource::new(capture);
-    match judge::<A, PlainTracker<A>, _>(alloc, config, &mut source) {
-        Ok(verdict) if is_yes(&verdict) => Outcome::Verdict,
-        Err(fault) if fault.kind == FaultKind::Memory => Outcome::Refused(fault.offset),
-        _ => Outcome::Wrong,
-    }
-}
-
-/// The same with a heap of this size: `None` where there is no memory for it.
-fn outcome_with(alloc: Global, size: usize) -> Option<Outcome> {
-    let config = router_a()?;
-    let heap = LocalHeap::new(alloc, size).ok()?;
-    let capture = capture_of(alloc, &config, &TWO_ENDS)?;
-    Some(outcome_of(&heap, &config, capture))
-}
-
-/// Whether a record of the session begins there, or the capture ends.
-fn is_a_place(alloc: Global, offset: u64) -> bool {
-    let Some(config) = router_a() else {
-        return false;
-    };
-    let mut sink = MemSink::new(alloc);
-    let mut is_found = offset == 0;
-    for record in &TWO_ENDS {
-        if !is_put(&mut sink, &config, record) {
-            return false;
-        }
-        is_found = is_found || sink.octets().len() as u64 == offset;
-    }
-    is_found
-}
-
-/// A heap of so many octets has no room for the reader's buffer of 65583.
-const LEAST: usize = 57_392;
 
 #[test]
-fn a_refused_growth_gives_no_verdict(rt: HostRuntime) {
-    let mut last = Some(0);
-    let mut places = 0;
-    for step in 1..2048 {
-        let (is_right, refused) = match outcome_with(rt.alloc(), LEAST + 16 * step) {
-            Some(Outcome::Verdict) => (true, None),
-            Some(Outcome::Refused(offset)) => (is_a_place(rt.alloc(), offset), Some(offset)),
-            _ => (false, None),
-        };
-        assert!(rt; is_right, "{step}: {refused:?}");
-        if refused != last {
-            places = u32::saturating_add(places, 1);
+fn a_capture_is_judged_with_a_reader_that_is_lent(rt: HostRuntime) {
+    assert!(rt; is_capture_told(rt.alloc()));
+}
+
+/// Where the records of [`TWO_ENDS`] begin in its capture, and where that ends.
+static PLACES: [u64; 11] = [0, 36, 117, 153, 234, 285, 321, 372, 408, 485, 582];
+
+/// At which octet memory is refused for a capture of the session with a heap of this size, or that
+/// it has the right verdict. It is `None` where it has another one, or is refused otherwise.
+fn refused_on(alloc: Global, config: &Config, size: usize) -> Option<Option<u64>> {
+    let heap = LocalHeap::new(alloc, size).ok()?;
+    let mut source = MemSource::new(capture_of(alloc, config, &TWO_ENDS)?);
+    match judge::<&LocalHeap, PlainTracker<&LocalHeap>, _>(&heap, config, &mut source) {
+        Ok(verdict) => is_yes(&verdict).then_some(None),
+        Err(fault) => (fault.kind == FaultKind::Memory).then_some(Some(fault.offset)),
+    }
+}
+
+/// How many places at which memory is refused follow another one, with larger and larger heaps, of
+/// which the first has no room for the reader's buffer of 65583 octets and the last is enough. It
+/// is `None` where memory is refused elsewhere, or something else is answered.
+fn places_until_ample(alloc: Global, config: &Config) -> Option<usize> {
+    let mut last = None;
+    let mut places = 0usize;
+    for size in (57_408usize..90_160).step_by(16) {
+        let refused = refused_on(alloc, config, size)?;
+        if let Some(place) = refused {
+            if !PLACES.contains(&place) {
+                return None;
+            }
+            if refused != last {
+                places = places.saturating_add(1);
+            }
         }
         last = refused;
     }
-    // A growth was refused behind the first record, and none to the end.
-    assert!(rt; last.is_none() && places > 2, "{places}");
+    last.is_none().then_some(places)
+}
+
+/// The same of router A.
+fn places(alloc: Global) -> Option<usize> {
+    places_until_ample(alloc, &router_a()?)
+}
+
+#[test]
+fn a_refused_growth_gives_no_verdict(rt: HostRuntime) {
+    // That of the first record, and two behind it.
+    assert!(rt; places(rt.alloc()) > Some(2));
 }
