@@ -42,27 +42,7 @@ const PARTS_A: ConfigParts = ConfigParts {
     session: SESSION_A,
 };
 
-/// Router A where it offers extended messages.
-const EXTENDED_A: ConfigParts = ConfigParts {
-    session: Session {
-        extended: true,
-        ..SESSION_A
-    },
-    ..PARTS_A
-};
-
-/// Router A with AS numbers of two octets alone.
-const TWO_OCTETS: ConfigParts = ConfigParts {
-    as4: false,
-    ..PARTS_A
-};
-
 const BOTH: Families = Families { v4: true, v6: true };
-
-const V6: Families = Families {
-    v4: false,
-    v6: true,
-};
 
 /// The row holds. A call of this is proved more quickly than an assertion with a message.
 fn assert_row(rt: &impl Abort, holds: bool, lesson: &str) {

@@ -14,11 +14,10 @@ use bgp_prefix::{Address, Family, Prefix, RouteRefresh, Session, read_prefix};
 use bgp_update_writer::{Update, UpdateFault, write_update};
 use bgp_wire::vectors::OPEN_B;
 use std::alloc::{AllocError, Global};
-use std::process::Abort;
 
 /// The router: AS 65001 at 192.0.2.1, with AS 65002 at 192.0.2.2, both families and four-octet AS
 /// numbers.
-const PARTS_A: ConfigParts = ConfigParts {
+static PARTS_A: ConfigParts = ConfigParts {
     local_as: 65001,
     peer_as: 65002,
     local_id: 0xc000_0201,
@@ -55,7 +54,7 @@ enum Wanted<'a> {
 
 /// What a path says beside ORIGIN IGP.
 #[derive(Clone, Copy)]
-struct Said<'a> {
+pub struct Said<'a> {
     /// The one AS of AS_PATH.
     number: u32,
     next_hop: NextHop,
@@ -87,7 +86,7 @@ struct Row<'a> {
 }
 
 /// The path by AS 65002 and 192.0.2.2.
-const BY_V4: Said<'static> = Said {
+pub const BY_V4: Said<'static> = Said {
     number: 65002,
     next_hop: HOP,
     local_pref: None,
@@ -137,31 +136,32 @@ const WITHDRAW: Row<'static> = Row {
 };
 
 /// What the router and its peer settle, but for what a row says otherwise.
-fn link_of(rt: &impl Abort, row: &Row<'_>) -> Link {
-    let config = Config::new(PARTS_A).expect(rt, "a configuration");
-    let open = read_open(&OPEN_B).expect(rt, "an OPEN");
+fn link_of(row: &Row<'_>) -> Option<Link> {
+    let config = Config::new(PARTS_A)?;
+    let open = read_open(&OPEN_B).ok()?;
     let mut link = negotiate(&config, &open);
     link.families = row.families;
     link.as4 = row.as4;
     link.internal = row.internal;
     link.extended = row.extended;
-    link
+    Some(link)
+}
+
+/// Appends a prefix so many times.
+fn append(prefixes: &mut Vec<Prefix>, count: usize, prefix: Prefix) -> Result<(), AllocError> {
+    for _ in 0..count {
+        prefixes.push(prefix)?;
+    }
+    Ok(())
 }
 
 /// So many times each prefix.
-fn prefixes_of(
-    rt: &impl Abort,
-    alloc: Global,
-    runs: &[(usize, &str)],
-) -> Result<Vec<Prefix>, AllocError> {
+fn prefixes_of(alloc: Global, runs: &[(usize, &str)]) -> Option<Vec<Prefix>> {
     let mut prefixes = Vec::new(alloc);
     for (count, text) in runs {
-        let prefix = read_prefix(text).expect(rt, "a prefix");
-        for _ in 0..*count {
-            prefixes.push(prefix)?;
-        }
+        append(&mut prefixes, *count, read_prefix(text)?).ok()?;
     }
-    Ok(prefixes)
+    Some(prefixes)
 }
 
 /// The AS path of one AS.
@@ -174,7 +174,7 @@ fn as_path(alloc: Global, number: u32) -> Result<AsPath, AllocError> {
 }
 
 /// A path that says this.
-fn path_of(alloc: Global, said: &Said<'_>) -> Result<Path, AllocError> {
+pub fn path_of(alloc: Global, said: &Said<'_>) -> Result<Path, AllocError> {
     let as_path = as_path(alloc, said.number)?;
     let cluster_list = Vec::from_slice(alloc, said.cluster_list)?;
     let communities = vec![in alloc; 0xffff_ff01u32; said.communities]?;
@@ -218,50 +218,68 @@ fn is_right(
     }
 }
 
-/// Whether that comes of an update, behind an octet and where nothing stands.
-fn is_answered(alloc: Global, link: &Link, update: &Update<'_>, wanted: &Wanted<'_>) -> bool {
-    let mut out = Vec::new(alloc);
-    for stood in &[[].as_slice(), &[9]] {
-        out.clear();
-        if out.extend_from_slice(stood).is_err() {
-            return false;
+/// Whether that comes of an update behind what stands there.
+fn is_answered_behind(
+    alloc: Global,
+    link: &Link,
+    update: &Update<'_>,
+    (stood, wanted): (&[u8], &Wanted<'_>),
+) -> bool {
+    match Vec::from_slice(alloc, stood) {
+        Ok(mut out) => {
+            let answer = write_update(link, update, &mut out);
+            is_right(answer, &out, stood, wanted)
         }
-        let answer = write_update(link, update, &mut out);
-        if !is_right(answer, &out, stood, wanted) {
-            return false;
-        }
-    }
-    match wanted {
-        Wanted::Octets(octets) => memory::is_refused_and_then_written(alloc, link, update, octets),
-        _ => true,
+        Err(_) => false,
     }
 }
 
-/// Whether that comes of the row's update.
-fn is_told(rt: &impl Abort, alloc: Global, row: &Row<'_>) -> bool {
-    let Ok(prefixes) = prefixes_of(rt, alloc, row.prefixes) else {
-        return false;
-    };
-    let link = link_of(rt, row);
-    let family = row.family;
-    let prefixes = prefixes.as_slice();
-    let Some(said) = &row.path else {
-        return is_answered(
-            alloc,
-            &link,
-            &Update::Withdraw { family, prefixes },
-            &row.wanted,
-        );
-    };
-    match path_of(alloc, said) {
-        Ok(path) => {
+/// Whether that comes of an update, behind an octet and where nothing stands.
+fn is_answered(alloc: Global, link: &Link, update: &Update<'_>, wanted: &Wanted<'_>) -> bool {
+    is_answered_behind(alloc, link, update, (&[], wanted))
+        && is_answered_behind(alloc, link, update, (&[9], wanted))
+        && match wanted {
+            Wanted::Octets(octets) => {
+                memory::is_refused_and_then_written(alloc, link, update, octets)
+            }
+            _ => true,
+        }
+}
+
+/// Whether what is wanted comes of an announcement of these prefixes.
+fn is_announced(alloc: Global, row: &Row<'_>, said: &Said<'_>, prefixes: &[Prefix]) -> bool {
+    match (link_of(row), path_of(alloc, said)) {
+        (Some(link), Ok(path)) => {
             let update = Update::Announce {
-                family,
+                family: row.family,
                 prefixes,
                 path: &path,
             };
             is_answered(alloc, &link, &update, &row.wanted)
         }
-        Err(_) => false,
+        _ => false,
+    }
+}
+
+/// Whether it comes of their withdrawal.
+fn is_withdrawn(alloc: Global, row: &Row<'_>, prefixes: &[Prefix]) -> bool {
+    let family = row.family;
+    match link_of(row) {
+        Some(link) => is_answered(
+            alloc,
+            &link,
+            &Update::Withdraw { family, prefixes },
+            &row.wanted,
+        ),
+        None => false,
+    }
+}
+
+/// Whether that comes of the row's update.
+fn is_told(alloc: Global, row: &Row<'_>) -> bool {
+    match (prefixes_of(alloc, row.prefixes), &row.path) {
+        (Some(prefixes), Some(said)) => is_announced(alloc, row, said, &prefixes),
+        (Some(prefixes), None) => is_withdrawn(alloc, row, &prefixes),
+        (None, _) => false,
     }
 }

@@ -1,4 +1,5 @@
-//! Messages are read. (What an OPEN says is compared by the program `real_captures`, as a line.)
+//! Messages are read. (What an OPEN says, and what is none, is compared by the program
+//! `real_captures`.)
 
 use super::*;
 use bgp_open::{Capability, Notification, read_notification};
@@ -20,12 +21,6 @@ pub(super) const AS_65001: Capability<'static> = Capability {
     value: &[0x00, 0x00, 0xfd, 0xe9],
 };
 
-/// [`OPEN_B`] without its last octet.
-const B_CUT_SHORT: &[u8] = message![
-    49, 1, 4, 0xfd, 0xea, 0x00, 0x5a, 192, 0, 2, 2, 20, 2, 18, 1, 4, 0, 1, 0, 1, 1, 4, 0, 2, 0, 1,
-    65, 4, 0, 0, 0xfd
-];
-
 /// My Autonomous System, Hold Time and BGP Identifier.
 type Fields = (u16, u16, u32);
 
@@ -42,81 +37,38 @@ pub(super) fn reads_as(octets: &[u8], fields: Fields, capabilities: &[Capability
     is_same && read.next().is_none()
 }
 
-/// Octets that are no OPEN, and no whole message of its length, and the number of their fault.
-static FAULTY: [(&str, &[u8], u8); 6] = [
-    ("nothing", &[], 0),
-    ("a KEEPALIVE", &KEEPALIVE, 0),
-    ("an OPEN cut short", B_CUT_SHORT, 0),
-    (
-        "a marker octet of 254",
-        &[
-            // marker
-            255, 255, 255, 255, 255, 255, 255, 255, 255, 255, 255, 255, 255, 255, 255, 254, 0, 29,
-            1, 4, 0xfd, 0xea, 0x00, 0x5a, 192, 0, 2, 2, 0,
-        ],
-        0,
-    ),
-    (
-        "version 3, and a Length of one less",
-        message![29, 1, 3, 0xfd, 0xea, 0x00, 0x5a, 192, 0, 2, 2, 0, 0],
-        0,
-    ),
-    (
-        "version 3, and no length of parameters",
-        message![28, 1, 3, 0xfd, 0xea, 0, 90, 192, 0, 2, 2],
-        0,
-    ),
+/// Octets that are no NOTIFICATION.
+static NO_NOTIFICATIONS: [&[u8]; 5] = [
+    // no subcode
+    message![20, 3, 6],
+    // a marker octet of 254
+    &[
+        254, 255, 255, 255, 255, 255, 255, 255, 255, 255, 255, 255, 255, 255, 255, 255, 0, 21, 3,
+        6, 2,
+    ],
+    // cut short
+    message![23, 3, 1, 2, 0x00],
+    &KEEPALIVE,
+    &OPEN_A,
 ];
 
-#[test]
-fn what_is_no_message_is_no_open(rt: HostRuntime) {
-    for (lesson, octets, number) in &FAULTY {
-        let is_told = match read_open(octets) {
-            Ok(_) => false,
-            Err(fault) => fault.number() == *number,
-        };
-        assert_row(&rt, is_told, lesson);
-    }
+/// Whether octets are a NOTIFICATION with these octets and data to the end.
+fn is_notification(octets: &[u8], code: u8, subcode: u8, detail: &[u8]) -> bool {
+    let wanted = Notification {
+        code,
+        subcode,
+        detail,
+    };
+    read_notification(octets) == Some(wanted)
 }
-
-/// Octets, and the NOTIFICATION that they are: two octets, and data to the end.
-static NOTIFICATIONS: [(&str, &[u8], Option<Notification<'static>>); 7] = [
-    (
-        "Administrative Shutdown",
-        &ADMINISTRATIVE_SHUTDOWN,
-        Some(Notification {
-            code: 6,
-            subcode: 2,
-            detail: &[],
-        }),
-    ),
-    (
-        "Bad Message Length",
-        &BAD_LENGTH_18,
-        Some(Notification {
-            code: 1,
-            subcode: 2,
-            detail: &[0x00, 0x12],
-        }),
-    ),
-    ("no subcode", message![20, 3, 6], None),
-    (
-        "a marker octet of 254",
-        &[
-            // marker
-            254, 255, 255, 255, 255, 255, 255, 255, 255, 255, 255, 255, 255, 255, 255, 255, 0, 21,
-            3, 6, 2,
-        ],
-        None,
-    ),
-    ("cut short", message![23, 3, 1, 2, 0x00], None),
-    ("a KEEPALIVE", &KEEPALIVE, None),
-    ("an OPEN", &OPEN_A, None),
-];
 
 #[test]
 fn a_notification_has_two_octets_and_data_to_the_end(rt: HostRuntime) {
-    for (lesson, octets, notification) in &NOTIFICATIONS {
-        assert_row(&rt, read_notification(octets) == *notification, lesson);
+    for octets in &NO_NOTIFICATIONS {
+        assert!(rt; read_notification(octets).is_none());
     }
+    assert!(rt;
+        is_notification(&ADMINISTRATIVE_SHUTDOWN, 6, 2, &[])
+            && is_notification(&BAD_LENGTH_18, 1, 2, &[0x00, 0x12])
+    );
 }

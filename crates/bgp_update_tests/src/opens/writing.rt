@@ -71,7 +71,7 @@ const LONGEST_NOTIFICATION: Row<'static> = Row {
     wanted: Ok((&[], 4096)),
 };
 
-static WRITTEN: [Row<'static>; 9] = [
+static WRITTEN: [Row<'static>; 11] = [
     Row {
         lesson: "router A's OPEN",
         message: Message::Open(
@@ -99,6 +99,16 @@ static WRITTEN: [Row<'static>; 9] = [
     Row {
         lesson: "256 octets have no length",
         message: Message::Open(65001, 90, 0xc000_0201, long_capability!(256)),
+        wanted: Err(1),
+    },
+    Row {
+        lesson: "42 capabilities of four octets fill a parameter",
+        message: Message::Open(65001, 90, 0xc000_0201, &[IPV4_UNICAST; 42]),
+        wanted: Ok((&[], 283)),
+    },
+    Row {
+        lesson: "43 don't",
+        message: Message::Open(65001, 90, 0xc000_0201, &[IPV4_UNICAST; 43]),
         wanted: Err(1),
     },
     Row {
@@ -187,22 +197,6 @@ fn messages_are_written_and_read_where_they_have_room(rt: HostRuntime) {
     }
 }
 
-#[test]
-fn a_parameter_has_room_for_42_capabilities_of_four_octets(rt: HostRuntime) {
-    let many = [IPV4_UNICAST; 43];
-    let most = Row {
-        lesson: "42 capabilities",
-        message: Message::Open(65001, 90, 0xc000_0201, &many[..42]),
-        wanted: Ok((&[], 283)),
-    };
-    let too_many = Row {
-        lesson: "43 capabilities",
-        message: Message::Open(65001, 90, 0xc000_0201, &many),
-        wanted: Err(1),
-    };
-    assert!(rt; is_written(rt.alloc(), &most) && is_written(rt.alloc(), &too_many));
-}
-
 /// Whether the message was written behind the octets 1 and 2 into a small heap. Where memory was
 /// refused the vector has to be as before, and else there is no answer.
 fn is_whole(heap: &LocalHeap, row: &Row<'_>) -> Option<bool> {
@@ -228,103 +222,32 @@ fn is_whole_in(alloc: Global, size: usize, row: &Row<'_>) -> Option<bool> {
 
 static LONGEST: [Row<'static>; 2] = [LONGEST_OPEN, LONGEST_NOTIFICATION];
 
+/// Whether a message is refused memory in small heaps, and whole in larger ones.
+fn is_refused_and_whole(alloc: Global, row: &Row<'_>) -> bool {
+    let (mut is_right, mut refused, mut whole) = (true, false, false);
+    // Two octets have room in each heap.
+    for step in 4usize..512 {
+        match is_whole_in(alloc, 16 * step, row) {
+            Some(true) => whole = true,
+            Some(false) => refused = true,
+            None => is_right = false,
+        }
+    }
+    is_right && refused && whole
+}
+
 #[test]
 fn a_message_that_is_refused_memory_leaves_the_vector(rt: HostRuntime) {
     for row in &LONGEST {
-        let (mut is_right, mut refused, mut whole) = (true, false, false);
-        // Two octets have room in each heap.
-        for step in 4usize..512 {
-            match is_whole_in(rt.alloc(), 16 * step, row) {
-                Some(true) => whole = true,
-                Some(false) => refused = true,
-                None => is_right = false,
-            }
-        }
-        assert_row(&rt, is_right && refused && whole, row.lesson);
+        assert!(rt; is_refused_and_whole(rt.alloc(), row));
     }
 }
-
-/// What a system that is configured so says in its OPEN, octet by octet.
-static OWN: [(&str, ConfigParts, &[u8]); 6] = [
-    ("router A's OPEN", PARTS_A, &OPEN_A),
-    (
-        "IPv6 alone, AS numbers of two octets",
-        ConfigParts {
-            families: V6,
-            ..TWO_OCTETS
-        },
-        message![
-            37, 1, 4, 0xfd, 0xe9, 0x00, 0x5a, 192, 0, 2, 1, // the fixed fields
-            8, 2, 6, 1, 4, 0, 2, 0, 1
-        ],
-    ),
-    (
-        "both families, AS numbers of two octets",
-        TWO_OCTETS,
-        message![
-            43, 1, 4, 0xfd, 0xe9, 0x00, 0x5a, 192, 0, 2, 1, // the fixed fields
-            14, 2, 12, 1, 4, 0, 1, 0, 1, 1, 4, 0, 2, 0, 1
-        ],
-    ),
-    (
-        "AS_TRANS for AS 70000, IPv4 alone",
-        ConfigParts {
-            local_as: 70000,
-            hold: 30,
-            families: Families::V4,
-            ..PARTS_A
-        },
-        message![
-            43, 1, 4, 0x5b, 0xa0, 0x00, 0x1e, 192, 0, 2, 1, // the fixed fields
-            14, 2, 12, 1, 4, 0, 1, 0, 1, 65, 4, 0x00, 0x01, 0x11, 0x70
-        ],
-    ),
-    (
-        "router A's OPEN with extended messages, which come last",
-        EXTENDED_A,
-        message![
-            51, 1, 4, 0xfd, 0xe9, 0x00, 0x5a, 192, 0, 2, 1, // the fixed fields
-            22, 2, 20, 1, 4, 0, 1, 0, 1, 1, 4, 0, 2, 0, 1, 65, 4, 0, 0, 0xfd, 0xe9, 6, 0
-        ],
-    ),
-    (
-        "IPv6 alone, extended messages, AS numbers of two octets",
-        ConfigParts {
-            families: V6,
-            as4: false,
-            ..EXTENDED_A
-        },
-        message![
-            39, 1, 4, 0xfd, 0xe9, 0x00, 0x5a, 192, 0, 2, 1, // the fixed fields
-            10, 2, 8, 1, 4, 0, 2, 0, 1, 6, 0
-        ],
-    ),
-];
 
 /// Whether a system that is configured so appended its OPEN.
 fn appends_own<A: Allocator>(parts: &ConfigParts, out: &mut Vec<u8, A>) -> bool {
     match Config::new(*parts) {
         Some(config) => write_own_open(&config, out).is_ok(),
         None => false,
-    }
-}
-
-/// Whether it appends these octets.
-fn writes_own(alloc: Global, parts: &ConfigParts, wanted: &[u8]) -> bool {
-    let Ok(mut out) = Vec::from_slice(alloc, &[1, 2]) else {
-        return false;
-    };
-    let is_written = appends_own(parts, &mut out);
-    let [1, 2, octets @ ..] = out.as_slice() else {
-        return false;
-    };
-    is_written && octets == wanted
-}
-
-#[test]
-fn what_is_configured_is_written(rt: HostRuntime) {
-    for (lesson, parts, wanted) in &OWN {
-        assert_row(&rt, writes_own(rt.alloc(), parts, wanted), lesson);
     }
 }
 
@@ -352,37 +275,46 @@ fn prints(alloc: Global, value: &impl Display, text: &str) -> bool {
     }
 }
 
+/// Whether faults of an OPEN that is read have their words.
+fn are_open_faults(alloc: Global) -> bool {
+    prints(alloc, &OpenFault::Malformed, "malformed OPEN message")
+        && prints(alloc, &OpenFault::Version, "unsupported version number")
+        && prints(
+            alloc,
+            &OpenFault::Parameter,
+            "unsupported optional parameter",
+        )
+}
+
+/// Whether faults of an OPEN that is written have their words and numbers.
+fn are_open_write_faults(alloc: Global) -> bool {
+    let (too_many, memory) = (OpenWriteFault::TooMany, OpenWriteFault::Memory);
+    prints(
+        alloc,
+        &too_many,
+        "too many capabilities for an OPEN message",
+    ) && prints(alloc, &memory, "out of memory")
+        && too_many.number() == 1
+        && memory.number() == 2
+}
+
+/// And those of a NOTIFICATION.
+fn are_notification_faults(alloc: Global) -> bool {
+    let too_large = NotificationWriteFault::TooLarge;
+    let memory = NotificationWriteFault::Memory;
+    prints(
+        alloc,
+        &too_large,
+        "the data of the NOTIFICATION are too large",
+    ) && prints(alloc, &memory, "out of memory")
+        && too_large.number() == 1
+        && memory.number() == 2
+}
+
 #[test]
 fn faults_have_their_words_and_numbers(rt: HostRuntime) {
     let alloc = rt.alloc();
     assert!(rt;
-        prints(alloc, &OpenFault::Malformed, "malformed OPEN message")
-            && prints(alloc, &OpenFault::Version, "unsupported version number")
-            && prints(
-                alloc,
-                &OpenFault::Parameter,
-                "unsupported optional parameter"
-            )
-    );
-    let (too_many, memory) = (OpenWriteFault::TooMany, OpenWriteFault::Memory);
-    assert!(rt;
-        prints(
-            alloc,
-            &too_many,
-            "too many capabilities for an OPEN message"
-        ) && prints(alloc, &memory, "out of memory")
-            && too_many.number() == 1
-            && memory.number() == 2
-    );
-    let too_large = NotificationWriteFault::TooLarge;
-    let memory = NotificationWriteFault::Memory;
-    assert!(rt;
-        prints(
-            alloc,
-            &too_large,
-            "the data of the NOTIFICATION are too large"
-        ) && prints(alloc, &memory, "out of memory")
-            && too_large.number() == 1
-            && memory.number() == 2
+        are_open_faults(alloc) && are_open_write_faults(alloc) && are_notification_faults(alloc)
     );
 }

@@ -38,34 +38,31 @@ static LENGTHS: [(bool, u16, bool); 6] = [
     (true, 65535, true),
 ];
 
-/// Whether the UPDATE of a row is clean where it is to be, and none with an octet more, and how it
-/// is read: whether it is longer than one may be that is sent makes no difference.
-fn is_as_wanted(
-    alloc: Global,
-    link: &Link,
-    length: u16,
-    is_wanted: bool,
-) -> Result<bool, AllocError> {
-    let mut octets = update_of(alloc, length)?;
-    let is_told = is_clean(link, &octets) == is_wanted;
-    let is_put = only_put(read_update(alloc, link, &octets)).is_some();
-    octets.push(0)?;
-    Ok(is_told && is_put && !is_clean(link, &octets))
+/// Whether an UPDATE is clean where it is to be, and none with an octet more; and how it is read:
+/// whether it is longer than one may be that is sent makes no difference.
+fn is_as_wanted(alloc: Global, extended: bool, length: u16, is_wanted: bool) -> Option<bool> {
+    let link = link(extended)?;
+    let mut octets = update_of(alloc, length).ok()?;
+    let is_told = is_clean(&link, &octets) == is_wanted;
+    let outcomes = read_update(alloc, &link, &octets).ok()?;
+    let is_put = are_put(&outcomes.changes, 1);
+    octets.push(0).ok()?;
+    Some(is_told && is_put && !is_clean(&link, &octets))
 }
 
 #[test]
 fn a_clean_update_is_no_longer_than_the_peer_takes(rt: HostRuntime) {
-    for (row, (extended, length, is_wanted)) in LENGTHS.iter().enumerate() {
-        let mut link = link(&rt);
-        link.extended = *extended;
-        let answer = is_as_wanted(rt.alloc(), &link, *length, *is_wanted);
-        assert!(rt; matches!(answer, Ok(true)), "row {row}");
+    for (extended, length, is_wanted) in &LENGTHS {
+        assert!(rt; is_as_wanted(rt.alloc(), *extended, *length, *is_wanted) == Some(true));
     }
+}
+
+/// The most octets that the peer takes.
+fn most(extended: bool) -> Option<u16> {
+    Some(most_octets(&link(extended)?))
 }
 
 #[test]
 fn the_peer_takes_4096_octets_or_65535(rt: HostRuntime) {
-    let (plain, mut extended) = (link(&rt), link(&rt));
-    extended.extended = true;
-    assert!(rt; most_octets(&plain) == 4096 && most_octets(&extended) == 65535);
+    assert!(rt; most(false) == Some(4096) && most(true) == Some(65535));
 }

@@ -17,52 +17,31 @@ const BEGUN: [u8; 44] = [
     0x00, // NLRI: 0.0.0.0/0
 ];
 
-/// 2026 times 10.0.0.0/8.
-static TENS: [&[u8]; 2026] = [&[8, 10]; 2026];
+/// That UPDATE: 2026 times 10.0.0.0/8 is put behind it.
+fn longest(alloc: Global) -> Result<Vec<u8>, AllocError> {
+    let mut octets = Vec::from_slice(alloc, &BEGUN)?;
+    for _ in 0..2026 {
+        octets.extend_from_slice(&[8, 10])?;
+    }
+    Ok(octets)
+}
 
-/// What the greatest UPDATE puts.
-const ALL: Shown = Shown {
-    is_mp: false,
-    prefixes: 2027,
-    origin: Origin::Igp,
-    next_hop: NextHop::V4(0xc000_0202),
-    multi_exit_disc: None,
-    by: Some(65002),
-};
+/// Whether 0.0.0.0/0 and all others are put: 4053 octets, and 4096 in all.
+fn is_longest_put(alloc: Global) -> Option<bool> {
+    let octets = longest(alloc).ok()?;
+    let outcomes = read_update(alloc, &link(false)?, &octets).ok()?;
+    Some(octets.len() == 4096 && are_put(&outcomes.changes, 2027))
+}
 
 #[test]
-fn ample_memory(rt: HostRuntime) -> Result<(), AllocError> {
-    let alloc = rt.alloc();
-    // 0.0.0.0/0 and 2026 times 10.0.0.0/8: 4053 octets, and 4096 in all
-    let tens = joined(alloc, &TENS)?;
-    let octets = joined(alloc, &[&BEGUN, &tens])?;
-    let put = only_put(read_update(alloc, &link(&rt), &octets));
-    assert!(rt; octets.len() == 4096 && put == Some(ALL));
-    Ok(())
+fn ample_memory(rt: HostRuntime) {
+    assert!(rt; is_longest_put(rt.alloc()) == Some(true));
 }
 
-/// Whether changes are that 10.0.0.0/8 is put.
-fn are_ten<A: Allocator>(changes: &Option<Changes<A>>) -> bool {
-    match changes {
-        Some(
-            Changes {
-                remove,
-                nlri: Some(Put { prefixes, .. }),
-                mp_reach_nlri: None,
-            },
-        ) => {
-            remove.is_empty()
-                && prefixes.len() == 1
-                && prefixes.first().copied() == read_prefix("10.0.0.0/8")
-        }
-        _ => false,
-    }
-}
-
-/// Whether an announcement of it is read so with this memory: `None` where that is refused.
+/// Whether an announcement of 10.0.0.0/8 is read so with this memory: `None` where that is refused.
 fn is_put<A: Allocator + Copy>(alloc: A, link: &Link) -> Option<bool> {
     match read_update(alloc, link, &ANNOUNCES_10) {
-        Ok(outcomes) => Some(outcomes.reset.is_empty() && are_ten(&outcomes.changes)),
+        Ok(outcomes) => Some(outcomes.reset.is_empty() && are_put(&outcomes.changes, 1)),
         Err(_) => None,
     }
 }
@@ -75,17 +54,27 @@ fn is_reset<A: Allocator + Copy>(alloc: A, link: &Link) -> bool {
     }
 }
 
-#[test]
-fn a_refused_growth_is_told_and_a_reset_takes_no_memory(rt: HostRuntime) -> Result<(), AllocError> {
-    let link = link(&rt);
+/// Whether with a heap of this size the announcement is read, or refused memory: no answer where
+/// either is wrong.
+fn is_put_in(alloc: Global, size: usize, link: &Link) -> Option<bool> {
+    let heap = LocalHeap::new(alloc, size).ok()?;
+    let put = is_put(&heap, link);
+    (put != Some(false) && is_reset(&heap, link)).then_some(put.is_some())
+}
+
+/// Whether it is refused memory in small heaps, and read in larger ones.
+fn is_refused_and_put(alloc: Global) -> Option<bool> {
+    let link = link(false)?;
     let (mut refused, mut done) = (false, false);
-    for step in 0..128 {
-        let heap = LocalHeap::new(rt.alloc(), 16 * (step + 1))?;
-        let put = is_put(&heap, &link);
-        assert!(rt; put != Some(false) && is_reset(&heap, &link), "{step}");
-        refused |= put.is_none();
-        done |= put.is_some();
+    for step in 1usize..129 {
+        let is_put = is_put_in(alloc, 16 * step, &link)?;
+        refused = refused || !is_put;
+        done = done || is_put;
     }
-    assert!(rt; refused && done, "nothing was refused, or all");
-    Ok(())
+    Some(refused && done)
+}
+
+#[test]
+fn a_refused_growth_is_told_and_a_reset_takes_no_memory(rt: HostRuntime) {
+    assert!(rt; is_refused_and_put(rt.alloc()) == Some(true));
 }

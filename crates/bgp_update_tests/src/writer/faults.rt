@@ -176,7 +176,7 @@ static ROWS: [Row<'static>; 19] = [
 #[test]
 fn updates_are_refused(rt: HostRuntime) {
     for row in &ROWS {
-        assert!(rt; is_told(&rt, rt.alloc(), row), "{}", row.lesson);
+        assert!(rt; is_told(rt.alloc(), row), "{}", row.lesson);
     }
 }
 

@@ -167,6 +167,6 @@ static ROWS: [Row<'static>; 9] = [
 #[test]
 fn updates_are_written(rt: HostRuntime) {
     for row in &ROWS {
-        assert!(rt; is_told(&rt, rt.alloc(), row), "{}", row.lesson);
+        assert!(rt; is_told(rt.alloc(), row), "{}", row.lesson);
     }
 }

@@ -244,13 +244,13 @@ static EXTENDED: [Row<'static>; 13] = [
 #[test]
 fn updates_fill_a_message_and_no_more(rt: HostRuntime) {
     for row in &ROWS {
-        assert!(rt; is_told(&rt, rt.alloc(), row), "{}", row.lesson);
+        assert!(rt; is_told(rt.alloc(), row), "{}", row.lesson);
     }
 }
 
 #[test]
 fn updates_fill_an_extended_message_and_no_more(rt: HostRuntime) {
     for row in &EXTENDED {
-        assert!(rt; is_told(&rt, rt.alloc(), row), "{}", row.lesson);
+        assert!(rt; is_told(rt.alloc(), row), "{}", row.lesson);
     }
 }
