@@ -1,5 +1,5 @@
 //! What is told of a command, and the statuses that decoding a stream answers. Words of command
-//! lines are read by the program `command_words`.
+//! lines are read by the program `real_recordings`.
 
 use super::captures::{FIRST, SESSION};
 use super::devices::{Given, giving};
