@@ -1,20 +1,16 @@
 //! Rows of the standards, octets of real routers, and octets written down by hand from the layouts,
 //! annotated field by field.
 
-mod classing;
 mod fields;
 mod memory;
 mod reading;
+mod types;
 mod writing;
 
+use crate::parts::*;
 use bgp_attr::*;
-use bgp_path::{
-    Aggregator, AsPath, Items, LargeCommunity, NextHop, Origin, Path, PathParts, Segment,
-    SegmentKind,
-};
+use bgp_path::{Aggregator, LargeCommunity, NextHop, Origin, Path, PathParts, SegmentKind};
 use std::alloc::{AllocError, Global};
-use std::process::Abort;
-use std::test::Fail;
 
 /// An external peer, and AS numbers of four octets.
 const WIDE: Side = Side {
@@ -60,58 +56,8 @@ const FOUR_OCTET_FIELD: &[u8] = &[
     0xc0, 32, 12, 0, 0, 0xfd, 0xea, 0, 0, 0, 1, 0, 0, 0, 2, // LARGE_COMMUNITY: 65002:1:2
 ];
 
-/// From a session of FRR with AS numbers of four octets: an IPv6 prefix.
-const IPV6_FIELD: &[u8] = &[
-    0x90, 14, 0, 44, // MP_REACH_NLRI
-    0, 2, 1, 32, // IPv6 unicast, a next hop of 32 octets
-    0x20, 1, 0x0d, 0xb8, 0, 0, 0, 0, 0, 0, 0, 0, 0, 0, 0, 2, // 2001:db8::2
-    0xfe, 0x80, 0, 0, 0, 0, 0, 0, 0x4c, 0xbc, 0x1e, 0xff, 0xfe, 0xee, 0x7f, 0xed, // link-local
-    0, 48, 0x20, 1, 0x0d, 0xb8, 0, 2, // reserved, 2001:db8:2::/48
-    0x40, 1, 1, 0, // ORIGIN: IGP
-    0x50, 2, 0, 6, 2, 1, 0, 0, 0xfd, 0xea, // AS_PATH: 65002
-    0x80, 4, 4, 0, 0, 0, 0, // MULTI_EXIT_DISC: 0
-];
-
-/// The parts of a path, which take no memory: its segments and lists are slices.
-#[derive(Drop)]
-struct Parts<'a> {
-    origin: Origin,
-    /// Segments of 1 to 255 numbers.
-    as_path: &'a [(SegmentKind, &'a [u32])],
-    next_hop: NextHop,
-    multi_exit_disc: Option<u32>,
-    local_pref: Option<u32>,
-    atomic_aggregate: bool,
-    aggregator: Option<Aggregator>,
-    communities: &'a [u32],
-    originator_id: Option<u32>,
-    cluster_list: &'a [u32],
-    extended_communities: &'a [u64],
-    large_communities: &'a [LargeCommunity],
-}
-
-/// 65002:1:2
-const OF_LARGE: LargeCommunity = LargeCommunity {
-    global_administrator: 65002,
-    local_data_part_1: 1,
-    local_data_part_2: 2,
-};
-
-/// The least path: IGP, no segments, a next hop of four octets.
-const LEAST: Parts<'static> = Parts {
-    origin: Origin::Igp,
-    as_path: &[],
-    next_hop: NextHop::V4(0xc000_0202),
-    multi_exit_disc: None,
-    local_pref: None,
-    atomic_aggregate: false,
-    aggregator: None,
-    communities: &[],
-    originator_id: None,
-    cluster_list: &[],
-    extended_communities: &[],
-    large_communities: &[],
-};
+/// The least path, where it is named and not written out.
+static OF_NONE: Parts<'static> = LEAST;
 
 /// Of AS 65002 alone.
 const OF_65002: Parts<'static> = Parts {
@@ -129,7 +75,7 @@ const MERGED: Parts<'static> = Parts {
         address: 0xc000_0202,
     }),
     communities: &[0xfdea_0064, 0xffff_ff01],
-    large_communities: &[OF_LARGE],
+    large_communities: &[LARGE],
     ..LEAST
 };
 
@@ -152,47 +98,6 @@ const ANNOUNCED: Parts<'static> = Parts {
     }),
     communities: &[0xfdea_0064, 0xffff_ff01],
     extended_communities: &[0x0002_fdea_0000_0005],
-    large_communities: &[OF_LARGE],
+    large_communities: &[LARGE],
     ..OF_65002
 };
-
-/// The path of these segments.
-fn as_path_of(alloc: Global, segments: &[(SegmentKind, &[u32])]) -> Result<AsPath, AllocError> {
-    let mut path = AsPath::new(alloc);
-    for (kind, numbers) in segments {
-        let segment = Segment::new(*kind, Vec::from_slice(alloc, numbers)?);
-        path.push(segment.ok_or(AllocError)?)?;
-    }
-    Ok(path)
-}
-
-/// The path of these parts.
-fn path_of(alloc: Global, parts: &Parts<'_>) -> Result<Path, AllocError> {
-    path_with(alloc, parts, parts.communities)
-}
-
-/// The path of these parts, but with these communities.
-fn path_with(alloc: Global, parts: &Parts<'_>, communities: &[u32]) -> Result<Path, AllocError> {
-    let communities = Vec::from_slice(alloc, communities)?;
-    let cluster_list = Vec::from_slice(alloc, parts.cluster_list)?;
-    let extended_communities = Vec::from_slice(alloc, parts.extended_communities)?;
-    let large_communities = Vec::from_slice(alloc, parts.large_communities)?;
-    let as_path = as_path_of(alloc, parts.as_path)?;
-    Path::new(
-        alloc,
-        PathParts {
-            origin: parts.origin,
-            as_path,
-            next_hop: parts.next_hop,
-            multi_exit_disc: parts.multi_exit_disc,
-            local_pref: parts.local_pref,
-            atomic_aggregate: parts.atomic_aggregate,
-            aggregator: parts.aggregator,
-            communities: Items::from(communities),
-            originator_id: parts.originator_id,
-            cluster_list: Items::from(cluster_list),
-            extended_communities: Items::from(extended_communities),
-            large_communities: Items::from(large_communities),
-        },
-    )
-}

@@ -1,7 +1,7 @@
 //! Memory: enough of it, and growths that are refused.
 
 use super::SegmentKind::Sequence;
-use super::writing::{ALL_PARTS, OF_ALL_PARTS, is_written, path_with_many};
+use super::writing::{ALL_PARTS, is_written, path_with_many};
 use super::*;
 use linked_list_allocator::LocalHeap;
 
@@ -28,28 +28,38 @@ fn ample_memory_for_large_values(rt: HostRuntime) {
     assert!(rt; are_large_values_written(rt.alloc()));
 }
 
-/// Whether a path was written to a vector in a heap of this size. Where a growth was refused, the
-/// vector is as before.
-fn writes(rt: &impl Abort, heap: &LocalHeap, path: &Path) -> bool {
-    let Ok(mut out) = Vec::from_slice(heap, &[9]) else {
-        return false;
-    };
+/// Whether a path was written behind an octet of 9 to a vector in a heap of this size: no answer
+/// where the vector is neither whole then nor, for a growth that was refused, as before.
+fn writes(alloc: Global, size: usize, path: &Path) -> Option<bool> {
+    let heap = LocalHeap::new(alloc, size).ok()?;
+    let mut out = Vec::from_slice(&heap, &[9]).ok()?;
     let is_written = is_written(NARROW, path, &mut out);
     let rest = if is_written { ALL_PARTS } else { &[] };
-    assert!(rt; out.split_first() == Some((&9, rest)));
-    is_written
+    (out.split_first() == Some((&9, rest))).then_some(is_written)
+}
+
+/// Whether a path is refused memory in small heaps, and written in larger ones.
+fn is_refused_and_written(alloc: Global, path: &Path) -> bool {
+    let (mut refused, mut done, mut is_right) = (false, false, true);
+    for step in 1usize..129 {
+        match writes(alloc, 16 * step, path) {
+            Some(true) => done = true,
+            Some(false) => refused = true,
+            None => is_right = false,
+        }
+    }
+    refused && done && is_right
+}
+
+/// The same of the path that takes memory for each of its parts.
+fn is_whole_path_refused_and_written(alloc: Global) -> bool {
+    match path_of(alloc, &WHOLE) {
+        Ok(path) => is_refused_and_written(alloc, &path),
+        Err(_) => false,
+    }
 }
 
 #[test]
-fn a_refused_growth_changes_nothing(rt: HostRuntime) -> Result<(), Fail> {
-    let path = path_of(rt.alloc(), &OF_ALL_PARTS)?;
-    let (mut refused, mut done) = (false, false);
-    for step in 0..128 {
-        let heap = LocalHeap::new(rt.alloc(), 16 * (step + 1))?;
-        let is_written = writes(&rt, &heap, &path);
-        refused = refused || !is_written;
-        done = done || is_written;
-    }
-    assert!(rt; refused && done);
-    Ok(())
+fn a_refused_growth_changes_nothing(rt: HostRuntime) {
+    assert!(rt; is_whole_path_refused_and_written(rt.alloc()));
 }

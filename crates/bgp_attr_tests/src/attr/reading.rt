@@ -1,26 +1,10 @@
-//! The path that attributes say (RFC 4271, 5; RFC 6793, 4.2.3).
+//! The path that attributes say (RFC 4271, 5; RFC 6793, 4.2.3). (Those of whole UPDATEs are
+//! compared by the program `real_captures`, as texts.)
 
-use super::SegmentKind::{Sequence, Set};
+use super::SegmentKind::Sequence;
 use super::writing::is_written;
 use super::*;
 use linked_list_allocator::LocalHeap;
-
-const HOP: NextHop = NextHop::V4(0xc000_0202);
-
-/// A field, and the path that it says on a session.
-struct Row {
-    side: Side,
-    field: &'static [u8],
-    path: Parts<'static>,
-}
-
-/// An internal peer alone says preference and reflection.
-const REFLECTED_FIELD: &[u8] = &[
-    0x40, 2, 10, 1, 2, 0, 0, 0, 1, 0, 0, 0, 2, // AS_PATH: {1,2}
-    0x40, 5, 4, 0, 0, 0, 100, // LOCAL_PREF: 100
-    0x80, 9, 4, 192, 0, 2, 1, // ORIGINATOR_ID: 192.0.2.1
-    0x80, 10, 8, 0, 0, 0, 1, 0, 0, 0, 2, // CLUSTER_LIST: 0.0.0.1 0.0.0.2
-];
 
 /// The first of a type counts.
 const FIRST_FIELD: &[u8] = &[
@@ -30,194 +14,16 @@ const FIRST_FIELD: &[u8] = &[
     0x80, 4, 4, 0, 0, 0, 7, // MULTI_EXIT_DISC: 7
 ];
 
-/// 2:1:1, 1:9:9, 2:1:1, 1:9:8, 1:9:9, 2:2:1 and 3:1:1, of which two repeat one before them.
-const REPEATS_FIELD: &[u8] = &[
-    0xc0, 32, 84, // LARGE_COMMUNITY
-    0, 0, 0, 2, 0, 0, 0, 1, 0, 0, 0, 1, // 2:1:1
-    0, 0, 0, 1, 0, 0, 0, 9, 0, 0, 0, 9, // 1:9:9
-    0, 0, 0, 2, 0, 0, 0, 1, 0, 0, 0, 1, // 2:1:1 again
-    0, 0, 0, 1, 0, 0, 0, 9, 0, 0, 0, 8, // 1:9:8
-    0, 0, 0, 1, 0, 0, 0, 9, 0, 0, 0, 9, // 1:9:9 again
-    0, 0, 0, 2, 0, 0, 0, 2, 0, 0, 0, 1, // 2:2:1
-    0, 0, 0, 3, 0, 0, 0, 1, 0, 0, 0, 1, // 3:1:1
+/// One attribute alone counts, and it has to be Good.
+const EMPTY_FIRST: &[u8] = &[
+    0xc0, 32, 0, // LARGE_COMMUNITY without a value
+    0xc0, 32, 12, 0, 0, 0, 1, 0, 0, 0, 1, 0, 0, 0, 1, // 1:1:1
 ];
 
-/// 1:9:9
-const OF_1: LargeCommunity = LargeCommunity {
-    global_administrator: 1,
-    local_data_part_1: 9,
-    local_data_part_2: 9,
+static OF_EGP: Parts<'static> = Parts {
+    origin: Origin::Egp,
+    ..LEAST
 };
-
-/// 2:1:1
-const OF_2: LargeCommunity = LargeCommunity {
-    global_administrator: 2,
-    local_data_part_1: 1,
-    local_data_part_2: 1,
-};
-
-static ROWS: [Row; 15] = [
-    // Of equal large communities the first is kept.
-    Row {
-        side: WIDE,
-        field: REPEATS_FIELD,
-        path: Parts {
-            large_communities: &[
-                OF_2,
-                OF_1,
-                LargeCommunity {
-                    local_data_part_2: 8,
-                    ..OF_1
-                },
-                LargeCommunity {
-                    local_data_part_1: 2,
-                    ..OF_2
-                },
-                LargeCommunity {
-                    global_administrator: 3,
-                    ..OF_2
-                },
-            ],
-            ..LEAST
-        },
-    },
-    // One attribute alone counts, and it has to be Good.
-    Row {
-        side: WIDE,
-        field: &[
-            0xc0, 32, 0, // LARGE_COMMUNITY without a value
-            0xc0, 32, 12, 0, 0, 0, 1, 0, 0, 0, 1, 0, 0, 0, 1, // 1:1:1
-        ],
-        path: LEAST,
-    },
-    // A real announcement
-    Row {
-        side: WIDE,
-        field: FOUR_OCTET_FIELD,
-        path: ANNOUNCED,
-    },
-    // What a real router says in two octets is merged.
-    Row {
-        side: NARROW,
-        field: TWO_OCTET_FIELD,
-        path: MERGED,
-    },
-    // One reading makes a path for each next hop.
-    Row {
-        side: WIDE,
-        field: IPV6_FIELD,
-        path: Parts {
-            multi_exit_disc: Some(0),
-            ..OF_65002
-        },
-    },
-    Row {
-        side: WIDE,
-        field: IPV6_FIELD,
-        path: Parts {
-            next_hop: NextHop::V6(1),
-            multi_exit_disc: Some(0),
-            ..OF_65002
-        },
-    },
-    Row {
-        side: WIDE,
-        field: IPV6_FIELD,
-        path: Parts {
-            next_hop: NextHop::V6WithLinkLocal(1, 2),
-            multi_exit_disc: Some(0),
-            ..OF_65002
-        },
-    },
-    // Without attributes a path is empty.
-    Row {
-        side: WIDE,
-        field: &[],
-        path: LEAST,
-    },
-    Row {
-        side: WIDE,
-        field: FIRST_FIELD,
-        path: Parts {
-            origin: Origin::Egp,
-            ..LEAST
-        },
-    },
-    Row {
-        side: WIDE,
-        field: REFLECTED_FIELD,
-        path: Parts {
-            as_path: &[(Set, &[1, 2])],
-            ..LEAST
-        },
-    },
-    Row {
-        side: INTERNAL,
-        field: REFLECTED_FIELD,
-        path: REFLECTED,
-    },
-    // AS4_PATH and AS4_AGGREGATOR are old beside an AGGREGATOR that isn't of AS_TRANS.
-    Row {
-        side: NARROW,
-        field: &[
-            0xc0, 7, 6, 0xfd, 0xe9, 0, 0, 0, 2, // AGGREGATOR: 65001, 0.0.0.2
-            0x40, 2, 6, 2, 2, 0xfd, 0xe9, 0x5b, 0xa0, // AS_PATH: 65001 23456
-            0xc0, 17, 6, 2, 1, 0, 1, 0x11, 0x70, // AS4_PATH: 70000
-            0xc0, 18, 8, 0, 1, 0x11, 0x70, 0, 0, 0, 1, // AS4_AGGREGATOR: 70000, 0.0.0.1
-        ],
-        path: Parts {
-            as_path: &[(Sequence, &[65001, 23456])],
-            aggregator: Some(Aggregator {
-                as_number: 65001,
-                address: 2,
-            }),
-            ..LEAST
-        },
-    },
-    // It is of AS_TRANS.
-    Row {
-        side: NARROW,
-        field: &[
-            0xc0, 7, 6, 0x5b, 0xa0, 0, 0, 0, 2, // AGGREGATOR: 23456, 0.0.0.2
-            0x40, 2, 6, 2, 2, 0xfd, 0xe9, 0x5b, 0xa0, // AS_PATH: 65001 23456
-            0xc0, 17, 6, 2, 1, 0, 1, 0x11, 0x70, // AS4_PATH: 70000
-            0xc0, 18, 8, 0, 1, 0x11, 0x70, 0, 0, 0, 1, // AS4_AGGREGATOR: 70000, 0.0.0.1
-        ],
-        path: Parts {
-            as_path: &[(Sequence, &[65001]), (Sequence, &[70000])],
-            aggregator: Some(Aggregator {
-                as_number: 70000,
-                address: 1,
-            }),
-            ..LEAST
-        },
-    },
-    // AS4_AGGREGATOR stands alone.
-    Row {
-        side: NARROW,
-        field: &[
-            0x40, 2, 6, 2, 2, 0xfd, 0xe9, 0x5b, 0xa0, // AS_PATH: 65001 23456
-            0xc0, 17, 6, 2, 1, 0, 1, 0x11, 0x70, // AS4_PATH: 70000
-            0xc0, 18, 8, 0, 1, 0x11, 0x70, 0, 0, 0, 1, // AS4_AGGREGATOR: 70000, 0.0.0.1
-        ],
-        path: Parts {
-            as_path: &[(Sequence, &[65001]), (Sequence, &[70000])],
-            ..LEAST
-        },
-    },
-    // Segments of a confederation are left out.
-    Row {
-        side: NARROW,
-        field: &[
-            0x40, 2, 6, 2, 2, 0, 1, 0x5b, 0xa0, // AS_PATH: 1 23456
-            0xc0, 17, 18, 3, 1, 0, 0, 0, 9, 2, 1, 0, 1, 0x11, 0x70, 4, 1, 0, 0, 0, 9, // AS4_PATH
-        ],
-        path: Parts {
-            as_path: &[(Sequence, &[1]), (Sequence, &[70000])],
-            ..LEAST
-        },
-    },
-];
 
 /// Whether the path was read.
 fn is_path(read: Result<Path, AllocError>, wanted: &Path) -> bool {
@@ -227,108 +33,135 @@ fn is_path(read: Result<Path, AllocError>, wanted: &Path) -> bool {
     }
 }
 
-/// Whether the field says the path, with its next hop.
-fn says(alloc: Global, row: &Row) -> bool {
-    let first = FirstAttrs::new(row.field);
-    match path_of(alloc, &row.path) {
-        Ok(wanted) => is_path(
-            read_path(alloc, row.side, &first, row.path.next_hop),
-            &wanted,
-        ),
+/// Whether the field says the path.
+fn says(alloc: Global, field: &[u8], parts: &Parts<'_>) -> bool {
+    let first = FirstAttrs::new(field);
+    match path_of(alloc, parts) {
+        Ok(wanted) => is_path(read_path(alloc, WIDE, &first, HOP), &wanted),
         Err(_) => false,
     }
 }
 
 #[test]
-fn a_field_says_a_path(rt: HostRuntime) {
-    for row in &ROWS {
-        assert!(rt; says(rt.alloc(), row), "{:?}", row.field);
+fn what_is_not_said_is_none(rt: HostRuntime) {
+    let alloc = rt.alloc();
+    assert!(rt;
+        says(alloc, &[], &OF_NONE)
+            && says(alloc, EMPTY_FIRST, &OF_NONE)
+            && says(alloc, FIRST_FIELD, &OF_EGP)
+    );
+}
+
+/// AS_PATH 65001 23456, AS4_PATH 70000, and an AS4_AGGREGATOR, alone and beside AS_TRANS.
+const ALONE_FIELD: &[u8] = &[
+    0x40, 2, 6, 2, 2, 0xfd, 0xe9, 0x5b, 0xa0, // AS_PATH
+    0xc0, 17, 6, 2, 1, 0, 1, 0x11, 0x70, // AS4_PATH
+    0xc0, 18, 8, 0, 1, 0x11, 0x70, 0, 0, 0, 1, // AS4_AGGREGATOR: 70000, 0.0.0.1
+];
+
+const AS_TRANS_FIELD: &[u8] = &[
+    0xc0, 7, 6, 0x5b, 0xa0, 0, 0, 0, 2, // AGGREGATOR: 23456, 0.0.0.2
+    0x40, 2, 6, 2, 2, 0xfd, 0xe9, 0x5b, 0xa0, // AS_PATH
+    0xc0, 17, 6, 2, 1, 0, 1, 0x11, 0x70, // AS4_PATH
+    0xc0, 18, 8, 0, 1, 0x11, 0x70, 0, 0, 0, 1, // AS4_AGGREGATOR: 70000, 0.0.0.1
+];
+
+/// AS_PATH 1 23456, and AS4_PATH 70000 between segments of a confederation
+const CONFEDERATION_FIELD: &[u8] = &[
+    0x40, 2, 6, 2, 2, 0, 1, 0x5b, 0xa0, // AS_PATH
+    0xc0, 17, 18, 3, 1, 0, 0, 0, 9, 2, 1, 0, 1, 0x11, 0x70, 4, 1, 0, 0, 0, 9, // AS4_PATH
+];
+
+/// Beside an AGGREGATOR that isn't of AS_TRANS.
+const OLD_FIELD: &[u8] = &[
+    0xc0, 7, 6, 0xfd, 0xe9, 0, 0, 0, 2, // AGGREGATOR: 65001, 0.0.0.2
+    0x40, 2, 6, 2, 2, 0xfd, 0xe9, 0x5b, 0xa0, // AS_PATH: 65001 23456
+    0xc0, 17, 6, 2, 1, 0, 1, 0x11, 0x70, // AS4_PATH: 70000
+    0xc0, 18, 8, 0, 1, 0x11, 0x70, 0, 0, 0, 1, // AS4_AGGREGATOR: 70000, 0.0.0.1
+];
+
+/// Fields, and the segments of their paths where AS numbers have two octets.
+static SEGMENTS: [(&[u8], Segments<'static>); 5] = [
+    (ALONE_FIELD, &[(Sequence, &[65001]), (Sequence, &[70000])]),
+    (
+        AS_TRANS_FIELD,
+        &[(Sequence, &[65001]), (Sequence, &[70000])],
+    ),
+    (
+        CONFEDERATION_FIELD,
+        &[(Sequence, &[1]), (Sequence, &[70000])],
+    ),
+    (OLD_FIELD, &[(Sequence, &[65001, 23456])]),
+    (TWO_OCTET_FIELD, &[(Sequence, &[65002, 70000, 70001])]),
+];
+
+/// Whether the path of a field has these segments.
+fn has_segments(alloc: Global, field: &[u8], segments: Segments<'_>) -> bool {
+    match read_path(alloc, NARROW, &FirstAttrs::new(field), HOP) {
+        Ok(path) => is_of(&path.parts().as_path, segments),
+        Err(_) => false,
     }
+}
+
+#[test]
+fn merged_paths_keep_their_segments(rt: HostRuntime) {
+    for (field, segments) in &SEGMENTS {
+        assert!(rt; has_segments(rt.alloc(), field, segments));
+    }
+}
+
+/// Whether an attribute is this.
+fn is_attr(attr: Option<Attr<'_>>, flags: u8, kind: u8, value: &[u8]) -> bool {
+    attr == Some(Attr { flags, kind, value })
 }
 
 #[test]
 fn the_first_of_a_type_counts(rt: HostRuntime) {
     let first = FirstAttrs::new(FIRST_FIELD);
-    let origin = Some(Attr {
-        flags: 0x40,
-        kind: 1,
-        value: &[1],
-    });
-    let short = Some(Attr {
-        flags: 0x80,
-        kind: 4,
-        value: &[0, 0, 0],
-    });
     assert!(rt;
-        first.get(AttrType::Origin) == origin
-            && first.good(WIDE, AttrType::Origin) == origin
-            && first_of(FIRST_FIELD, 1) == origin
-            && first.get(AttrType::MultiExitDisc) == short
+        is_attr(first.get(AttrType::Origin), 0x40, 1, &[1])
+            && is_attr(first.good(WIDE, AttrType::Origin), 0x40, 1, &[1])
+            && is_attr(first_of(FIRST_FIELD, 1), 0x40, 1, &[1])
+            && is_attr(first.get(AttrType::MultiExitDisc), 0x80, 4, &[0, 0, 0])
             && first.good(WIDE, AttrType::MultiExitDisc).is_none()
             && first.get(AttrType::AsPath).is_none()
             && first_of(FIRST_FIELD, 2).is_none()
     );
 }
 
-#[test]
-fn the_bits_of_a_type_are_told(rt: HostRuntime) {
-    for (flags, holds) in &[
-        (0x40, true),
-        (0x70, true),
-        (0xc0, false),
-        (0x80, false),
-        (0, false),
-    ] {
-        let attr = Attr {
-            flags: *flags,
-            kind: 1,
-            value: &[0],
-        };
-        assert!(rt; attr.has_bits_of(AttrType::Origin) == *holds, "{flags}");
-    }
-    let mut multiprotocol = 0u8;
-    for attr_type in &AttrType::ALL {
-        if attr_type.is_multiprotocol() {
-            multiprotocol = multiprotocol.saturating_add(1);
-        }
-    }
-    assert!(rt; multiprotocol == 2 && AttrType::MpReachNlri.is_multiprotocol());
+/// What the field of two octets says in lists.
+static COMMUNITIES: [u32; 2] = [0xfdea_0064, 0xffff_ff01];
+
+static LARGE_ONES: [LargeCommunity; 1] = [LARGE];
+
+/// Whether a path has one segment, and these communities.
+fn is_like(path: &PathParts<&LocalHeap>) -> bool {
+    path.as_path.segments().len() == 1
+        && path.communities.as_slice() == COMMUNITIES.as_slice()
+        && path.large_communities.as_slice() == LARGE_ONES.as_slice()
 }
 
-/// Whether a path has as many segments as these parts, and their communities.
-fn is_like(path: &PathParts<&LocalHeap>, parts: &Parts<'_>) -> bool {
-    path.as_path.segments().len() == parts.as_path.len()
-        && path.communities.as_slice() == parts.communities
-        && path.large_communities.as_slice() == parts.large_communities
-}
-
-/// What FRR said in two octets.
-static WHOLE: Parts<'static> = MERGED;
-
-/// Whether what the real router said in two octets was read whole in a heap: no answer where
-/// memory was refused.
-fn is_read(heap: &LocalHeap) -> Option<bool> {
-    match read_path(heap, NARROW, &FirstAttrs::new(TWO_OCTET_FIELD), HOP) {
-        Ok(path) => Some(is_like(path.parts(), &WHOLE)),
+/// Whether what the real router said in two octets was read whole in a heap of this size: no answer
+/// where memory was refused.
+fn is_read(alloc: Global, size: usize) -> Option<bool> {
+    let heap = LocalHeap::new(alloc, size).ok()?;
+    match read_path(&heap, NARROW, &FirstAttrs::new(TWO_OCTET_FIELD), HOP) {
+        Ok(path) => Some(is_like(path.parts())),
         Err(_) => None,
     }
 }
 
 #[test]
-fn a_refused_growth_is_told(rt: HostRuntime) -> Result<(), Fail> {
-    let (mut refused, mut done) = (false, false);
-    for step in 0..64 {
-        let heap = LocalHeap::new(rt.alloc(), 16 * (step + 1))?;
-        match is_read(&heap) {
-            Some(is_whole) => {
-                assert!(rt; is_whole, "{step}");
-                done = true;
-            }
+fn a_refused_growth_is_told(rt: HostRuntime) {
+    let (mut refused, mut done, mut is_whole) = (false, false, true);
+    for step in 1usize..65 {
+        match is_read(rt.alloc(), 16 * step) {
+            Some(true) => done = true,
+            Some(false) => is_whole = false,
             None => refused = true,
         }
     }
-    assert!(rt; refused && done);
-    Ok(())
+    assert!(rt; refused && done && is_whole);
 }
 
 /// An AS_PATH of 64 segments of 255 numbers, 65408 octets, and 16383 communities, 65532 octets.
@@ -353,21 +186,11 @@ fn greatest_values(alloc: Global) -> Result<Vec<u8>, AllocError> {
 }
 
 /// Whether the greatest values are read whole.
-fn are_read(alloc: Global, field: &[u8]) -> bool {
-    match read_path(alloc, WIDE, &FirstAttrs::new(field), HOP) {
-        Ok(path) => {
-            let parts = path.parts();
-            parts.as_path.count() == 64 * 255 && parts.communities.as_slice().len() == 16383
-        }
-        Err(_) => false,
-    }
-}
-
-#[test]
-fn ample_memory_for_the_greatest_values(rt: HostRuntime) -> Result<(), Fail> {
-    let field = greatest_values(rt.alloc())?;
-    assert!(rt; are_read(rt.alloc(), &field));
-    Ok(())
+fn are_read(alloc: Global) -> Option<bool> {
+    let field = greatest_values(alloc).ok()?;
+    let path = read_path(alloc, WIDE, &FirstAttrs::new(&field), HOP).ok()?;
+    let parts = path.parts();
+    Some(parts.as_path.count() == 64 * 255 && parts.communities.as_slice().len() == 16383)
 }
 
 /// An ORIGIN, an empty AS_PATH, and 5461 large communities of which no two are equal: 65532 octets,
@@ -384,30 +207,31 @@ fn most_large_communities(alloc: Global) -> Result<Vec<u8>, AllocError> {
 
 /// The last of them: 65002:1:5460.
 const LAST: LargeCommunity = LargeCommunity {
-    global_administrator: 65002,
-    local_data_part_1: 1,
     local_data_part_2: 5460,
+    ..LARGE
 };
 
+/// Whether a path is written in so many octets.
+fn is_written_in(alloc: Global, path: &Path, count: usize) -> bool {
+    let mut out = Vec::new(alloc);
+    is_written(WIDE, path, &mut out) && out.len() == count
+}
+
 /// Whether a path with as many large communities as there may be is read whole, and is written.
-fn are_most_read_and_written(alloc: Global, field: &[u8]) -> bool {
-    match read_path(alloc, WIDE, &FirstAttrs::new(field), HOP) {
-        Ok(path) => {
-            let read = path.parts().large_communities.as_slice();
-            let mut out = Vec::new(alloc);
-            // ORIGIN 4, AS_PATH 3, NEXT_HOP 7, LARGE_COMMUNITY 4 and 65532 octets
-            read.len() == 5461
-                && read.last() == Some(&LAST)
-                && is_written(WIDE, &path, &mut out)
-                && out.len() == 4 + 3 + 7 + 4 + 65532
-        }
-        Err(_) => false,
-    }
+fn are_most_read_and_written(alloc: Global) -> Option<bool> {
+    let field = most_large_communities(alloc).ok()?;
+    let path = read_path(alloc, WIDE, &FirstAttrs::new(&field), HOP).ok()?;
+    let read = path.parts().large_communities.as_slice();
+    // ORIGIN 4, AS_PATH 3, NEXT_HOP 7, LARGE_COMMUNITY 4 and 65532 octets
+    Some(
+        read.len() == 5461
+            && read.last() == Some(&LAST)
+            && is_written_in(alloc, &path, 4 + 3 + 7 + 4 + 65532),
+    )
 }
 
 #[test]
-fn ample_memory_for_the_most_large_communities(rt: HostRuntime) -> Result<(), Fail> {
-    let field = most_large_communities(rt.alloc())?;
-    assert!(rt; are_most_read_and_written(rt.alloc(), &field));
-    Ok(())
+fn ample_memory_for_the_greatest_values(rt: HostRuntime) {
+    let alloc = rt.alloc();
+    assert!(rt; are_read(alloc) == Some(true) && are_most_read_and_written(alloc) == Some(true));
 }

@@ -1,27 +1,10 @@
 //! The attributes that a path is written as.
 
-use super::SegmentKind::{Sequence, Set};
+use super::SegmentKind::Sequence;
 use super::*;
 use std::alloc::Allocator;
 
-/// A path that takes memory for each of its parts.
-pub(super) const OF_ALL_PARTS: Parts<'static> = Parts {
-    origin: Origin::Egp,
-    as_path: &[(Sequence, &[65001, 70000]), (Set, &[1, 2])],
-    multi_exit_disc: Some(7),
-    atomic_aggregate: true,
-    aggregator: Some(Aggregator {
-        as_number: 70000,
-        address: 1,
-    }),
-    communities: &[1, 2],
-    cluster_list: &[3],
-    extended_communities: &[4],
-    large_communities: &[OF_LARGE],
-    ..LEAST
-};
-
-/// What that path is written as in two octets.
+/// What the path that takes memory for each of its parts is written as in two octets.
 pub(super) const ALL_PARTS: &[u8] = &[
     0x40, 1, 1, 1, // ORIGIN: EGP
     0x40, 2, 12, 2, 2, 0xfd, 0xe9, 0x5b, 0xa0, 1, 2, 0, 1, 0, 2, // AS_PATH: 65001 23456 {1,2}
@@ -38,6 +21,16 @@ pub(super) const ALL_PARTS: &[u8] = &[
     0xc0, 32, 12, 0, 0, 0xfd, 0xea, 0, 0, 0, 1, 0, 0, 0, 2, // LARGE_COMMUNITY: 65002:1:2
 ];
 
+/// Of AS 65002 alone.
+static BY_65002: Parts<'static> = OF_65002;
+
+/// What that path is written as: 4, 9 and 7 octets.
+const BY_65002_OCTETS: &[u8] = &[
+    0x40, 1, 1, 0, // ORIGIN: IGP
+    0x40, 2, 6, 2, 1, 0, 0, 0xfd, 0xea, // AS_PATH: 65002
+    0x40, 3, 4, 192, 0, 2, 2, // NEXT_HOP: 192.0.2.2
+];
+
 /// A path, and the octets that it is written as on a session.
 struct Row {
     side: Side,
@@ -50,11 +43,7 @@ static ROWS: [Row; 8] = [
     Row {
         side: WIDE,
         path: OF_65002,
-        octets: &[
-            0x40, 1, 1, 0, // ORIGIN: IGP
-            0x40, 2, 6, 2, 1, 0, 0, 0xfd, 0xea, // AS_PATH: 65002
-            0x40, 3, 4, 192, 0, 2, 2, // NEXT_HOP: 192.0.2.2
-        ],
+        octets: BY_65002_OCTETS,
     },
     // A large number is said twice in two octets.
     Row {
@@ -156,7 +145,7 @@ fn writes(alloc: Global, row: &Row) -> bool {
 #[test]
 fn a_path_is_written_as_attributes(rt: HostRuntime) {
     for row in &ROWS {
-        assert!(rt; writes(rt.alloc(), row), "{:?}", row.octets);
+        assert!(rt; writes(rt.alloc(), row));
     }
 }
 
@@ -167,11 +156,8 @@ pub(super) fn path_with_many(
     count: usize,
 ) -> Result<Path, AllocError> {
     let communities = vec![in alloc; 1u32; count]?;
-    path_with(alloc, parts, &communities)
+    path_with(alloc, parts, communities)
 }
-
-/// The least path.
-static WITHOUT_LISTS: Parts<'static> = LEAST;
 
 /// Whether these octets stand behind the first 14, which are of other attributes.
 fn is_fourth(out: &[u8], header: &[u8]) -> bool {
@@ -183,7 +169,7 @@ fn is_fourth(out: &[u8], header: &[u8]) -> bool {
 
 /// Whether so many communities are written with this header, or aren't writable.
 fn have_header(alloc: Global, count: usize, header: Option<&[u8]>) -> bool {
-    let Ok(path) = path_with_many(alloc, &WITHOUT_LISTS, count) else {
+    let Ok(path) = path_with_many(alloc, &OF_NONE, count) else {
         return false;
     };
     let mut out = Vec::new(alloc);
@@ -205,7 +191,7 @@ static HEADERS: [(usize, Option<&[u8]>); 4] = [
 #[test]
 fn extended_length_is_for_more_than_255_octets(rt: HostRuntime) {
     for (count, header) in &HEADERS {
-        assert!(rt; have_header(rt.alloc(), *count, *header), "{count}");
+        assert!(rt; have_header(rt.alloc(), *count, *header));
     }
 }
 
@@ -239,7 +225,7 @@ static FOR_PEERS: [(Parts<'static>, bool, bool); 6] = [
     // A large community is sent once.
     (
         Parts {
-            large_communities: &[OF_LARGE, OF_LATER, OF_LARGE],
+            large_communities: &[LARGE, LATER, LARGE],
             ..LEAST
         },
         false,
@@ -247,19 +233,13 @@ static FOR_PEERS: [(Parts<'static>, bool, bool); 6] = [
     ),
     (
         Parts {
-            large_communities: &[OF_LARGE, OF_LATER],
+            large_communities: &[LARGE, LATER],
             ..LEAST
         },
         true,
         true,
     ),
 ];
-
-/// 65002:1:3
-const OF_LATER: LargeCommunity = LargeCommunity {
-    local_data_part_2: 3,
-    ..OF_LARGE
-};
 
 /// Whether an external peer and an internal one may be sent the path just where that is wanted.
 fn is_for(alloc: Global, parts: &Parts<'_>, is_external: bool, is_internal: bool) -> bool {
@@ -274,11 +254,7 @@ fn is_for(alloc: Global, parts: &Parts<'_>, is_external: bool, is_internal: bool
 #[test]
 fn preference_and_reflection_are_for_an_internal_peer(rt: HostRuntime) {
     for (parts, is_external, is_internal) in &FOR_PEERS {
-        assert!(rt;
-            is_for(rt.alloc(), parts, *is_external, *is_internal),
-            "{:?}",
-            parts.local_pref
-        );
+        assert!(rt; is_for(rt.alloc(), parts, *is_external, *is_internal));
     }
 }
 
@@ -296,21 +272,25 @@ fn is_put(alloc: Global, path: &Path, octets: &[u8]) -> bool {
     }
 }
 
+/// Whether a path of 20 octets is measured, where there is room.
+fn is_measured(path: &Path) -> bool {
+    path_len(WIDE, path, 20) == Some(20)
+        && path_len(WIDE, path, 65535) == Some(20)
+        && path_len(WIDE, path, 19).is_none()
+        && path_len(WIDE, path, 0).is_none()
+}
+
+/// Whether the path of AS 65002 is measured, and put.
+fn is_measured_and_put(alloc: Global) -> bool {
+    match path_of(alloc, &BY_65002) {
+        Ok(path) => is_measured(&path) && is_put(alloc, &path, BY_65002_OCTETS),
+        Err(_) => false,
+    }
+}
+
 #[test]
-fn a_path_is_measured_and_put_where_there_is_room(rt: HostRuntime) -> Result<(), Fail> {
-    // ORIGIN 4, AS_PATH 9 and NEXT_HOP 7 octets
-    let octets = [
-        0x40, 1, 1, 0, 0x40, 2, 6, 2, 1, 0, 0, 0xfd, 0xea, 0x40, 3, 4, 192, 0, 2, 2,
-    ];
-    let path = path_of(rt.alloc(), &OF_65002)?;
-    assert!(rt;
-        path_len(WIDE, &path, 20) == Some(20)
-            && path_len(WIDE, &path, 65535) == Some(20)
-            && path_len(WIDE, &path, 19).is_none()
-            && path_len(WIDE, &path, 0).is_none()
-            && is_put(rt.alloc(), &path, &octets)
-    );
-    Ok(())
+fn a_path_is_measured_and_put_where_there_is_room(rt: HostRuntime) {
+    assert!(rt; is_measured_and_put(rt.alloc()));
 }
 
 /// Whether a header of this length is put as these octets.

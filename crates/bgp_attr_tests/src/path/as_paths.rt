@@ -24,7 +24,7 @@ fn a_segment_has_1_to_255_numbers(rt: HostRuntime) -> Result<(), Fail> {
 
 /// Whether the path of these segments counts so many numbers.
 fn counts(heap: &LocalHeap, segments: Segments<'_>, count: u128) -> bool {
-    match as_path(heap, segments) {
+    match as_path_of(heap, segments) {
         Ok(path) => path.count() == count,
         Err(_) => false,
     }
@@ -51,14 +51,19 @@ pub(super) struct Merge {
     merged: Segments<'static>,
 }
 
+const FIRST: Merge = Merge {
+    lesson: "what is in front of AS4_PATH stays",
+    path: &[(Sequence, &[65001, 23456, 23456])],
+    as4: &[(Sequence, &[70000, 70001])],
+    merged: &[(Sequence, &[65001]), (Sequence, &[70000, 70001])],
+};
+
+/// The first of [`MERGES`], which is dearer to name.
+pub(super) static FRONT_STAYS: Merge = FIRST;
+
 /// The front of AS_PATH comes before AS4_PATH.
-pub(super) static MERGES: [Merge; 6] = [
-    Merge {
-        lesson: "what is in front of AS4_PATH stays",
-        path: &[(Sequence, &[65001, 23456, 23456])],
-        as4: &[(Sequence, &[70000, 70001])],
-        merged: &[(Sequence, &[65001]), (Sequence, &[70000, 70001])],
-    },
+static MERGES: [Merge; 6] = [
+    FIRST,
     Merge {
         lesson: "a set counts one",
         path: &[(Sequence, &[65001]), (Set, &[23456, 65010])],
@@ -93,10 +98,10 @@ pub(super) static MERGES: [Merge; 6] = [
 
 /// What comes of a merge into a heap: the two paths stand in an ample one, and are as before.
 pub(super) fn merges<'h>(heap: &'h LocalHeap, ample: &'h LocalHeap, row: &Merge) -> Outcome {
-    let Ok(path) = as_path(ample, row.path) else {
+    let Ok(path) = as_path_of(ample, row.path) else {
         return Outcome::Nowhere;
     };
-    let Ok(as4) = as_path(ample, row.as4) else {
+    let Ok(as4) = as_path_of(ample, row.as4) else {
         return Outcome::Nowhere;
     };
     let outcome = came_of(merge(heap, &path, &as4), row.merged);

@@ -1,6 +1,5 @@
 //! Equality of paths.
 
-use super::memory::{LARGE, Row, SMALL, SMALL_ROW, path_of};
 use super::*;
 
 /// Whether two paths are equal, if that is wanted.
@@ -15,11 +14,19 @@ fn are_equal<'h>(
     }
 }
 
+/// The path that takes memory, with room for a hundred communities.
+fn roomy(heap: &LocalHeap) -> Result<Path<&LocalHeap>, AllocError> {
+    let mut communities = Vec::with_capacity(heap, 100)?;
+    communities.extend_from_slice(WHOLE.communities)?;
+    path_with(heap, &WHOLE, communities)
+}
+
 /// Whether paths of the same contents are equal, and those of others aren't.
 fn are_compared(heap: &LocalHeap) -> bool {
-    match path_of(heap, &SMALL) {
+    match path_of(heap, &WHOLE) {
         Ok(path) => {
-            are_equal(&path, path_of(heap, &ROOMY), true)
+            // Room that isn't used makes no difference.
+            are_equal(&path, roomy(heap), true)
                 && are_equal(&path, path_of(heap, &OTHER), false)
                 && are_equal(&path, path_of(heap, &OTHER_LARGE), false)
         }
@@ -27,25 +34,16 @@ fn are_compared(heap: &LocalHeap) -> bool {
     }
 }
 
-/// Room that isn't used makes no difference.
-static ROOMY: Row<'static> = Row {
-    room: 100,
-    ..SMALL_ROW
-};
-
-/// Another MULTI_EXIT_DISC does.
-static OTHER: Row<'static> = Row {
-    multi_exit_disc: 8,
-    ..SMALL_ROW
+/// Another MULTI_EXIT_DISC makes one.
+static OTHER: Parts<'static> = Parts {
+    multi_exit_disc: Some(8),
+    ..OF_ALL_PARTS
 };
 
 /// And so does another large community.
-static OTHER_LARGE: Row<'static> = Row {
-    large_communities: &[LargeCommunity {
-        local_data_part_2: 3,
-        ..LARGE
-    }],
-    ..SMALL_ROW
+static OTHER_LARGE: Parts<'static> = Parts {
+    large_communities: &[LATER],
+    ..OF_ALL_PARTS
 };
 
 #[test]

@@ -1,7 +1,6 @@
 //! Large communities (RFC 8092).
 
 use super::*;
-use std::alloc::Global;
 
 /// Three numbers, as those of a large community.
 type Numbers = (u32, u32, u32);
