@@ -1,6 +1,6 @@
-//! Tests of `packets`: files made by hand, for each rule and each refusal; octet by octet; reads
-//! that fail; refused memory. Of `segments`: packets made by hand, for each layer, each rule and
-//! each refusal. And of `streams`: connections worked out by hand, each refusal, refused memory.
+//! Tests of `packets`: files made by hand, octet by octet; reads that fail; refused memory. Of
+//! `segments`: packets made by hand. And of `streams`: connections worked out by hand, and refused
+//! memory. Each refusal, and each layer of a packet, is a case of the program `real_recordings`.
 //!
 //! They stand in a crate of their own, since a crate with tests is proved twice.
 #![tactic(auto)]

@@ -1,4 +1,5 @@
-//! Files made by hand: what each tells, and how it ends.
+//! Files made by hand: what their packets tell, reads that fail, and refused memory. Each fault of
+//! a file, and files that are cut short, are cases of the program `real_recordings`.
 
 mod memory;
 mod pcap;
@@ -7,19 +8,13 @@ mod pcapng;
 use linked_list_allocator::LocalHeap;
 use mrt::{MemSource, Source, SourceUpset};
 use packets::*;
+use pcap::*;
+use pcapng::*;
 use std::alloc::{AllocError, Allocator, Global};
 use std::num::NonZeroUsize;
 
-/// How a file ends.
-#[derive(Clone, Copy)]
-enum Ending {
-    Whole,
-    CutShort,
-    Fault(FaultKind),
-}
-
-/// A file in pieces, how many packets it tells, and what comes after them.
-type Row = (&'static [&'static [u8]], u32, Ending);
+/// A file in pieces, how many packets it tells, and the fault that comes after them, or the end.
+type Row = (&'static [&'static [u8]], u32, Option<FaultKind>);
 
 /// The octets of each packet.
 const OCTETS: [u8; 3] = *b"abc";
@@ -58,64 +53,126 @@ fn is_next<A: Allocator + Copy>(
         && reader.next_packet(source) == *wanted
 }
 
-/// Whether so many packets are read, and then this end, three times, with no more octets taken.
+/// The end, or a fault after so many packets.
+fn last_answer(count: u32, fault: Option<FaultKind>) -> Next<'static> {
+    match fault {
+        Some(kind) => Err(FileFault {
+            kind,
+            packet: u64::from(count) + 1,
+        }),
+        None => Ok(None),
+    }
+}
+
+/// Whether a file is told to be over by this answer, three times, with no more octets taken.
+fn is_last<A: Allocator + Copy>(
+    reader: &mut Reader<A>,
+    source: &mut MemSource,
+    last: &Next<'_>,
+) -> bool {
+    if !is_next(reader, source, last) {
+        return false;
+    }
+    let (given, failures) = (source.given(), source.failures());
+    is_next(reader, source, last)
+        && is_next(reader, source, last)
+        && source.given() == given
+        && source.failures() == failures
+        && !reader.is_cut_short()
+}
+
+/// Whether so many packets are read, and then this fault or the end.
 fn are_next<A: Allocator + Copy>(
     reader: &mut Reader<A>,
     source: &mut MemSource,
     count: u32,
-    ending: Ending,
+    fault: Option<FaultKind>,
 ) -> bool {
-    let last = &last_answer(count, ending);
     for number in 0..count {
         if !is_next(reader, source, &Ok(Some(packet(number + 1)))) {
             return false;
         }
     }
-    if !is_next(reader, source, last) {
-        return false;
-    }
-    let (given, failures) = (source.given(), source.failures());
-    for _ in 0..2 {
-        if !is_next(reader, source, last)
-            || source.given() != given
-            || source.failures() != failures
-        {
-            return false;
-        }
-    }
-    reader.is_cut_short() == matches!(ending, Ending::CutShort)
+    is_last(reader, source, &last_answer(count, fault))
 }
 
-/// The end, or a fault after so many packets.
-fn last_answer(count: u32, ending: Ending) -> Next<'static> {
-    match ending {
-        Ending::Fault(kind) => Err(FileFault {
-            kind,
-            packet: u64::from(count) + 1,
-        }),
-        Ending::Whole | Ending::CutShort => Ok(None),
-    }
-}
+/// Files whose packets are told, one of which ends with a fault.
+static ROWS: [Row; 15] = [
+    (&[&LITTLE, &PCAP_PACKET, &PCAP_PACKET], 2, None),
+    (&[&BIG, &BIG_PCAP_PACKET, &BIG_PCAP_PACKET], 2, None),
+    (&[&LITTLE_NANOSECONDS, &PCAP_PACKET], 1, None),
+    (&[&BIG_NANOSECONDS, &BIG_PCAP_PACKET], 1, None),
+    (&[&MARKED_LINK, &BIG_PCAP_PACKET], 1, None),
+    (&[&SECTION, &INTERFACE, &PACKET, &PACKET], 2, None),
+    (&[&BIG_SECTION, &BIG_INTERFACE, &BIG_PACKET], 1, None),
+    (&[&SECTION, &SECONDS, &TENTH], 1, None),
+    (&[&SECTION, &HALVES, &AT_201], 1, None),
+    (&[&SECTION, &EARLIER, &AT_201], 1, None),
+    (&[&SECTION, &FINE, &AT_201], 1, None),
+    (
+        &[&SECTION, &INTERFACE, &SECONDS, &PACKET, &SECOND_INTERFACE],
+        2,
+        None,
+    ),
+    (
+        &[
+            &SECTION, &OTHER, &OTHER_16, &INTERFACE, &OTHER_20, &PACKET, &OTHER,
+        ],
+        1,
+        None,
+    ),
+    (
+        &[
+            &SECTION,
+            &INTERFACE,
+            &PACKET,
+            &BIG_SECTION,
+            &BIG_INTERFACE,
+            &BIG_PACKET,
+        ],
+        2,
+        None,
+    ),
+    (
+        &[&SECTION, &INTERFACE, &PACKET, &SIMPLE],
+        1,
+        Some(FaultKind::Block),
+    ),
+];
 
 /// Whether a file is read so, in one piece and octet by octet.
-fn is_read(alloc: Global, (pieces, count, ending): &Row) -> bool {
+fn is_read(alloc: Global, (pieces, count, fault): &Row) -> bool {
     let (Ok(whole), Ok(again)) = (joined(alloc, pieces), joined(alloc, pieces)) else {
         return false;
     };
-    are_next(
-        &mut Reader::new(alloc),
-        &mut MemSource::new(whole),
-        *count,
-        *ending,
-    ) && are_next(
-        &mut Reader::new(alloc),
-        &mut MemSource::new(again).in_pieces_of(NonZeroUsize::MIN),
-        *count,
-        *ending,
-    )
+    let mut source = MemSource::new(whole);
+    let mut slow = MemSource::new(again).in_pieces_of(NonZeroUsize::MIN);
+    are_next(&mut Reader::new(alloc), &mut source, *count, *fault)
+        && are_next(&mut Reader::new(alloc), &mut slow, *count, *fault)
 }
 
-/// Whether a file is read so where the read of this number, octet by octet, fails.
+#[test]
+fn each_file_tells_its_packets(rt: HostRuntime) {
+    for (count, row) in ROWS.iter().enumerate() {
+        assert!(rt; is_read(rt.alloc(), row), "{count}");
+    }
+}
+
+/// A file in pieces, reads of one octet from this one up to that one, and how many packets are read
+/// where one of them fails.
+type FailingRow = (&'static [&'static [u8]], u64, u64, u32);
+
+/// Each read fails once: those of the headers, the blocks and the packets, and the last, which
+/// tells the end.
+static FAILING_ROWS: [FailingRow; 5] = [
+    (&[&LITTLE, &PCAP_PACKET, &PCAP_PACKET], 0, 43, 0),
+    (&[&LITTLE, &PCAP_PACKET, &PCAP_PACKET], 43, 62, 1),
+    (&[&LITTLE, &PCAP_PACKET, &PCAP_PACKET], 62, 63, 2),
+    (&[&SECTION, &INTERFACE, &PACKET], 0, 92, 0),
+    (&[&SECTION, &INTERFACE, &PACKET], 92, 93, 1),
+];
+
+/// Whether a file is read so where the read of this number fails.
 fn fails_at(alloc: Global, pieces: &[&[u8]], call: u64, count: u32) -> bool {
     let Ok(octets) = joined(alloc, pieces) else {
         return false;
@@ -123,35 +180,23 @@ fn fails_at(alloc: Global, pieces: &[&[u8]], call: u64, count: u32) -> bool {
     let mut source = MemSource::new(octets)
         .in_pieces_of(NonZeroUsize::MIN)
         .upset_at(call, SourceUpset::Fail);
-    let ending = Ending::Fault(FaultKind::Device);
-    are_next(&mut Reader::new(alloc), &mut source, count, ending)
+    let fault = Some(FaultKind::Device);
+    are_next(&mut Reader::new(alloc), &mut source, count, fault)
 }
 
-/// Whether a reader with so much memory answers this after so many packets.
-fn is_read_with(alloc: Global, size: usize, (pieces, count, ending): &Row) -> bool {
-    let (Ok(heap), Ok(octets)) = (LocalHeap::new(alloc, size), joined(alloc, pieces)) else {
-        return false;
-    };
-    are_next(
-        &mut Reader::new(&heap),
-        &mut MemSource::new(octets),
-        *count,
-        *ending,
-    )
+/// Whether it is, of each of these reads.
+fn fails_at_each(alloc: Global, (pieces, from, to, count): &FailingRow) -> bool {
+    for call in *from..*to {
+        if !fails_at(alloc, pieces, call, *count) {
+            return false;
+        }
+    }
+    true
 }
 
 #[test]
-fn each_fault_has_its_number_and_name(rt: HostRuntime) {
-    static ROWS: [(FaultKind, u8, &str); 7] = [
-        (FaultKind::Format, 1, "Format"),
-        (FaultKind::Truncated, 2, "Truncated"),
-        (FaultKind::TooLong, 3, "TooLong"),
-        (FaultKind::Block, 4, "Block"),
-        (FaultKind::Time, 5, "Time"),
-        (FaultKind::Device, 16, "Device"),
-        (FaultKind::Memory, 17, "Memory"),
-    ];
-    for (kind, number, name) in &ROWS {
-        assert!(rt; kind.number() == *number && kind.name() == *name);
+fn each_read_that_fails_is_told(rt: HostRuntime) {
+    for (count, row) in FAILING_ROWS.iter().enumerate() {
+        assert!(rt; fails_at_each(rt.alloc(), row), "{count}");
     }
 }

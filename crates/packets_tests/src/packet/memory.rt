@@ -1,7 +1,5 @@
 //! What a reader holds, and memory that is refused.
 
-use super::pcap::{LITTLE, PACKET as PCAP_PACKET};
-use super::pcapng::{INTERFACE, PACKET, SECTION};
 use super::*;
 
 /// The first and last octets of a Section Header and of a block of another type, of some
@@ -43,167 +41,157 @@ const FOUR: usize = 96;
 
 const EIGHT: usize = 288;
 
-/// The octets before so many zeros, how many zeros, and the octets after them.
-type LongFile = (&'static [&'static [u8]], usize, &'static [&'static [u8]]);
+/// A heap's size; the octets of a file before so many zeros, how many zeros, and the octets after
+/// them; how many packets it tells with that much memory, and the fault that comes then, or the end.
+type Row = (
+    usize,
+    &'static [&'static [u8]],
+    usize,
+    &'static [&'static [u8]],
+    u32,
+    Option<FaultKind>,
+);
 
-/// Blocks that are longer than all that the reader holds, and the longest of an interface; then an
-/// interface, if there is none, and a packet.
-static LONG_FILES: [LongFile; 3] = [
+/// Each growth is refused: the buffer's, and each of the list of interfaces. No block but that of a
+/// packet and that of an interface is held: blocks that are longer than all that the reader holds,
+/// and the longest of an interface; then an interface, if there is none, and a packet.
+static ROWS: [Row; 11] = [
+    (1024, &[&LITTLE, &PCAP_PACKET], 0, &[], 0, MEMORY),
+    (BUFFER - 16, &[&SECTION], 0, &[], 0, MEMORY),
+    (BUFFER, &[&LITTLE, &PCAP_PACKET], 0, &[], 1, None),
+    (BUFFER, &[&SECTION], 0, &[], 0, None),
+    (BUFFER, &[&SECTION, &INTERFACE, &PACKET], 0, &[], 0, MEMORY),
     (
+        BUFFER + FOUR,
+        &[
+            &SECTION, &INTERFACE, &INTERFACE, &INTERFACE, &INTERFACE, &PACKET,
+        ],
+        0,
+        &[&SECTION, &INTERFACE, &PACKET],
+        2,
+        None,
+    ),
+    (
+        BUFFER + FOUR,
+        &[&SECTION, &INTERFACE, &INTERFACE, &INTERFACE, &PACKET],
+        0,
+        &[&INTERFACE, &INTERFACE, &PACKET],
+        1,
+        MEMORY,
+    ),
+    (
+        BUFFER + EIGHT,
+        &[
+            &SECTION, &INTERFACE, &INTERFACE, &INTERFACE, &INTERFACE, &INTERFACE, &PACKET,
+        ],
+        0,
+        &[],
+        1,
+        None,
+    ),
+    (
+        BUFFER + FOUR,
         &[&LONG_SECTION],
         393216,
         &[&LONG_SECTION_END, &INTERFACE, &PACKET],
+        1,
+        None,
     ),
     (
+        BUFFER + FOUR,
         &[&SECTION, &LONG_OTHER],
         393216,
         &[&LONG_OTHER_END, &INTERFACE, &PACKET],
+        1,
+        None,
     ),
     (
+        BUFFER + FOUR,
         &[&SECTION, &LONG_INTERFACE],
         65516,
         &[&LONG_INTERFACE_END, &PACKET],
+        1,
+        None,
     ),
 ];
 
-/// Files of one packet of which 262144 octets were kept, in a block of 327680 octets where it is
-/// one.
-static LONG_PACKETS: [LongFile; 2] = [
-    (&[&LITTLE, &LONG_PACKET], 262144, &[]),
-    (
-        &[&SECTION, &INTERFACE, &LONG_ENHANCED],
-        327648,
-        &[&LONG_ENHANCED_END],
-    ),
-];
+const MEMORY: Option<FaultKind> = Some(FaultKind::Memory);
 
-/// The octets of such a file.
-fn long_file(alloc: Global, (front, zeros, back): &LongFile) -> Result<Vec<u8>, AllocError> {
+/// A source of a file with so many zeros between these pieces.
+fn source_of(
+    alloc: Global,
+    front: &[&[u8]],
+    zeros: usize,
+    back: &[&[u8]],
+) -> Result<MemSource, AllocError> {
     let mut octets = joined(alloc, front)?;
     let len = octets.len();
-    octets.resize(len.saturating_add(*zeros), 0)?;
-    for piece in *back {
+    octets.resize(len.saturating_add(zeros), 0)?;
+    for piece in back {
         octets.extend_from_slice(piece)?;
     }
-    Ok(octets)
+    Ok(MemSource::new(octets))
 }
 
-/// A source of such a file, and a heap of this size for its reader.
-fn long_source(alloc: Global, size: usize, file: &LongFile) -> Option<(MemSource, LocalHeap)> {
-    let octets = long_file(alloc, file).ok()?;
-    Some((MemSource::new(octets), LocalHeap::new(alloc, size).ok()?))
-}
-
-/// Whether a file tells one packet with so much memory.
-fn is_long_file_read(alloc: Global, size: usize, file: &LongFile) -> bool {
-    match long_source(alloc, size, file) {
-        Some((mut source, heap)) => are_next(
-            &mut Reader::new(&heap),
-            &mut source,
-            1,
-            Ending::Whole,
-        ),
-        None => false,
+/// Whether a file is read so with that much memory.
+fn is_read_with(alloc: Global, (size, front, zeros, back, count, fault): &Row) -> bool {
+    match (
+        LocalHeap::new(alloc, *size),
+        source_of(alloc, front, *zeros, back),
+    ) {
+        (Ok(heap), Ok(mut source)) => {
+            are_next(&mut Reader::new(&heap), &mut source, *count, *fault)
+        }
+        _ => false,
     }
 }
 
-/// Whether a file tells first a packet of 262144 octets, with so much memory.
-fn has_long_packet(alloc: Global, size: usize, file: &LongFile) -> bool {
-    let Some((mut source, heap)) = long_source(alloc, size, file) else {
-        return false;
-    };
-    let mut reader = Reader::new(&heap);
+#[test]
+fn a_reader_holds_a_buffer_and_its_interfaces(rt: HostRuntime) {
+    for (count, row) in ROWS.iter().enumerate() {
+        assert!(rt; is_read_with(rt.alloc(), row), "{count}");
+    }
+}
+
+/// Whether the first answer is a packet of 262144 octets.
+fn is_long_packet(reader: &mut Reader<&LocalHeap>, source: &mut MemSource) -> bool {
     if source.failures() == u64::MAX || reader.number() > source.given() as u64 {
         return false;
     }
-    match reader.next_packet(&mut source) {
+    match reader.next_packet(source) {
         Ok(Some(packet)) => packet.second == 100 && packet.octets.len() == 262144,
         _ => false,
     }
 }
 
-/// A heap's size, and a file as it is read with that much memory.
-type HeapRow = (usize, Row);
-
-static HEAP_ROWS: [HeapRow; 8] = [
-    (
-        1024,
-        (
-            &[&LITTLE, &PCAP_PACKET],
-            0,
-            Ending::Fault(FaultKind::Memory),
-        ),
-    ),
-    (
-        BUFFER - 16,
-        (&[&SECTION], 0, Ending::Fault(FaultKind::Memory)),
-    ),
-    (BUFFER, (&[&LITTLE, &PCAP_PACKET], 1, Ending::Whole)),
-    (BUFFER, (&[&SECTION], 0, Ending::Whole)),
-    (
-        BUFFER,
-        (
-            &[&SECTION, &INTERFACE, &PACKET],
-            0,
-            Ending::Fault(FaultKind::Memory),
-        ),
-    ),
-    (
-        BUFFER + FOUR,
-        (
-            &[
-                &SECTION, &INTERFACE, &INTERFACE, &INTERFACE, &INTERFACE, &PACKET, &SECTION,
-                &INTERFACE, &PACKET,
-            ],
-            2,
-            Ending::Whole,
-        ),
-    ),
-    (
-        BUFFER + FOUR,
-        (
-            &[
-                &SECTION, &INTERFACE, &INTERFACE, &INTERFACE, &PACKET, &INTERFACE, &INTERFACE,
-                &PACKET,
-            ],
-            1,
-            Ending::Fault(FaultKind::Memory),
-        ),
-    ),
-    (
-        BUFFER + EIGHT,
-        (
-            &[
-                &SECTION, &INTERFACE, &INTERFACE, &INTERFACE, &INTERFACE, &INTERFACE, &PACKET,
-            ],
-            1,
-            Ending::Whole,
-        ),
-    ),
-];
-
-/// No block but that of a packet and that of an interface is held.
-#[test]
-fn long_blocks_are_passed_over(rt: HostRuntime) {
-    for (count, file) in LONG_FILES.iter().enumerate() {
-        assert!(rt;
-            is_long_file_read(rt.alloc(), BUFFER + FOUR, file),
-            "{count}"
-        );
+/// Whether a file of so many zeros between these pieces tells such a packet first.
+fn has_long_packet(alloc: Global, front: &[&[u8]], zeros: usize, back: &[&[u8]]) -> bool {
+    match (
+        LocalHeap::new(alloc, BUFFER + FOUR),
+        source_of(alloc, front, zeros, back),
+    ) {
+        (Ok(heap), Ok(mut source)) => is_long_packet(&mut Reader::new(&heap), &mut source),
+        _ => false,
     }
 }
 
+/// A packet of which 262144 octets were kept: of pcap, and in a block of 327680 octets.
 #[test]
 fn the_longest_packets_are_read(rt: HostRuntime) {
-    for (count, file) in LONG_PACKETS.iter().enumerate() {
-        assert!(rt; has_long_packet(rt.alloc(), BUFFER + FOUR, file), "{count}");
-    }
+    let is_in_pcap = has_long_packet(rt.alloc(), &[&LITTLE, &LONG_PACKET], 262144, &[]);
+    let is_in_pcapng = has_long_packet(
+        rt.alloc(),
+        &[&SECTION, &INTERFACE, &LONG_ENHANCED],
+        327648,
+        &[&LONG_ENHANCED_END],
+    );
+    assert!(rt; is_in_pcap && is_in_pcapng);
 }
 
-/// Each growth is refused: the buffer's, and each of the list of interfaces.
+/// What no file tells.
 #[test]
-fn refused_memory_is_told(rt: HostRuntime) {
-    for (count, (size, row)) in HEAP_ROWS.iter().enumerate() {
-        assert!(rt; is_read_with(rt.alloc(), *size, row), "{count}");
-    }
+fn faults_of_a_reader_have_numbers_and_names(rt: HostRuntime) {
+    let (device, memory) = (FaultKind::Device, FaultKind::Memory);
+    let are_numbers = device.number() == 16 && memory.number() == 17;
+    assert!(rt; are_numbers && device.name() == "Device" && memory.name() == "Memory");
 }

@@ -1,624 +1,284 @@
-//! Lists of segments, and what is told of them, worked out by hand from the rules.
+//! Lists of segments, and what is told of them, worked out by hand from the rules. What is refused
+//! is in the tables of `real_recordings`.
 
 use super::rows::*;
-use streams::{End, Fault, Side};
+use streams::{End, Run, Side};
 
-/// What is told of a case.
-pub enum Wanted {
-    Refused(Fault),
-    /// The runs of octets of both streams, with their packets, and the end.
-    Told {
-        received: &'static [(usize, u64)],
-        sent: &'static [(usize, u64)],
-        end: Option<End>,
-    },
-}
-
-/// A list of segments, by their places in the table.
+/// A list of segments, by their places in the table; the numbers of both SYNs, the peer's first;
+/// which connection is asked for; and what it has.
 pub struct Case {
-    pub name: &'static str,
     pub rows: &'static [usize],
-    pub peer_start: u32,
-    pub local_start: u32,
+    pub starts: (u32, u32),
     pub number: Option<usize>,
-    pub wanted: Wanted,
+    pub received: &'static [Run],
+    pub sent: &'static [Run],
+    pub end: Option<End>,
 }
 
-pub static CASES: [Case; 51] = [
+/// So many octets that a packet gave in this second.
+macro_rules! run {
+    ($count:literal, $packet:literal, $second:literal) => {
+        Run {
+            count: $count,
+            packet: $packet,
+            second: $second,
+        }
+    };
+}
+
+/// The segments of one session in order, and those of a later one, too.
+const IN_ORDER: &[usize] = &[T1, T2, T3, T4, T5, T6, T7, T8, T9];
+
+pub const SEVERAL: &[usize] = &[
+    T1, T2, T3, T4, T5, T6, T7, T8, T9, T1_LATER, T2_LATER, T3_LATER, T4_LATER, T5_LATER, T6_LATER,
+    T7_LATER, T8_LATER, T9_LATER,
+];
+
+/// What most cases have.
+pub const STARTS: (u32, u32) = (1000, 5000);
+
+const RECEIVED: &[Run] = &[run!(49, 4, 100), run!(19, 7, 101), run!(45, 8, 102)];
+
+const SENT: &[Run] = &[run!(49, 5, 100), run!(19, 6, 100)];
+
+const AT_10: Option<End> = Some(End {
+    packet: 10,
+    second: 103,
+    side: Side::Peer,
+});
+
+pub static CASES: [Case; 23] = [
+    // In order.
     Case {
-        name: "in order",
-        rows: &[T1, T2, T3, T4, T5, T6, T7, T8, T9],
-        peer_start: 1000,
-        local_start: 5000,
+        rows: IN_ORDER,
+        starts: STARTS,
         number: None,
-        wanted: Wanted::Told {
-            received: &[(49, 4), (19, 7), (45, 8)],
-            sent: &[(49, 5), (19, 6)],
-            end: None,
-        },
+        received: RECEIVED,
+        sent: SENT,
+        end: None,
     },
+    // An answer passes after what answers it.
     Case {
-        name: "an answer passes after what answers it",
         rows: &[T1, T2, T3, T4, T5, T7_BEFORE, T6_AFTER, T8, T9],
-        peer_start: 1000,
-        local_start: 5000,
+        starts: STARTS,
         number: None,
-        wanted: Wanted::Told {
-            received: &[(49, 4), (19, 6), (45, 8)],
-            sent: &[(49, 5), (19, 7)],
-            end: None,
-        },
+        received: &[run!(49, 4, 100), run!(19, 6, 101), run!(45, 8, 102)],
+        sent: &[run!(49, 5, 100), run!(19, 7, 101)],
+        end: None,
     },
+    // Sequence numbers wrap.
     Case {
-        name: "an answer passes after what acknowledges it",
-        rows: &[T1, T2, T3, T4, T5, T7, T6_AFTER, T8, T9],
-        peer_start: 1000,
-        local_start: 5000,
+        rows: IN_ORDER,
+        starts: (4294967290, 4294967295),
         number: None,
-        wanted: Wanted::Refused(Fault::Missing {
-            packet: 6,
-            from: Side::Local,
-            place: 49,
-        }),
+        received: RECEIVED,
+        sent: SENT,
+        end: None,
     },
+    // Numbers wrap at half the range.
     Case {
-        name: "sequence numbers wrap",
-        rows: &[T1, T2, T3, T4, T5, T6, T7, T8, T9],
-        peer_start: 4294967290,
-        local_start: 4294967295,
+        rows: IN_ORDER,
+        starts: (2147483600, 2147483647),
         number: None,
-        wanted: Wanted::Told {
-            received: &[(49, 4), (19, 7), (45, 8)],
-            sent: &[(49, 5), (19, 6)],
-            end: None,
-        },
+        received: RECEIVED,
+        sent: SENT,
+        end: None,
     },
+    // A segment in two parts, the second first, and whole again.
     Case {
-        name: "numbers wrap at half the range",
-        rows: &[T1, T2, T3, T4, T5, T6, T7, T8, T9],
-        peer_start: 2147483600,
-        local_start: 2147483647,
-        number: None,
-        wanted: Wanted::Told {
-            received: &[(49, 4), (19, 7), (45, 8)],
-            sent: &[(49, 5), (19, 6)],
-            end: None,
-        },
-    },
-    Case {
-        name: "a segment in two parts, the second first, and whole again",
         rows: &[T1, T2, T3, T4_BACK, T4_FRONT, T5, T6, T7, T8, T9, T4_AGAIN],
-        peer_start: 1000,
-        local_start: 5000,
+        starts: STARTS,
         number: None,
-        wanted: Wanted::Told {
-            received: &[(30, 5), (19, 4), (19, 8), (45, 9)],
-            sent: &[(49, 6), (19, 7)],
-            end: None,
-        },
+        received: &[
+            run!(30, 5, 100),
+            run!(19, 4, 100),
+            run!(19, 8, 101),
+            run!(45, 9, 102),
+        ],
+        sent: &[run!(49, 6, 100), run!(19, 7, 100)],
+        end: None,
     },
+    // Parts overlap while they wait.
     Case {
-        name: "parts overlap while they wait",
         rows: &[T1, T2, T3, T4_BACK, T4_MIDDLE, T4_FIRST, T5, T6, T7, T8, T9],
-        peer_start: 1000,
-        local_start: 5000,
+        starts: STARTS,
         number: None,
-        wanted: Wanted::Told {
-            received: &[(20, 6), (10, 5), (19, 4), (19, 9), (45, 10)],
-            sent: &[(49, 7), (19, 8)],
-            end: None,
-        },
+        received: &[
+            run!(20, 6, 100),
+            run!(10, 5, 100),
+            run!(19, 4, 100),
+            run!(19, 9, 101),
+            run!(45, 10, 102),
+        ],
+        sent: &[run!(49, 7, 100), run!(19, 8, 100)],
+        end: None,
     },
+    // A part comes between what is known and what waits, and overlaps that.
     Case {
-        name: "a part comes between what is known and what waits, and overlaps that",
         rows: &[T1, T2, T3, T4_BACK, T4_FIRST, T4_MIDDLE, T5, T6, T7, T8, T9],
-        peer_start: 1000,
-        local_start: 5000,
+        starts: STARTS,
         number: None,
-        wanted: Wanted::Told {
-            received: &[(20, 5), (10, 6), (19, 4), (19, 9), (45, 10)],
-            sent: &[(49, 7), (19, 8)],
-            end: None,
-        },
+        received: &[
+            run!(20, 5, 100),
+            run!(10, 6, 100),
+            run!(19, 4, 100),
+            run!(19, 9, 101),
+            run!(45, 10, 102),
+        ],
+        sent: &[run!(49, 7, 100), run!(19, 8, 100)],
+        end: None,
     },
+    // Parts overlap what is known.
     Case {
-        name: "parts overlap what is known",
         rows: &[T1, T2, T3, T4_FRONT, T4_MIDDLE, T5, T6, T7, T8, T9],
-        peer_start: 1000,
-        local_start: 5000,
+        starts: STARTS,
         number: None,
-        wanted: Wanted::Told {
-            received: &[(30, 4), (19, 5), (19, 8), (45, 9)],
-            sent: &[(49, 6), (19, 7)],
-            end: None,
-        },
+        received: &[
+            run!(30, 4, 100),
+            run!(19, 5, 100),
+            run!(19, 8, 101),
+            run!(45, 9, 102),
+        ],
+        sent: &[run!(49, 6, 100), run!(19, 7, 100)],
+        end: None,
     },
+    // Another octet again, which was acknowledged.
     Case {
-        name: "another octet again, which was acknowledged",
         rows: &[T1, T2, T3, T4, T5, T6, T7, T8, T9, T4_OTHER],
-        peer_start: 1000,
-        local_start: 5000,
+        starts: STARTS,
         number: None,
-        wanted: Wanted::Told {
-            received: &[(49, 4), (19, 7), (45, 8)],
-            sent: &[(49, 5), (19, 6)],
-            end: None,
-        },
+        received: RECEIVED,
+        sent: SENT,
+        end: None,
     },
+    // An octet of garbage that keeps the connection alive.
     Case {
-        name: "another octet again",
-        rows: &[T1, T2, T3, T4, T4_OTHER],
-        peer_start: 1000,
-        local_start: 5000,
-        number: None,
-        wanted: Wanted::Refused(Fault::Conflict {
-            packet: 5,
-            from: Side::Peer,
-            place: 48,
-        }),
-    },
-    Case {
-        name: "an octet of garbage that keeps the connection alive",
         rows: &[T1, T2, T3, T4, T5, T6, T7, T8, T9, KEEP_ALIVE],
-        peer_start: 1000,
-        local_start: 5000,
+        starts: STARTS,
         number: None,
-        wanted: Wanted::Told {
-            received: &[(49, 4), (19, 7), (45, 8)],
-            sent: &[(49, 5), (19, 6)],
-            end: None,
-        },
+        received: RECEIVED,
+        sent: SENT,
+        end: None,
     },
+    // A FIN with octets that were acknowledged.
     Case {
-        name: "the same before its place is acknowledged",
-        rows: &[T1, T2, T3, T4, T5, T6, T7, T8, KEEP_ALIVE_EARLY, T9],
-        peer_start: 1000,
-        local_start: 5000,
-        number: None,
-        wanted: Wanted::Refused(Fault::Conflict {
-            packet: 9,
-            from: Side::Peer,
-            place: 112,
-        }),
-    },
-    Case {
-        name: "octets pass after their acknowledgment",
-        rows: &[T1, T2, T3, T4, T5, T6, T7, T9, T8],
-        peer_start: 1000,
-        local_start: 5000,
-        number: None,
-        wanted: Wanted::Refused(Fault::Missing {
-            packet: 8,
-            from: Side::Peer,
-            place: 68,
-        }),
-    },
-    Case {
-        name: "a FIN with octets that were acknowledged",
         rows: &[T1, T2, T3, T4, T5, T6, T7, T8, T9, T8_FIN],
-        peer_start: 1000,
-        local_start: 5000,
+        starts: STARTS,
         number: None,
-        wanted: Wanted::Told {
-            received: &[(49, 4), (19, 7), (45, 8)],
-            sent: &[(49, 5), (19, 6)],
-            end: Some(End {
-                packet: 10,
-                second: 103,
-                side: Side::Peer,
-            }),
-        },
+        received: RECEIVED,
+        sent: SENT,
+        end: AT_10,
     },
+    // A FIN.
     Case {
-        name: "another octet while it waits",
-        rows: &[T1, T2, T3, T4_BACK, T4_OTHER],
-        peer_start: 1000,
-        local_start: 5000,
-        number: None,
-        wanted: Wanted::Refused(Fault::Conflict {
-            packet: 5,
-            from: Side::Peer,
-            place: 48,
-        }),
-    },
-    Case {
-        name: "a segment is missing before another",
-        rows: &[T1, T2, T3, T4, T5, T6, T8, T9],
-        peer_start: 1000,
-        local_start: 5000,
-        number: None,
-        wanted: Wanted::Refused(Fault::Missing {
-            packet: 7,
-            from: Side::Peer,
-            place: 49,
-        }),
-    },
-    Case {
-        name: "a segment is missing that is acknowledged",
-        rows: &[T1, T2, T3, T4, T5, T6, T7, T9],
-        peer_start: 1000,
-        local_start: 5000,
-        number: None,
-        wanted: Wanted::Refused(Fault::Missing {
-            packet: 8,
-            from: Side::Peer,
-            place: 68,
-        }),
-    },
-    Case {
-        name: "both streams are missing at one packet",
-        rows: &[T1, T2, T3, T8],
-        peer_start: 1000,
-        local_start: 5000,
-        number: None,
-        wanted: Wanted::Refused(Fault::Missing {
-            packet: 4,
-            from: Side::Peer,
-            place: 0,
-        }),
-    },
-    Case {
-        name: "without the SYN",
-        rows: &[T2, T3, T4, T5, T6, T7, T8, T9],
-        peer_start: 1000,
-        local_start: 5000,
-        number: None,
-        wanted: Wanted::Refused(Fault::NoStart { packet: 3 }),
-    },
-    Case {
-        name: "the peer's segments alone",
-        rows: &[T1, T3, T4, T7, T8],
-        peer_start: 1000,
-        local_start: 5000,
-        number: None,
-        wanted: Wanted::Refused(Fault::NoStart { packet: 2 }),
-    },
-    Case {
-        name: "the local system's segments alone",
-        rows: &[T2, T5, T6, T9],
-        peer_start: 1000,
-        local_start: 5000,
-        number: None,
-        wanted: Wanted::Refused(Fault::NoStart { packet: 1 }),
-    },
-    Case {
-        name: "one direction that lacks a segment",
-        rows: &[T1, T3, T4, T8],
-        peer_start: 1000,
-        local_start: 5000,
-        number: None,
-        wanted: Wanted::Refused(Fault::NoStart { packet: 2 }),
-    },
-    Case {
-        name: "a segment is cut",
-        rows: &[T1, T2, T3, T4, T5_CUT, T6, T7, T8, T9],
-        peer_start: 1000,
-        local_start: 5000,
-        number: None,
-        wanted: Wanted::Refused(Fault::Cut { packet: 5 }),
-    },
-    Case {
-        name: "all of a segment is cut",
-        rows: &[T1, T2, NO_OCTETS],
-        peer_start: 1000,
-        local_start: 5000,
-        number: None,
-        wanted: Wanted::Refused(Fault::Cut { packet: 3 }),
-    },
-    Case {
-        name: "the time falls",
-        rows: &[T1, T2, T3, T4, T5, T6, T7, T8_EARLY, T9],
-        peer_start: 1000,
-        local_start: 5000,
-        number: None,
-        wanted: Wanted::Refused(Fault::TimeBack { packet: 8 }),
-    },
-    Case {
-        name: "a FIN",
         rows: &[T1, T2, T3, T4, T5, T6, T7, T8, T9, FIN],
-        peer_start: 1000,
-        local_start: 5000,
+        starts: STARTS,
         number: None,
-        wanted: Wanted::Told {
-            received: &[(49, 4), (19, 7), (45, 8)],
-            sent: &[(49, 5), (19, 6)],
-            end: Some(End {
-                packet: 10,
-                second: 103,
-                side: Side::Peer,
-            }),
-        },
+        received: RECEIVED,
+        sent: SENT,
+        end: AT_10,
     },
+    // A FIN before the last octets.
     Case {
-        name: "a FIN before the last octets",
         rows: &[T1, T2, T3, T4, T5, T6, T7, FIN_BEFORE, T8, T9],
-        peer_start: 1000,
-        local_start: 5000,
+        starts: STARTS,
         number: None,
-        wanted: Wanted::Told {
-            received: &[(49, 4), (19, 7), (45, 9)],
-            sent: &[(49, 5), (19, 6)],
-            end: Some(End {
-                packet: 8,
-                second: 101,
-                side: Side::Peer,
-            }),
-        },
+        received: &[run!(49, 4, 100), run!(19, 7, 101), run!(45, 9, 102)],
+        sent: SENT,
+        end: Some(End {
+            packet: 8,
+            second: 101,
+            side: Side::Peer,
+        }),
     },
+    // A FIN that is acknowledged.
     Case {
-        name: "a FIN that is acknowledged",
         rows: &[T1, T2, T3, T4, T5, T6, T7, T8, T9, FIN, FIN_ACKED],
-        peer_start: 1000,
-        local_start: 5000,
+        starts: STARTS,
         number: None,
-        wanted: Wanted::Told {
-            received: &[(49, 4), (19, 7), (45, 8)],
-            sent: &[(49, 5), (19, 6)],
-            end: Some(End {
-                packet: 10,
-                second: 103,
-                side: Side::Peer,
-            }),
-        },
+        received: RECEIVED,
+        sent: SENT,
+        end: AT_10,
     },
+    // An octet again after a RST.
     Case {
-        name: "a FIN that is acknowledged and missing",
-        rows: &[T1, T2, T3, T4, T5, T6, T7, T8, T9, FIN_ACKED],
-        peer_start: 1000,
-        local_start: 5000,
-        number: None,
-        wanted: Wanted::Refused(Fault::Missing {
-            packet: 10,
-            from: Side::Peer,
-            place: 113,
-        }),
-    },
-    Case {
-        name: "an octet after the FIN is acknowledged",
-        rows: &[T1, T2, T3, T4, T5, T6, T7, T8, T9, FIN, FIN_PASSED],
-        peer_start: 1000,
-        local_start: 5000,
-        number: None,
-        wanted: Wanted::Refused(Fault::Missing {
-            packet: 11,
-            from: Side::Peer,
-            place: 113,
-        }),
-    },
-    Case {
-        name: "a FIN at an octet",
-        rows: &[T1, T2, T3, T4, T5, T6, T7, T8, T9, FIN_EARLY],
-        peer_start: 1000,
-        local_start: 5000,
-        number: None,
-        wanted: Wanted::Refused(Fault::Conflict {
-            packet: 10,
-            from: Side::Peer,
-            place: 112,
-        }),
-    },
-    Case {
-        name: "a FIN elsewhere",
-        rows: &[T1, T2, T3, T4, T5, T6, T7, T8, T9, FIN, FIN_LATE],
-        peer_start: 1000,
-        local_start: 5000,
-        number: None,
-        wanted: Wanted::Refused(Fault::Conflict {
-            packet: 11,
-            from: Side::Peer,
-            place: 113,
-        }),
-    },
-    Case {
-        name: "a FIN after a hole",
-        rows: &[T1, T2, T3, T4, T5, T6, T7, T8, T9, FIN_LATE],
-        peer_start: 1000,
-        local_start: 5000,
-        number: None,
-        wanted: Wanted::Refused(Fault::Missing {
-            packet: 10,
-            from: Side::Peer,
-            place: 113,
-        }),
-    },
-    Case {
-        name: "an octet after the FIN",
-        rows: &[T1, T2, T3, T4, T5, T6, T7, T8, T9, FIN, MORE],
-        peer_start: 1000,
-        local_start: 5000,
-        number: None,
-        wanted: Wanted::Refused(Fault::Conflict {
-            packet: 11,
-            from: Side::Peer,
-            place: 113,
-        }),
-    },
-    Case {
-        name: "an octet after a RST",
-        rows: &[T1, T2, T3, T4, T5, T6, T7, T8, T9, RST, MORE],
-        peer_start: 1000,
-        local_start: 5000,
-        number: None,
-        wanted: Wanted::Refused(Fault::AfterReset {
-            packet: 11,
-            from: Side::Peer,
-            place: 113,
-        }),
-    },
-    Case {
-        name: "an octet again after a RST",
         rows: &[T1, T2, T3, T4, T5, T6, T7, T8, T9, RST, T8_AGAIN],
-        peer_start: 1000,
-        local_start: 5000,
+        starts: STARTS,
         number: None,
-        wanted: Wanted::Told {
-            received: &[(49, 4), (19, 7), (45, 8)],
-            sent: &[(49, 5), (19, 6)],
-            end: Some(End {
-                packet: 10,
-                second: 103,
-                side: Side::Peer,
-            }),
-        },
+        received: RECEIVED,
+        sent: SENT,
+        end: AT_10,
     },
+    // A RST acknowledges nothing.
     Case {
-        name: "a RST acknowledges nothing",
         rows: &[T1, T2, T3, T4, T5, T6, T7, T8, T9, RST_ACK],
-        peer_start: 1000,
-        local_start: 5000,
+        starts: STARTS,
         number: None,
-        wanted: Wanted::Told {
-            received: &[(49, 4), (19, 7), (45, 8)],
-            sent: &[(49, 5), (19, 6)],
-            end: Some(End {
-                packet: 10,
-                second: 103,
-                side: Side::Peer,
-            }),
-        },
+        received: RECEIVED,
+        sent: SENT,
+        end: AT_10,
     },
+    // The SYN again.
     Case {
-        name: "the SYN again",
         rows: &[T1, T2, T3, T4, T5, T6, T7, T8, T9, T1_AGAIN],
-        peer_start: 1000,
-        local_start: 5000,
+        starts: STARTS,
         number: None,
-        wanted: Wanted::Told {
-            received: &[(49, 4), (19, 7), (45, 8)],
-            sent: &[(49, 5), (19, 6)],
-            end: None,
-        },
+        received: RECEIVED,
+        sent: SENT,
+        end: None,
     },
+    // Another connection without octets.
     Case {
-        name: "another connection without octets",
         rows: &[T1, T2, T3, T4, T5, T6, T7, T8, T9, OTHER_SYN],
-        peer_start: 1000,
-        local_start: 5000,
+        starts: STARTS,
         number: None,
-        wanted: Wanted::Told {
-            received: &[(49, 4), (19, 7), (45, 8)],
-            sent: &[(49, 5), (19, 6)],
-            end: None,
-        },
+        received: RECEIVED,
+        sent: SENT,
+        end: None,
     },
+    // The first of several.
     Case {
-        name: "several connections",
-        rows: &[
-            T1, T2, T3, T4, T5, T6, T7, T8, T9, T1_LATER, T2_LATER, T3_LATER, T4_LATER, T5_LATER,
-            T6_LATER, T7_LATER, T8_LATER, T9_LATER,
-        ],
-        peer_start: 1000,
-        local_start: 5000,
-        number: None,
-        wanted: Wanted::Refused(Fault::Several { packet: 10 }),
-    },
-    Case {
-        name: "the first of several",
-        rows: &[
-            T1, T2, T3, T4, T5, T6, T7, T8, T9, T1_LATER, T2_LATER, T3_LATER, T4_LATER, T5_LATER,
-            T6_LATER, T7_LATER, T8_LATER, T9_LATER,
-        ],
-        peer_start: 1000,
-        local_start: 5000,
+        rows: SEVERAL,
+        starts: STARTS,
         number: Some(1),
-        wanted: Wanted::Told {
-            received: &[(49, 4), (19, 7), (45, 8)],
-            sent: &[(49, 5), (19, 6)],
-            end: None,
-        },
+        received: RECEIVED,
+        sent: SENT,
+        end: None,
     },
+    // The second of several.
     Case {
-        name: "the second of several",
-        rows: &[
-            T1, T2, T3, T4, T5, T6, T7, T8, T9, T1_LATER, T2_LATER, T3_LATER, T4_LATER, T5_LATER,
-            T6_LATER, T7_LATER, T8_LATER, T9_LATER,
-        ],
-        peer_start: 1000,
-        local_start: 5000,
+        rows: SEVERAL,
+        starts: STARTS,
         number: Some(2),
-        wanted: Wanted::Told {
-            received: &[(49, 13), (19, 16), (45, 17)],
-            sent: &[(49, 14), (19, 15)],
-            end: None,
-        },
+        received: &[run!(49, 13, 110), run!(19, 16, 111), run!(45, 17, 112)],
+        sent: &[run!(49, 14, 110), run!(19, 15, 110)],
+        end: None,
     },
+    // What follows half a connection.
     Case {
-        name: "the same ports after half a connection",
         rows: &[T4, T5, T6, T7, T8, T9, T1, T2, T3, T4, T5, T6, T7, T8, T9],
-        peer_start: 1000,
-        local_start: 5000,
-        number: Some(1),
-        wanted: Wanted::Refused(Fault::NoStart { packet: 1 }),
-    },
-    Case {
-        name: "what follows half a connection",
-        rows: &[T4, T5, T6, T7, T8, T9, T1, T2, T3, T4, T5, T6, T7, T8, T9],
-        peer_start: 1000,
-        local_start: 5000,
+        starts: STARTS,
         number: Some(2),
-        wanted: Wanted::Told {
-            received: &[(49, 10), (19, 13), (45, 14)],
-            sent: &[(49, 11), (19, 12)],
-            end: None,
-        },
+        received: &[run!(49, 10, 100), run!(19, 13, 101), run!(45, 14, 102)],
+        sent: &[run!(49, 11, 100), run!(19, 12, 100)],
+        end: None,
     },
+    // Both open at once.
     Case {
-        name: "both open at once",
         rows: &[T1, OPENS_TOO, T3, T4, T5, T6, T7, T8, T9],
-        peer_start: 1000,
-        local_start: 5000,
+        starts: STARTS,
         number: None,
-        wanted: Wanted::Told {
-            received: &[(49, 4), (19, 7), (45, 8)],
-            sent: &[(49, 5), (19, 6)],
-            end: None,
-        },
+        received: RECEIVED,
+        sent: SENT,
+        end: None,
     },
+    // A SYN that acknowledges, after another segment.
     Case {
-        name: "a SYN that acknowledges, after another segment",
         rows: &[T1, T3, T2, T4, T5, T6, T7, T8, T9],
-        peer_start: 1000,
-        local_start: 5000,
+        starts: STARTS,
         number: None,
-        wanted: Wanted::Told {
-            received: &[(49, 4), (19, 7), (45, 8)],
-            sent: &[(49, 5), (19, 6)],
-            end: None,
-        },
-    },
-    Case {
-        name: "a third of two",
-        rows: &[
-            T1, T2, T3, T4, T5, T6, T7, T8, T9, T1_LATER, T2_LATER, T3_LATER, T4_LATER, T5_LATER,
-            T6_LATER, T7_LATER, T8_LATER, T9_LATER,
-        ],
-        peer_start: 1000,
-        local_start: 5000,
-        number: Some(3),
-        wanted: Wanted::Refused(Fault::NoConnection { packet: 18 }),
-    },
-    Case {
-        name: "number 0",
-        rows: &[T1, T2, T3, T4, T5, T6, T7, T8, T9],
-        peer_start: 1000,
-        local_start: 5000,
-        number: Some(0),
-        wanted: Wanted::Refused(Fault::NoConnection { packet: 9 }),
-    },
-    Case {
-        name: "no packet",
-        rows: &[],
-        peer_start: 1000,
-        local_start: 5000,
-        number: None,
-        wanted: Wanted::Refused(Fault::NoConnection { packet: 0 }),
-    },
-    Case {
-        name: "no octets",
-        rows: &[T1, T2, T3],
-        peer_start: 1000,
-        local_start: 5000,
-        number: None,
-        wanted: Wanted::Refused(Fault::NoConnection { packet: 3 }),
+        received: RECEIVED,
+        sent: SENT,
+        end: None,
     },
 ];
