@@ -1,80 +1,71 @@
-//! What is told where a sink fails, where memory is refused, and of the end of a file.
+//! A verdict that is explained into a sink that fails and with little memory, and what is told of
+//! the end of a file.
 
-mod places;
-
+use crate::two_connections::SESSION;
 use bgp_compact::CompactTracker;
 use bgp_explain::{explain_capture, explain_opened};
 use bgp_open::{Config, ConfigParts, Families};
-use bgp_prefix::{Address, RouteRefresh, Session};
 use bgp_tool::Note;
-use bgp_wire::vectors::OPEN_A;
 use linked_list_allocator::LocalHeap;
-use mrt::Record::{self, Change, Out};
-use mrt::{FromWrite, MemSink, MemSource, Sink, SinkUpset, is_writable, write_record};
+use mrt::{FromWrite, MemSink, MemSource, SinkUpset};
 use std::alloc::Global;
-use std::io;
-use std::io::ErrorKind;
+use std::io::{self, ErrorKind};
 
-/// What router A is configured to do.
-pub(crate) const PARTS_A: ConfigParts = ConfigParts {
-    local_as: 65001,
-    peer_as: 65002,
-    local_id: 0xc000_0201,
-    hold: 90,
-    families: Families { v4: true, v6: true },
-    as4: true,
-    delay_open: false,
-    large_hold: 240,
-    session: Session {
-        peer: Address::V4(0xc000_0202),
-        local: Address::V4(0xc000_0201),
-        refresh: RouteRefresh::Refused,
-        extended: false,
-    },
-};
-
-/// A session in which an OPEN is sent.
-const OPENED: [Record<'static>; 3] = [Change(100, 1, 2), Out(100, &OPEN_A), Change(100, 2, 4)];
-
-/// Writes a record. Answers whether it could be.
-fn put(sink: &mut MemSink, record: &Record<'_>) -> bool {
-    sink.failures() < u64::MAX
-        && is_writable(&PARTS_A.session, record)
-        && write_record(sink, &PARTS_A.session, 65002, 65001, record).is_ok()
+/// AS 65001 with AS 65002, where this Hold Time is configured.
+fn config_with(hold: u16) -> Option<Config> {
+    Config::new(ConfigParts {
+        local_as: 65001,
+        peer_as: 65002,
+        local_id: 0xc000_0201,
+        hold,
+        families: Families { v4: true, v6: true },
+        as4: true,
+        delay_open: false,
+        large_hold: 240,
+        session: SESSION,
+    })
 }
 
-/// A capture of these records, if they could be written.
-fn capture_of(alloc: Global, records: &[Record<'_>]) -> Option<Vec<u8>> {
-    let mut sink = MemSink::new(alloc);
-    for record in records {
-        if !put(&mut sink, record) {
-            return None;
-        }
-    }
-    Some(sink.into_octets())
+/// A session in which an OPEN is sent, at second 100 (RFC 6396, 4.4, of 4-octet AS numbers).
+static OPENED: [u8; 153] = [
+    0x00, 0x00, 0x00, 0x64, 0x00, 0x10, 0x00, 0x05, 0x00, 0x00, 0x00, 0x18, // a change of state
+    0x00, 0x00, 0xfd, 0xea, 0x00, 0x00, 0xfd, 0xe9, 0x00, 0x00, 0x00, 0x01, // AS numbers, AFI
+    0xc0, 0x00, 0x02, 0x02, 0xc0, 0x00, 0x02, 0x01, 0x00, 0x01, 0x00, 0x02, // Idle to Connect
+    0x00, 0x00, 0x00, 0x64, 0x00, 0x10, 0x00, 0x07, 0x00, 0x00, 0x00, 0x45, // a sent message
+    0x00, 0x00, 0xfd, 0xea, 0x00, 0x00, 0xfd, 0xe9, 0x00, 0x00, 0x00, 0x01, // AS numbers, AFI
+    0xc0, 0x00, 0x02, 0x02, 0xc0, 0x00, 0x02, 0x01, // addresses
+    0xff, 0xff, 0xff, 0xff, 0xff, 0xff, 0xff, 0xff, 0xff, 0xff, 0xff, 0xff, 0xff, 0xff, 0xff, 0xff,
+    0x00, 0x31, 0x01, // an OPEN
+    0x04, 0xfd, 0xe9, 0x00, 0x5a, 0xc0, 0x00, 0x02, 0x01, // version, AS, Hold Time, identifier
+    0x14, 0x02, 0x12, 0x01, 0x04, 0x00, 0x01, 0x00, 0x01, // capabilities: IPv4,
+    0x01, 0x04, 0x00, 0x02, 0x00, 0x01, 0x41, 0x04, 0x00, 0x00, 0xfd, 0xe9, // IPv6, the AS
+    0x00, 0x00, 0x00, 0x64, 0x00, 0x10, 0x00, 0x05, 0x00, 0x00, 0x00, 0x18, // a change of state
+    0x00, 0x00, 0xfd, 0xea, 0x00, 0x00, 0xfd, 0xe9, 0x00, 0x00, 0x00, 0x01, // AS numbers, AFI
+    0xc0, 0x00, 0x02, 0x02, 0xc0, 0x00, 0x02, 0x01, 0x00, 0x02, 0x00, 0x04, // Connect to OpenSent
+];
+
+/// The octets of the capture.
+fn opened(alloc: Global) -> Option<Vec<u8>> {
+    Vec::from_slice(alloc, &OPENED).ok()
 }
 
 /// Whether a sink that fails at once is told by status 5.
-fn is_broken(alloc: Global) -> bool {
-    match (Config::new(PARTS_A), capture_of(alloc, &OPENED)) {
-        (Some(config), Some(capture)) => {
-            let mut source = MemSource::new(capture);
-            let mut sink = MemSink::new(alloc).upset_at(0, SinkUpset::Fail);
-            let status = explain_capture::<Global, CompactTracker, _, _>(
-                alloc,
-                &config,
-                &mut source,
-                &mut sink,
-            );
-            status == 5
-        }
-        _ => false,
-    }
+fn is_broken(alloc: Global) -> Option<bool> {
+    let (config, capture) = (config_with(90)?, opened(alloc)?);
+    let mut source = MemSource::new(capture);
+    let mut sink = MemSink::new(alloc).upset_at(0, SinkUpset::Fail);
+    let status = explain_capture::<Global, CompactTracker, _, _>(
+        alloc,
+        &config,
+        &mut source,
+        &mut sink,
+    );
+    Some(status == 5)
 }
 
 #[test]
 fn a_failing_sink_is_told(rt: HostRuntime) {
-    assert!(rt; is_broken(rt.alloc()));
+    assert!(rt; is_broken(rt.alloc()) == Some(true));
 }
 
 /// What is written of an OPEN that the configuration doesn't have, where another Hold Time is
@@ -119,11 +110,7 @@ fn outcome_of(text: &[u8], status: u8) -> Option<Outcome> {
 
 /// What comes of a no with a heap of this size; `None` where something else is written.
 fn explained_with(alloc: Global, size: usize) -> Option<Outcome> {
-    let config = Config::new(ConfigParts {
-        hold: 180,
-        ..PARTS_A
-    })?;
-    let capture = capture_of(alloc, &OPENED)?;
+    let (config, capture) = (config_with(180)?, opened(alloc)?);
     let heap = LocalHeap::new(alloc, size).ok()?;
     let mut source = MemSource::new(capture);
     let mut sink = MemSink::new(alloc);
@@ -133,72 +120,52 @@ fn explained_with(alloc: Global, size: usize) -> Option<Outcome> {
         &mut source,
         &mut sink,
     );
-    outcome_of(sink.into_octets().as_slice(), status)
+    outcome_of(sink.octets(), status)
+}
+
+/// Whether some heaps are enough for the reason too, and some for the verdict alone.
+fn is_told_without_reason(alloc: Global) -> Option<bool> {
+    let (mut explained, mut unexplained) = (false, false);
+    for step in 1..128 {
+        let outcome = explained_with(alloc, READING + 32 * step)?;
+        explained = explained || outcome == Outcome::Explained;
+        unexplained = unexplained || outcome == Outcome::Unexplained;
+    }
+    Some(explained && unexplained)
 }
 
 #[test]
 fn a_verdict_is_told_without_memory_for_its_reason(rt: HostRuntime) {
-    let (mut explained, mut unexplained) = (false, false);
-    for step in 1..128 {
-        let outcome = explained_with(rt.alloc(), READING + 32 * step);
-        assert!(rt; outcome.is_some(), "{step}");
-        explained = explained || outcome == Some(Outcome::Explained);
-        unexplained = unexplained || outcome == Some(Outcome::Unexplained);
-    }
-    assert!(rt; explained && unexplained);
+    assert!(rt; is_told_without_reason(rt.alloc()) == Some(true));
 }
 
-/// What is told of a file, and the exit status.
-fn note_of<'a>(
+/// Whether this is told of a file, with this exit status.
+fn is_told(
     alloc: Global,
-    file: &'a str,
     opened: io::Result<&[u8]>,
-) -> Option<(Option<Note<'a>>, u8)> {
-    let config = Config::new(PARTS_A)?;
+    (note, status): (Option<Note<'_>>, u8),
+) -> Option<bool> {
+    let config = config_with(90)?;
     let mut sink = FromWrite::new(Vec::new(alloc));
     let outcome = explain_opened::<Global, CompactTracker, _, _>(
-        alloc, &config, file, opened, &mut sink,
+        alloc, &config, "a.mrt", opened, &mut sink,
     );
-    Some((outcome.note, outcome.status))
+    Some(outcome.note == note && outcome.status == status)
 }
 
-/// Whether an empty capture is told to have no record of the session.
-fn is_told_empty(alloc: Global) -> bool {
-    let told = note_of(alloc, "a.mrt", Ok(&[]));
-    let other = None;
-    told == Some((
-        Some(Note::NoSession {
-            file: "a.mrt",
-            other,
-        }),
-        0,
-    ))
-}
-
-/// Whether a file is told that couldn't be opened.
-fn is_told_unopened(alloc: Global) -> bool {
-    let told = note_of(alloc, "a.mrt", Err(io::Error::from(ErrorKind::NotFound)));
+/// An empty capture is told to have no record of the session, and a file that couldn't be opened;
+/// and nothing of a capture that is explained.
+fn are_ends_told(alloc: Global) -> bool {
+    let (file, other) = ("a.mrt", None);
     let error = ErrorKind::NotFound;
-    told == Some((
-        Some(Note::Unopened {
-            file: "a.mrt",
-            error,
-        }),
-        5,
-    ))
-}
-
-/// Whether nothing is told of a capture that is explained.
-fn is_quiet(alloc: Global) -> bool {
-    match capture_of(alloc, &OPENED) {
-        Some(capture) => note_of(alloc, "a.mrt", Ok(capture.as_slice())) == Some((None, 0)),
-        None => false,
-    }
+    let empty = Some(Note::NoSession { file, other });
+    let unopened = Some(Note::Unopened { file, error });
+    is_told(alloc, Ok(&[]), (empty, 0)) == Some(true)
+        && is_told(alloc, Err(io::Error::from(error)), (unopened, 5)) == Some(true)
+        && is_told(alloc, Ok(&OPENED), (None, 0)) == Some(true)
 }
 
 #[test]
 fn an_end_is_told(rt: HostRuntime) {
-    assert!(rt; is_told_empty(rt.alloc()));
-    assert!(rt; is_told_unopened(rt.alloc()));
-    assert!(rt; is_quiet(rt.alloc()));
+    assert!(rt; are_ends_told(rt.alloc()));
 }

@@ -1,25 +1,17 @@
-//! What no clause says: printed text, devices that fail, refused memory.
+//! Recordings that are judged from devices that fail and with little memory, and files; and the
+//! words of remarks that no recording leads to.
 
 mod files;
-mod recordings;
+mod remarks;
 
-ghost use Rattle.std.specs.Prelude.{◌<◌, ◌^◌};
-ghost use Rattle.mrt.specs.MemSource.{source_state};
-
+use crate::two_connections::{JUDGED, SESSION, recording};
 use bgp_judge::PlainTracker;
 use bgp_open::{Config, ConfigParts, Families};
-use bgp_prefix::{Address, RouteRefresh, Session};
-use bgp_recording_tool::{Judged, RecordingOptions, judge_recording};
-use mrt::{MemSink, MemSource};
-use std::alloc::{AllocError, Allocator, Global};
-
-/// The session of 192.0.2.1 with 192.0.2.2.
-pub(crate) const SESSION: Session = Session {
-    peer: Address::V4(0xc000_0202),
-    local: Address::V4(0xc000_0201),
-    refresh: RouteRefresh::Refused,
-    extended: false,
-};
+use bgp_recording_tool::{RecordingOptions, judge_recording};
+use linked_list_allocator::LocalHeap;
+use mrt::{MemSink, MemSource, SourceUpset};
+use std::alloc::{Allocator, Global};
+use std::num::NonZeroUsize;
 
 /// AS 65001 with AS 65002.
 const PARTS: ConfigParts = ConfigParts {
@@ -35,117 +27,90 @@ const PARTS: ConfigParts = ConfigParts {
 };
 
 /// All connections on port 179.
-pub(crate) const OPTIONS: RecordingOptions = RecordingOptions {
+const OPTIONS: RecordingOptions = RecordingOptions {
     port: 179,
     local_port: None,
     connection: None,
     within: 10,
 };
 
-/// The header of a file: little-endian, version 2.4, link type 101 (raw IP).
-static HEADER: [u8; 24] = [
-    0xd4, 0xc3, 0xb2, 0xa1, // magic
-    0x02, 0x00, 0x04, 0x00, // version
-    0x00, 0x00, 0x00, 0x00, 0x00, 0x00, 0x00, 0x00, // not used
-    0x00, 0x00, 0x04, 0x00, // most kept
-    0x65, 0x00, 0x00, 0x00, // link type
-];
-
-/// The peer's SYN, from port 40000 at second 100: its sequence number is 1000.
-static SYN: [u8; 56] = [
-    // second, fraction, octets kept and on the wire
-    0x64, 0x00, 0x00, 0x00, 0x00, 0x00, 0x00, 0x00, 0x28, 0x00, 0x00, 0x00, 0x28, 0x00, 0x00, 0x00,
-    // IPv4: total length, no fragment, TCP, addresses
-    0x45, 0x00, 0x00, 0x28, 0x00, 0x00, 0x40, 0x00, 0x40, 0x06, 0x00, 0x00, //
-    0xc0, 0x00, 0x02, 0x02, 0xc0, 0x00, 0x02, 0x01, //
-    // ports, sequence and acknowledgment number, flags
-    0x9c, 0x40, 0x00, 0xb3, 0x00, 0x00, 0x03, 0xe8, 0x00, 0x00, 0x00, 0x00, //
-    0x50, 0x02, 0xff, 0xff, 0x00, 0x00, 0x00, 0x00,
-];
-
-/// The local system's, with an acknowledgment: its sequence number is 5000.
-static SYN_ACK: [u8; 56] = [
-    // second, fraction, octets kept and on the wire
-    0x64, 0x00, 0x00, 0x00, 0x00, 0x00, 0x00, 0x00, 0x28, 0x00, 0x00, 0x00, 0x28, 0x00, 0x00, 0x00,
-    // IPv4: total length, no fragment, TCP, addresses
-    0x45, 0x00, 0x00, 0x28, 0x00, 0x00, 0x40, 0x00, 0x40, 0x06, 0x00, 0x00, //
-    0xc0, 0x00, 0x02, 0x01, 0xc0, 0x00, 0x02, 0x02, //
-    // ports, sequence and acknowledgment number, flags
-    0x00, 0xb3, 0x9c, 0x40, 0x00, 0x00, 0x13, 0x88, 0x00, 0x00, 0x03, 0xe9, //
-    0x50, 0x12, 0xff, 0xff, 0x00, 0x00, 0x00, 0x00,
-];
-
-/// The peer's OPEN.
-static OPEN: [u8; 105] = [
-    // second, fraction, octets kept and on the wire
-    0x64, 0x00, 0x00, 0x00, 0x00, 0x00, 0x00, 0x00, 0x59, 0x00, 0x00, 0x00, 0x59, 0x00, 0x00, 0x00,
-    // IPv4: total length, no fragment, TCP, addresses
-    0x45, 0x00, 0x00, 0x59, 0x00, 0x00, 0x40, 0x00, 0x40, 0x06, 0x00, 0x00, //
-    0xc0, 0x00, 0x02, 0x02, 0xc0, 0x00, 0x02, 0x01, //
-    // ports, sequence and acknowledgment number, flags
-    0x9c, 0x40, 0x00, 0xb3, 0x00, 0x00, 0x03, 0xe9, 0x00, 0x00, 0x13, 0x89, //
-    0x50, 0x18, 0xff, 0xff, 0x00, 0x00, 0x00, 0x00, //
-    // marker, length, type
-    0xff, 0xff, 0xff, 0xff, 0xff, 0xff, 0xff, 0xff, 0xff, 0xff, 0xff, 0xff, 0xff, 0xff, 0xff, 0xff,
-    0x00, 0x31, 0x01, //
-    // version, AS, Hold Time, identifier, parameters
-    0x04, 0xfd, 0xea, 0x00, 0x5a, 0xc0, 0x00, 0x02, 0x02, 0x14, 0x02, 0x12, //
-    0x01, 0x04, 0x00, 0x01, 0x00, 0x01, 0x01, 0x04, 0x00, 0x02, 0x00, 0x01, //
-    0x41, 0x04, 0x00, 0x00, 0xfd, 0xea,
-];
-
-/// An octet of the peer from port 40001, of which the recording has no SYN.
-static OTHER: [u8; 57] = [
-    // second, fraction, octets kept and on the wire
-    0x64, 0x00, 0x00, 0x00, 0x00, 0x00, 0x00, 0x00, 0x29, 0x00, 0x00, 0x00, 0x29, 0x00, 0x00, 0x00,
-    // IPv4: total length, no fragment, TCP, addresses
-    0x45, 0x00, 0x00, 0x29, 0x00, 0x00, 0x40, 0x00, 0x40, 0x06, 0x00, 0x00, //
-    0xc0, 0x00, 0x02, 0x02, 0xc0, 0x00, 0x02, 0x01, //
-    // ports, sequence and acknowledgment number, flags
-    0x9c, 0x41, 0x00, 0xb3, 0x00, 0x00, 0x03, 0xe9, 0x00, 0x00, 0x00, 0x00, //
-    0x50, 0x18, 0xff, 0xff, 0x00, 0x00, 0x00, 0x00, //
-    0xff,
-];
-
-/// What judging the recording prints: of the first connection only an OPEN came, and the second
-/// began before the recording.
-pub(crate) const JUDGED: &str = "\
-connection 1 from 192.0.2.2 40000 to 192.0.2.1 179 at 100
-yes
-end Idle disabled -
-connection 2 from 192.0.2.2 40001 to 192.0.2.1 179 at 100
-recording refused: 12 NoStart at packet 4
-";
-
-/// The octets of a recording of two connections.
-pub(crate) fn recording(alloc: Global) -> Result<Vec<u8>, AllocError> {
-    let mut octets = Vec::new(alloc);
-    octets.extend_from_slice(&HEADER)?;
-    octets.extend_from_slice(&SYN)?;
-    octets.extend_from_slice(&SYN_ACK)?;
-    octets.extend_from_slice(&OPEN)?;
-    octets.extend_from_slice(&OTHER)?;
-    Ok(octets)
+/// What comes of judging.
+#[derive(Clone, Copy, PartialEq, Eq)]
+enum Outcome {
+    /// What is printed of the recording.
+    Judged,
+    /// That the device failed.
+    Device,
+    /// That memory was refused.
+    Memory,
 }
 
-/// The configuration.
-pub(crate) fn config() -> Option<Config> {
-    Config::new(PARTS)
+/// Which it is that was printed with this status.
+fn outcome_of(text: &[u8], status: u8) -> Option<Outcome> {
+    let device = b"recording refused: 16 Device at packet ";
+    match status {
+        3 if text == JUDGED.as_bytes() => Some(Outcome::Judged),
+        4 => Some(Outcome::Memory),
+        5 if text.starts_with(device) => Some(Outcome::Device),
+        _ => None,
+    }
 }
 
-/// What judging a recording prints and answers, with this memory.
-pub(crate) fn judged<A: Allocator + Copy>(
-    memory: A,
-    alloc: Global,
-    options: &RecordingOptions,
-    source: &mut MemSource,
-) -> Option<(Vec<u8>, Judged<A>)>
-    requires { (source_state source.old).failures < 2 ^ 63 }
-{
+/// What comes of judging the recording, of which at most 40 octets are read at once, with this
+/// memory, where the read of this number fails.
+fn judged<A: Allocator + Copy>(memory: A, alloc: Global, call: u64) -> Option<Outcome> {
+    let config = Config::new(PARTS)?;
+    let mut source = MemSource::new(recording(alloc)?)
+        .in_pieces_of(NonZeroUsize::new(40)?)
+        .upset_at(call, SourceUpset::Fail);
     let mut sink = MemSink::new(alloc);
-    let config = config()?;
     let judged = judge_recording::<A, PlainTracker<A>, _, _>(
-        memory, &config, options, source, &mut sink,
+        memory,
+        &config,
+        &OPTIONS,
+        &mut source,
+        &mut sink,
     );
-    Some((sink.into_octets(), judged))
+    outcome_of(sink.octets(), judged.status)
+}
+
+/// Whether each read that fails is told, of the first 40. The recording has 298 octets, which are
+/// asked for in pieces of at most 40.
+fn are_told(alloc: Global) -> Option<bool> {
+    let mut failed = 0u32;
+    for call in 0..40 {
+        match judged(alloc, alloc, call)? {
+            Outcome::Device => failed = failed.saturating_add(1),
+            Outcome::Judged => {}
+            Outcome::Memory => return None,
+        }
+    }
+    Some(8 <= failed && failed < 40)
+}
+
+#[test]
+fn a_read_that_fails_is_told(rt: HostRuntime) {
+    assert!(rt; are_told(rt.alloc()) == Some(true));
+}
+
+/// What comes of judging with a heap of this size.
+fn judged_with(alloc: Global, size: usize) -> Option<Outcome> {
+    let heap = LocalHeap::new(alloc, size).ok()?;
+    judged(&heap, alloc, u64::MAX)
+}
+
+/// Whether memory is refused by small heaps, and the recording judged with the largest.
+fn is_refused_by_some(alloc: Global) -> Option<bool> {
+    let (mut refused, mut done) = (false, false);
+    for steps in 1..100 {
+        let outcome = judged_with(alloc, 8192 * steps)?;
+        done = outcome == Outcome::Judged;
+        refused = refused || outcome == Outcome::Memory;
+    }
+    Some(refused && done)
+}
+
+#[test]
+fn memory_that_is_refused_is_told(rt: HostRuntime) {
+    assert!(rt; is_refused_by_some(rt.alloc()) == Some(true));
 }

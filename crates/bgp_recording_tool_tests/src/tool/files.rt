@@ -1,7 +1,8 @@
 //! Files, whose first four octets tell what they are.
 
 use super::*;
-use bgp_recording_tool::{FileOutcome, decode_file, judge_file};
+use crate::two_connections::front;
+use bgp_recording_tool::{decode_file, judge_file};
 use bgp_tool::Note;
 use mrt::FromWrite;
 use std::io::{self, ErrorKind, Read};
@@ -25,72 +26,62 @@ impl Read for Given<'_> {
     }
 }
 
-/// What judging the file prints, and how it ends.
-fn judged_file<'a>(
+/// Whether judging the file prints this, and ends so.
+fn is_judged(
     alloc: Global,
-    octets: &'a [u8],
-    error: Option<ErrorKind>,
-) -> Option<(Vec<u8>, FileOutcome<'static, Global>)> {
-    let opened: io::Result<Given<'a>> = Ok(Given { octets, error });
+    given: Given<'_>,
+    text: &str,
+    (status, note): (u8, Option<Note<'_>>),
+) -> Option<bool> {
+    let config = Config::new(PARTS)?;
     let mut sink = FromWrite::new(Vec::new(alloc));
     let outcome = judge_file::<Global, PlainTracker<Global>, _, _>(
         alloc,
-        &config()?,
+        &config,
         &OPTIONS,
         "a.pcap",
-        opened,
+        Ok(given),
         &mut sink,
     );
-    Some((sink.into_inner(), outcome))
+    let is_so = outcome.status == status && outcome.note == note;
+    Some(is_so && sink.into_inner().as_slice() == text.as_bytes())
 }
 
-/// Whether a recording that breaks off behind so many octets is told so.
-fn is_told(alloc: Global, count: usize, text: &str) -> bool {
-    let Ok(octets) = recording(alloc) else {
-        return false;
-    };
-    let Some(front) = octets.get(..count) else {
-        return false;
-    };
-    let Some((written, outcome)) = judged_file(alloc, front, Some(ErrorKind::TimedOut)) else {
-        return false;
-    };
+/// Behind how many octets the recording breaks off, and what is printed of it.
+static CUTS: [(usize, &str); 7] = [
+    (0, "capture refused: 9 Device at 0\n"),
+    (1, "capture refused: 9 Device at 0\n"),
+    (2, "capture refused: 9 Device at 0\n"),
+    (3, "capture refused: 9 Device at 0\n"),
+    (4, "recording refused: 16 Device at packet 1\n"),
+    (30, "recording refused: 16 Device at packet 1\n"),
+    (80, "recording refused: 16 Device at packet 2\n"),
+];
+
+/// Whether a recording that breaks off there is told so.
+fn is_told(alloc: Global, (count, text): &(usize, &str)) -> Option<bool> {
+    let octets = front(*count)?;
+    let error = Some(ErrorKind::TimedOut);
     let note = Note::Unread {
         file: "a.pcap",
-        octet: count as u64,
-        error: Some(ErrorKind::TimedOut),
+        octet: *count as u64,
+        error,
     };
-    written.as_slice() == text.as_bytes() && outcome.status == 5 && outcome.note == Some(note)
+    is_judged(alloc, Given { octets, error }, text, (5, Some(note)))
 }
 
 #[test]
 fn a_read_that_fails_is_told_with_its_place(rt: HostRuntime) {
-    for count in 0..4 {
-        assert!(rt;
-            is_told(rt.alloc(), count, "capture refused: 9 Device at 0\n"),
-            "{count}"
-        );
-    }
-    for (count, packet) in [(4, 1), (30, 1), (80, 2)] {
-        let told = match packet {
-            1 => "recording refused: 16 Device at packet 1\n",
-            _ => "recording refused: 16 Device at packet 2\n",
-        };
-        assert!(rt; is_told(rt.alloc(), count, told), "{count}");
+    for row in &CUTS {
+        assert!(rt; is_told(rt.alloc(), row) == Some(true));
     }
 }
 
 /// Whether the recording is judged octet by octet as it is at once.
-fn is_judged(alloc: Global) -> bool {
-    let Ok(octets) = recording(alloc) else {
-        return false;
-    };
-    match judged_file(alloc, &octets, None) {
-        Some((text, outcome)) => {
-            text.as_slice() == JUDGED.as_bytes() && outcome.status == 3 && outcome.note.is_none()
-        }
-        None => false,
-    }
+fn is_whole(alloc: Global) -> Option<bool> {
+    let octets = front(298)?;
+    let error = None;
+    is_judged(alloc, Given { octets, error }, JUDGED, (3, None))
 }
 
 /// A change from Idle to Active at second 100 (RFC 6396, 4.4.1, of 4-octet AS numbers).
@@ -102,17 +93,16 @@ static CHANGE: [u8; 36] = [
 
 /// Whether a capture is decoded octet by octet as it is at once.
 fn is_decoded(alloc: Global) -> bool {
-    let opened: io::Result<Given<'static>> = Ok(Given {
+    let given = Given {
         octets: &CHANGE,
         error: None,
-    });
+    };
     let mut sink = FromWrite::new(Vec::new(alloc));
-    let outcome = decode_file(alloc, &SESSION, &OPTIONS, "a.mrt", opened, &mut sink);
-    sink.into_inner().as_slice() == "@100 change 1 3\n".as_bytes() && outcome.status == 0
+    let outcome = decode_file(alloc, &SESSION, &OPTIONS, "a.mrt", Ok(given), &mut sink);
+    outcome.status == 0 && sink.into_inner().as_slice() == b"@100 change 1 3\n".as_slice()
 }
 
 #[test]
 fn no_octet_is_lost(rt: HostRuntime) {
-    assert!(rt; is_judged(rt.alloc()));
-    assert!(rt; is_decoded(rt.alloc()));
+    assert!(rt; is_whole(rt.alloc()) == Some(true) && is_decoded(rt.alloc()));
 }
