@@ -4,8 +4,8 @@
 ghost use Rattle.std.specs.Prelude.{◌≡◌};
 ghost use Rattle.bgp_talk.specs.MemWire.{wire_state};
 
-use super::whole::TALK;
 use super::*;
+use bgp_prefix::Seconds;
 use bgp_talk::ReadAnswer;
 use mrt::Failed;
 use std::cell::Cell;
@@ -117,21 +117,13 @@ fn are_seen(alloc: Global, config: &Config, own: &[Prefix], taken: &Cell<usize>)
     }
     let mut sink = Shown { taken, failures: 0 };
     let mut wire = Looking {
-        wire: MemWire::new(alloc, TALK.reads, TALK.seconds),
+        wire: MemWire::new(alloc, &READS, &[1000]),
         taken,
         wanted: &WRITTEN,
         is_right: true,
     };
     let told = speak(
-        alloc,
-        config,
-        HOP_4,
-        HOP_6,
-        TALK.passive,
-        own,
-        &mut wire,
-        &mut sink,
-        TALK.turns,
+        alloc, config, HOP_4, HOP_6, false, own, &mut wire, &mut sink, 5,
     );
     told.is_ok() && wire.is_right && wire.wanted.is_empty()
 }
@@ -139,7 +131,7 @@ fn are_seen(alloc: Global, config: &Config, own: &[Prefix], taken: &Cell<usize>)
 /// Whether they are, and the Cease and the change to Idle come after the last read.
 fn are_written_as_they_arise(alloc: Global) -> bool {
     let taken = Cell::new(0);
-    match (Config::new(PARTS_A), prefixes_of(alloc, TALK.own)) {
+    match (Config::new(PARTS_A), own_of(alloc, true)) {
         (Some(config), Some(own)) => {
             are_seen(alloc, &config, own.as_slice(), &taken) && taken.get() == 564 + 53 + 36
         }

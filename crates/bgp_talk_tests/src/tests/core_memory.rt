@@ -1,151 +1,150 @@
 //! Memory that is refused to a speaker's core: a drive that is refused has no records, and an input
-//! that is refused can be told again. What a core does with each input is compared by the program
-//! `speaker_drives`.
+//! that is refused can be told again.
 
-use super::messages::{OWN_10_1, OWN_10_2, WITHDRAWS_10_1};
 use super::*;
+use bgp_machine::Fsm;
+use bgp_prefix::Seconds;
 use bgp_speaker::{Core, Input, Output, Run, Shown, drive};
-use bgp_wire::vectors::{ADMINISTRATIVE_SHUTDOWN, ANNOUNCES_10, KEEPALIVE, OPEN_A, OPEN_B};
+use bgp_wire::vectors::ANNOUNCES_10;
 use linked_list_allocator::LocalHeap;
 
 /// The marker of a message, alone.
 const MARKER: [u8; 16] = [255; 16];
 
-/// A message of each kind that opens a session, and the front of a KEEPALIVE.
-static FIRST: [&[u8]; 3] = [&OPEN_B, &KEEPALIVE, &MARKER];
-
-/// The rest of it, and an UPDATE.
-static SECOND: [&[u8]; 2] = [&[0, 19, 4], &ANNOUNCES_10];
-
-/// Each kind of input, and when.
-fn told<'a>(alloc: Global, first: &'a [u8], second: &'a [u8]) -> Option<Vec<(Seconds, Input<'a>)>> {
+/// Each kind of input, and when. The second KEEPALIVE comes in two pieces.
+fn inputs_of(alloc: Global) -> Option<Vec<(Seconds, Input<'static>)>> {
     let (low, high) = (read_prefix("10.1.0.0/16")?, read_prefix("10.2.0.0/16")?);
-    let mut inputs = Vec::new(alloc);
-    inputs
-        .extend_from_slice(&[
-            (100, Input::Announce(low)),
-            (100, Input::Passive),
-            (100, Input::Failed),
-            (100, Input::Start),
-            (100, Input::Connected),
-            (101, Input::Bytes(first)),
-            (102, Input::Bytes(second)),
-            (103, Input::Announce(high)),
-            (104, Input::Withdraw(low)),
-            (134, Input::Tick),
-            (135, Input::Stop),
-        ])
-        .ok()?;
-    Some(inputs)
+    let inputs = [
+        (100, Input::Announce(low)),
+        (100, Input::Passive),
+        (100, Input::Failed),
+        (100, Input::Start),
+        (100, Input::Connected),
+        (101, Input::Bytes(&OPEN_B)),
+        (101, Input::Bytes(&KEEPALIVE)),
+        (101, Input::Bytes(&MARKER)),
+        (102, Input::Bytes(&[0, 19, 4])),
+        (102, Input::Bytes(&ANNOUNCES_10)),
+        (103, Input::Announce(high)),
+        (104, Input::Withdraw(low)),
+        (134, Input::Tick),
+        (135, Input::Stop),
+    ];
+    Vec::from_slice(alloc, &inputs).ok()
 }
 
-/// The state that each leads to.
-static STATES: [Fsm; 11] = [
-    Fsm::Idle,
-    Fsm::Active,
-    Fsm::Idle,
-    Fsm::Connect,
-    Fsm::OpenSent,
-    Fsm::Established,
-    Fsm::Established,
-    Fsm::Established,
-    Fsm::Established,
-    Fsm::Established,
-    Fsm::Idle,
+/// The state that each leads to, and how many records have been shown and octets sent by then: an
+/// OPEN has 49, a KEEPALIVE 19, an UPDATE that announces 46 and one that withdraws 26, and the Cease
+/// 21 octets.
+static STEPS: [(Fsm, usize, usize); 14] = [
+    (Fsm::Idle, 0, 0),
+    (Fsm::Active, 1, 0),
+    (Fsm::Idle, 2, 0),
+    (Fsm::Connect, 3, 0),
+    (Fsm::OpenSent, 5, 49),
+    (Fsm::OpenConfirm, 8, 68),
+    (Fsm::Established, 11, 114),
+    (Fsm::Established, 11, 114),
+    (Fsm::Established, 12, 114),
+    (Fsm::Established, 13, 114),
+    (Fsm::Established, 14, 160),
+    (Fsm::Established, 15, 186),
+    (Fsm::Established, 16, 205),
+    (Fsm::Idle, 18, 226),
 ];
 
-/// The records that they show.
-static SHOWN: [Record<'static>; 18] = [
-    Change(100, 1, 3),
-    Change(100, 3, 1),
-    Change(100, 1, 2),
-    Out(100, &OPEN_A),
-    Change(100, 2, 4),
-    In(101, &OPEN_B),
-    Out(101, &KEEPALIVE),
-    Change(101, 4, 5),
-    In(101, &KEEPALIVE),
-    Change(101, 5, 6),
-    Out(101, &OWN_10_1),
-    In(102, &KEEPALIVE),
-    In(102, &ANNOUNCES_10),
-    Out(103, &OWN_10_2),
-    Out(104, &WITHDRAWS_10_1),
-    Out(134, &KEEPALIVE),
-    Out(135, &ADMINISTRATIVE_SHUTDOWN),
-    Change(135, 6, 1),
-];
+/// A drive, and what it comes to with ample memory.
+#[derive(Drop)]
+struct Drive {
+    config: Config,
+    inputs: Vec<(Seconds, Input<'static>)>,
+    run: Run,
+}
+
+/// The drive of these inputs.
+fn drive_of(alloc: Global) -> Option<Drive> {
+    let config = Config::new(PARTS_A)?;
+    let inputs = inputs_of(alloc)?;
+    let run = drive(alloc, &config, HOP_4, HOP_6, inputs.as_slice()).ok()?;
+    Some(Drive {
+        config,
+        inputs,
+        run,
+    })
+}
 
 /// Whether these are the records.
-fn are_shown<A: Allocator>(shown: &[Shown<A>], records: &[Record<'_>]) -> bool {
-    if shown.len() != records.len() {
+fn are_shown<A: Allocator>(shown: &[Shown<A>], wanted: &[Shown]) -> bool {
+    if shown.len() != wanted.len() {
         return false;
     }
-    for (shown, record) in shown.iter().zip(records) {
-        if shown.record() != *record {
+    for (one, other) in shown.iter().zip(wanted) {
+        if one.record() != other.record() {
             return false;
         }
     }
     true
 }
 
-/// Whether the octets are those of the sent messages of these records.
-fn are_sent(octets: &[u8], records: &[Record<'_>]) -> bool {
-    let mut rest = octets;
-    for record in records {
-        if let Out(_, message) = record {
-            match rest.strip_prefix(message) {
-                Some(others) => rest = others,
-                None => return false,
-            }
-        }
-    }
-    rest.is_empty()
-}
-
-/// Whether a drive showed and sent all, and is in Idle without routes.
-fn is_run<A: Allocator>(run: &Run<A>) -> bool {
-    are_shown(run.records.as_slice(), &SHOWN)
-        && are_sent(run.sent.as_slice(), &SHOWN)
+/// Whether a drive shows and sends the same, and ends in Idle without routes.
+fn is_run<A: Allocator>(run: &Run<A>, wanted: &Run) -> bool {
+    are_shown(run.records.as_slice(), wanted.records.as_slice())
+        && run.sent.as_slice() == wanted.sent.as_slice()
         && run.fsm == Fsm::Idle
-        && has_routes(&run.rib, &[])
+        && run.rib.len() == 0
+        && run.rib.disabled() == NONE
 }
 
-/// Whether the inputs are driven with this memory: `None` where what they show is wrong.
-fn are_driven<A: Allocator + Copy>(alloc: A, inputs: &[(Seconds, Input<'_>)]) -> Option<bool> {
-    match drive(alloc, &Config::new(PARTS_A)?, HOP_4, HOP_6, inputs) {
-        Ok(run) => is_run(&run).then_some(true),
+/// Whether a heap of this size is enough for a drive: `None` where it comes to anything else.
+fn is_enough(alloc: Global, size: usize, wanted: &Drive) -> Option<bool> {
+    let heap = LocalHeap::new(alloc, size).ok()?;
+    match drive(
+        &heap,
+        &wanted.config,
+        HOP_4,
+        HOP_6,
+        wanted.inputs.as_slice(),
+    ) {
+        Ok(run) => is_run(&run, &wanted.run).then_some(true),
         Err(_) => Some(false),
     }
 }
 
-/// The same with a heap of this size.
-fn are_driven_with(alloc: Global, size: usize, inputs: &[(Seconds, Input<'_>)]) -> Option<bool> {
-    let heap = LocalHeap::new(alloc, size).ok()?;
-    are_driven(&heap, inputs)
-}
-
-/// Whether a drive is refused by some heaps, and then never again: `None` where one is wrong.
-fn is_refused_by_some(alloc: Global, inputs: &[(Seconds, Input<'_>)]) -> Option<bool> {
+/// Whether a drive is refused by some heaps, and then never again.
+fn is_refused_by_some(alloc: Global) -> Option<bool> {
+    let wanted = drive_of(alloc)?;
     let (mut refused, mut done) = (false, false);
     for step in 1..2048 {
-        done = are_driven_with(alloc, 16 * step, inputs)?;
+        done = is_enough(alloc, 16 * step, &wanted)?;
         refused = refused || !done;
     }
     Some(refused && done)
 }
 
-/// The place in the records after those of an output, if its own stand at this place and the
-/// octets are theirs.
-fn after_output<A: Allocator>(output: &Output<A>, place: usize) -> Option<usize> {
-    let (_, rest) = SHOWN.split_at_checked(place)?;
-    let (these, _) = rest.split_at_checked(output.records.len())?;
-    let is_right = are_shown(output.records.as_slice(), these)
-        && are_sent(output.octets.as_slice(), these);
-    if !is_right {
-        return None;
+#[test]
+fn a_refused_drive_has_no_records(rt: HostRuntime) {
+    assert!(rt; is_refused_by_some(rt.alloc()) == Some(true));
+}
+
+/// Where a core is in a drive: the places of what it has shown and sent.
+#[derive(Clone, Copy)]
+struct Step {
+    fsm: Fsm,
+    records: (usize, usize),
+    octets: (usize, usize),
+}
+
+/// Whether what a core answers is what stands there in the drive.
+fn is_answer<A: Allocator>(output: &Output<A>, run: &Run, step: &Step) -> bool {
+    let records = run.records.get(step.records.0..step.records.1);
+    let octets = run.sent.get(step.octets.0..step.octets.1);
+    match records {
+        Some(records) => {
+            are_shown(output.records.as_slice(), records)
+                && octets == Some(output.octets.as_slice())
+        }
+        None => false,
     }
-    place.checked_add(these.len())
 }
 
 /// The same input.
@@ -177,103 +176,74 @@ fn step_beside<'a>(
     output
 }
 
-/// Takes an input with so many octets left, and again with memory if it was refused. Answers
-/// whether it was, and the place in the records after what it shows: `None` where that is wrong, or
-/// the state was another one after the refusal.
+/// Whether a core takes an input now.
+fn takes_now<'a>(
+    core: &mut Core<&'a LocalHeap>,
+    (second, input): &(Seconds, Input<'_>),
+    run: &Run,
+    step: &Step,
+) -> bool {
+    match core.step(again(input), *second) {
+        Ok(output) => is_answer(&output, run, step) && core.fsm() == step.fsm,
+        Err(_) => false,
+    }
+}
+
+/// Whether an input is refused with so many octets left, and then taken with more: `None` where
+/// what is shown is wrong, or the state was another one after the refusal.
 fn takes<'a>(
     heap: &'a LocalHeap,
     core: &mut Core<&'a LocalHeap>,
     left: usize,
     told: &(Seconds, Input<'_>),
-    place: usize,
-) -> Option<(bool, usize)> {
+    run: &Run,
+    step: &Step,
+) -> Option<bool> {
     let before = core.fsm();
-    if let Some(output) = step_beside(heap, core, left, told) {
-        return Some((false, after_output(&output, place)?));
+    match step_beside(heap, core, left, told) {
+        Some(output) => {
+            (is_answer(&output, run, step) && core.fsm() == step.fsm).then_some(false)
+        }
+        None => (core.fsm() == before && takes_now(core, told, run, step)).then_some(true),
     }
-    if core.fsm() != before {
-        return None;
-    }
-    let output = core.step(again(&told.1), told.0).ok()?;
-    Some((true, after_output(&output, place)?))
 }
 
 /// Whether an input was refused with so many octets left: `None` where what a core shows is wrong.
-fn takes_all<'a>(
-    heap: &'a LocalHeap,
-    left: usize,
-    inputs: &[(Seconds, Input<'_>)],
-) -> Option<bool> {
-    let mut core = Core::new(heap, &Config::new(PARTS_A)?, HOP_4, HOP_6);
-    let mut place = 0usize;
+fn takes_all<'a>(heap: &'a LocalHeap, left: usize, wanted: &Drive) -> Option<bool> {
+    let mut core = Core::new(heap, &wanted.config, HOP_4, HOP_6);
     let mut refused = false;
-    for (told, fsm) in inputs.iter().zip(&STATES) {
-        let (is_refused, next) = takes(heap, &mut core, left, told, place)?;
-        if core.fsm() != *fsm {
-            return None;
-        }
+    let (mut records, mut octets) = (0, 0);
+    for (told, (fsm, shown, sent)) in wanted.inputs.iter().zip(&STEPS) {
+        let step = Step {
+            fsm: *fsm,
+            records: (records, *shown),
+            octets: (octets, *sent),
+        };
+        let is_refused = takes(heap, &mut core, left, told, &wanted.run, &step)?;
         refused = refused || is_refused;
-        place = next;
+        (records, octets) = (*shown, *sent);
     }
-    (place == SHOWN.len()).then_some(refused)
+    Some(refused)
 }
 
 /// The same with a heap of its own.
-fn takes_all_with(alloc: Global, left: usize, inputs: &[(Seconds, Input<'_>)]) -> Option<bool> {
+fn takes_all_with(alloc: Global, left: usize, wanted: &Drive) -> Option<bool> {
     let heap = LocalHeap::new(alloc, 1 << 14).ok()?;
-    takes_all(&heap, left, inputs)
+    takes_all(&heap, left, wanted)
 }
 
-/// Whether inputs are refused with few octets left, and not with more: `None` where what a core
-/// shows is wrong.
-fn are_taken_again(alloc: Global, inputs: &[(Seconds, Input<'_>)]) -> Option<bool> {
+/// Whether inputs are refused with few octets left, and not with more.
+fn are_taken_again(alloc: Global) -> Option<bool> {
+    let wanted = drive_of(alloc)?;
     let (mut refused, mut done) = (false, false);
     for step in 0..128 {
-        done = !takes_all_with(alloc, 32 * step, inputs)?;
+        done = !takes_all_with(alloc, 32 * step, &wanted)?;
         refused = refused || !done;
     }
     Some(refused && done)
 }
 
-/// What is asked of a core and the inputs.
-#[derive(Clone, Copy)]
-enum Asked {
-    /// Whether they are driven with ample memory.
-    Ample,
-    /// Whether a drive is refused by some heaps.
-    Refused,
-    /// Whether inputs that are refused can be told again.
-    Again,
-}
-
-/// Whether it is so of inputs with these pieces.
-fn is_answered_of(alloc: Global, asked: Asked, first: &[u8], second: &[u8]) -> Option<bool> {
-    let inputs = told(alloc, first, second)?;
-    match asked {
-        Asked::Ample => are_driven(alloc, inputs.as_slice()),
-        Asked::Refused => is_refused_by_some(alloc, inputs.as_slice()),
-        Asked::Again => are_taken_again(alloc, inputs.as_slice()),
-    }
-}
-
-/// Whether it is so.
-fn is_answered(alloc: Global, asked: Asked) -> Option<bool> {
-    let first = joined(alloc, &FIRST).ok()?;
-    let second = joined(alloc, &SECOND).ok()?;
-    is_answered_of(alloc, asked, first.as_slice(), second.as_slice())
-}
-
-#[test]
-fn a_core_with_ample_memory(rt: HostRuntime) {
-    assert!(rt; is_answered(rt.alloc(), Asked::Ample) == Some(true));
-}
-
-#[test]
-fn a_refused_drive_has_no_records(rt: HostRuntime) {
-    assert!(rt; is_answered(rt.alloc(), Asked::Refused) == Some(true));
-}
-
 #[test]
 fn a_refused_input_can_be_told_again(rt: HostRuntime) {
-    assert!(rt; is_answered(rt.alloc(), Asked::Again) == Some(true));
+    assert!(rt; are_taken_again(rt.alloc()) == Some(true));
 }

@@ -1,119 +1,112 @@
-//! Memory: enough of it, growths that are refused, and what a peer that doesn't stop can make a
-//! speaker hold.
+//! Growths that are refused, and what a peer that doesn't stop can make a speaker hold.
 
-use super::whole::SESSION;
 use super::*;
-use bgp_wire::vectors::{ADMINISTRATIVE_SHUTDOWN, KEEPALIVE, OPEN_A, OPEN_B};
 use linked_list_allocator::LocalHeap;
 
-#[test]
-fn ample_memory(rt: HostRuntime) {
-    assert!(rt; is_so(rt.alloc(), &SESSION));
+/// Whether a talk comes to what is wanted with a heap of this size, or memory is refused: `None`
+/// where it comes to anything else.
+fn is_done_with(alloc: Global, size: usize, talk: &Talk<'_>, wanted: &Came) -> Option<bool> {
+    let heap = LocalHeap::new(alloc, size).ok()?;
+    let came = came_of(&heap, alloc, talk)?;
+    let is_done = is_whole(&came, wanted);
+    (is_done || is_cut(&came, SpeakFault::Memory, wanted)).then_some(is_done)
 }
 
-/// What the talk of a row comes to with a heap of this size.
-fn came_with(alloc: Global, size: usize, row: &Row<'_>, capture: &[u8]) -> Came {
-    match LocalHeap::new(alloc, size) {
-        Ok(heap) => spoken_with(&heap, alloc, row, capture),
-        Err(_) => Came::Wrong,
-    }
-}
-
-/// Whether a talk is cut short for memory with small heaps, and ends as is wanted with larger ones.
-fn is_refused_by_some(alloc: Global, capture: &[u8]) -> bool {
-    let (mut refused, mut last) = (false, Came::Wrong);
+/// Whether a talk is cut short for memory with small heaps, and comes to all with larger ones.
+fn is_refused_by_some(alloc: Global, whole: &Came) -> Option<bool> {
+    let (mut refused, mut done) = (false, false);
     for step in 1..512 {
-        last = came_with(alloc, 16 * step, &SESSION, capture);
-        match last {
-            Came::Right => {}
-            Came::Fault(SpeakFault::Memory) => refused = true,
-            _ => return false,
-        }
+        done = is_done_with(alloc, 16 * step, &whole_talk(), whole)?;
+        refused = refused || !done;
     }
-    refused && last == Came::Right
+    Some(refused && done)
+}
+
+/// Whether it is so of the whole talk.
+fn is_whole_refused_by_some(alloc: Global) -> Option<bool> {
+    is_refused_by_some(alloc, &came_of(alloc, alloc, &whole_talk())?)
 }
 
 #[test]
 fn refused_memory_leaves_a_beginning_of_the_capture(rt: HostRuntime) {
-    let is_so = match capture_of(rt.alloc(), SESSION.2.records) {
-        Ok(capture) => is_refused_by_some(rt.alloc(), capture.as_slice()),
-        Err(_) => false,
-    };
-    assert!(rt; is_so);
+    assert!(rt; is_whole_refused_by_some(rt.alloc()) == Some(true));
 }
 
 /// What a peer says that opens a session, and then sends so many KEEPALIVEs.
-fn flood(alloc: Global, count: usize) -> Result<Vec<u8>, AllocError> {
-    let mut octets = joined(alloc, &[&OPEN_B])?;
+fn flood(alloc: Global, count: usize) -> Option<Vec<u8>> {
+    let mut octets = Vec::from_slice(alloc, &OPEN_B).ok()?;
     for _ in 0..count {
-        octets.extend_from_slice(&KEEPALIVE)?;
+        octets.extend_from_slice(&KEEPALIVE).ok()?;
     }
-    Ok(octets)
+    Some(octets)
 }
 
-/// What a speaker shows of them. It announces nothing.
-fn shown_of(alloc: Global, count: usize) -> Result<Vec<Record<'static>>, AllocError> {
-    let mut records = Vec::from_slice(
-        alloc,
-        &[
-            Change(1000, 1, 2),
-            Out(1000, &OPEN_A),
-            Change(1000, 2, 4),
-            In(1000, &OPEN_B),
-            Out(1000, &KEEPALIVE),
-            Change(1000, 4, 5),
-            In(1000, &KEEPALIVE),
-            Change(1000, 5, 6),
-        ],
-    )?;
-    for _ in 1..count {
-        records.push(In(1000, &KEEPALIVE))?;
+/// Reads of these octets, 4096 at a time.
+fn reads_of<'a>(alloc: Global, octets: &'a [u8]) -> Option<Vec<MemRead<'a>>> {
+    let mut reads = Vec::new(alloc);
+    for piece in octets.chunks(4096) {
+        reads.push(MemRead::Bytes(piece)).ok()?;
     }
-    records.extend_from_slice(&[Out(1000, &ADMINISTRATIVE_SHUTDOWN), Change(1000, 6, 1)])?;
-    Ok(records)
+    Some(reads)
 }
 
-/// What a speaker with a heap of this size comes to over these reads, each a turn, if it shows
-/// these records.
-fn came_of(
-    alloc: Global,
-    size: usize,
-    reads: &[MemRead<'_>],
-    records: &[Record<'_>],
-) -> Option<Came> {
+/// Pieces of octets, the second of which stands there so often.
+fn repeated(alloc: Global, pieces: [&[u8]; 3], count: usize) -> Option<Vec<u8>> {
+    let [front, middle, rest] = pieces;
+    let mut octets = Vec::from_slice(alloc, front).ok()?;
+    for _ in 0..count {
+        octets.extend_from_slice(middle).ok()?;
+    }
+    octets.extend_from_slice(rest).ok()?;
+    Some(octets)
+}
+
+/// What comes of so many KEEPALIVEs over so many reads, by the whole talk: the records up to
+/// Established, the last of which but one is of the first KEEPALIVE, and those of the end. A change
+/// of state takes 36 octets, a message 32 and its own (RFC 6396, 2 and 4.4). Nothing is announced.
+fn flooded(alloc: Global, whole: &Came, count: usize, reads: usize) -> Option<Came> {
+    let (capture, taken) = (whole.capture.as_slice(), whole.taken.as_slice());
+    let pieces = [
+        capture.get(..408)?,
+        capture.get(321..372)?,
+        capture.get(564..)?,
+    ];
+    Some(Came {
+        answer: Ok((reads as u64, 0)),
+        capture: repeated(alloc, pieces, count.checked_sub(1)?)?,
+        // The OPEN and a KEEPALIVE, and a Cease.
+        taken: repeated(alloc, [taken.get(..68)?, &[], taken.get(114..)?], 0)?,
+        failures: (0, 0),
+    })
+}
+
+/// Whether a heap of this size is enough where the peer sends so many KEEPALIVEs.
+fn is_enough(alloc: Global, whole: &Came, size: usize, count: usize) -> Option<bool> {
+    let octets = flood(alloc, count)?;
+    let reads = reads_of(alloc, octets.as_slice())?;
+    let wanted = flooded(alloc, whole, count, reads.len())?;
     let talk = Talk {
-        own: &[],
-        reads,
-        turns: reads.len() as u64,
-        ..SESSION.1
+        reads: reads.as_slice(),
+        announces: false,
+        ..whole_talk()
     };
-    let wanted = Wanted {
-        records,
-        turns: reads.len() as u64,
-        routes: &[],
-        taken: 89,
-        failures: 0,
-    };
-    let capture = capture_of(alloc, records).ok()?;
-    Some(came_with(alloc, size, &("", talk, wanted), capture.as_slice()))
-}
-
-/// What it comes to where the peer sends so many KEEPALIVEs, in reads of 4096 octets.
-fn flooded(alloc: Global, size: usize, count: usize) -> Option<Came> {
-    let octets = flood(alloc, count).ok()?;
-    let reads = reads_of(alloc, octets.as_slice(), at_most(4096)).ok()?;
-    let records = shown_of(alloc, count).ok()?;
-    came_of(alloc, size, reads.as_slice(), records.as_slice())
+    is_done_with(alloc, size, &talk, &wanted)
 }
 
 /// A heap that is enough for what one read of 4096 octets shows; half of it isn't.
 const HEAP: usize = 1 << 15;
 
+/// Whether it is, for any number of them.
+fn is_bounded(alloc: Global) -> Option<bool> {
+    let whole = came_of(alloc, alloc, &whole_talk())?;
+    let is_half_refused = is_enough(alloc, &whole, HEAP / 2, 1_000) == Some(false);
+    let is_so = is_half_refused
+        && is_enough(alloc, &whole, HEAP, 1_000) == Some(true)
+        && is_enough(alloc, &whole, HEAP, 100_000) == Some(true);
+    Some(is_so)
+}
+
 #[test]
 fn what_is_held_does_not_grow_with_the_reads(rt: HostRuntime) {
-    let refused = Some(Came::Fault(SpeakFault::Memory));
-    let is_bounded = flooded(rt.alloc(), HEAP / 2, 1_000) == refused
-        && flooded(rt.alloc(), HEAP, 1_000) == Some(Came::Right)
-        && flooded(rt.alloc(), HEAP, 100_000) == Some(Came::Right);
-    assert!(rt; is_bounded);
+    assert!(rt; is_bounded(rt.alloc()) == Some(true));
 }

@@ -1,56 +1,52 @@
 //! Captures that can't be written.
 
-use super::whole::SESSION;
 use super::*;
 
-/// Whether a sink that fails at its first write is told before the wire is asked to connect.
-fn is_told_at_once(alloc: Global) -> bool {
+/// Whether a sink that fails at its first write is told before the wire is asked to connect: it
+/// would count that nobody is there.
+fn is_told_at_once(alloc: Global, whole: &Came) -> bool {
     let talk = Talk {
-        // So the wire would count it, if it were asked to connect.
-        upset: (0, WireUpset::ConnectFails),
-        sink: (usize::MAX, 0),
-        ..SESSION.1
+        is_refused: true,
+        sink: (NonZeroUsize::MAX, 0),
+        ..whole_talk()
     };
-    spoken_with(alloc, alloc, &("", talk, SESSION.2), &[]) == Came::Fault(SpeakFault::Capture)
+    match came_of(alloc, alloc, &talk) {
+        Some(came) => is_cut(&came, SpeakFault::Capture, whole) && came.capture.is_empty(),
+        None => false,
+    }
 }
 
-#[test]
-fn a_sink_that_fails_at_once_is_told_before_the_wire_is_asked(rt: HostRuntime) {
-    assert!(rt; is_told_at_once(rt.alloc()));
+/// Whether the octet that a sink fails at is told, with the octets before it written, and all comes
+/// where there is none.
+fn is_told_at(alloc: Global, octet: usize, whole: &Came) -> bool {
+    let talk = Talk {
+        sink: (NonZeroUsize::MIN, octet as u64),
+        ..whole_talk()
+    };
+    let Some(came) = came_of(alloc, alloc, &talk) else {
+        return false;
+    };
+    if octet == whole.capture.len() {
+        is_whole(&came, whole)
+    } else {
+        is_cut(&came, SpeakFault::Capture, whole) && came.capture.len() == octet
+    }
 }
 
-/// Whether each octet that the sink fails at is told, with the octets before it written, and the
-/// talk comes to what is wanted where none is.
-fn are_told(alloc: Global, capture: &[u8]) -> bool {
-    for octet in 0..=capture.len() {
-        let front = capture.get(..octet).unwrap_or(capture);
-        let talk = Talk {
-            sink: (1, octet as u64),
-            ..SESSION.1
-        };
-        let wanted = if octet < capture.len() {
-            Came::Fault(SpeakFault::Capture)
-        } else {
-            Came::Right
-        };
-        if spoken_with(alloc, alloc, &("", talk, SESSION.2), front) != wanted {
-            return false;
+/// Whether each octet is told that a sink fails at.
+fn are_told(alloc: Global) -> Option<bool> {
+    let whole = came_of(alloc, alloc, &whole_talk())?;
+    for octet in 0..=whole.capture.len() {
+        if !is_told_at(alloc, octet, &whole) {
+            return Some(false);
         }
     }
-    true
-}
-
-/// Whether they are, of the whole talk.
-fn are_all_told(alloc: Global) -> bool {
-    match capture_of(alloc, SESSION.2.records) {
-        Ok(capture) => are_told(alloc, capture.as_slice()),
-        Err(_) => false,
-    }
+    Some(is_told_at_once(alloc, &whole) && whole.capture.len() == 653)
 }
 
 #[test]
 fn a_sink_that_fails_has_a_beginning_of_the_capture(rt: HostRuntime) {
-    assert!(rt; are_all_told(rt.alloc()));
+    assert!(rt; are_told(rt.alloc()) == Some(true));
 }
 
 #[test]

@@ -44,7 +44,7 @@ fn is_write_upset(
     (upset, answer, failures): &(WireUpset, Result<usize, Failed>, u64),
 ) -> bool {
     let mut wire = MemWire::new(alloc, &[], &[])
-        .in_pieces_of(at_most(2))
+        .in_pieces_of(NonZeroUsize::new(2).unwrap_or(NonZeroUsize::MIN))
         .upset_at(1, *upset);
     wire.connect().is_ok()
         && wire.write(b"abc") == Ok(2)
