@@ -1,5 +1,5 @@
-//! Tests of `bgp_tool`: devices that fail, refused memory, and what is told on standard error.
-//! (Lines and verdicts are compared by the program `real_captures`.)
+//! Tests of `bgp_tool`: refused memory, and what no file brings about. (Lines, verdicts, devices
+//! that fail and what is told on standard error are compared by the program `real_captures`.)
 //!
 //! They stand in a crate of their own, since a crate with tests is proved twice.
 #![tactic(auto)]

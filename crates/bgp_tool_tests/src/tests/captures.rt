@@ -1,19 +1,14 @@
-//! What decoding a capture does where a device fails or memory is refused. Its lines are compared
-//! by the program `real_captures`.
+//! What decoding a capture asks of its devices, and refused memory. Its lines are compared by the
+//! program `real_captures`.
 
 use super::*;
 use bgp_prefix::{Address, RouteRefresh, Session};
-use mrt::{Endpoints, Reader};
+use mrt::Reader;
 
-/// The address of the peer.
-const PEER: Address = Address::V4(0xc000_0202);
-
-/// The address of the local system.
-const LOCAL: Address = Address::V4(0xc000_0201);
-
-pub(super) const SESSION: Session = Session {
-    peer: PEER,
-    local: LOCAL,
+/// A session between 192.0.2.2 and 192.0.2.1.
+const SESSION: Session = Session {
+    peer: Address::V4(0xc000_0202),
+    local: Address::V4(0xc000_0201),
     refresh: RouteRefresh::NotOffered,
     extended: false,
 };
@@ -31,79 +26,45 @@ pub(super) const CHANGE: [u8; 36] = [
     0x00, 0x01, 0x00, 0x02, // from state 1 to state 2
 ];
 
-/// A capture of so many changes.
-pub(super) fn changes(alloc: Global, count: usize) -> Result<Vec<u8>, AllocError> {
-    let mut capture = Vec::new(alloc);
-    for _ in 0..count {
-        capture.extend_from_slice(&CHANGE)?;
-    }
-    Ok(capture)
-}
-
-/// What decoding changes wrote and answered, how many octets the source had given then, and whether
-/// the reader had answered.
-#[derive(Drop)]
-struct Answer {
-    text: Vec<u8>,
-    status: u8,
-    given: usize,
-    has_answered: bool,
-}
-
-/// Decodes so many changes with this memory, from a source and into a sink that may be upset.
+/// What decoding a capture with this memory writes and answers, whether the reader has answered a
+/// record then, and how many octets the source had given, which fails at this call.
 fn decoded<A: Allocator + Copy>(
     memory: A,
     alloc: Global,
-    count: usize,
-    handling: Handling,
-) -> Result<Answer, AllocError> {
-    let mut source = MemSource::new(changes(alloc, count)?);
-    if let Some((call, upset)) = handling.source {
-        source = source.upset_at(call, upset);
-    }
-    let mut sink = MemSink::new(alloc);
-    if let Some((call, upset)) = handling.sink {
-        sink = sink.upset_at(call, upset);
-    }
+    capture: Vec<u8>,
+    (read, write): (u64, u64),
+) -> ((Vec<u8>, u8), (bool, usize)) {
+    let mut source = MemSource::new(capture).upset_at(read, SourceUpset::Fail);
+    let mut sink = MemSink::new(alloc).upset_at(write, SinkUpset::Fail);
     let mut reader = Reader::new(memory);
     let status = decode_capture(&mut reader, &SESSION, &mut source, &mut sink);
-    Ok(Answer {
-        text: sink.into_octets(),
-        status,
-        given: source.given(),
-        has_answered: reader.has_answered(),
-    })
+    (
+        (sink.into_octets(), status),
+        (reader.has_answered(), source.given()),
+    )
 }
+
+/// The number of no call.
+const NEVER: u64 = u64::MAX;
 
 /// Whether the failure of a source is told, and the reader has answered.
 fn is_source_told(alloc: Global) -> Result<bool, AllocError> {
-    let handling = Handling {
-        source: Some((2, SourceUpset::Fail)),
-        ..WHOLE
-    };
-    let answer = decoded(alloc, alloc, 2, handling)?;
-    let text = b"@100 change 1 2\ncapture refused: 9 Device at 36\n";
-    Ok(same(&answer.text, answer.status, text, 5) && answer.has_answered)
-}
-
-#[test]
-fn a_failing_source_is_told(rt: HostRuntime) {
-    assert!(rt; is_source_told(rt.alloc()) == Ok(true));
+    let capture = copies_of(alloc, &CHANGE, 2)?;
+    let ((text, status), (has_answered, _)) = decoded(alloc, alloc, capture, (2, NEVER));
+    let known = b"@100 change 1 2\ncapture refused: 9 Device at 36\n";
+    Ok(same(&text, status, known, 5) && has_answered)
 }
 
 /// Whether the failure of a sink is told, and not all was read.
 fn is_sink_told(alloc: Global) -> Result<bool, AllocError> {
-    let handling = Handling {
-        sink: Some((0, SinkUpset::Fail)),
-        ..WHOLE
-    };
-    let answer = decoded(alloc, alloc, 5000, handling)?;
-    Ok(same(&answer.text, answer.status, b"", 5) && answer.given < 5000 * CHANGE.len())
+    let capture = copies_of(alloc, &CHANGE, 5000)?;
+    let ((text, status), (_, given)) = decoded(alloc, alloc, capture, (NEVER, 0));
+    Ok(same(&text, status, b"", 5) && given < 5000 * CHANGE.len())
 }
 
 #[test]
-fn a_failing_sink_ends_the_reading(rt: HostRuntime) {
-    assert!(rt; is_sink_told(rt.alloc()) == Ok(true));
+fn a_failing_device_ends_the_reading(rt: HostRuntime) {
+    assert!(rt; is_source_told(rt.alloc()) == Ok(true) && is_sink_told(rt.alloc()) == Ok(true));
 }
 
 /// Sizes of heaps, and the status and the text of a change that is decoded with one.
@@ -114,30 +75,16 @@ static SIZES: [(usize, u8, &str); 3] = [
 ];
 
 /// Whether a change is decoded so with a heap of this size.
-fn is_told_on(alloc: Global, size: usize, status: u8, text: &str) -> Result<bool, AllocError> {
-    let heap = LocalHeap::new(alloc, size)?;
-    let answer = decoded(&heap, alloc, 1, WHOLE)?;
-    Ok(same(&answer.text, answer.status, text.as_bytes(), status))
+fn is_told_on(alloc: Global, (size, status, text): &(usize, u8, &str)) -> Result<bool, AllocError> {
+    let heap = LocalHeap::new(alloc, *size)?;
+    let capture = copies_of(alloc, &CHANGE, 1)?;
+    let ((written, answer), _) = decoded(&heap, alloc, capture, (NEVER, NEVER));
+    Ok(same(&written, answer, text.as_bytes(), *status))
 }
 
 #[test]
 fn refused_memory_is_told_and_ample_memory_is_not(rt: HostRuntime) {
-    for (size, status, text) in &SIZES {
-        let is_so = is_told_on(rt.alloc(), *size, *status, text) == Ok(true);
-        assert!(rt; is_so, "on a heap of {size}");
+    for row in &SIZES {
+        assert!(rt; is_told_on(rt.alloc(), row) == Ok(true));
     }
 }
-
-/// [`SESSION`] as its other end names it.
-pub(super) const EXCHANGED: Session = Session {
-    peer: LOCAL,
-    local: PEER,
-    refresh: RouteRefresh::NotOffered,
-    extended: false,
-};
-
-/// The ends of [`CHANGE`].
-pub(super) const FIRST: Endpoints = Endpoints {
-    peer: PEER,
-    local: LOCAL,
-};

@@ -1,24 +1,14 @@
-//! What judging a capture does with ample memory, and where a growth is refused. Verdicts are
-//! compared by the program `real_captures`.
+//! What judging a capture does where a growth is refused. Verdicts are compared by the program
+//! `real_captures`.
 
 use super::*;
 use bgp_compact::CompactTracker;
-use bgp_judge::PlainTracker;
+use bgp_judge::{PlainTracker, Tracker};
 use bgp_open::{Config, ConfigParts, Families};
 use bgp_prefix::{Address, RouteRefresh, Session};
 use bgp_wire::vectors::{MP_REACH_TRANSITIVE, OPEN_A};
 use mrt::Record::{self, Change, In, Out};
 use mrt::{Sink, is_writable, write_record};
-
-/// What judges: the slow tracker that is easy to believe, or the one that `bgp judge` runs.
-#[derive(Clone, Copy)]
-enum Judge {
-    Plain,
-    Compact,
-}
-
-/// Both of them.
-const BOTH: [Judge; 2] = [Judge::Plain, Judge::Compact];
 
 /// What router A is configured to do.
 pub(super) const PARTS_A: ConfigParts = ConfigParts {
@@ -39,7 +29,7 @@ pub(super) const PARTS_A: ConfigParts = ConfigParts {
 };
 
 /// A session whose last UPDATE may disable IPv6 or not.
-pub(super) static RECORDS: [Record<'static>; 10] = [
+static RECORDS: [Record<'static>; 10] = [
     Change(100, 1, 2),
     Out(100, &OPEN_A),
     Change(100, 2, 4),
@@ -68,10 +58,10 @@ fn put(sink: &mut MemSink, record: &Record<'_>) -> bool {
         && write_record(sink, &PARTS_A.session, 65002, 65001, record).is_ok()
 }
 
-/// A capture of these records, if they could be written.
-pub(super) fn capture_of(alloc: Global, records: &[Record<'_>]) -> Option<Vec<u8>> {
+/// A capture of so many of [`RECORDS`], if they could be written.
+pub(super) fn capture_of(alloc: Global, count: usize) -> Option<Vec<u8>> {
     let mut sink = MemSink::new(alloc);
-    for record in records {
+    for record in RECORDS.iter().take(count) {
         if !put(&mut sink, record) {
             return None;
         }
@@ -79,126 +69,50 @@ pub(super) fn capture_of(alloc: Global, records: &[Record<'_>]) -> Option<Vec<u8
     Some(sink.into_octets())
 }
 
-/// What judging a capture with this memory writes and answers, where these calls of the source and
-/// of the sink fail.
-fn answer_of<A: Allocator + Copy>(
-    judge: Judge,
-    alloc: Global,
-    memory: A,
-    config: &Config,
-    capture: Vec<u8>,
-    (read, write): (u64, u64),
-) -> (Vec<u8>, u8) {
-    let mut source = MemSource::new(capture).upset_at(read, SourceUpset::Fail);
-    let mut sink = MemSink::new(alloc).upset_at(write, SinkUpset::Fail);
-    let status = match judge {
-        Judge::Plain => {
-            judge_capture::<A, PlainTracker<A>, _, _>(memory, config, &mut source, &mut sink)
-        }
-        Judge::Compact => {
-            judge_capture::<A, CompactTracker<A>, _, _>(memory, config, &mut source, &mut sink)
-        }
-    };
-    (sink.into_octets(), status)
-}
-
 /// What judging [`RECORDS`] with this memory writes and answers.
-fn judged<A: Allocator + Copy>(judge: Judge, alloc: Global, memory: A) -> Option<(Vec<u8>, u8)> {
+fn judged<A: Allocator + Copy, T: Tracker<A>>(alloc: Global, memory: A) -> Option<(Vec<u8>, u8)> {
     let config = Config::new(PARTS_A)?;
-    let capture = capture_of(alloc, &RECORDS)?;
-    Some(answer_of(judge, alloc, memory, &config, capture, (NEVER, NEVER)))
+    let mut source = MemSource::new(capture_of(alloc, RECORDS.len())?);
+    let mut sink = MemSink::new(alloc);
+    let status = judge_capture::<A, T, _, _>(memory, &config, &mut source, &mut sink);
+    Some((sink.into_octets(), status))
 }
 
-/// The number of no call.
-const NEVER: u64 = u64::MAX;
+/// Where [`RECORDS`] begin in their capture, and where that ends.
+static PLACES: [u64; 11] = [0, 36, 117, 153, 234, 285, 321, 372, 408, 485, 582];
 
-/// Calls of the source and of the sink that fail where the first of [`RECORDS`] is judged, which is
-/// read by two calls, and what is written then.
-static DEVICES: [((u64, u64), &str); 3] = [
-    ((0, NEVER), "capture refused: 9 Device at 0\n"),
-    ((2, NEVER), "capture refused: 9 Device at 36\n"),
-    ((NEVER, 0), ""),
-];
-
-/// Whether judging it ends so, with status 5.
-fn is_broken(alloc: Global, judge: Judge, calls: (u64, u64), text: &str) -> bool {
-    match (Config::new(PARTS_A), capture_of(alloc, &RECORDS[..1])) {
-        (Some(config), Some(capture)) => {
-            let (written, answer) = answer_of(judge, alloc, alloc, &config, capture, calls);
-            same(&written, answer, text.as_bytes(), 5)
-        }
-        _ => false,
-    }
-}
-
-#[test]
-fn a_failing_source_or_sink_is_told(rt: HostRuntime) {
-    for (calls, text) in &DEVICES {
-        for judge in BOTH {
-            assert!(rt; is_broken(rt.alloc(), judge, *calls, text), "{text}");
+/// The one of them at which this says that memory was refused.
+fn place_of(alloc: Global, written: &[u8]) -> Option<u64> {
+    for place in &PLACES {
+        let refusal = format!(in alloc; "capture refused: 10 Memory at {place}\n").ok()?;
+        if refusal.as_bytes() == written {
+            return Some(*place);
         }
     }
-}
-
-/// Whether judging [`RECORDS`] writes the verdict.
-fn is_judged(alloc: Global, judge: Judge) -> bool {
-    match judged(judge, alloc, alloc) {
-        Some((written, answer)) => same(&written, answer, TEXT.as_bytes(), 0),
-        None => false,
-    }
-}
-
-#[test]
-fn ample_memory(rt: HostRuntime) {
-    for judge in BOTH {
-        assert!(rt; is_judged(rt.alloc(), judge));
-    }
-}
-
-/// The refusal for memory at the octet where these records end.
-fn refusal_at(alloc: Global, records: &[Record<'_>]) -> Option<String> {
-    let place = capture_of(alloc, records)?.len();
-    format!(in alloc; "capture refused: 10 Memory at {place}\n").ok()
-}
-
-/// The refusals for memory at the octets where a record begins, or the capture ends.
-fn refusals(alloc: Global) -> Option<Vec<String>> {
-    let mut refusals = Vec::new(alloc);
-    for count in 0..=RECORDS.len() {
-        refusals.push(refusal_at(alloc, &RECORDS[..count])?).ok()?;
-    }
-    Some(refusals)
-}
-
-/// The place of a refusal.
-fn place_of(refusals: &[String], written: &[u8]) -> Option<usize> {
-    refusals
-        .iter()
-        .position(|refusal| refusal.as_bytes() == written)
+    None
 }
 
 /// With a heap of this size: the place of the record or end at which memory was refused, or that
 /// there is a verdict. It is `None` where something else is answered.
-fn refused_at(
-    alloc: Global,
-    judge: Judge,
-    size: usize,
-    refusals: &[String],
-) -> Option<Option<usize>> {
+fn refused_at(alloc: Global, is_compact: bool, size: usize) -> Option<Option<u64>> {
     let heap = LocalHeap::new(alloc, size).ok()?;
-    let (written, answer) = judged(judge, alloc, &heap)?;
+    let (written, answer) = if is_compact {
+        judged::<&LocalHeap, CompactTracker<&LocalHeap>>(alloc, &heap)?
+    } else {
+        judged::<&LocalHeap, PlainTracker<&LocalHeap>>(alloc, &heap)?
+    };
     if answer == 4 {
-        return Some(Some(place_of(refusals, &written)?));
+        return Some(Some(place_of(alloc, &written)?));
     }
     same(&written, answer, TEXT.as_bytes(), 0).then_some(None)
 }
 
 /// Whether with each size of heap, from one that has no room for the reader's buffer of 65583
 /// octets, memory is refused at such an octet, until the heap is large enough for the verdict.
-fn is_refused_until_ample(alloc: Global, judge: Judge, refusals: &[String]) -> bool {
+fn is_refused_until_ample(alloc: Global, is_compact: bool) -> bool {
     let (mut first, mut last) = (None, None);
     for size in (57_392usize..1 << 17).step_by(16) {
-        match refused_at(alloc, judge, size, refusals) {
+        match refused_at(alloc, is_compact, size) {
             Some(None) => return first == Some(0) && last > Some(0),
             Some(place) => {
                 first = first.or(place);
@@ -210,17 +124,8 @@ fn is_refused_until_ample(alloc: Global, judge: Judge, refusals: &[String]) -> b
     false
 }
 
-/// The same, of the refusals of [`RECORDS`].
-fn is_refused(alloc: Global, judge: Judge) -> bool {
-    match refusals(alloc) {
-        Some(refusals) => is_refused_until_ample(alloc, judge, &refusals),
-        None => false,
-    }
-}
-
 #[test]
 fn a_refused_growth_has_no_verdict(rt: HostRuntime) {
-    for judge in BOTH {
-        assert!(rt; is_refused(rt.alloc(), judge));
-    }
+    assert!(rt; is_refused_until_ample(rt.alloc(), false));
+    assert!(rt; is_refused_until_ample(rt.alloc(), true));
 }
