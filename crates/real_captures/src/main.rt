@@ -7,8 +7,8 @@
 //! once it knew large communities, too (RFC 8092); `rules.txt` was worked out by hand from RFC
 //! 6396.
 //!
-//! Judged are seven tables, by the plain tracker and by the compact one. A program that was written
-//! apart from this one answered `judged.txt`, random captures, `judged-extended.txt` and
+//! Judged are seven tables, by the plain tracker and by the compact one. A program that was
+//! written apart from this one answered `judged.txt`, random captures, `judged-extended.txt` and
 //! `judged-large.txt`, more of them as it answered later, and `recordings.txt`, those of real
 //! routers' sessions; `sessions.txt` was worked out by hand from RFC 4271, one session for each
 //! thing that it teaches, `rows-by-hand.txt` has each row of the session machine
@@ -22,8 +22,8 @@
 //! of UPDATEs with one that was worked out by hand (docs/UPDATE-ERRORS.md), too. So were the lines
 //! of the streams in `streams-by-hand.txt`, and what is found in the OPENs of `opens-by-hand.txt`.
 //!
-//! `told.txt` and `breaks.txt` were, too: commands over readers and writers that may fail, with what
-//! they tell on standard error.
+//! `told.txt` and `breaks.txt` were, too: commands over readers and writers that may fail, with
+//! what they tell on standard error.
 #![tactic(auto)]
 
 mod addresses;
