@@ -42,7 +42,8 @@ const FOUR: usize = 96;
 const EIGHT: usize = 288;
 
 /// A heap's size; the octets of a file before so many zeros, how many zeros, and the octets after
-/// them; how many packets it tells with that much memory, and the fault that comes then, or the end.
+/// them; how many packets it tells with that much memory, and the fault that comes then, or the
+/// end.
 type Row = (
     usize,
     &'static [&'static [u8]],
