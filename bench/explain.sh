@@ -1,25 +1,22 @@
 #!/usr/bin/env bash
 # What the reason of a verdict costs: `bgp judge --explain` beside `bgp judge` of the same capture,
 # in instructions, which are the same in each run, and in processor time. The captures are those of
-# `bench_loads session`: a peer's table and then further records. In the first the session goes on,
-# which is a yes. In the second a change from Idle to Connect stands at the end, which is a no; in
-# the third it stands alone after a session that is opened. Then the same of a recording, a yes, and
-# a no at its second record.
+# sessions.py: a peer's table and then further records. In the first the session goes on, which is a
+# yes. In the second a change from Idle to Connect stands at the end, which is a no; in the third it
+# stands alone after a session that is opened. Then the same of a recording, a yes, and a no at its
+# second record.
 #
-# Wants bash, coreutils, python3, valgrind, and the programs that `rt run` built in crates/bgp/out/bgp and
-# crates/bench_loads/out/bench_loads. Prints figures; it is no test. Words: those programs, if they
-# are others, how many prefixes the table has, and how many records come after it.
+# Wants bash, coreutils, python3, valgrind, and the program that `rt run` built in
+# crates/bgp/out/bgp. Prints figures; it is no test. Words: that program, if it is another, how many
+# prefixes the table has, and how many records come after it.
 set -euo pipefail
 
 here=$(cd "$(dirname "$0")" && pwd)
 bgp=${1:-$here/../crates/bgp/out/bgp}
-maker=${2:-$here/../crates/bench_loads/out/bench_loads}
-prefixes=${3:-10000}
-further=${4:-20000}
+prefixes=${2:-10000}
+further=${3:-20000}
 [[ -x $bgp ]] ||
     { echo "build the program first: (cd crates/bgp && rt run -- --version)" >&2; exit 1; }
-[[ -x $maker ]] ||
-    { echo "build the program first: (cd crates/bench_loads && rt run -- speaker)" >&2; exit 1; }
 
 work=$(mktemp -d)
 trap 'rm -rf "$work"' EXIT
@@ -78,11 +75,11 @@ cost() {
 }
 
 echo "cores: $(nproc)"
-"$maker" session "$prefixes" "$further" > "$work/yes"
+"$here/sessions.py" "$prefixes" "$further" > "$work/yes"
 cost "$prefixes prefixes and $further further records" yes "$work/yes"
 { cat "$work/yes"; impossible; } > "$work/no"
 cost "the same, and an impossible record" no "$work/no"
-{ "$maker" session 0 0; impossible; } > "$work/opened"
+{ "$here/sessions.py" 0 0; impossible; } > "$work/opened"
 cost "a session that is opened, and an impossible record" no "$work/opened"
 "$here/recordings.py" updates "$further" > "$work/recording"
 cost "a recording of $further UPDATEs" yes "$work/recording"

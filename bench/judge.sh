@@ -1,25 +1,25 @@
 #!/usr/bin/env bash
 # What judging a long session with a large table costs, beside decoding the same capture: processor
-# time, and memory before the ends are listed and with them. The captures are those of `bench_loads
-# session`: a table that a peer sends in order, and then none, 100,000 and 2,000,000 further
-# records, UPDATEs of groups that are announced or withdrawn again and KEEPALIVEs; the peer ends the
-# session, or it goes on and its routes are printed. One more goes on and has four ends. Beside the
-# memory stands that of the table alone, with the routes of the same UPDATEs and nothing else
-# (`bench_loads table`), and beside its time that of the same changes in a table of hashes in C
-# (bench/hash.c), which does nothing else.
+# time, and memory before the ends are listed and with them. The captures are those of sessions.py:
+# a table that a peer sends in order, and then none, 100,000 and 2,000,000 further records, UPDATEs
+# of groups that are announced or withdrawn again and KEEPALIVEs; the peer ends the session, or it
+# goes on and its routes are printed. One more goes on and has four ends. Beside the memory stands
+# that of the table alone, with the routes of the same UPDATEs and nothing else (`bench_loads
+# table`), and beside its time that of the same changes in a table of hashes in C (bench/hash.c),
+# which does nothing else.
 #
-# Wants bash, coreutils, cc, GNU time for the memory with the ends, and the programs that `rt run`
-# built in crates/bgp/out/bgp and crates/bench_loads/out/bench_loads. Prints figures; it is no test.
-# Words: those programs, if they are others, and how many prefixes the table has.
+# Wants bash, coreutils, python3, cc, GNU time for the memory with the ends, and the programs that
+# `rt run` built in crates/bgp/out/bgp and crates/bench_loads/out/bench_loads. Prints figures; it is
+# no test. Words: those programs, if they are others, and how many prefixes the table has.
 set -euo pipefail
 
 here=$(cd "$(dirname "$0")" && pwd)
 bgp=${1:-$here/../crates/bgp/out/bgp}
-maker=${2:-$here/../crates/bench_loads/out/bench_loads}
+loads=${2:-$here/../crates/bench_loads/out/bench_loads}
 prefixes=${3:-1000000}
 [[ -x $bgp ]] ||
     { echo "build the program first: (cd crates/bgp && rt run -- --version)" >&2; exit 1; }
-[[ -x $maker ]] ||
+[[ -x $loads ]] ||
     { echo "build the program first: (cd crates/bench_loads && rt run -- speaker)" >&2; exit 1; }
 
 work=$(mktemp -d)
@@ -63,15 +63,15 @@ thousandths() { printf '%d.%03d' $(($1 / 1000)) $(($1 % 1000)); }
 # Prints what a capture costs.
 cost() {
     local name=$1 file=$work/capture text=$work/text before alone timed=() verdict judging decoding
-    "$maker" session "$prefixes" "${@:2}" > "$file"
+    "$here/sessions.py" "$prefixes" "${@:2}" > "$file"
     judging=$(least "$bgp" "${judge[@]}" "$file")
     decoding=$(least "$bgp" "${decode[@]}" "$file")
     before=$(peak "$file" "$bgp" "${judge[@]}")
-    alone=$(peak "$file" "$maker" table)
+    alone=$(peak "$file" "$loads" table)
     echo "$prefixes prefixes and $name: $(stat -c %s "$file") octets," \
         "judge: $judging ms, decode --mrt: $decoding ms," \
         "judge to decode: $(thousandths $((judging * 1000 / decoding)))," \
-        "table alone: $(least "$maker" table "$file") ms, of hashes: $("$work/hash" "$file") ms;" \
+        "table alone: $(least "$loads" table "$file") ms, of hashes: $("$work/hash" "$file") ms;" \
         "peak before the ends: $before KiB, of the table alone: $alone KiB," \
         "more: $((before - alone)) KiB"
     [[ ! -x /usr/bin/time ]] || timed=(/usr/bin/time -f "    peak with the ends: %M KiB")
@@ -102,7 +102,7 @@ read_up_to() {
 }
 
 # The size of a capture with so many further records, with which each longer one begins.
-size_with() { "$maker" session "$prefixes" "$1" | wc -c; }
+size_with() { "$here/sessions.py" "$prefixes" "$1" | wc -c; }
 
 echo "cores: $(nproc)"
 # Two of the four ends have the table. The others have IPv4 disabled, and no routes; each is a copy

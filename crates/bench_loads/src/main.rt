@@ -8,15 +8,14 @@
 //! - `routes [IPV4 IPV6 PATHS [sorted | shared]]`: a table of so many prefixes of each family and
 //!   about so many paths is put, a tenth of it taken away and put again, and all listed; the
 //!   prefixes are in no order, or ascend, or share one path (`bench/routes.sh`).
-//! - `session [PREFIXES FURTHER [ended | several]]`: a capture of one session, to standard output,
-//!   whose peer sends a table of so many prefixes and then so many further records; then it goes
-//!   on, or is ended, or leaves four ends (`bench/judge.sh`).
-//! - `table FILE`: the routes of such a capture are put into a table, and nothing else is done.
+//! - `table FILE`: the routes of a capture are put into a table, and nothing else is done
+//!   (`bench/judge.sh`).
 //! - `speaker [PREFIXES]`: a speaker's core hears and announces so many prefixes
 //!   (`bench/speaker.sh`).
-//! - `each FILE`: the UPDATEs of that stream, and small loads of routes, sessions and a speaker, as
-//!   they are without sizes. So the gate runs it, on the UPDATEs of `bench/mix.sh`, whose prefixes
-//!   were counted by hand.
+//! - `each FILE CAPTURE ..`: the UPDATEs of that stream, small loads of routes and of a speaker, as
+//!   they are without sizes, and the routes of each capture. So the gate runs it, on the UPDATEs of
+//!   `bench/mix.sh`, whose prefixes were counted by hand, and on two captures of
+//!   `bench/sessions.py`, which counts what it announces.
 #![tactic(auto)]
 
 mod classes;
@@ -24,17 +23,17 @@ mod outcomes;
 mod parties;
 mod paths;
 mod routes;
-mod session;
 mod speaker;
+mod table;
 
 use classes::print_classes;
 use outcomes::print_outcomes;
 use routes::fill_routes;
-use session::{make_session, print_table};
 use speaker::load_speaker;
 use std::process::ExitCode;
 use std::rt::{Clock, Env, Files};
 use std::{env, io};
+use table::print_table;
 
 fn main(rt: HostRuntime) -> ExitCode {
     match run(&rt) {
@@ -57,18 +56,27 @@ fn run<R: Files + Env + Clock + Print + AllocGlobal>(rt: &R) -> io::Result<bool>
         "attributes" => print_classes(rt, file_of(words)?),
         "updates" => print_outcomes(rt, file_of(words)?).map(|()| true),
         "routes" => fill_routes(rt, words),
-        "session" => make_session(rt, words),
         "table" => print_table(rt, file_of(words)?).map(|()| true),
         "speaker" => load_speaker(rt, words),
-        "each" => carry_each(rt, file_of(words)?),
+        "each" => carry_each(rt, words),
         _ => Err(refused()),
     }
 }
 
-/// Carries a small load of each.
-fn carry_each<R: Files + Clock + Print + AllocGlobal>(rt: &R, updates: &str) -> io::Result<bool> {
-    print_outcomes(rt, updates)?;
-    Ok(fill_routes(rt, &[])? && make_session(rt, &[])? && load_speaker(rt, &[])?)
+/// Carries a small load of each: of the UPDATEs that the first word names, and of the captures that
+/// the others do.
+fn carry_each<R: Files + Clock + Print + AllocGlobal>(
+    rt: &R,
+    words: &[String],
+) -> io::Result<bool> {
+    let Some((updates, captures)) = words.split_first() else {
+        return Err(refused());
+    };
+    print_outcomes(rt, updates.as_str())?;
+    for capture in captures {
+        print_table(rt, capture.as_str())?;
+    }
+    Ok(fill_routes(rt, &[])? && load_speaker(rt, &[])?)
 }
 
 /// The file that the words name.

@@ -11,8 +11,6 @@ pub(crate) struct Attributes {
     pub(crate) numbers: Vec<u32>,
     /// The address of NEXT_HOP.
     pub(crate) next_hop: u32,
-    /// MULTI_EXIT_DISC.
-    pub(crate) metric: Option<u32>,
     pub(crate) communities: Vec<u32>,
 }
 
@@ -33,7 +31,7 @@ pub(crate) fn path_of(alloc: Global, attributes: Attributes) -> Result<Path, All
             origin: attributes.origin,
             as_path: as_path_of(alloc, attributes.numbers)?,
             next_hop: NextHop::V4(attributes.next_hop),
-            multi_exit_disc: attributes.metric,
+            multi_exit_disc: None,
             local_pref: None,
             atomic_aggregate: false,
             aggregator: None,

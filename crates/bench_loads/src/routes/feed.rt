@@ -246,7 +246,6 @@ pub fn path(alloc: Global, group: u32) -> Result<Path, AllocError> {
         origin: Origin::Igp,
         numbers: Vec::from_slice(alloc, &[PEER_AS, 174, 3356, group])?,
         next_hop: PEER_ADDRESS,
-        metric: None,
         communities: Vec::from_slice(alloc, &[group, 0xfdea_0001])?,
     };
     path_of(alloc, attributes)

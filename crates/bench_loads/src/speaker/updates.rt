@@ -27,7 +27,6 @@ pub(crate) fn plain_path(alloc: Global, number: u32, next_hop: u32) -> Result<Pa
         origin: Origin::Igp,
         numbers: Vec::from_slice(alloc, &[number])?,
         next_hop,
-        metric: None,
         communities: Vec::new(alloc),
     };
     path_of(alloc, attributes)

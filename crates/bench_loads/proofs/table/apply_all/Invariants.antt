@@ -1,5 +1,5 @@
 use Rattle.std.proofs.Common.{◌≡◌, ◌≤◌}
-use Rattle.bench_loads.proofs.session.table.apply_all.Given as goal
+use Rattle.bench_loads.proofs.table.apply_all.Given as goal
 
 -- no read has failed, and the reader has passed no more than was given
 abbrev pub invariant-loop : goal.invariant-loop

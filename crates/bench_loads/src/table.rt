@@ -48,7 +48,7 @@ fn apply_all<S: Source>(
 }
 
 /// The routes that a capture leaves.
-pub(crate) fn table_of<S: Source>(alloc: Global, source: &mut S) -> io::Result<RibIn>
+fn table_of<S: Source>(alloc: Global, source: &mut S) -> io::Result<RibIn>
     requires { S.failures source.old < u64.MAX }
 {
     let link = local_link()?;
