@@ -44,8 +44,8 @@ of each session in a capture:
 and last:
   ends 2: 1 yes, 0 no, 0 unfinished, 1 not judged; refused 0
 
-After a no and an unfinished of a recording the reason follows, in lines that are set in, as judge
---explain tells it; and after these, and with --settings after a yes too, a line
+After a no and an unfinished the reason follows, in lines that are set in, as judge --explain tells
+it; and after these, and with --settings after a yes too, a line
     judge --local-as 65001 --peer-as 65002 --local-id 192.0.2.1 ..
 with options for which judge says the same of FILE, where there are such. They are the widest
 configuration that the OPEN allows, and not the router's own.
