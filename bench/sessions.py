@@ -3,8 +3,8 @@
 65001 at 192.0.2.1 with its peer, AS 65002 at 192.0.2.2. The peer sends its table, in the order of
 addresses, and then some groups of prefixes again and again, with other paths or withdrawn.
 
-    sessions.py PREFIXES FURTHER            so many prefixes, and so many records after them, which
-                                            want one prefix at the least
+    sessions.py PREFIXES FURTHER            so many prefixes, and so many records after them: none
+                                            where there is no prefix
     sessions.py PREFIXES FURTHER ended      the same, and the peer ends the session
     sessions.py PREFIXES FURTHER several    the same, and two UPDATEs by which it has four ends
 
@@ -58,7 +58,7 @@ class Chance:
         self.below(1)
 
     def below(self, count):
-        """A number below this one, of the 32 bits that the state gives before it goes on."""
+        """A number below this one, made of 32 bits of the present state; then the state goes on."""
         state = self.state
         self.state = (state * 6364136223846793005 + self.step) & (1 << 64) - 1
         bits = ((state >> 18 ^ state) >> 27) & 0xffffffff
@@ -118,9 +118,9 @@ class Peer:
         return update(b'', self.path(), group), count
 
     def changing(self):
-        """The group that changes: of four times once the one that is withdrawn, if one is. Else, of
-        ten times nine, it is of a tenth of the groups, which lie anywhere in the table: in real
-        feeds, too, few prefixes make most UPDATEs."""
+        """The group that changes: once in four times the one that is withdrawn, if there is one.
+        Otherwise nine times in ten one of every tenth group, so that they lie all over the table:
+        in real feeds, too, few prefixes make most UPDATEs."""
         place = self.chance.below(len(self.groups))
         is_any = self.chance.below(10) == 0
         returns = self.chance.below(4) == 0
@@ -129,8 +129,8 @@ class Peer:
         return place if is_any else place - place % 10
 
     def change_group(self):
-        """The UPDATE that changes a group: it is withdrawn, of four times once where none is, or
-        announced by another path."""
+        """The UPDATE that changes a group: it is withdrawn, once in four times and only while none
+        is, or announced by another path."""
         place = self.changing()
         withdraws = self.chance.below(4) == 0 and self.withdrawn is None
         path = self.path()
@@ -205,6 +205,8 @@ def main(prefixes, further, ending=None):
 
 
 words = sys.argv[1:]
-if len(words) not in (2, 3) or words[2:] not in ([], ['ended'], ['several']):
+if (len(words) not in (2, 3) or words[2:] not in ([], ['ended'], ['several'])
+        or not all(word.isdecimal() for word in words[:2])
+        or int(words[0]) == 0 != int(words[1])):
     sys.exit(__doc__)
 main(int(words[0]), int(words[1]), *words[2:])

@@ -34,7 +34,7 @@ fn inputs_of(alloc: Global) -> Option<Vec<(Seconds, Input<'static>)>> {
 }
 
 /// The state that each leads to, and how many records have been shown and octets sent by then: an
-/// OPEN has 49, a KEEPALIVE 19, an UPDATE that announces 46 and one that withdraws 26, and the Cease
+/// OPEN has 49, a KEEPALIVE 19, an UPDATE that announces 46, one that withdraws 26, and the Cease
 /// 21 octets.
 static STEPS: [(Fsm, usize, usize); 14] = [
     (Fsm::Idle, 0, 0),
