@@ -1,8 +1,9 @@
 #!/usr/bin/env python3
 """Which definitions does one have to believe? Follows the words from the public contracts, and
-prints the counts and lists of docs/SPECIFICATION.md: its part from "How much that is" to "Laws".
+prints the counts and the list of docs/SPECIFICATION.md: its part from "How much that is" to "Laws".
 
-    bench/specification.py              the counts and the lists, as Markdown
+    bench/specification.py              the counts, and what a verdict rests on, as Markdown
+    bench/specification.py --all        besides the lines of each crate, and all other files
     bench/specification.py --way WORD   how WORD is reached, up to a contract
 
 A *word* is a definition in `crates/*/specs/*.antt`. A contract (the clauses of a function, the
@@ -13,6 +14,7 @@ Whoever believes a contract has to read all words that are reached so. They are 
     records      `judge_records` and the trait `Tracker` (bgp_judge)
     a capture    `judge_capture` (bgp_tool) and the traits `Source` and `Sink` (mrt)
     a recording  `judge_recording` and `each_end_is_shown` (bgp_recording_tool)
+    a check      `check_recording` and `no_configuration_has_a_run` (bgp_check_tool)
     the rest     every other function, type and trait that a library hands out in its lib.rt, and
                  what its types say where they implement traits
 
@@ -36,7 +38,11 @@ ROOTS = [
         ('bgp_tool', 'judge_capture'), ('mrt', 'Source'), ('mrt', 'Sink')]),
     ('What judging a recording adds', [
         ('bgp_recording_tool', 'judge_recording'), ('bgp_recording_tool', 'each_end_is_shown')]),
+    ('What checking a recording adds', [
+        ('bgp_check_tool', 'check_recording'), ('bgp_check_tool', 'no_configuration_has_a_run')]),
 ]
+# How many of these parts the page lists.
+LISTED = 3
 
 # A name with what stands behind its dots, and not behind one itself.
 NAME = re.compile(r"(?<![\w.'])([A-Za-z_][\w']*)((?:\.[A-Za-z_][\w']*)*)")
@@ -351,7 +357,8 @@ def print_counts(library, parts):
 
 def print_crates(library, parts):
     """The lines of each crate, by part."""
-    print('| Crate | Records | A capture | A recording | The rest | Private |\n' + '|---' * 6 + '|')
+    print('| Crate | Records | A capture | A recording | A check | The rest | Private |')
+    print('|---' * 7 + '|')
     for crate in library.crates:
         lines = [lines_of(library, [node for node in part.words if node[1] == crate])
                  for part in parts]
@@ -427,12 +434,15 @@ def main():
     private = Part(library, 'What private contracts alone cite', every_word(library), seen)
     print('## How much that is\n')
     print_counts(library, parts + [private])
-    print_crates(library, parts + [private])
     print('## What a verdict rests on\n')
-    for part in parts[:-1]:
+    for part in parts[:LISTED]:
         print_list(library, part, True)
-    print('## The rest\n')
-    print_list(library, parts[-1], False)
+    if '--all' in sys.argv:
+        print('## The rest\n')
+        print_crates(library, parts + [private])
+        for part in parts[LISTED:]:
+            print_list(library, part, False)
 
 
-main()
+if __name__ == '__main__':
+    main()

@@ -24,7 +24,7 @@ use Rattle.bgp_machine.specs.Step.{ReceivedIn, changed}
 use Rattle.bgp_machine.proofs.OneHearing.{one_heard}
 use Rattle.bgp_judge.specs.Member.{Member, IsFree, link_for}
 use Rattle.bgp_judge.specs.Next.{Next}
-use Rattle.bgp_check.specs.Opens.{HasPeersOpen, SendsNoOpen}
+use Rattle.bgp_parts.specs.Opens.{HasPeersOpen, SendsNoOpen}
 use Rattle.bgp_check.proofs.AnotherRuns.{Behind, LeadsToo, announced, announces, behind, down_leads}
 use Rattle.bgp_check.proofs.Down.{NearMember, NearWants, owed}
 use Rattle.bgp_check.proofs.EachHeard.{hears_valid}

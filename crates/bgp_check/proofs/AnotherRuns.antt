@@ -13,7 +13,7 @@ use Rattle.bgp_machine.specs.Run.{Begins, End, IsComplete, end_of}
 use Rattle.bgp_judge.specs.Member.{Member, IsFree, fresh_member}
 use Rattle.bgp_check.specs.Alike.{AreAlike}
 use Rattle.bgp_check.specs.Another.{AnotherBegins, AnotherIsComplete, IsAnother, WantsAnother}
-use Rattle.bgp_check.specs.Opens.{HasPeersOpen, IsOpenMessage}
+use Rattle.bgp_parts.specs.Opens.{HasPeersOpen, IsOpenMessage}
 use Rattle.bgp_check.specs.Stretch.{AtMostTheLastLeaves, IsStretch}
 use Rattle.bgp_check.proofs.Down.{NearMember, down_next, refused_next, same_if_free}
 use Rattle.bgp_check.proofs.Explaining.{Leads, explained, explained_end, explains, explains_end}

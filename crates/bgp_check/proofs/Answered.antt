@@ -1,5 +1,6 @@
 -- What is answered of an end: when it is judged, and what a no says.
 use Rattle.std.proofs.Common.{◌≡◌, ◌||◌, ◌⊎◌, Bool, true, false, IsTrue, ℕ, List, [], ◌∷◌, Option, None, Some, IfNone, option_map, if◌then◌else◌, inl, inr, refl, sym, subst, take, ◌+◌, ◌∙◌}
+use Rattle.std.specs.Option.{option_or}
 use Rattle.bgp_prefix.specs.Shown.{ShownRecord, Received, Sent, Changed}
 use Rattle.bgp_prefix.specs.declared.session.Session.{Session}
 use Rattle.bgp_open.specs.Offer.{families_of}
@@ -13,8 +14,9 @@ use Rattle.bgp_check.specs.declared.not_judged.NotJudged.TheVariants.{NoFamily}
 use Rattle.bgp_check.specs.Answered.{FaultIsANo, HasFault, IsAmong, IsNoByOpen, NoConfigurationExplains}
 use Rattle.bgp_check.specs.Checked.{IsTold}
 use Rattle.bgp_check.specs.Configurations.{IsOf}
-use Rattle.bgp_check.specs.NotJudged.{why_not}
-use Rattle.bgp_check.specs.Opens.{FirstSent, HasOwnOpen}
+use Rattle.bgp_check.specs.NotJudged.{why_by_paths, why_not}
+use Rattle.bgp_parts.specs.Opens.{HasOwnOpen}
+use Rattle.bgp_parts.proofs.OneOwnOpen.{one_own}
 use Rattle.bgp_check.specs.Over.{HasVerdictOver}
 use Rattle.bgp_check.specs.declared.own_fault.OwnFault.{OwnFault}
 use Rattle.bgp_check.specs.declared.widest.Widest.{Widest}
@@ -30,34 +32,23 @@ by_families true v6 other is none = none.0 refl
 by_families false true other is none = none.1 refl
 by_families false false other is none = let k : ⊥ = cc in k
 
-no_reason : (sends extended : Bool) (own : Option (List ℕ)) (told : Option OpenFields) → None ≡ why_not sends extended (option_map open_of own) told
-    → ¬ OffersNone own
-no_reason false extended own told is none = let k : ⊥ = cc in k
-no_reason true true own told is none = let k : ⊥ = cc in k
-no_reason true false None told is none = none
-no_reason true false (Some own) told is none =
+none_before : (first later : Option NotJudged) → None ≡ option_or first later → None ≡ first
+none_before None later is = refl
+none_before (Some why) later is = is
+
+no_reason : (sends extended : Bool) (own : Option (List ℕ)) (told : Option OpenFields) (confederated : Bool)
+    → None ≡ why_not sends extended (option_map open_of own) told confederated → ¬ OffersNone own
+no_reason false extended own told confederated is none = let k : ⊥ = cc in k
+no_reason true true own told confederated is none = let k : ⊥ = cc in k
+no_reason true false None told confederated is none = none
+no_reason true false (Some own) told confederated is none =
     let families = families_of (open_of own).capabilities in
-    by_families families.v4 families.v6 _ is none
+    by_families families.v4 families.v6 _ (none_before _ (why_by_paths confederated) is) none
 
-pub family_if : (result : Option NotJudged) (sends extended : Bool) (own : Option (List ℕ)) (told : Option OpenFields)
-    → result ≡ why_not sends extended (option_map open_of own) told → IfNone result (¬ OffersNone own)
-family_if None sends extended own told is = no_reason sends extended own told is
-family_if (Some why) sends extended own told is = tt
-
--- ---- the own OPEN is one
-
-some_differs : (Is : List ℕ → Type 0) (records : List ShownRecord) (one other : Option (List ℕ)) → FirstSent Is records one → FirstSent Is records other
-    → one ≡ other
-some_differs Is [] one other has too = has ∙ sym too
-some_differs Is (Sent t octets ∷ records) one other has too = elim has [
-  | inl here ↦ elim too [ inl also ↦ here.1 ∙ sym also.1 | inr later ↦ absurd (later.0 here.0) ]
-  | inr later ↦ elim too [ inl here ↦ absurd (later.0 here.0) | inr also ↦ some_differs Is records one other later.1 also.1 ]
-]
-some_differs Is (Received t octets ∷ records) one other has too = some_differs Is records one other has too
-some_differs Is (Changed t old new ∷ records) one other has too = some_differs Is records one other has too
-
-pub one_own : (records : List ShownRecord) (one other : Option (List ℕ)) → HasOwnOpen records one → HasOwnOpen records other → one ≡ other
-one_own records one other has too = some_differs IsWellFormed records one other has too
+pub family_if : (result : Option NotJudged) (sends extended : Bool) (own : Option (List ℕ)) (told : Option OpenFields) (confederated : Bool)
+    → result ≡ why_not sends extended (option_map open_of own) told confederated → IfNone result (¬ OffersNone own)
+family_if None sends extended own told confederated is = no_reason sends extended own told confederated is
+family_if (Some why) sends extended own told confederated is = tt
 
 -- ---- what a no says
 
@@ -66,7 +57,7 @@ faultless session None config of = tt
 faultless session (Some own) config of = (of.1.form, none_if_own config own of.1)
 
 pub none_explains : NoConfigurationExplains
-none_explains session records number peer count own config stretch answer has of =
+none_explains session records number peer under count own config stretch answer has of =
     let same = one_own records own answer.own has answer.has_own in
     let mine = subst (λ (o : Option (List ℕ)). IsOf session o config) same of in
     let none = (answer.over stretch (faultless session answer.own config mine)).2 config mine in

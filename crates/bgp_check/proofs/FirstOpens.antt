@@ -4,7 +4,7 @@ use Rattle.std.proofs.Math.Seq.{drop-cons}
 use Rattle.mrt.specs.Reader.{shown_of}
 use Rattle.mrt.specs.declared.record.Record.{Record}
 use Rattle.bgp_prefix.specs.Shown.{ShownRecord, Received, Sent, Changed}
-use Rattle.bgp_check.specs.Opens.{FirstReceived, FirstSent, IsReceived, IsSent, ReceivesNone, SendsNone}
+use Rattle.bgp_parts.specs.Opens.{FirstReceived, FirstSent, IsReceived, IsSent, ReceivesNone, SendsNone}
 
 sent_first : (Is : List ℕ → Type 0) (shown : ShownRecord) (records : List ShownRecord) (found : List ℕ) → IsSent Is shown found
     → FirstSent Is (shown ∷ records) (Some found)

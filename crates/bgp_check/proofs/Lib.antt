@@ -21,10 +21,10 @@ pub mod Over
 pub mod OwnSettings
 pub mod SentOwn
 pub mod FirstOpens
-pub mod ReadableOpen
+pub mod ToldOpen
 pub mod OpenMessages
 pub mod OwnConfigs
-pub mod Tuples
 pub mod WidestMade
 pub mod Told
 pub mod Answered
+pub mod Under

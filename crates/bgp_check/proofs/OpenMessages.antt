@@ -7,7 +7,7 @@ use Rattle.bgp_wire.specs.declared.header.HeaderFaults.{HeaderFaults}
 use Rattle.bgp_wire.specs.declared.header.Limit.TheVariants.{Plain}
 use Rattle.bgp_wire.specs.declared.header.MessageType.{MessageType}
 use Rattle.bgp_wire.specs.declared.header.MessageType.TheVariants.{Open}
-use Rattle.bgp_check.specs.Opens.{IsOpenMessage}
+use Rattle.bgp_parts.specs.Opens.{IsOpenMessage}
 
 is_open : (kind : MessageType) → type_code kind ≡ 1 → kind ≡ Open
 is_open Open is = refl

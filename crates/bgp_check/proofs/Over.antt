@@ -13,7 +13,7 @@ use Rattle.bgp_judge.specs.Verdict.{HasVerdict, No, Unfinished, VerdictValue, Ye
 use Rattle.bgp_check.specs.Another.{CanBeTold, WantsAnother}
 use Rattle.bgp_check.specs.Ends.{SameEnds, SameEndsWithout}
 use Rattle.bgp_check.specs.Configurations.{IsOf}
-use Rattle.bgp_check.specs.Opens.{HasOwnOpen, HasPeersOpen, SendsNoOpen}
+use Rattle.bgp_parts.specs.Opens.{HasOwnOpen, HasPeersOpen, SendsNoOpen}
 use Rattle.bgp_check.specs.Over.{HasVerdictOver, VerdictOfBoth, VerdictOfOne, VerdictOfYes, verdict_of_both}
 use Rattle.bgp_check.specs.Stretch.{AtMostTheLastLeaves, IsStretch}
 use Rattle.bgp_check.specs.Widest.{AreWidestWith, IsItsOwn, IsWidest, WidestBegins, WidestIsComplete}

@@ -22,7 +22,7 @@ use Rattle.bgp_judge.specs.Told.{EachRunIsAsTold, told}
 use Rattle.bgp_check.specs.Alike.{AreAlike}
 use Rattle.bgp_check.specs.Another.{WantsAnother}
 use Rattle.bgp_check.specs.Ends.{SameEnds, SameEndsWithout}
-use Rattle.bgp_check.specs.Opens.{HasPeersOpen}
+use Rattle.bgp_parts.specs.Opens.{HasPeersOpen}
 use Rattle.bgp_check.specs.Stretch.{AtMostTheLastLeaves, IsStretch}
 use Rattle.bgp_check.specs.Widest.{IsWidest}
 use Rattle.bgp_check.specs.Without.{FaultsIt}

@@ -14,7 +14,7 @@ use Rattle.bgp_machine.specs.State.{link_at}
 use Rattle.bgp_machine.specs.Want.{Fulfils}
 use Rattle.bgp_judge.specs.Member.{Member, fresh_member}
 use Rattle.bgp_judge.specs.Next.{Next}
-use Rattle.bgp_check.specs.Opens.{HasOwnOpen}
+use Rattle.bgp_parts.specs.Opens.{HasOwnOpen}
 use Rattle.bgp_check.specs.OwnFaults.{SentOpenIsOwn}
 use Rattle.bgp_check.proofs.Explaining.{Leads, explained}
 

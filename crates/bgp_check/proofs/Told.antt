@@ -11,7 +11,7 @@ use Rattle.bgp_judge.specs.Verdict.{HasVerdict, No, Unfinished, VerdictValue, Ye
 use Rattle.bgp_check.specs.Answered.{FaultIsANo, IsAmong, IsNoByOpen}
 use Rattle.bgp_check.specs.Checked.{IsTold, IsToldBy, IsToldUnder, ToldIsOverAll, tells_other}
 use Rattle.bgp_check.specs.Configurations.{IsOf, own_faults}
-use Rattle.bgp_check.specs.Opens.{HasOwnOpen, HasPeersOpen}
+use Rattle.bgp_parts.specs.Opens.{HasOwnOpen, HasPeersOpen}
 use Rattle.bgp_check.specs.Over.{HasVerdictOver, VerdictOfBoth, VerdictOfOne, VerdictOfYes, verdict_of_both}
 use Rattle.bgp_check.specs.OwnFaults.{SentOpenIsOwn}
 use Rattle.bgp_check.specs.Stretch.{IsStretch}

@@ -24,7 +24,7 @@ use Rattle.bgp_machine.proofs.Shapes.{shape_received}
 use Rattle.bgp_judge.specs.Member.{Member, IsFree}
 use Rattle.bgp_judge.specs.Next.{Next, Opens}
 use Rattle.bgp_judge.proofs.Standing.{silent_end}
-use Rattle.bgp_check.specs.Opens.{SendsNoOpen}
+use Rattle.bgp_parts.specs.Opens.{SendsNoOpen}
 use Rattle.bgp_check.proofs.Similar.{PaysToo}
 
 abbrev pub IsEarly : Fsm → Type 0

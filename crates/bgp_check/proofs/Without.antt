@@ -11,7 +11,7 @@ use Rattle.bgp_machine.specs.Owed.{EachOwedCanBeMet}
 use Rattle.bgp_machine.specs.Run.{Begins, IsComplete}
 use Rattle.bgp_judge.specs.Member.{Member, fresh_member}
 use Rattle.bgp_check.specs.Configurations.{IsOf}
-use Rattle.bgp_check.specs.Opens.{HasPeersOpen, SendsNoOpen}
+use Rattle.bgp_parts.specs.Opens.{HasPeersOpen, SendsNoOpen}
 use Rattle.bgp_check.specs.Stretch.{IsStretch}
 use Rattle.bgp_check.specs.Wider.{WiderBegins, WiderIsComplete}
 use Rattle.bgp_check.specs.Widest.{IsWidest}

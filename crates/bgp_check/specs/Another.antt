@@ -8,7 +8,7 @@ use Rattle.bgp_open.specs.Open.{open_of}
 use Rattle.bgp_open.specs.OpenFault.{IsReadable}
 use Rattle.bgp_open.specs.OpenSubcodes.{IsBadPeerAs}
 use Rattle.bgp_machine.specs.Run.{Begins, End, IsComplete}
-use Rattle.bgp_check.specs.Opens.{HasPeersOpen}
+use Rattle.bgp_parts.specs.Opens.{HasPeersOpen}
 use Rattle.bgp_check.specs.Stretch.{IsStretch}
 
 -- there is an OPEN of the peer, and its fields can be told

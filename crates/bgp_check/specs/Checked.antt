@@ -7,7 +7,7 @@ use Rattle.bgp_open.specs.declared.config.Config.{Config}
 use Rattle.bgp_judge.specs.Verdict.{HasVerdict, No, Unfinished, VerdictValue, Yes}
 use Rattle.bgp_check.specs.declared.widest.Widest.{Widest}
 use Rattle.bgp_check.specs.Configurations.{IsOf}
-use Rattle.bgp_check.specs.Opens.{HasOwnOpen, HasPeersOpen}
+use Rattle.bgp_parts.specs.Opens.{HasOwnOpen, HasPeersOpen}
 use Rattle.bgp_check.specs.Over.{HasVerdictOver}
 use Rattle.bgp_check.specs.Stretch.{IsStretch}
 use Rattle.bgp_check.specs.WidestMade.{configurations_of}
@@ -48,6 +48,11 @@ IsToldBy None another records false verdict = HasVerdict another records verdict
 abbrev pub IsTold : Widest → List ShownRecord → Bool → VerdictValue → Type 0
 IsTold widest records wants verdict =
     IsToldBy widest.wanting widest.another records wants verdict
+
+-- the one of the widest configurations under which it is told
+abbrev pub IsUnder : Widest → Bool → Config → Type 0
+IsUnder widest true config = widest.wanting ≡ Some config
+IsUnder widest false config = widest.another ≡ config
 
 -- ---- the law
 

@@ -7,7 +7,7 @@ use Rattle.bgp_machine.specs.Lists.{Each}
 use Rattle.bgp_machine.specs.Run.{End, IsComplete}
 use Rattle.bgp_check.specs.Another.{WantsAnother}
 use Rattle.bgp_check.specs.Configurations.{IsOf}
-use Rattle.bgp_check.specs.Opens.{HasPeersOpen, SendsNoOpen}
+use Rattle.bgp_parts.specs.Opens.{HasPeersOpen, SendsNoOpen}
 use Rattle.bgp_check.specs.Stretch.{IsStretch}
 use Rattle.bgp_check.specs.Widest.{IsWidest}
 use Rattle.bgp_check.specs.Without.{FaultsIt}

@@ -1,14 +1,12 @@
 pub mod Alike
 pub mod Wider
 pub mod Stretch
-pub mod Opens
 pub mod Refresh
 pub mod Another
 pub mod Configurations
 pub mod Settings
 pub mod WidestOf
 pub mod NotJudged
-pub mod Unjudged
 pub mod Widest
 pub mod Without
 pub mod WidestMade

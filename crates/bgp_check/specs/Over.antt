@@ -10,7 +10,7 @@ use Rattle.bgp_machine.specs.Run.{Begins, End, IsComplete}
 use Rattle.bgp_judge.specs.Ends.{AreInOrder}
 use Rattle.bgp_judge.specs.Verdict.{HasVerdict, No, Unfinished, VerdictValue, Yes}
 use Rattle.bgp_check.specs.Configurations.{IsOf}
-use Rattle.bgp_check.specs.Opens.{HasOwnOpen, HasPeersOpen}
+use Rattle.bgp_parts.specs.Opens.{HasOwnOpen, HasPeersOpen}
 use Rattle.bgp_check.specs.Stretch.{IsStretch}
 use Rattle.bgp_check.specs.Without.{AreWidest}
 

@@ -11,7 +11,7 @@ use Rattle.bgp_open.specs.OwnOpen.{IsOwnOpen}
 use Rattle.bgp_machine.specs.Run.{Begins}
 use Rattle.bgp_check.specs.declared.own_fault.OwnFault.{OwnFault}
 use Rattle.bgp_check.specs.Configurations.{IsOf, own_faults}
-use Rattle.bgp_check.specs.Opens.{HasOwnOpen}
+use Rattle.bgp_parts.specs.Opens.{HasOwnOpen}
 use Rattle.bgp_check.specs.Settings.{FitFields}
 
 -- a well-formed OPEN that offers a family is some configuration's own exactly where it has none of

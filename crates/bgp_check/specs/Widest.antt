@@ -12,7 +12,7 @@ use Rattle.bgp_machine.specs.Lists.{Has, Each}
 use Rattle.bgp_machine.specs.Run.{Begins, End, IsComplete}
 use Rattle.bgp_check.specs.Another.{CanBeTold, WantsAnother}
 use Rattle.bgp_check.specs.Configurations.{IsOf}
-use Rattle.bgp_check.specs.Opens.{HasPeersOpen}
+use Rattle.bgp_parts.specs.Opens.{HasPeersOpen}
 use Rattle.bgp_check.specs.Stretch.{IsStretch}
 
 -- none is wider: the OPEN may be delayed, and the peer's is waited for a second

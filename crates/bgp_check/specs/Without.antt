@@ -10,7 +10,7 @@ use Rattle.bgp_open.specs.OpenSubcodes.{IsBadIdentifier, IsBadPeerAs, IsValid}
 use Rattle.bgp_machine.specs.Lists.{Has, Each}
 use Rattle.bgp_machine.specs.Run.{Begins, End, IsComplete}
 use Rattle.bgp_check.specs.Configurations.{IsOf}
-use Rattle.bgp_check.specs.Opens.{HasPeersOpen, SendsNoOpen}
+use Rattle.bgp_parts.specs.Opens.{HasPeersOpen, SendsNoOpen}
 use Rattle.bgp_check.specs.Stretch.{IsStretch}
 use Rattle.bgp_check.specs.Widest.{AreWidestWith, IsWidest}
 

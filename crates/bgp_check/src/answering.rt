@@ -8,17 +8,19 @@ ghost use Rattle.mrt.specs.Reader.{shown_of};
 ghost use Rattle.bgp_check.specs.Answered.{IsAnswerTo, IsJudged, answer_value, heard_as, number_of};
 ghost use Rattle.bgp_check.specs.Answered.{peer_as_by};
 ghost use Rattle.bgp_check.specs.NotJudged.{IsWhyNot};
-ghost use Rattle.bgp_check.specs.Opens.{HasOwnOpen, HasPeersOpen};
+ghost use Rattle.bgp_parts.specs.Opens.{HasOwnOpen, HasPeersOpen};
 ghost use Rattle.bgp_check.specs.WidestOf.{AreTold, OffersNone};
 
 use crate::checking::check_records;
-use crate::fields::read_fields;
 use crate::laws::{an_own_fault_is_a_no, what_is_told_holds_over_all, widest_settings_are_widest};
 use crate::not_judged::{NotJudged, why_with_opens};
 use crate::opens::{own_open, peers_open};
 use crate::peer_as::PeerAs;
+use crate::settings::as_to;
 use crate::widest::{Widest, widest_of};
 use bgp_judge::{Tracker, Verdict};
+use bgp_open::Config;
+use bgp_parts::read_fields;
 use bgp_prefix::Session;
 use mrt::Record;
 use std::alloc::{AllocError, Allocator, Global};
@@ -30,6 +32,8 @@ pub struct Judged<A: Allocator = Global> {
     pub as_number: Option<u32>,
     /// The AS number that its peer has to have.
     pub peer_as: PeerAs,
+    /// The configuration under which the records have the verdict.
+    pub under: Config,
     /// The verdict over all configurations under which the OPEN that it sent is its own.
     pub verdict: Verdict<A>,
 }
@@ -49,7 +53,7 @@ fn number_of(own: Option<&[u8]>) -> Option<u32>
     ensures { result ≡ number_of (option_map (λ o. o.now) own.entry) }
 {
     match own {
-        Some(own) => Some(read_fields(own)?.as_to(true)),
+        Some(own) => Some(as_to(&read_fields(own)?, true)),
         None => None,
     }
 }
@@ -95,7 +99,7 @@ fn judge_end<A: Allocator + Copy, T: Tracker<A>>(
     requires none { IsWhyNot (map shown_of records.now) None }
     requires family { ¬ OffersNone (option_map (λ o. o.now) own) }
     ensures { IfOk result (λ judged. IsJudged session.now (map shown_of records.now)
-        judged.as_number judged.peer_as (verdict_value judged.verdict)) }
+        judged.as_number judged.peer_as judged.under (verdict_value judged.verdict)) }
 {
     widest_settings_are_widest();
     what_is_told_holds_over_all();
@@ -107,6 +111,7 @@ fn judge_end<A: Allocator + Copy, T: Tracker<A>>(
     Ok(Judged {
         as_number: number_of(own),
         peer_as: peer_as(checked.wants_peers, peers, heard_as(&widest)),
+        under: checked.under,
         verdict: checked.verdict,
     })
 }

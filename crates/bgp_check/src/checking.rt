@@ -3,10 +3,11 @@
 ghost use Rattle.std.specs.Prelude.{◌≡◌, ◌↔◌, IfOk, IsTrue, map};
 ghost use Rattle.mrt.specs.Reader.{shown_of};
 ghost use Rattle.bgp_judge.specs.Verdict.{verdict_value};
-ghost use Rattle.bgp_check.specs.Checked.{IsTold, IsYes, tells_other};
+ghost use Rattle.bgp_check.specs.Checked.{IsTold, IsUnder, IsYes, tells_other};
 
 use crate::widest::Widest;
 use bgp_judge::{Tracker, Verdict, judge_records};
+use bgp_open::Config;
 use mrt::Record;
 use std::alloc::{AllocError, Allocator, Global};
 
@@ -18,6 +19,8 @@ pub struct Checked<A: Allocator = Global> {
     /// Whether it is told under the configuration that wants the AS number of the peer's OPEN, or
     /// else under the other one.
     pub wants_peers: bool,
+    /// That configuration.
+    pub under: Config,
 }
 
 fn is_yes<A: Allocator>(verdict: &Verdict<A>) -> bool
@@ -47,13 +50,16 @@ pub fn check_records<A: Allocator + Copy, T: Tracker<A>>(
     widest: &Widest,
     records: &[Record<'_>],
 ) -> Result<Checked<A>, AllocError>
-    ensures { IfOk result (λ checked. IsTold widest.now (map shown_of records.now)
+    ensures told { IfOk result (λ checked. IsTold widest.now (map shown_of records.now)
         checked.wants_peers (verdict_value checked.verdict)) }
+    ensures under { IfOk result (λ checked.
+        IsUnder widest.now checked.wants_peers checked.under) }
 {
     let Some(wanting) = widest.wanting else {
         return Ok(Checked {
             verdict: judge_records::<A, T>(alloc, &widest.another, records)?,
             wants_peers: false,
+            under: widest.another,
         });
     };
     let first = judge_records::<A, T>(alloc, &wanting, records)?;
@@ -61,6 +67,7 @@ pub fn check_records<A: Allocator + Copy, T: Tracker<A>>(
         return Ok(Checked {
             verdict: first,
             wants_peers: true,
+            under: wanting,
         });
     }
     let second = judge_records::<A, T>(alloc, &widest.another, records)?;
@@ -68,11 +75,13 @@ pub fn check_records<A: Allocator + Copy, T: Tracker<A>>(
         Ok(Checked {
             verdict: second,
             wants_peers: false,
+            under: widest.another,
         })
     } else {
         Ok(Checked {
             verdict: first,
             wants_peers: true,
+            under: wanting,
         })
     }
 }

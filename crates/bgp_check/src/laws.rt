@@ -1,7 +1,7 @@
 //! Laws of runs under the configurations of one end, each on a function that does nothing.
 
 ghost use Rattle.bgp_check.specs.Another.{AnotherBegins, AnotherIsComplete};
-ghost use Rattle.bgp_check.specs.Answered.{FaultIsANo, NoConfigurationExplains};
+ghost use Rattle.bgp_check.specs.Answered.{FaultIsANo, HasItsVerdict, NoConfigurationExplains};
 ghost use Rattle.bgp_check.specs.Checked.{ToldIsOverAll};
 ghost use Rattle.bgp_check.specs.Cut.{CutBegins, LeftEndsInIdle, StretchesBegin};
 ghost use Rattle.bgp_check.specs.Ends.{SameEnds, SameEndsWithout};
@@ -130,4 +130,10 @@ pub fn an_own_fault_is_a_no()
 /// before the one that it names, and that one.
 pub fn no_configuration_explains_a_no()
     ensures { NoConfigurationExplains }
+{}
+
+/// States that under the configuration that [`check_end`](crate::check_end) keeps with a verdict,
+/// the records have this verdict; and that it is one of the widest configurations of the end.
+pub fn a_verdict_holds_under_its_configuration()
+    ensures { HasItsVerdict }
 {}

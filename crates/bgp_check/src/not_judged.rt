@@ -2,19 +2,21 @@
 
 ghost use Rattle.std.specs.Prelude.{◌≡◌, ◌↔◌, ◌⊎◌, IsTrue, IfSome, IfNone, Option, None, Some};
 ghost use Rattle.std.specs.Prelude.{map, option_map};
+ghost use Rattle.std.specs.Option.{option_or};
 ghost use Rattle.bgp_open.specs.Open.{OpenFields, open_of};
 ghost use Rattle.bgp_open.specs.OpenFault.{IsWellFormed};
 ghost use Rattle.mrt.specs.Reader.{shown_of};
 ghost use Rattle.bgp_check.specs.NotJudged.{HasExtendedLength, IsWhyNot, SendsSome, why_by_both};
-ghost use Rattle.bgp_check.specs.NotJudged.{why_by_opens, why_not, why_with};
-ghost use Rattle.bgp_check.specs.Opens.{HasOwnOpen, HasPeersOpen};
+ghost use Rattle.bgp_check.specs.NotJudged.{why_by_opens, why_by_paths, why_not, why_with};
+ghost use Rattle.bgp_parts.specs.Opens.{HasOwnOpen, HasPeersOpen};
 ghost use Rattle.bgp_check.specs.WidestOf.{AreTold, OffersNone};
 
-use crate::fields::{Fields, read_fields};
+use crate::dynamic::offers_dynamic;
 use crate::offer::offer_of;
 use crate::opens::whole_open;
-use crate::unjudged::UnjudgedOffer;
+use bgp_confederations::some_show_confederations;
 use bgp_open::{Families, read_open};
+use bgp_parts::{Fields, UnjudgedOffer, read_fields};
 use mrt::Record;
 
 /// Why an end isn't judged.
@@ -30,6 +32,10 @@ pub enum NotJudged {
     AddPath(Families),
     /// Both OPENs offer IPv6 next hops for IPv4 routes (RFC 8950).
     Ipv6NextHops,
+    /// Both OPENs offer dynamic capabilities: the session may have messages of type 6.
+    DynamicCapabilities,
+    /// An UPDATE has an AS_PATH with segments of a confederation (RFC 5065).
+    Confederations,
 }
 
 /// Whether a message is sent.
@@ -45,13 +51,13 @@ pub fn sends_some(records: &[Record<'_>]) -> bool
     false
 }
 
-/// Whether the parameters of an OPEN have an extended length: Optional Parameters Length and the
-/// next octet are 255 (RFC 9072, 2).
+/// Whether the parameters of an OPEN have an extended length: Optional Parameters Length isn't 0,
+/// and the next octet is 255 (RFC 9072, 2).
 fn has_extended_length(octets: Option<&[u8]>) -> bool
     ensures { IsTrue result ↔ HasExtendedLength (option_map (λ o. o.now) octets.entry) }
 {
     match octets {
-        Some(octets) => octets.len() > 29 && octets[28] == 255 && octets[29] == 255,
+        Some(octets) => octets.len() > 29 && octets[28] != 0 && octets[29] == 255,
         None => false,
     }
 }
@@ -73,6 +79,8 @@ fn why_by_both(own: &Fields<'_>, peers: &Fields<'_>) -> Option<NotJudged>
         Some(NotJudged::AddPath(both.add_path))
     } else if both.ipv6_next_hops {
         Some(NotJudged::Ipv6NextHops)
+    } else if offers_dynamic(own) && offers_dynamic(peers) {
+        Some(NotJudged::DynamicCapabilities)
     } else {
         None
     }
@@ -106,17 +114,47 @@ fn why_by_opens(own: &[u8], peers: Option<&[u8]>) -> Option<NotJudged>
     }
 }
 
+/// That some UPDATE has segments of a confederation, if one has.
+fn why_by_paths(confederated: bool) -> Option<NotJudged>
+    ensures { result ≡ why_by_paths confederated }
+{
+    if confederated {
+        Some(NotJudged::Confederations)
+    } else {
+        None
+    }
+}
+
+/// The first reason of both OPENs and the UPDATEs.
+fn why_by_messages(
+    own: Option<&[u8]>,
+    peers: Option<&[u8]>,
+    confederated: bool,
+) -> Option<NotJudged>
+    requires { IfSome own (λ o. IsWellFormed o.now) }
+    ensures { (told : Option OpenFields) → AreTold (option_map (λ o. o.now) peers.entry) told
+        → result ≡ option_or
+        (why_by_opens (option_map open_of (option_map (λ o. o.now) own.entry)) told)
+        (why_by_paths confederated) }
+{
+    let Some(own) = own else {
+        return why_by_paths(confederated);
+    };
+    why_by_opens(own, peers).or(why_by_paths(confederated))
+}
+
 /// The first reason that there is.
 fn first_reason(
     sends: bool,
     extended: bool,
     own: Option<&[u8]>,
     peers: Option<&[u8]>,
+    confederated: bool,
 ) -> Option<NotJudged>
     requires { IfSome own (λ o. IsWellFormed o.now) }
     ensures { (told : Option OpenFields) → AreTold (option_map (λ o. o.now) peers.entry) told
         → result ≡ why_not sends extended
-        (option_map open_of (option_map (λ o. o.now) own.entry)) told }
+        (option_map open_of (option_map (λ o. o.now) own.entry)) told confederated }
 {
     if !sends {
         return Some(NotJudged::NothingSent);
@@ -124,10 +162,7 @@ fn first_reason(
     if extended {
         return Some(NotJudged::ExtendedParameters);
     }
-    match own {
-        Some(own) => why_by_opens(own, peers),
-        None => None,
-    }
+    why_by_messages(own, peers, confederated)
 }
 
 /// Why the local system of a stretch's records isn't judged that sent this OPEN, or none, and heard
@@ -145,5 +180,6 @@ pub(crate) fn why_with_opens(
     ensures family { IfNone result (¬ OffersNone (option_map (λ o. o.now) own.entry)) }
 {
     let extended = have_extended_length(peers, whole_open(records));
-    first_reason(sends_some(records), extended, own, peers)
+    let confederated = some_show_confederations(records);
+    first_reason(sends_some(records), extended, own, peers, confederated)
 }

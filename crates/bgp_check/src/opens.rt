@@ -4,12 +4,12 @@ ghost use Rattle.std.specs.Prelude.{◌≡◌, ◌↔◌, IsTrue, IfSome, IfNone
 ghost use Rattle.bgp_open.specs.Open.{IsOpen};
 ghost use Rattle.bgp_open.specs.OpenFault.{IsWellFormed};
 ghost use Rattle.mrt.specs.Reader.{shown_of};
-ghost use Rattle.bgp_check.specs.Opens.{HasHeardOpen, HasOwnOpen, HasPeersOpen, HasWholeOpen};
-ghost use Rattle.bgp_check.specs.Opens.{IsOpenMessage, IsReceived, IsSent, ReceivesNone};
-ghost use Rattle.bgp_check.specs.Opens.{SendsNone};
+ghost use Rattle.bgp_parts.specs.Opens.{HasHeardOpen, HasOwnOpen, HasPeersOpen, HasWholeOpen};
+ghost use Rattle.bgp_parts.specs.Opens.{IsOpenMessage, IsReceived, IsSent, ReceivesNone};
+ghost use Rattle.bgp_parts.specs.Opens.{SendsNone};
 
-use crate::fields::FIXED_LEN;
 use bgp_open::read_open;
+use bgp_parts::FIXED_LEN;
 use bgp_wire::{HeaderVerdict, Limit, MessageType, check_header, header_at, message_body};
 use mrt::Record;
 

@@ -1,17 +1,18 @@
 //! The settings that an OPEN tells, and the widest ones otherwise.
 
-ghost use Rattle.std.specs.Prelude.{◌≡◌, ◌↔◌, ◌==◌, ◌||◌, IsTrue, is_some};
+ghost use Rattle.std.specs.Prelude.{◌≡◌, ◌↔◌, ◌==◌, ◌||◌, IsTrue, false, is_some};
+ghost use Rattle.bgp_wire.specs.AsNumber.{needs_four_octets};
 ghost use Rattle.bgp_open.specs.Offer.{as_number_of, families_of, offers_extended};
 ghost use Rattle.bgp_open.specs.Open.{open_of};
 ghost use Rattle.bgp_open.specs.OpenFault.{IsWellFormed};
-ghost use Rattle.bgp_check.specs.Configurations.{own_faults};
+ghost use Rattle.bgp_check.specs.Configurations.{as_to, own_faults};
 ghost use Rattle.bgp_check.specs.WidestOf.{free_settings, is_odd_as, other_than, own_as, own_hold};
 ghost use Rattle.bgp_check.specs.WidestOf.{own_settings, some_id};
 
-use crate::fields::{Fields, read_fields};
 use crate::offer::Offer;
 use crate::own_fault::OwnFault;
 use bgp_open::{ConfigParts, Families};
+use bgp_parts::{Fields, read_fields};
 use bgp_prefix::{Seconds, Session};
 use bgp_wire::two_octet_as;
 
@@ -31,11 +32,25 @@ pub(crate) fn other_than(number: u32) -> u32
     if number == 1 { 2 } else { 1 }
 }
 
+/// The AS number that an OPEN says, to one who sends the capability of four-octet AS numbers, and
+/// to one who doesn't (RFC 6793, 4.1).
+pub(crate) fn as_to(fields: &Fields<'_>, as4: bool) -> u32
+    ensures says { result ≡ as_to as4 fields.now }
+    ensures two_octets { as4 ≡ false → ¬ IsTrue (needs_four_octets result) }
+{
+    let my_as = u32::from(fields.my_as());
+    if as4 {
+        fields.as_number().unwrap_or(my_as)
+    } else {
+        my_as
+    }
+}
+
 /// Whether the AS number is 0, or My Autonomous System isn't what stands for it.
 fn is_odd_as(fields: &Fields<'_>) -> bool
     ensures { result ≡ is_odd_as fields.now }
 {
-    let as_number = fields.as_to(true);
+    let as_number = as_to(fields, true);
     as_number == 0 || fields.my_as() != two_octet_as(as_number)
 }
 
@@ -52,7 +67,7 @@ pub(crate) fn own_as(fields: &Fields<'_>) -> u32
     if is_odd_as(fields) {
         SOME
     } else {
-        fields.as_to(true)
+        as_to(fields, true)
     }
 }
 

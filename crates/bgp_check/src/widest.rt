@@ -11,10 +11,10 @@ ghost use Rattle.bgp_open.specs.OpenFault.{IsWellFormed};
 ghost use Rattle.bgp_check.specs.WidestOf.{AreTold, OffersNone, other_than, own_as, parts_of};
 ghost use Rattle.bgp_check.specs.WidestOf.{where_some, widest_of, widest_without};
 
-use crate::fields::{Fields, read_fields};
 use crate::offer::offer_of;
-use crate::settings::{free_settings, other_than, own_as, own_settings, some_id};
+use crate::settings::{as_to, free_settings, other_than, own_as, own_settings, some_id};
 use bgp_open::{Config, ConfigParts, read_open};
+use bgp_parts::{Fields, read_fields};
 use bgp_prefix::Session;
 
 /// Two configurations at the most, of which each run shows what one shows under some configuration
@@ -82,7 +82,7 @@ fn widest_with(session: &Session, own: &[u8], peers: &Fields<'_>) -> Option<Wide
 {
     let fields = read_fields(own)?;
     let offer = offer_of(&read_open(own).ok()?);
-    let number = peers.as_to(offer.as4);
+    let number = as_to(peers, offer.as4);
     let wanting = own_settings(session, offer, &fields, number);
     let another = own_settings(session, offer, &fields, another_as(number, &fields));
     configurations(where_some(number, wanting), another)
@@ -108,8 +108,8 @@ fn widest_without(session: &Session, peers: &Fields<'_>) -> Option<Widest>
         parts_of widest ≡ widest_without session.now peers.now) }
     ensures none { IfNone result ⊥ }
 {
-    let as4 = peers.as_to(true) != 0;
-    let number = peers.as_to(as4);
+    let as4 = as_to(peers, true) != 0;
+    let number = as_to(peers, as4);
     let local_as = other_than(number);
     let wanting = free_settings(session, local_as, number, other_than(peers.id()), as4);
     let another = free_settings(session, local_as, local_as, some_id(peers), true);

@@ -18,15 +18,15 @@ use Rattle.bgp_check_capture.specs.Told.{IsStretchTold, ToldValue, answer_by, le
 -- it isn't a yes
 abbrev pub IsNoYes : AnswerValue → Type 0
 IsNoYes (Unjudged why) = Unit {0}
-IsNoYes (JudgedAs number peer (Yes ends)) = ⊥
-IsNoYes (JudgedAs number peer (No count)) = Unit {0}
-IsNoYes (JudgedAs number peer Unfinished) = Unit {0}
+IsNoYes (JudgedAs number peer under (Yes ends)) = ⊥
+IsNoYes (JudgedAs number peer under (No count)) = Unit {0}
+IsNoYes (JudgedAs number peer under Unfinished) = Unit {0}
 
 not_left : (answer : AnswerValue) → IsNoYes (left_answer answer) → left_answer answer ≡ answer
 not_left (Unjudged why) is = refl
-not_left (JudgedAs number peer (Yes ends)) is = absurd is
-not_left (JudgedAs number peer (No count)) is = refl
-not_left (JudgedAs number peer Unfinished) is = absurd is
+not_left (JudgedAs number peer under (Yes ends)) is = absurd is
+not_left (JudgedAs number peer under (No count)) is = refl
+not_left (JudgedAs number peer under Unfinished) is = absurd is
 
 as_judged : (leaving : Option ShownRecord) (answer : AnswerValue) → IsNoYes (answer_by leaving answer) → answer_by leaving answer ≡ answer
 as_judged None answer is = refl
@@ -56,7 +56,7 @@ with_last leaving records all last is pushed =
 
 -- ---- where they stand
 
-passed_places : (shown : ShownRecord) (left : Left) → (one_passed shown left).places ≡ left.places
+pub passed_places : (shown : ShownRecord) (left : Left) → (one_passed shown left).places ≡ left.places
 passed_places (Received t octets) left = refl
 passed_places (Sent t octets) left = refl
 passed_places (Changed t old new) left = refl

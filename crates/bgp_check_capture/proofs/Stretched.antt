@@ -1,6 +1,7 @@
 -- What is judged of a stretch is one, too.
 use Rattle.std.proofs.Common.{◌≡◌, ◌∙◌, ◌+◌, ◌++◌, ℕ, List, [], ◌∷◌, Option, None, Some, refl, sym, ap, subst, inl, inr, append_assoc, append-nil}
 use Rattle.bgp_prefix.specs.Shown.{Changed, Received, Sent, ShownRecord}
+use Rattle.bgp_open.specs.declared.config.Config.{Config}
 use Rattle.bgp_machine.specs.Lists.{Each}
 use Rattle.bgp_judge.specs.Verdict.{No, Unfinished, Yes}
 use Rattle.bgp_check.specs.Answered.{AnswerValue, IsAnswerTo, JudgedAs, NoConfigurationExplains, Unjudged}
@@ -15,7 +16,7 @@ use Rattle.bgp_check_capture.specs.Told.{answer_by, left_answer, with_leaving}
 abbrev Stays : ShownRecord → Type 0
 Stays shown = ¬ LeavesIdle shown
 
-passed_same : (shown : ShownRecord) (left : Left) → (one_passed shown left).records ≡ left.records
+pub passed_same : (shown : ShownRecord) (left : Left) → (one_passed shown left).records ≡ left.records
 passed_same (Received t octets) left = refl
 passed_same (Sent t octets) left = refl
 passed_same (Changed t old new) left = refl
@@ -80,19 +81,19 @@ judged_are_stretches session stretch all leaving told is whole so = stretched _ 
 
 -- ---- a no
 
-no_before : (answer : AnswerValue) (number : Option ℕ) (peer : PeerAs) (count : ℕ) → left_answer answer ≡ JudgedAs number peer (No count) → answer ≡ JudgedAs number peer (No count)
-no_before (Unjudged why) number peer count e = absurd cc
-no_before (JudgedAs n p (Yes ends)) number peer count e = absurd cc
-no_before (JudgedAs n p (No m)) number peer count e = e
-no_before (JudgedAs n p Unfinished) number peer count e = absurd cc
+no_before : (answer : AnswerValue) (number : Option ℕ) (peer : PeerAs) (under : Config) (count : ℕ) → left_answer answer ≡ JudgedAs number peer under (No count) → answer ≡ JudgedAs number peer under (No count)
+no_before (Unjudged why) number peer under count e = absurd cc
+no_before (JudgedAs n p c (Yes ends)) number peer under count e = absurd cc
+no_before (JudgedAs n p c (No m)) number peer under count e = e
+no_before (JudgedAs n p c Unfinished) number peer under count e = absurd cc
 
-no_by : (leaving : Option ShownRecord) (answer : AnswerValue) (number : Option ℕ) (peer : PeerAs) (count : ℕ) → answer_by leaving answer ≡ JudgedAs number peer (No count)
-    → answer ≡ JudgedAs number peer (No count)
-no_by None answer number peer count e = e
-no_by (Some leaving) answer number peer count e = no_before answer number peer count e
+pub no_by : (leaving : Option ShownRecord) (answer : AnswerValue) (number : Option ℕ) (peer : PeerAs) (under : Config) (count : ℕ) → answer_by leaving answer ≡ JudgedAs number peer under (No count)
+    → answer ≡ JudgedAs number peer under (No count)
+no_by None answer number peer under count e = e
+no_by (Some leaving) answer number peer under count e = no_before answer number peer under count e
 
 pub no_configuration : NoConfigurationExplains → NoConfigurationHasARun
-no_configuration explains session stretch all leaving told number peer count own config is whole so told_no has of =
-    let answer = no_by leaving is.answer number peer count (sym is.is_answer ∙ told_no) in
-    (explains session (with_leaving is.left.records leaving) number peer count own config (judged_are_stretches session stretch all leaving told is whole so)
+no_configuration explains session stretch all leaving told number peer under count own config is whole so told_no has of =
+    let answer = no_by leaving is.answer number peer under count (sym is.is_answer ∙ told_no) in
+    (explains session (with_leaving is.left.records leaving) number peer under count own config (judged_are_stretches session stretch all leaving told is whole so)
     (subst (λ (a : AnswerValue). IsAnswerTo session (with_leaving is.left.records leaving) a) answer is.answers) has of).0

@@ -3,3 +3,5 @@ pub mod Cut
 pub mod Passed
 pub mod Told
 pub mod StretchLaws
+pub mod Left
+pub mod Named

@@ -8,7 +8,7 @@ use Rattle.bgp_judge.specs.Verdict.{No}
 use Rattle.bgp_check.specs.Answered.{JudgedAs}
 use Rattle.bgp_check.specs.Configurations.{IsOf}
 use Rattle.bgp_check.specs.Cut.{IsWholeStretch}
-use Rattle.bgp_check.specs.Opens.{HasOwnOpen}
+use Rattle.bgp_parts.specs.Opens.{HasOwnOpen}
 use Rattle.bgp_check.specs.Stretch.{IsStretch, LeavesIdle}
 use Rattle.bgp_check.specs.declared.peer_as.PeerAs.{PeerAs}
 use Rattle.bgp_check_capture.specs.Told.{IsStretchTold, ToldValue, with_leaving}
@@ -31,9 +31,9 @@ JudgedAreStretches =
 abbrev pub NoConfigurationHasARun : Type 0
 NoConfigurationHasARun =
     (session : Session) (stretch : List ShownRecord) (all : ℕ) (leaving : Option ShownRecord)
-    (told : ToldValue) (number : Option ℕ) (peer : PeerAs) (count : ℕ) (own : Option (List ℕ))
-    (config : Config) (is : IsStretchTold session stretch all leaving told)
+    (told : ToldValue) (number : Option ℕ) (peer : PeerAs) (under : Config) (count : ℕ)
+    (own : Option (List ℕ)) (config : Config) (is : IsStretchTold session stretch all leaving told)
     → IsWholeStretch stretch → IsLeftSo leaving
-    → told.answer ≡ JudgedAs number peer (No count)
+    → told.answer ≡ JudgedAs number peer under (No count)
     → HasOwnOpen (with_leaving is.left.records leaving) own → IsOf session own config
     → ¬ Begins config (take (count + 1) (with_leaving is.left.records leaving))

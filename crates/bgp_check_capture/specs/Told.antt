@@ -8,7 +8,7 @@ use Rattle.bgp_machine.specs.Run.{end_of}
 use Rattle.bgp_machine.specs.State.{fresh_state}
 use Rattle.bgp_judge.specs.Verdict.{No, Unfinished, VerdictValue, Yes}
 use Rattle.bgp_check.specs.Answered.{AnswerValue, IsAnswerTo, JudgedAs, Unjudged, answer_value}
-use Rattle.bgp_check.specs.Opens.{HasHeardOpen, HasOwnOpen}
+use Rattle.bgp_parts.specs.Opens.{HasHeardOpen, HasOwnOpen}
 use Rattle.bgp_check_capture.specs.declared.passing.RefreshOffers.{RefreshOffers}
 use Rattle.bgp_check_capture.specs.declared.stretch.StretchTold.{StretchTold}
 use Rattle.bgp_check_capture.specs.Offers.{extended_in, refresh_in}
@@ -25,7 +25,8 @@ left_verdict Unfinished = Yes (end_of fresh_state ∷ [])
 
 abbrev pub left_answer : AnswerValue → AnswerValue
 left_answer (Unjudged why) = Unjudged why
-left_answer (JudgedAs number peer verdict) = JudgedAs number peer (left_verdict verdict)
+left_answer (JudgedAs number peer under verdict) =
+    JudgedAs number peer under (left_verdict verdict)
 
 -- and where it isn't, all of that is as it is
 abbrev pub answer_by : Option ShownRecord → AnswerValue → AnswerValue
@@ -52,7 +53,7 @@ place_by Unfinished places all = None
 
 abbrev pub place_of : AnswerValue → List ℕ → ℕ → Option ℕ
 place_of (Unjudged why) places all = None
-place_of (JudgedAs number peer verdict) places all = place_by verdict places all
+place_of (JudgedAs number peer under verdict) places all = place_by verdict places all
 
 -- ---- all of it
 

@@ -55,6 +55,7 @@ pub(crate) fn left_answer<A: Allocator + Copy>(
         Answer::Judged(judged) => Ok(Answer::Judged(Judged {
             as_number: judged.as_number,
             peer_as: judged.peer_as,
+            under: judged.under,
             verdict: left_verdict(alloc, judged.verdict)?,
         })),
     }

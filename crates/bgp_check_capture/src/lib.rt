@@ -22,7 +22,10 @@ mod passing;
 mod stretch;
 
 pub use cutting::{before_leaving, leaves_idle};
-pub use laws::{no_configuration_has_a_run, what_is_judged_is_a_stretch};
+pub use laws::{
+    a_left_stretch_is_judged_over_all, a_no_names_its_record, no_configuration_has_a_run,
+    what_is_judged_is_a_stretch,
+};
 pub use offers::extended_messages;
 pub use passing::{Kept, RefreshOffers};
 pub use stretch::{StretchTold, check_stretch};

@@ -1,5 +1,5 @@
 -- The first stretch of records, and what is told of those before it.
-use Rattle.std.proofs.Common.{◌≡◌, ◌∙◌, ◌+◌, ◌<◌, ◌++◌, ℕ, suc, Bool, List, [], ◌∷◌, refl, sym, ap, subst, append-nil, arith, codes, drop, length, map, take}
+use Rattle.std.proofs.Common.{◌≡◌, ◌∙◌, ◌+◌, ◌<◌, ◌++◌, ℕ, suc, Bool, true, List, [], ◌∷◌, refl, sym, ap, subst, append-nil, arith, codes, drop, length, map, take}
 use Rattle.std.proofs.Math.Seq.{take-append_seam}
 use Rattle.std.proofs.lemmas.List.{length-map, take-map, drop-map}
 use Rattle.bgp_prefix.specs.Shown.{ShownRecord}
@@ -57,10 +57,10 @@ silent_text routes local [] some = absurd (omega (arith, some))
 silent_text routes local (r ∷ records) some =
     ap (λ n. unjudged_line local (record { before = 0; count = n }) (why_text NothingSent)) (sym (length-map (r ∷ records) shown_of)) ∙ sym (append-nil _)
 
-pub staying_counted : (tally : Tally) (records : List Record) → 0 < length records → with_unjudged tally ≡ with_ends tally (front_ends (map shown_of records))
+pub staying_counted : (tally : Tally) (records : List Record) → 0 < length records → with_unjudged tally true ≡ with_ends tally (front_ends (map shown_of records))
 staying_counted tally [] some = absurd (omega (arith, some))
 staying_counted tally (r ∷ records) some = refl
 
-pub silent_counted : (tally : Tally) (records : List Record) → 0 < length records → with_unjudged tally ≡ with_ends tally (silent_ends (map shown_of records))
+pub silent_counted : (tally : Tally) (records : List Record) → 0 < length records → with_unjudged tally true ≡ with_ends tally (silent_ends (map shown_of records))
 silent_counted tally [] some = absurd (omega (arith, some))
 silent_counted tally (r ∷ records) some = refl

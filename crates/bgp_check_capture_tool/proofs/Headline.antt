@@ -3,6 +3,7 @@ use Rattle.std.proofs.Common.{◌≡◌, ◌∙◌, ◌+◌, ◌++◌, ℕ, Bool
 use Rattle.std.specs.Prelude.{option_map}
 use Rattle.bgp_prefix.specs.Shown.{ShownRecord}
 use Rattle.bgp_prefix.specs.declared.session.Session.{Session}
+use Rattle.bgp_open.specs.declared.config.Config.{Config}
 use Rattle.mrt_sessions.specs.File.{Located}
 use Rattle.mrt_sessions.specs.declared.addresses.Addresses.{Addresses}
 use Rattle.bgp_open.specs.Open.{OpenFields, open_of}
@@ -13,10 +14,9 @@ use Rattle.bgp_check.specs.Answered.{AnswerValue, IsAnswerTo, JudgedAs, Unjudged
 use Rattle.bgp_check.specs.Configurations.{IsOf}
 use Rattle.bgp_check.specs.Cut.{IsWholeStretch, joined}
 use Rattle.bgp_check.specs.NotJudged.{IsWhyNot, SendsSome, why_not}
-use Rattle.bgp_check.specs.Opens.{HasOwnOpen}
+use Rattle.bgp_parts.specs.Opens.{HasOwnOpen}
 use Rattle.bgp_check.specs.Stretch.{IsStretch}
 use Rattle.bgp_check.specs.declared.peer_as.PeerAs.{PeerAs}
-use Rattle.bgp_check.specs.declared.peer_as.PeerAs.TheVariants.{Any}
 use Rattle.bgp_check_capture.specs.Cut.{IsAtLeaving}
 use Rattle.bgp_check_capture.specs.StretchLaws as stretch
 use Rattle.bgp_check_capture.specs.StretchLaws.{IsLeftSo, JudgedAreStretches}
@@ -103,47 +103,43 @@ found telling addresses named end is = by is.told where
 -- ---- a no
 
 pub no_run : stretch.NoConfigurationHasARun → NoConfigurationHasARun
-no_run law telling addresses named end number peer count own config told is_no has of =
+no_run law telling addresses named end number peer under count own config told is_no has of =
     let f = found telling addresses named end told in
     let is = f.is.is_told in
     let has_it = subst (λ (rs : List ShownRecord). HasOwnOpen rs own) is.are_records has in
     subst (λ (rs : List ShownRecord). ¬ Begins config (take (count + 1) rs)) (sym is.are_records)
-    (law f.view.session f.stretch (length f.stretch) f.leaving end.told number peer count own config is f.whole f.so is_no has_it (subst (λ (s : Session). IsOf s own config) (sym f.is_session) of))
+    (law f.view.session f.stretch (length f.stretch) f.leaving end.told number peer under count own config is f.whole f.so is_no has_it (subst (λ (s : Session). IsOf s own config) (sym f.is_session) of))
 
 -- ---- nothing is vacuous
 
-sends_by : (sends extended : Bool) (own told : Option OpenFields) → None ≡ why_not sends extended own told → IsTrue sends
-sends_by false extended own told is = let k : ⊥ = cc in absurd k
-sends_by true extended own told is = refl
+sends_by : (sends extended : Bool) (own told : Option OpenFields) (confederated : Bool) → None ≡ why_not sends extended own told confederated → IsTrue sends
+sends_by false extended own told confederated is = let k : ⊥ = cc in absurd k
+sends_by true extended own told confederated is = refl
 
 sends_some : (records : List ShownRecord) → IsWhyNot records None → SendsSome records
-sends_some records none = none.is_sends.0 (sends_by none.sends none.extended (option_map open_of none.own) none.told none.is_why)
+sends_some records none = none.is_sends.0 (sends_by none.sends none.extended (option_map open_of none.own) none.told none.confederated none.is_why)
 
-abbrev number_in : AnswerValue → Option ℕ
-number_in (Unjudged why) = None
-number_in (JudgedAs number peer verdict) = number
+-- the answer is a verdict
+abbrev IsSome : AnswerValue → Type 0
+IsSome answer = (number : Option ℕ) × (peer : PeerAs) × (under : Config) × (verdict : VerdictValue) × (answer ≡ JudgedAs number peer under verdict)
 
-abbrev peer_in : AnswerValue → PeerAs
-peer_in (Unjudged why) = Any
-peer_in (JudgedAs number peer verdict) = peer
+left_judged : (answer : AnswerValue) (number : Option ℕ) (peer : PeerAs) (under : Config) (verdict : VerdictValue) → left_answer answer ≡ JudgedAs number peer under verdict
+    → IsSome answer
+left_judged (Unjudged why) number peer under verdict e = let k : ⊥ = cc in absurd k
+left_judged (JudgedAs n p c v) number peer under verdict e = (n, p, c, v, refl)
 
-left_judged : (answer : AnswerValue) (number : Option ℕ) (peer : PeerAs) (verdict : VerdictValue) → left_answer answer ≡ JudgedAs number peer verdict
-    → (before : VerdictValue) × (answer ≡ JudgedAs number peer before)
-left_judged (Unjudged why) number peer verdict e = let k : ⊥ = cc in absurd k
-left_judged (JudgedAs n p v) number peer verdict e = (v, λ i. JudgedAs (ap number_in e i) (ap peer_in e i) v)
-
-was_judged : (leaving : Option ShownRecord) (answer : AnswerValue) (number : Option ℕ) (peer : PeerAs) (verdict : VerdictValue) → answer_by leaving answer ≡ JudgedAs number peer verdict
-    → (before : VerdictValue) × (answer ≡ JudgedAs number peer before)
-was_judged None answer number peer verdict e = (verdict, e)
-was_judged (Some leaving) answer number peer verdict e = left_judged answer number peer verdict e
+was_judged : (leaving : Option ShownRecord) (answer : AnswerValue) (number : Option ℕ) (peer : PeerAs) (under : Config) (verdict : VerdictValue)
+    → answer_by leaving answer ≡ JudgedAs number peer under verdict → IsSome answer
+was_judged None answer number peer under verdict e = (number, peer, under, verdict, e)
+was_judged (Some leaving) answer number peer under verdict e = left_judged answer number peer under verdict e
 
 pub not_vacuous : JudgedAreStretches → NothingIsVacuous
-not_vacuous law telling addresses named end number peer verdict told is_judged =
+not_vacuous law telling addresses named end number peer under verdict told is_judged =
     let f = found telling addresses named end told in
     let is = f.is.is_told in
     let judged = with_leaving is.left.records f.leaving in
-    let before = was_judged f.leaving is.answer number peer verdict (sym is.is_answer ∙ is_judged) in
-    let answer : IsAnswerTo f.view.session judged (JudgedAs number peer before.0) = subst (λ (a : AnswerValue). IsAnswerTo f.view.session judged a) before.1 is.answers in (
+    let (n, p, c, v, so) = was_judged f.leaving is.answer number peer under verdict (sym is.is_answer ∙ is_judged) in
+    let answer : IsAnswerTo f.view.session judged (JudgedAs n p c v) = subst (λ (a : AnswerValue). IsAnswerTo f.view.session judged a) so is.answers in (
       subst IsStretch (sym is.are_records) (law f.view.session f.stretch (length f.stretch) f.leaving end.told is f.whole f.so),
       subst SendsSome (sym is.are_records) (sends_some judged answer.none),
     )

@@ -15,13 +15,15 @@ use Rattle.bgp_text.specs.declared.lines.Lines.{Lines}
 use Rattle.bgp_tool.specs.Answer.{IsWritten}
 use Rattle.bgp_capture_list.specs.Listing.{no_memory}
 use Rattle.bgp_capture_list.specs.Text.{fault_text, session_line}
-use Rattle.bgp_check_text.specs.Tally.{has_verdict, is_empty, no_tally, status_of, tally_line}
+use Rattle.bgp_check_text.specs.Tally.{has_verdict, is_empty, is_incomplete, no_tally, status_of}
+use Rattle.bgp_check_text.specs.Tally.{tally_line}
 use Rattle.bgp_check_text.specs.declared.tally.Tally.{Tally}
 use Rattle.bgp_check_capture_tool.specs.Counted.{with_ends, with_fault}
 use Rattle.bgp_check_capture_tool.specs.Ends.{End, IsSessionTold}
 use Rattle.bgp_check_capture_tool.specs.Firsts.{firsts_after, with_first}
 use Rattle.bgp_check_capture_tool.specs.Judging.{telling_where}
 use Rattle.bgp_check_capture_tool.specs.Text.{ends_text}
+use Rattle.bgp_check_capture_tool.specs.declared.nothing.NothingJudged.{NothingJudged}
 use Rattle.bgp_check_capture_tool.specs.declared.options.CaptureOptions.{CaptureOptions}
 use Rattle.bgp_check_capture_tool.specs.declared.telling.Telling.{Telling}
 
@@ -118,11 +120,15 @@ abbrev pub nothing_text : Tally → List ℕ
 nothing_text tally =
     if is_empty tally then codes "not judged: no record of a session\n" else []
 
--- that no end is judged is told where the file was read to its end
-abbrev pub nothing_by : Bool → Option CaptureFault → Bool
-nothing_by true fault = false
-nothing_by false (Some fault) = false
-nothing_by false None = true
+-- that no end is judged is told where the file was read to its end, and whether more could be, if
+-- more were recorded
+abbrev pub nothing_where : Bool → Bool → Option CaptureFault → Option NothingJudged
+nothing_where true incomplete fault = None
+nothing_where false incomplete (Some fault) = None
+nothing_where false incomplete None = Some (record { is_incomplete = incomplete })
+
+abbrev pub nothing_by : Tally → Option CaptureFault → Option NothingJudged
+nothing_by tally fault = nothing_where (has_verdict tally) (is_incomplete tally) fault
 
 -- A source is held, and its sessions are told, and why it isn't read to its end; then that there is
 -- none, if so, and last how many ends there are of each verdict. All of that was written, if the
@@ -130,7 +136,8 @@ nothing_by false None = true
 pub record ChecksCapture {S T : Type 0} (gives : S → S → List ℕ → Type 0) (has_ended : S → Bool)
     (takes : T → T → List ℕ → Type 0) (source_failures : S → ℕ) (failures : T → ℕ)
     (options : CaptureOptions) (source source' : S) (sink sink' : T) (status : ℕ)
-    (firsts : List (Option CaptureFault)) (fault : Option CaptureFault) (nothing : Bool) : Type 0
+    (firsts : List (Option CaptureFault)) (fault : Option CaptureFault)
+    (nothing : Option NothingJudged) : Type 0
   where
     pub octets : List ℕ
     pub ending : Ending
@@ -143,7 +150,7 @@ pub record ChecksCapture {S T : Type 0} (gives : S → S → List ℕ → Type 0
     pub tally : Tally
     pub counts : tally ≡ with_fault of_sessions fault
     pub are_firsts : firsts ≡ with_first of_blocks fault
-    pub is_nothing : nothing ≡ nothing_by (has_verdict tally) fault
+    pub is_nothing : nothing ≡ nothing_by tally fault
     pub written : IsWritten takes failures
         (text ++ (fault_text fault ++ (nothing_text tally ++ tally_line tally)))
         (status_of tally) sink sink' status

@@ -1,5 +1,5 @@
 -- How what is told of a session is counted.
-use Rattle.std.specs.Prelude.{List, [], ◌∷◌, Option, None, Some}
+use Rattle.std.specs.Prelude.{true, List, [], ◌∷◌, Option, None, Some}
 use Rattle.mrt.specs.declared.fault.CaptureFault.{CaptureFault}
 use Rattle.bgp_tool.specs.CaptureDecoding.{status_by}
 use Rattle.bgp_check_text.specs.Tally.{with_end, with_refusal, with_unjudged}
@@ -7,8 +7,8 @@ use Rattle.bgp_check_text.specs.declared.tally.Tally.{Tally}
 use Rattle.bgp_check_capture_tool.specs.Ends.{End, Silent, Staying, Stretch}
 
 abbrev pub with_one : Tally → End → Tally
-with_one tally (Silent part) = with_unjudged tally
-with_one tally (Staying part) = with_unjudged tally
+with_one tally (Silent part) = with_unjudged tally true
+with_one tally (Staying part) = with_unjudged tally true
 with_one tally (Stretch end) = with_end tally end.told.answer
 
 abbrev pub with_ends : Tally → List End → Tally

@@ -10,7 +10,7 @@ use Rattle.bgp_judge.specs.Verdict.{No, VerdictValue}
 use Rattle.bgp_check.specs.Answered.{JudgedAs}
 use Rattle.bgp_check.specs.Configurations.{IsOf}
 use Rattle.bgp_check.specs.NotJudged.{SendsSome}
-use Rattle.bgp_check.specs.Opens.{HasOwnOpen}
+use Rattle.bgp_parts.specs.Opens.{HasOwnOpen}
 use Rattle.bgp_check.specs.Stretch.{IsStretch}
 use Rattle.bgp_check.specs.declared.peer_as.PeerAs.{PeerAs}
 use Rattle.bgp_check_capture_tool.specs.Ends.{End, IsSessionTold, Stretch, session_of}
@@ -30,17 +30,18 @@ pub record IsToldAmong (telling : Telling) (addresses : Addresses) (named : List
 abbrev pub NoConfigurationHasARun : Type 0
 NoConfigurationHasARun =
     (telling : Telling) (addresses : Addresses) (named : List Located) (end : StretchEnd)
-    (number : Option ℕ) (peer : PeerAs) (count : ℕ) (own : Option (List ℕ)) (config : Config)
+    (number : Option ℕ) (peer : PeerAs) (under : Config) (count : ℕ) (own : Option (List ℕ))
+    (config : Config)
     → IsToldAmong telling addresses named end
-    → end.told.answer ≡ JudgedAs number peer (No count) → HasOwnOpen end.told.records own
-    → IsOf (session_of addresses) own config
+    → end.told.answer ≡ JudgedAs number peer under (No count)
+    → HasOwnOpen end.told.records own → IsOf (session_of addresses) own config
     → ¬ Begins config (take (count + 1) end.told.records)
 
 -- A verdict is told only of records with a sent message, the first of which leaves Idle.
 abbrev pub NothingIsVacuous : Type 0
 NothingIsVacuous =
     (telling : Telling) (addresses : Addresses) (named : List Located) (end : StretchEnd)
-    (number : Option ℕ) (peer : PeerAs) (verdict : VerdictValue)
+    (number : Option ℕ) (peer : PeerAs) (under : Config) (verdict : VerdictValue)
     → IsToldAmong telling addresses named end
-    → end.told.answer ≡ JudgedAs number peer verdict
+    → end.told.answer ≡ JudgedAs number peer under verdict
     → IsStretch end.told.records × SendsSome end.told.records

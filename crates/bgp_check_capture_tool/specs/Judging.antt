@@ -7,9 +7,8 @@ use Rattle.mrt.specs.declared.fault.CaptureFault.{CaptureFault}
 use Rattle.mrt_sessions.specs.File.{Located}
 use Rattle.bgp_open.specs.declared.config.Config.{Config}
 use Rattle.bgp_check.specs.Answered.{AnswerValue, JudgedAs, Unjudged}
-use Rattle.bgp_check.specs.declared.peer_as.PeerAs.{PeerAs}
 use Rattle.bgp_check_capture.specs.Told.{IsStretchTold, ToldValue}
-use Rattle.bgp_check_reason.specs.Under.{IsToldConfiguration}
+use Rattle.bgp_check_reason.specs.OwnFaults.{IsToldConfiguration}
 use Rattle.bgp_check_text.specs.Settings.{are_told, where_refused}
 use Rattle.bgp_judge_line.specs.Line.{judge_line}
 use Rattle.bgp_judge_line.specs.OfCapture.{AreCaptureOptions}
@@ -36,24 +35,24 @@ telling_where fault telling =
 abbrev pub passes_over : ToldValue → Bool
 passes_over told = nat_lt 0 told.received || nat_lt 0 told.sent
 
--- Of a session that has these records in its file.
-module _ (telling : Telling) (session : Session) (named : List Located) (told : ToldValue) where
+-- For a session that has these records in its file.
+module _ (telling : Telling) (named : List Located) (told : ToldValue) where
   -- under the configuration for which the verdict is told, if the OPEN is one's own
   abbrev pub AreOptionsUnder : Option Config → Option JudgeOptions → Type 0
   AreOptionsUnder None judge = judge ≡ None
   AreOptionsUnder (Some config) judge =
       AreCaptureOptions config telling.is_plain named told.records (passes_over told) judge
 
-  abbrev pub AreOptionsFor : Bool → PeerAs → Option JudgeOptions → Type 0
-  AreOptionsFor false peer judge = judge ≡ None
-  AreOptionsFor true peer judge =
-      (config : Option Config) × IsToldConfiguration session told.records peer config
+  abbrev pub AreOptionsFor : Bool → Config → Option JudgeOptions → Type 0
+  AreOptionsFor false under judge = judge ≡ None
+  AreOptionsFor true under judge =
+      (config : Option Config) × IsToldConfiguration told.records under config
       × AreOptionsUnder config judge
 
   abbrev pub AreOptionsTo : AnswerValue → Option JudgeOptions → Type 0
   AreOptionsTo (Unjudged why) judge = judge ≡ None
-  AreOptionsTo (JudgedAs number peer verdict) judge =
-      AreOptionsFor (are_told telling.settings verdict) peer judge
+  AreOptionsTo (JudgedAs number peer under verdict) judge =
+      AreOptionsFor (are_told telling.settings verdict) under judge
 
   -- Of a stretch before which so many records stand, and which this one leaves, if one does: there
   -- are none unless it is all of its session.

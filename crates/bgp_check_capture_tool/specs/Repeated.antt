@@ -2,6 +2,7 @@
 use Rattle.std.specs.Prelude.{◌≡◌, ℕ, List, Option, Some}
 use Rattle.mrt_sessions.specs.File.{Located}
 use Rattle.mrt_sessions.specs.declared.addresses.Addresses.{Addresses}
+use Rattle.bgp_open.specs.declared.config.Config.{Config}
 use Rattle.bgp_judge.specs.Verdict.{HasVerdict, VerdictValue}
 use Rattle.bgp_check.specs.Answered.{JudgedAs}
 use Rattle.bgp_check.specs.declared.peer_as.PeerAs.{PeerAs}
@@ -16,8 +17,9 @@ use Rattle.bgp_check_capture_tool.specs.declared.telling.Telling.{Telling}
 abbrev pub LineGivesTheVerdict : Type 0
 LineGivesTheVerdict =
     (telling : Telling) (addresses : Addresses) (named : List Located) (end : StretchEnd)
-    (number : Option ℕ) (peer : PeerAs) (verdict : VerdictValue) (line : JudgeOptions)
+    (number : Option ℕ) (peer : PeerAs) (under : Config) (verdict : VerdictValue)
+    (line : JudgeOptions)
     → IsToldAmong telling addresses named end
-    → end.told.answer ≡ JudgedAs number peer verdict → end.judge ≡ Some line
+    → end.told.answer ≡ JudgedAs number peer under verdict → end.judge ≡ Some line
     → IsReadAlike (session_of line) telling.is_plain named end.told.records
     × HasVerdict line.config end.told.records verdict

@@ -77,4 +77,4 @@ pub record IsStretchEnd (view : View) (before : ℕ) (stretch : List ShownRecord
   pub is_told : IsStretchTold view.session stretch (length stretch) leaving end.told
   pub is_highest : end.highest ≡ highest_state stretch
   pub explains : IsReasonFor view before end.told end.reason
-  pub judges : AreOptionsOf view.telling view.session view.named end.told before leaving end.judge
+  pub judges : AreOptionsOf view.telling view.named end.told before leaving end.judge

@@ -52,7 +52,7 @@ verdict_text routes local end number peer Unfinished =
 
 abbrev pub answer_text : Bool → Address → StretchEnd → AnswerValue → List ℕ
 answer_text routes local end (Unjudged why) = unjudged_line local end.part (why_text why)
-answer_text routes local end (JudgedAs number peer verdict) =
+answer_text routes local end (JudgedAs number peer under verdict) =
     verdict_text routes local end number peer verdict
 
 -- ---- an end

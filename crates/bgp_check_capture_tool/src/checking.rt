@@ -15,6 +15,7 @@ ghost use Rattle.bgp_check_capture_tool.specs.Putting.{PutsSession};
 use crate::counted::Counted;
 use crate::ends::{NO_MEMORY, put_ends};
 use crate::firsts::NUMBERS;
+use crate::nothing::NothingJudged;
 use crate::options::CaptureOptions;
 use crate::telling::Telling;
 use arrayvec::ArrayVec;
@@ -37,8 +38,8 @@ pub struct CheckedCapture {
     pub refusals: ArrayVec<Option<CaptureFault>, NUMBERS>,
     /// Why the file isn't read to its end, if it isn't.
     pub fault: Option<CaptureFault>,
-    /// Whether no end is judged, of a file that was read to its end.
-    pub nothing: bool,
+    /// That no end is judged, of a file that was read to its end.
+    pub nothing: Option<NothingJudged>,
 }
 
 /// Puts what is told of the session that has these records in a file, and counts it.
@@ -147,13 +148,14 @@ fn put_nothing<W: Sink>(lines: &mut Lines<'_, W>, tally: Tally)
     }
 }
 
-/// Whether it is told that no end is judged.
-fn nothing_by(judged: bool, fault: Option<CaptureFault>) -> bool
-    ensures { result ≡ nothing_by judged fault }
+/// That no end is judged, if the file was read to its end.
+fn nothing_by(tally: Tally, fault: Option<CaptureFault>) -> Option<NothingJudged>
+    ensures { result ≡ nothing_by tally fault }
 {
-    match (judged, fault) {
-        (true, _) | (false, Some(_)) => false,
-        (false, None) => true,
+    let is_incomplete = tally.is_incomplete();
+    match (tally.has_verdict(), fault) {
+        (true, _) | (false, Some(_)) => None,
+        (false, None) => Some(NothingJudged { is_incomplete }),
     }
 }
 
@@ -210,6 +212,6 @@ pub fn check_capture<A: Allocator + Copy, T: Tracker<A>, R: Source, W: Sink>(
         status: status.code(),
         refusals,
         fault,
-        nothing: nothing_by(tally.has_verdict(), fault),
+        nothing: nothing_by(tally, fault),
     }
 }

@@ -66,7 +66,7 @@ fn put_all_silent<W: Sink>(
         count: records.len(),
     };
     put_silent(lines, local, part);
-    tally.with_unjudged()
+    tally.with_unjudged(true)
 }
 
 /// Puts what is told of the records before the first that leaves Idle, if there are some, and
@@ -90,7 +90,7 @@ fn put_front<W: Sink>(
         count: records.len(),
     };
     put_staying(lines, local, part);
-    tally.with_unjudged()
+    tally.with_unjudged(true)
 }
 
 /// Puts what is told of a stretch, and answers the tally with it.

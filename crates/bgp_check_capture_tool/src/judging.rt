@@ -1,12 +1,11 @@
 //! How `bgp judge` gives a verdict that is told of a stretch.
 
-ghost use Rattle.std.specs.Prelude.{◌≡◌, List, length, map, option_map};
-ghost use Rattle.bgp_prefix.specs.Shown.{ShownRecord};
+ghost use Rattle.std.specs.Prelude.{◌≡◌, map, option_map};
 ghost use Rattle.mrt.specs.Reader.{shown_of};
 ghost use Rattle.mrt_sessions.specs.Located.{located};
 ghost use Rattle.bgp_judge.specs.Verdict.{verdict_value};
-ghost use Rattle.bgp_check.specs.Answered.{IsAnswerTo, IsJudged, answer_value};
-ghost use Rattle.bgp_check_capture.specs.Told.{IsStretchTold, told_value};
+ghost use Rattle.bgp_check.specs.Answered.{answer_value};
+ghost use Rattle.bgp_check_capture.specs.Told.{told_value};
 ghost use Rattle.bgp_check_text.specs.Settings.{are_told};
 ghost use Rattle.bgp_text.specs.Lines.{Writes};
 ghost use Rattle.bgp_check_capture_tool.specs.Judging.{AreOptionsFor, AreOptionsOf, AreOptionsTo};
@@ -35,16 +34,14 @@ fn options_for<A: Allocator>(
     told: &StretchTold<'_, A>,
     judged: &Judged<A>,
 ) -> Option<JudgeOptions>
-    requires judged { IsJudged view.now.session (map shown_of told.now.records.items)
-        judged.now.as_number judged.now.peer_as (verdict_value judged.now.verdict) }
-    ensures { AreOptionsFor view.now.telling view.now.session (map located view.now.named.now)
+    ensures { AreOptionsFor view.now.telling (map located view.now.named.now)
         (told_value told.now) (are_told view.now.telling.settings
-        (verdict_value judged.now.verdict)) judged.now.peer_as result }
+        (verdict_value judged.now.verdict)) judged.now.under result }
 {
     if !view.telling.settings.are_told(&judged.verdict) {
         return None;
     }
-    let config = told_configuration(&view.session, &told.records, judged)?;
+    let config = told_configuration(&told.records, judged)?;
     let is_plain = view.telling.is_plain;
     capture_options(
         config,
@@ -57,9 +54,7 @@ fn options_for<A: Allocator>(
 
 /// Those by which it gives what is answered of them.
 fn options_to<A: Allocator>(view: &View<'_>, told: &StretchTold<'_, A>) -> Option<JudgeOptions>
-    requires answer { IsAnswerTo view.now.session (map shown_of told.now.records.items)
-        (answer_value told.now.answer) }
-    ensures { AreOptionsTo view.now.telling view.now.session (map located view.now.named.now)
+    ensures { AreOptionsTo view.now.telling (map located view.now.named.now)
         (told_value told.now) (answer_value told.now.answer) result }
 {
     match &told.answer {
@@ -76,9 +71,7 @@ pub(crate) fn options_of<A: Allocator>(
     leaving: Option<Record<'_>>,
     told: &StretchTold<'_, A>,
 ) -> Option<JudgeOptions>
-    requires told { (stretch : List ShownRecord) × IsStretchTold view.now.session stretch
-        (length stretch) (option_map shown_of leaving) (told_value told.now) }
-    ensures { AreOptionsOf view.now.telling view.now.session (map located view.now.named.now)
+    ensures { AreOptionsOf view.now.telling (map located view.now.named.now)
         (told_value told.now) before (option_map shown_of leaving.entry) result }
 {
     match (before, leaving) {

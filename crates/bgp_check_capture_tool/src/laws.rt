@@ -4,10 +4,10 @@
 ghost use Rattle.bgp_check_capture_tool.specs.Headline.{NoConfigurationHasARun, NothingIsVacuous};
 ghost use Rattle.bgp_check_capture_tool.specs.Repeated.{LineGivesTheVerdict};
 
+use bgp_check::a_verdict_holds_under_its_configuration;
 use bgp_check_capture::{
     no_configuration_has_a_run as no_configuration_explains_a_stretch, what_is_judged_is_a_stretch,
 };
-use bgp_check_reason::the_verdict_is_told_under_one;
 
 /// A no of [`check_capture`](crate::check_capture) says that no configuration under which the OPEN
 /// that was sent is the local system's own has a run that shows the records of the stretch, even
@@ -32,5 +32,5 @@ pub fn no_verdict_is_vacuous()
 pub fn a_judge_line_gives_the_verdict()
     ensures { LineGivesTheVerdict }
 {
-    the_verdict_is_told_under_one();
+    a_verdict_holds_under_its_configuration();
 }

@@ -86,14 +86,7 @@ fn explained<A: Allocator + Copy, T: Tracker<A>>(
     let numbers = numbers_of(alloc, before, &told.places)?;
     let places = Places::Numbered(&numbers);
     let sent = Limit::with_extended(told.extended);
-    reason_of::<A, T>(
-        alloc,
-        &view.session,
-        sent,
-        places,
-        &told.records,
-        &told.answer,
-    )
+    reason_of::<A, T>(alloc, sent, places, &told.records, &told.answer)
 }
 
 /// Why a verdict on a stretch is a no or unfinished, where it is.

@@ -3,7 +3,6 @@ pub mod Lines
 pub mod Pieces
 pub mod Fronts
 pub mod Cuts
-pub mod ToldUnder
 pub mod Reasons
 pub mod EachShown
 pub mod FaultTexts

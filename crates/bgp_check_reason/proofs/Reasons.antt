@@ -4,10 +4,10 @@ use Rattle.bgp_prefix.specs.Shown.{ShownRecord, Received, Sent, Changed}
 use Rattle.bgp_open.specs.declared.config.Config.{Config}
 use Rattle.bgp_judge.specs.Verdict.{No, VerdictValue}
 use Rattle.bgp_check.specs.Checked.{IsToldBy}
-use Rattle.bgp_check.specs.Opens.{FirstSent, HasOwnOpen}
+use Rattle.bgp_parts.specs.Opens.{FirstSent, HasOwnOpen}
 use Rattle.bgp_check.specs.Answered.{IsJudged, number_of}
 use Rattle.bgp_check.specs.Configurations.{as_of}
-use Rattle.bgp_check.proofs.Answered.{one_own}
+use Rattle.bgp_parts.proofs.OneOwnOpen.{one_own}
 use Rattle.bgp_open.specs.Open.{open_of}
 use Rattle.bgp_open.specs.OpenFault.{IsWellFormed}
 use Rattle.bgp_prefix.specs.declared.session.Session.{Session}
@@ -41,9 +41,9 @@ pub says_number : (records : List ShownRecord) (number : Option ℕ) (count : �
 says_number records number count own tells has = tells (Some own) (first_of_all IsWellFormed (count + 1) records own has)
 
 -- of what is judged
-pub tells_number : (session : Session) (records : List ShownRecord) (number : Option ℕ) (peer : PeerAs) (verdict : VerdictValue)
-    → IsJudged session records number peer verdict → (own : Option (List ℕ)) → HasOwnOpen records own → number ≡ number_of own
-tells_number session records number peer verdict judged own has = judged.is_number ∙ ap number_of (one_own records judged.own own judged.has_own has)
+pub tells_number : (session : Session) (records : List ShownRecord) (number : Option ℕ) (peer : PeerAs) (under : Config) (verdict : VerdictValue)
+    → IsJudged session records number peer under verdict → (own : Option (List ℕ)) → HasOwnOpen records own → number ≡ number_of own
+tells_number session records number peer under verdict judged own has = judged.is_number ∙ ap number_of (one_own records judged.own own judged.has_own has)
 
 -- what holds of an option by its cases
 pub by_cases : {X : Type 0} (r : Option X) (None_holds : Type 0) (Holds : X → Type 0) → IfSome r Holds → IfNone r None_holds → MatchOption r None_holds Holds

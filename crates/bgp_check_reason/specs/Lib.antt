@@ -1,7 +1,6 @@
 pub mod Marks
 pub mod OwnFaults
 pub mod Telling
-pub mod Under
 pub mod Shown
 pub mod Reason
 pub mod Unshown

@@ -7,9 +7,9 @@ use Rattle.bgp_prefix.specs.declared.session.Session.{Session}
 use Rattle.bgp_open.specs.Open.{open_of}
 use Rattle.bgp_open.specs.declared.config.Config.{Config}
 use Rattle.bgp_judge.specs.Verdict.{HasVerdict, No, Unfinished, VerdictValue, Yes}
-use Rattle.bgp_check.specs.Answered.{AnswerValue, IsJudged, JudgedAs, Unjudged}
+use Rattle.bgp_check.specs.Answered.{AnswerValue, IsWidestFor, JudgedAs, Unjudged}
 use Rattle.bgp_check.specs.Configurations.{own_faults}
-use Rattle.bgp_check.specs.Opens.{HasOwnOpen}
+use Rattle.bgp_parts.specs.Opens.{HasOwnOpen}
 use Rattle.bgp_check.specs.declared.own_fault.OwnFault.{OwnFault}
 use Rattle.bgp_check.specs.declared.peer_as.PeerAs.{PeerAs}
 use Rattle.bgp_check.specs.declared.peer_as.PeerAs.TheVariants.{Any, Is, OtherThan}
@@ -19,7 +19,6 @@ use Rattle.bgp_wire.specs.declared.header.Limit.{Limit}
 use Rattle.bgp_check_reason.specs.OwnFaults.{AreOwnFaults, faults_text}
 use Rattle.bgp_check_reason.specs.Shown.{CanBeTold, session_at}
 use Rattle.bgp_check_reason.specs.Telling.{told_text}
-use Rattle.bgp_check_reason.specs.Under.{IsToldUnder}
 use Rattle.bgp_check_reason.specs.declared.own_faults.OwnFaults.{OwnFaults}
 use Rattle.bgp_check_reason.specs.declared.reason.Reason.{Reason}
 
@@ -66,10 +65,9 @@ AreFaultsIn records Unfinished faults = faults ≡ None
 
 -- The configuration under which the verdict is told, what is said of it, and how that is told.
 pub record IsExplained (session : Session) (sent : Limit) (places : ℕ → Place)
-    (records : List ShownRecord) (peer : PeerAs) (verdict : VerdictValue) (text : List ℕ)
-    : Type 0 where
-  pub config : Config
-  pub under : IsToldUnder session records peer config
+    (records : List ShownRecord) (peer : PeerAs) (config : Config) (verdict : VerdictValue)
+    (text : List ℕ) : Type 0 where
+  pub under : IsWidestFor session records peer config
   pub holds : HasVerdict config records verdict
   pub said : List ℕ
   pub is_said : IsSaid config sent places records verdict said
@@ -77,28 +75,28 @@ pub record IsExplained (session : Session) (sent : Limit) (places : ℕ → Plac
   pub are_faults : AreFaultsIn records verdict faults
   pub told : text ≡ told_text (is_of_another peer) (option_map faults_text faults) said
 
--- of records that are judged for this peer, whatever the verdict is
-abbrev pub IsToldAs : Session → Limit → (ℕ → Place) → List ShownRecord → PeerAs
+-- of records that have a verdict under this configuration, whatever it is
+abbrev pub IsToldAs : Session → Limit → (ℕ → Place) → List ShownRecord → PeerAs → Config
     → Option OwnFaults → List ℕ → Type 0
-IsToldAs session sent places records peer faults text =
-    (number : Option ℕ) (verdict : VerdictValue) → IsJudged session records number peer verdict
-    → AreFaultsIn records verdict faults
-    → IsExplained session sent places records peer verdict text
+IsToldAs session sent places records peer config faults text =
+    (verdict : VerdictValue) → IsWidestFor session records peer config
+    → HasVerdict config records verdict → AreFaultsIn records verdict faults
+    → IsExplained session sent places records peer config verdict text
 
 -- of a yes nothing is told
-abbrev pub IsReasonOf : Session → Limit → (ℕ → Place) → List ShownRecord → PeerAs → VerdictValue
-    → List ℕ → Type 0
-IsReasonOf session sent places records peer (Yes ends) text = text ≡ []
-IsReasonOf session sent places records peer (No count) text =
-    IsExplained session sent places records peer (No count) text
-IsReasonOf session sent places records peer Unfinished text =
-    IsExplained session sent places records peer Unfinished text
+abbrev pub IsReasonOf : Session → Limit → (ℕ → Place) → List ShownRecord → PeerAs → Config
+    → VerdictValue → List ℕ → Type 0
+IsReasonOf session sent places records peer config (Yes ends) text = text ≡ []
+IsReasonOf session sent places records peer config (No count) text =
+    IsExplained session sent places records peer config (No count) text
+IsReasonOf session sent places records peer config Unfinished text =
+    IsExplained session sent places records peer config Unfinished text
 
 abbrev pub IsReasonTo : Session → Limit → (ℕ → Place) → List ShownRecord → AnswerValue → List ℕ
     → Type 0
 IsReasonTo session sent places records (Unjudged why) text = text ≡ []
-IsReasonTo session sent places records (JudgedAs number peer verdict) text =
-    IsReasonOf session sent places records peer verdict text
+IsReasonTo session sent places records (JudgedAs number peer config verdict) text =
+    IsReasonOf session sent places records peer config verdict text
 
 -- the lines of one
 abbrev pub reason_text : {X : Type 0} → Reason X → List ℕ

@@ -1,20 +1,22 @@
 //! What an OPEN that was sent says that no configuration has.
 
-ghost use Rattle.std.specs.Prelude.{◌≡◌, ◌↔◌, ◌∷◌, [], IfSome, IfNone, IsTrue, Some};
+ghost use Rattle.std.specs.Prelude.{◌≡◌, ◌↔◌, ◌∷◌, [], IfSome, IfNone, IsTrue, Some, map};
+ghost use Rattle.mrt.specs.Reader.{shown_of};
 ghost use Rattle.bgp_open.specs.Open.{open_of};
 ghost use Rattle.bgp_open.specs.OpenFault.{IsWellFormed};
 ghost use Rattle.bgp_check.specs.Configurations.{as_of, own_faults};
 ghost use Rattle.bgp_check.specs.declared.own_fault.OwnFault.{OwnFault as AnOwnFault};
 ghost use Rattle.bgp_parts_text.specs.Pieces.{next_separator, separated};
 ghost use Rattle.bgp_text.specs.Lines.{Writes};
-ghost use Rattle.bgp_check_reason.specs.OwnFaults.{AreOwnFaults, as_piece, as_text};
-ghost use Rattle.bgp_check_reason.specs.OwnFaults.{faults_text, hold_piece, id_piece};
+ghost use Rattle.bgp_check_reason.specs.OwnFaults.{AreOwnFaults, IsToldConfiguration, as_piece};
+ghost use Rattle.bgp_check_reason.specs.OwnFaults.{as_text, faults_text, hold_piece, id_piece};
 
-use bgp_check::{OwnFault, has_own_fault};
-use bgp_open::read_open;
+use bgp_check::{Judged, OwnFault, has_own_fault, own_open};
+use bgp_open::{Config, read_open};
 use bgp_text::Lines;
 use bgp_wire::two_octet_as;
-use mrt::Sink;
+use mrt::{Record, Sink};
+use std::alloc::Allocator;
 
 /// What an OPEN that was sent says that no configuration has.
 #[derive(Clone, Copy, Debug, PartialEq, Eq)]
@@ -63,6 +65,21 @@ pub(crate) fn is_faultless(own: &[u8]) -> bool
         return false;
     }
     !has_own_fault(own, OwnFault::Hold)
+}
+
+/// Returns the configuration under which the verdict on an end's records is told, if the OPEN that
+/// the end sent is one configuration's own: `None` if none was sent, or one with an own fault.
+pub fn told_configuration<A: Allocator>(
+    records: &[Record<'_>],
+    judged: &Judged<A>,
+) -> Option<Config>
+    ensures { IsToldConfiguration (map shown_of records.now) judged.now.under result }
+{
+    let own = own_open(records)?;
+    if !is_faultless(own) {
+        return None;
+    }
+    Some(judged.under)
 }
 
 /// Puts the AS numbers, after a separator. Answers the next one, as that below.

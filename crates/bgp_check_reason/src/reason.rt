@@ -2,23 +2,21 @@
 
 ghost use Rattle.std.specs.Prelude.{◌≡◌, ◌<◌, [], ℕ, List, Option, IfOk, length, map};
 ghost use Rattle.mrt.specs.Reader.{shown_of};
-ghost use Rattle.bgp_judge.specs.Verdict.{HasVerdict, VerdictValue, verdict_value};
+ghost use Rattle.bgp_prefix.specs.declared.session.Session.{Session as TheSession};
+ghost use Rattle.bgp_judge.specs.Verdict.{verdict_value};
 ghost use Rattle.bgp_check.specs.Answered.{IsAnswerTo, IsJudged, answer_value, number_of};
-ghost use Rattle.bgp_check.specs.Opens.{HasOwnOpen};
+ghost use Rattle.bgp_parts.specs.Opens.{HasOwnOpen};
 ghost use Rattle.bgp_explain.specs.Places.{places_of};
 ghost use Rattle.bgp_text.specs.Lines.{Writes};
 ghost use Rattle.bgp_check_reason.specs.Reason.{AreFaultsAt, IsReasonOf, IsReasonTo, IsToldAs};
 ghost use Rattle.bgp_check_reason.specs.Reason.{is_of_another, reason_text};
 
 use crate::explained::said_of;
-use crate::laws::the_verdict_is_told_under_one;
 use crate::own_faults::{OwnFaults, own_faults_of};
 use crate::telling::put_told;
-use crate::under::told_under;
-use bgp_check::{Answer, Judged, PeerAs, own_open};
+use bgp_check::{Answer, Judged, PeerAs, a_verdict_holds_under_its_configuration, own_open};
 use bgp_explain::Places;
 use bgp_judge::{Tracker, Verdict};
-use bgp_prefix::Session;
 use bgp_text::Lines;
 use bgp_wire::Limit;
 use mrt::{Record, Sink};
@@ -67,55 +65,52 @@ fn own_faults_at(records: &[Record<'_>], number: Option<u32>, count: u64) -> Opt
     own_faults_of(own, number?)
 }
 
-/// Why a verdict is so that isn't yes.
+/// Explains a verdict that isn't yes.
 fn explained<A: Allocator + Copy, T: Tracker<A>>(
     alloc: A,
-    session: &Session,
     sent: Limit,
     places: Places<'_>,
     records: &[Record<'_>],
-    peer: PeerAs,
+    judged: &Judged<A>,
     own_faults: Option<OwnFaults>,
 ) -> Result<Reason<A>, AllocError>
-    requires { (number : Option ℕ) × (verdict : VerdictValue)
-        × IsJudged session.now (map shown_of records.now) number peer verdict }
-    ensures { IfOk result (λ reason. IsToldAs session.now sent (places_of places.entry)
-        (map shown_of records.now) peer own_faults (reason_text reason)) }
+    ensures { (session : TheSession) → IfOk result (λ reason. IsToldAs session sent
+        (places_of places.entry) (map shown_of records.now) judged.now.peer_as judged.now.under
+        own_faults (reason_text reason)) }
 {
-    the_verdict_is_told_under_one();
-    let config = told_under(session, records, peer);
     Ok(Reason {
-        text: said_of::<A, T>(alloc, &config, sent, places, records)?,
-        names_another: is_of_another(peer),
+        text: said_of::<A, T>(alloc, &judged.under, sent, places, records)?,
+        names_another: is_of_another(judged.peer_as),
         own_faults,
     })
 }
 
-/// Why the verdict on an end's records is so.
+/// Explains the verdict on an end's records, unless it is yes.
 fn reason_for<A: Allocator + Copy, T: Tracker<A>>(
     alloc: A,
-    session: &Session,
     sent: Limit,
     places: Places<'_>,
     records: &[Record<'_>],
     judged: &Judged<A>,
 ) -> Result<Reason<A>, AllocError>
-    requires { IsJudged session.now (map shown_of records.now) judged.now.as_number
-        judged.now.peer_as (verdict_value judged.now.verdict) }
-    ensures { IfOk result (λ reason. IsReasonOf session.now sent (places_of places.entry)
-        (map shown_of records.now) judged.now.peer_as (verdict_value judged.now.verdict)
-        (reason_text reason)) }
+    requires { (session : TheSession) × IsJudged session (map shown_of records.now)
+        judged.now.as_number judged.now.peer_as judged.now.under
+        (verdict_value judged.now.verdict) }
+    ensures { (session : TheSession) → IsJudged session (map shown_of records.now)
+        judged.now.as_number judged.now.peer_as judged.now.under
+        (verdict_value judged.now.verdict)
+        → IfOk result (λ reason. IsReasonOf session sent (places_of places.entry)
+        (map shown_of records.now) judged.now.peer_as judged.now.under
+        (verdict_value judged.now.verdict) (reason_text reason)) }
 {
-    let peer = judged.peer_as;
+    a_verdict_holds_under_its_configuration();
     match &judged.verdict {
         Verdict::Yes(_) => Ok(Reason::nothing(alloc)),
         Verdict::No(count) => {
             let faults = own_faults_at(records, judged.as_number, *count);
-            explained::<A, T>(alloc, session, sent, places, records, peer, faults)
+            explained::<A, T>(alloc, sent, places, records, judged, faults)
         }
-        Verdict::Unfinished => {
-            explained::<A, T>(alloc, session, sent, places, records, peer, None)
-        }
+        Verdict::Unfinished => explained::<A, T>(alloc, sent, places, records, judged, None),
     }
 }
 
@@ -127,21 +122,21 @@ fn reason_for<A: Allocator + Copy, T: Tracker<A>>(
 /// `AllocError` is answered where memory is refused.
 pub fn reason_of<A: Allocator + Copy, T: Tracker<A>>(
     alloc: A,
-    session: &Session,
     sent: Limit,
     places: Places<'_>,
     records: &[Record<'_>],
     answer: &Answer<A>,
 ) -> Result<Reason<A>, AllocError>
-    requires { IsAnswerTo session.now (map shown_of records.now) (answer_value answer.now) }
-    ensures { IfOk result (λ reason. IsReasonTo session.now sent (places_of places.entry)
+    requires { (session : TheSession)
+        × IsAnswerTo session (map shown_of records.now) (answer_value answer.now) }
+    ensures { (session : TheSession)
+        → IsAnswerTo session (map shown_of records.now) (answer_value answer.now)
+        → IfOk result (λ reason. IsReasonTo session sent (places_of places.entry)
         (map shown_of records.now) (answer_value answer.now) (reason_text reason)) }
 {
     match answer {
         Answer::NotJudged(_) => Ok(Reason::nothing(alloc)),
-        Answer::Judged(judged) => {
-            reason_for::<A, T>(alloc, session, sent, places, records, judged)
-        }
+        Answer::Judged(judged) => reason_for::<A, T>(alloc, sent, places, records, judged),
     }
 }
 

@@ -1,9 +1,14 @@
 -- How many ends there are of each verdict, and how many refusals; and the exit status over them.
-use Rattle.std.specs.Prelude.{◌++◌, ◌+◌, ◌-◌, ◌^◌, ◌==◌, ◌&&◌, ◌||◌, ℕ, Bool, false, List, codes}
-use Rattle.std.specs.Prelude.{if◌then◌else◌, min, nat_lt}
+use Rattle.std.specs.Prelude.{◌++◌, ◌+◌, ◌-◌, ◌^◌, ◌==◌, ◌&&◌, ◌||◌, ℕ, Bool, true, false, List}
+use Rattle.std.specs.Prelude.{codes, if◌then◌else◌, min, nat_lt}
 use Rattle.std.specs.Fmt.{decimal}
 use Rattle.bgp_judge.specs.Verdict.{No, Unfinished, VerdictValue, Yes}
 use Rattle.bgp_check.specs.Answered.{AnswerValue, JudgedAs, Unjudged}
+use Rattle.bgp_check.specs.declared.not_judged.NotJudged.{NotJudged}
+use Rattle.bgp_check.specs.declared.not_judged.NotJudged.TheVariants.{AddPath, Confederations}
+use Rattle.bgp_check.specs.declared.not_judged.NotJudged.TheVariants.{DynamicCapabilities}
+use Rattle.bgp_check.specs.declared.not_judged.NotJudged.TheVariants.{ExtendedParameters, NoFamily}
+use Rattle.bgp_check.specs.declared.not_judged.NotJudged.TheVariants.{Ipv6NextHops, NothingSent}
 use Rattle.bgp_check_text.specs.declared.tally.Tally.{Tally}
 
 -- one more, up to the greatest number that is told
@@ -15,18 +20,32 @@ with_verdict tally (Yes ends) = record tally { yes = one_more tally.yes }
 with_verdict tally (No count) = record tally { no = one_more tally.no }
 with_verdict tally Unfinished = record tally { unfinished = one_more tally.unfinished }
 
--- with an end more that isn't judged
-abbrev pub with_unjudged : Tally → Tally
-with_unjudged tally = record tally { not_judged = one_more tally.not_judged }
+-- an end that isn't judged for this could be, if more were recorded of it
+abbrev pub is_for_lack : NotJudged → Bool
+is_for_lack NothingSent = true
+is_for_lack ExtendedParameters = false
+is_for_lack NoFamily = false
+is_for_lack (AddPath families) = false
+is_for_lack Ipv6NextHops = false
+is_for_lack DynamicCapabilities = false
+is_for_lack Confederations = false
+
+-- with an end more that isn't judged, and that could be or not, if more were recorded of it
+abbrev pub with_unjudged : Tally → Bool → Tally
+with_unjudged tally lacks = record tally {
+  not_judged = one_more tally.not_judged;
+  incomplete = tally.incomplete || lacks;
+}
 
 abbrev pub with_end : Tally → AnswerValue → Tally
-with_end tally (Unjudged why) = with_unjudged tally
-with_end tally (JudgedAs number peer verdict) = with_verdict tally verdict
+with_end tally (Unjudged why) = with_unjudged tally (is_for_lack why)
+with_end tally (JudgedAs number peer under verdict) = with_verdict tally verdict
 
 -- with a refusal more whose exit status by itself is this
 abbrev pub with_refusal : Tally → ℕ → Tally
 with_refusal tally status = record tally {
   refused = one_more tally.refused;
+  incomplete = true;
   memory = tally.memory || (status == 4);
   device = tally.device || (status == 5);
 }
@@ -38,6 +57,7 @@ no_tally = record {
   unfinished = 0;
   not_judged = 0;
   refused = 0;
+  incomplete = false;
   memory = false;
   device = false;
 }
@@ -64,6 +84,11 @@ has_verdict tally =
 abbrev pub is_empty : Tally → Bool
 is_empty tally =
     (tally.yes + tally.no + tally.unfinished + tally.not_judged == 0) && (tally.refused == 0)
+
+-- more could be judged, if more were recorded: something is refused, of some end or part what has
+-- to be there isn't recorded, or there is nothing at all
+abbrev pub is_incomplete : Tally → Bool
+is_incomplete tally = tally.incomplete || is_empty tally
 
 -- the last line
 unfoldable pub tally_line : Tally → List ℕ

@@ -5,11 +5,12 @@ ghost use Rattle.bgp_judge.specs.Verdict.{verdict_value};
 ghost use Rattle.bgp_text.specs.Lines.{Writes};
 ghost use Rattle.bgp_tool.specs.Status.{code_of};
 ghost use Rattle.bgp_check.specs.Answered.{answer_value};
-ghost use Rattle.bgp_check_text.specs.Tally.{has_verdict, is_empty, no_tally, one_more};
+ghost use Rattle.bgp_check_text.specs.Tally.{has_verdict, is_empty, is_for_lack, is_incomplete};
+ghost use Rattle.bgp_check_text.specs.Tally.{no_tally, one_more};
 ghost use Rattle.bgp_check_text.specs.Tally.{status_of, tally_line, with_end, with_refusal};
 ghost use Rattle.bgp_check_text.specs.Tally.{with_unjudged, with_verdict};
 
-use bgp_check::Answer;
+use bgp_check::{Answer, NotJudged};
 use bgp_judge::Verdict;
 use bgp_text::Lines;
 use bgp_tool::Status;
@@ -25,6 +26,8 @@ pub struct Tally {
     unfinished: u64,
     not_judged: u64,
     refused: u64,
+    /// Something is refused, or of an end that isn't judged what has to be there isn't recorded.
+    incomplete: bool,
     /// Memory was refused.
     memory: bool,
     /// A device failed.
@@ -38,6 +41,21 @@ fn one_more(count: u64) -> u64
     count.saturating_add(1)
 }
 
+/// Whether an end that isn't judged for this could be, if more were recorded of it.
+fn is_for_lack(why: NotJudged) -> bool
+    ensures { result ≡ is_for_lack why }
+{
+    match why {
+        NotJudged::NothingSent => true,
+        NotJudged::ExtendedParameters
+        | NotJudged::NoFamily
+        | NotJudged::AddPath(_)
+        | NotJudged::Ipv6NextHops
+        | NotJudged::DynamicCapabilities
+        | NotJudged::Confederations => false,
+    }
+}
+
 impl Tally {
     /// Of nothing.
     pub fn new() -> Tally
@@ -49,17 +67,19 @@ impl Tally {
             unfinished: 0,
             not_judged: 0,
             refused: 0,
+            incomplete: false,
             memory: false,
             device: false,
         }
     }
 
-    /// With an end more that isn't judged.
-    pub fn with_unjudged(self) -> Tally
-        ensures { result ≡ with_unjudged self }
+    /// With an end more that isn't judged. It says whether that is for what isn't recorded.
+    pub fn with_unjudged(self, lacks: bool) -> Tally
+        ensures { result ≡ with_unjudged self lacks }
     {
         Tally {
             not_judged: one_more(self.not_judged),
+            incomplete: self.incomplete || lacks,
             ..self
         }
     }
@@ -69,7 +89,7 @@ impl Tally {
         ensures { result ≡ with_end self (answer_value answer.now) }
     {
         match answer {
-            Answer::NotJudged(_) => self.with_unjudged(),
+            Answer::NotJudged(why) => self.with_unjudged(is_for_lack(*why)),
             Answer::Judged(judged) => self.with_verdict(&judged.verdict),
         }
     }
@@ -100,6 +120,7 @@ impl Tally {
     {
         Tally {
             refused: one_more(self.refused),
+            incomplete: true,
             memory: self.memory || status.code() == Status::Memory.code(),
             device: self.device || status.code() == Status::Device.code(),
             ..self
@@ -128,6 +149,14 @@ impl Tally {
         ensures { result ≡ is_empty self.now }
     {
         self.ends() == 0 && self.refused == 0
+    }
+
+    /// Whether more could be judged, if more were recorded: something is refused, of some end what
+    /// has to be there isn't recorded, or nothing is counted.
+    pub fn is_incomplete(&self) -> bool
+        ensures { result ≡ is_incomplete self.now }
+    {
+        self.incomplete || self.is_empty()
     }
 
     /// The exit status over all ends, the first of 5, 4, 1, 3, 2, 0 for which there is something:

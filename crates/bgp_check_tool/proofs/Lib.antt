@@ -2,8 +2,8 @@ pub mod OtherEnd
 pub mod OneMore
 pub mod AllTold
 pub mod Stretch
-pub mod Headline
+pub mod Verdicts
 pub mod Repeated
 pub mod Texts
-pub mod Lists
 pub mod Alone
+pub mod Printed

@@ -158,6 +158,7 @@ all_put {T} {Z} options packets talks last_packet listed first rest lines lines'
       rise = rises;
       puts = record { blocks = front.blocks; told = front.told; are_places = whole; wrote = front.wrote; tallied = front.tallied; added = front.added };
       lacks = inl calm;
+      none = inl calm;
       all = λ ample each. among_keys options.port packets listed (all each);
     }
 
@@ -169,5 +170,6 @@ none_put options packets talks last_packet lines tally firsts lacking wrote lack
   rise = no_keys;
   puts = record { blocks = []; told = tt; are_places = refl; wrote = wrote; tallied = refl; added = refl };
   lacks = inr lacks;
+  none = inr refl;
   all = λ ample each. absurd (some_none (refusals.Memory last_packet) (sym lacks ∙ ample));
 }

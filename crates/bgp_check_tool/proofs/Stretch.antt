@@ -1,5 +1,5 @@
 -- The records that are made of a connection are a stretch: the first leaves Idle, and no other does.
-use Rattle.std.proofs.Common.{◌≡◌, ◌≢◌, ◌++◌, ◌∙◌, ℕ, Bool, false, List, [], ◌∷◌, Option, None, Some, map, refl, sym, ap, subst, arith}
+use Rattle.std.proofs.Common.{◌≡◌, ◌≢◌, ◌++◌, ◌∙◌, ℕ, Bool, List, [], ◌∷◌, Option, None, Some, map, refl, sym, ap, subst, arith}
 use Rattle.bgp_prefix.specs.Shown.{ShownRecord}
 use Rattle.bgp_machine.specs.Lists.{Each}
 use Rattle.mrt.specs.Reader.{shown_of}
@@ -9,13 +9,15 @@ use Rattle.streams.specs.declared.passed.Side.TheVariants.{Local, Peer}
 use Rattle.bgp_wire.specs.declared.header.MessageType.{MessageType}
 use Rattle.bgp_recording.specs.Allowed.{Ended, Received, Sent, received_in, sent_in}
 use Rattle.bgp_recording.specs.Captured.{records_of}
-use Rattle.bgp_recording.specs.Changes.{are_left, is_open, is_rejected, led_by_end, led_by_left, led_by_received, led_by_sent, opened_state, state_then}
+use Rattle.bgp_recording.specs.Changes.{are_left, is_answered_before_open, just_received, just_sent, led_by_end, led_by_left, led_by_received, led_by_sent, opened_state, state_then}
 use Rattle.bgp_recording.specs.Recorded.{IsRecorded}
 use Rattle.bgp_recording.specs.States.{state_number}
 use Rattle.bgp_recording.specs.Tells.{Event, Numbered, Passed, change, items_in, numbered_in, numbered_of}
 use Rattle.bgp_recording.specs.declared.entry.Entry.{Entry}
 use Rattle.bgp_recording.specs.declared.framing.Framings.{Framings}
 use Rattle.bgp_recording.specs.declared.framing.Unshown.{Unshown}
+use Rattle.bgp_recording.specs.declared.standing.Before.{Before}
+use Rattle.bgp_recording.specs.declared.standing.Before.TheVariants.{Other}
 use Rattle.bgp_recording.specs.declared.state.State.{State}
 use Rattle.bgp_recording.specs.declared.state.State.TheVariants.{Active, Connect, Established, Idle, OpenConfirm, OpenSent}
 use Rattle.bgp_check.specs.Stretch.{AtMostTheLastLeaves, IsStretch, LeavesIdle}
@@ -30,23 +32,23 @@ not_idle packet second state (Some led) some = (λ leaves. some leaves.0, tt)
 
 -- ---- the changes to which messages and the end lead
 
-by_received : (packet second : ℕ) (state : State) (kind : Option MessageType) (rejected : Bool)
-    → Each (λ n. ¬ LeavesIdle n.shown) (change packet second state (led_by_received state kind rejected))
-by_received packet second Idle kind rejected = tt
-by_received packet second Connect kind rejected = not_idle packet second Connect (led_by_received Connect kind rejected) (λ e. omega (arith, e))
-by_received packet second Active kind rejected = not_idle packet second Active (led_by_received Active kind rejected) (λ e. omega (arith, e))
-by_received packet second OpenSent kind rejected = not_idle packet second OpenSent (led_by_received OpenSent kind rejected) (λ e. omega (arith, e))
-by_received packet second OpenConfirm kind rejected = not_idle packet second OpenConfirm (led_by_received OpenConfirm kind rejected) (λ e. omega (arith, e))
-by_received packet second Established kind rejected = not_idle packet second Established (led_by_received Established kind rejected) (λ e. omega (arith, e))
+by_received : (packet second : ℕ) (state : State) (kind : Option MessageType) (answered : Bool)
+    → Each (λ n. ¬ LeavesIdle n.shown) (change packet second state (led_by_received state kind answered))
+by_received packet second Idle kind answered = tt
+by_received packet second Connect kind answered = not_idle packet second Connect (led_by_received Connect kind answered) (λ e. omega (arith, e))
+by_received packet second Active kind answered = not_idle packet second Active (led_by_received Active kind answered) (λ e. omega (arith, e))
+by_received packet second OpenSent kind answered = not_idle packet second OpenSent (led_by_received OpenSent kind answered) (λ e. omega (arith, e))
+by_received packet second OpenConfirm kind answered = not_idle packet second OpenConfirm (led_by_received OpenConfirm kind answered) (λ e. omega (arith, e))
+by_received packet second Established kind answered = not_idle packet second Established (led_by_received Established kind answered) (λ e. omega (arith, e))
 
-by_sent : (packet second : ℕ) (state : State) (kind : Option MessageType) (follows : Bool)
-    → Each (λ n. ¬ LeavesIdle n.shown) (change packet second state (led_by_sent state kind follows))
-by_sent packet second Idle kind follows = tt
-by_sent packet second Connect kind follows = not_idle packet second Connect (led_by_sent Connect kind follows) (λ e. omega (arith, e))
-by_sent packet second Active kind follows = not_idle packet second Active (led_by_sent Active kind follows) (λ e. omega (arith, e))
-by_sent packet second OpenSent kind follows = not_idle packet second OpenSent (led_by_sent OpenSent kind follows) (λ e. omega (arith, e))
-by_sent packet second OpenConfirm kind follows = not_idle packet second OpenConfirm (led_by_sent OpenConfirm kind follows) (λ e. omega (arith, e))
-by_sent packet second Established kind follows = not_idle packet second Established (led_by_sent Established kind follows) (λ e. omega (arith, e))
+by_sent : (packet second : ℕ) (state : State) (kind : Option MessageType) (before : Before)
+    → Each (λ n. ¬ LeavesIdle n.shown) (change packet second state (led_by_sent state kind before))
+by_sent packet second Idle kind before = tt
+by_sent packet second Connect kind before = not_idle packet second Connect (led_by_sent Connect kind before) (λ e. omega (arith, e))
+by_sent packet second Active kind before = not_idle packet second Active (led_by_sent Active kind before) (λ e. omega (arith, e))
+by_sent packet second OpenSent kind before = not_idle packet second OpenSent (led_by_sent OpenSent kind before) (λ e. omega (arith, e))
+by_sent packet second OpenConfirm kind before = not_idle packet second OpenConfirm (led_by_sent OpenConfirm kind before) (λ e. omega (arith, e))
+by_sent packet second Established kind before = not_idle packet second Established (led_by_sent Established kind before) (λ e. omega (arith, e))
 
 by_end : (packet second : ℕ) (state : State) → Each (λ n. ¬ LeavesIdle n.shown) (change packet second state (led_by_end state))
 by_end packet second Idle = tt
@@ -67,29 +69,29 @@ by_left packet second Established left = tt
 
 -- ---- the records
 
-none_leaves : (state : State) (follows : Bool) (events : List Event) → Each (λ n. ¬ LeavesIdle n.shown) (numbered_in state follows events)
-none_leaves state follows [] = tt
-none_leaves state follows (Passed second (Received m) ∷ later) =
-    let rejected = is_rejected (sent_in (items_in later)) in
-    let led = led_by_received state m.kind rejected in (
+none_leaves : (state : State) (before : Before) (events : List Event) → Each (λ n. ¬ LeavesIdle n.shown) (numbered_in state before events)
+none_leaves state before [] = tt
+none_leaves state before (Passed second (Received m) ∷ later) =
+    let answered = is_answered_before_open m.kind (sent_in (items_in later)) in
+    let led = led_by_received state m.kind answered in (
       λ leaves. leaves,
-      each_append (change m.packet second state led) (numbered_in (state_then state led) (is_open m.kind) later)
-          (by_received m.packet second state m.kind rejected) (none_leaves (state_then state led) (is_open m.kind) later),
+      each_append (change m.packet second state led) (numbered_in (state_then state led) (just_received m.kind) later)
+          (by_received m.packet second state m.kind answered) (none_leaves (state_then state led) (just_received m.kind) later),
     )
-none_leaves state follows (Passed second (Sent m) ∷ later) =
-    let led = led_by_sent state m.kind follows in (
+none_leaves state before (Passed second (Sent m) ∷ later) =
+    let led = led_by_sent state m.kind before in (
       λ leaves. leaves,
-      each_append (change m.packet second state led) (numbered_in (state_then state led) false later)
-          (by_sent m.packet second state m.kind follows) (none_leaves (state_then state led) false later),
+      each_append (change m.packet second state led) (numbered_in (state_then state led) (just_sent state m.kind before) later)
+          (by_sent m.packet second state m.kind before) (none_leaves (state_then state led) (just_sent state m.kind before) later),
     )
-none_leaves state follows (Passed second (Ended e) ∷ later) =
+none_leaves state before (Passed second (Ended e) ∷ later) =
     let ended = state_then state (led_by_end state) in
     let more = are_left (received_in (items_in later)) in
     let left = led_by_left state more in
-    each_append (change e.packet second state (led_by_end state)) (change e.packet second ended left ++ numbered_in (state_then ended left) false later)
+    each_append (change e.packet second state (led_by_end state)) (change e.packet second ended left ++ numbered_in (state_then ended left) Other later)
     (by_end e.packet second state)
-    (each_append (change e.packet second ended left) (numbered_in (state_then ended left) false later) (by_left e.packet second state more)
-    (none_leaves (state_then ended left) false later))
+    (each_append (change e.packet second ended left) (numbered_in (state_then ended left) Other later) (by_left e.packet second state more)
+    (none_leaves (state_then ended left) Other later))
 
 at_most : (ns : List Numbered) → Each (λ n. ¬ LeavesIdle n.shown) ns → AtMostTheLastLeaves (map (λ (n : Numbered). n.shown) ns)
 at_most [] each = tt
@@ -108,7 +110,7 @@ pub stretch_of : (framings : Framings) (within : ℕ) (connection : Connection) 
     → IsRecorded framings within connection entries received_unshown sent_unshown → IsStretch (records_of entries)
 stretch_of framings within connection entries received_unshown sent_unshown recorded =
     let t = recorded.tells in
-    let rest = numbered_in (opened_state connection.opened_by) false t.events in
+    let rest = numbered_in (opened_state connection.opened_by) Other t.events in
     subst (λ (records : List ShownRecord). IsStretch records)
     (ap (λ (ns : List Numbered). map (λ (n : Numbered). n.shown) ns) (sym t.shown) ∙ same_records entries)
-    ((refl, opens connection.opened_by), at_most rest (none_leaves (opened_state connection.opened_by) false t.events))
+    ((refl, opens connection.opened_by), at_most rest (none_leaves (opened_state connection.opened_by) Other t.events))

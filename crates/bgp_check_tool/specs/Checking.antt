@@ -16,7 +16,8 @@ use Rattle.bgp_import.specs.Refusals.{refusal_line}
 use Rattle.bgp_import.specs.declared.cut_short.CutShort.{CutShort}
 use Rattle.bgp_import.specs.declared.refusal.Refusal.{Refusal}
 use Rattle.bgp_import.specs.declared.refusal.Refusal.TheVariants as refusals
-use Rattle.bgp_check_text.specs.Tally.{has_verdict, is_empty, no_tally, status_of, tally_line}
+use Rattle.bgp_check_text.specs.Tally.{has_verdict, is_empty, is_incomplete, no_tally, status_of}
+use Rattle.bgp_check_text.specs.Tally.{tally_line}
 use Rattle.bgp_check_text.specs.declared.tally.Tally.{Tally}
 use Rattle.bgp_check_tool.specs.declared.nothing.NothingJudged.{NothingJudged}
 use Rattle.bgp_check_tool.specs.declared.options.CheckOptions.{CheckOptions}
@@ -67,7 +68,7 @@ pub record PutsBlocks {T : Type 0} {sink : sinks.Ghosts T} (options : CheckOptio
   pub added : firsts' ≡ firsts_after firsts (refusals_in blocks)
 
 -- The blocks of these packets were put, in the order of their places; or none, where there was no
--- memory for a list of them.
+-- memory for a list of them: that memory was refused is no answer beside a block.
 pub record PutsAll {T : Type 0} {sink : sinks.Ghosts T} (options : CheckOptions)
     {Z : Type 0} (packets : List Recorded) (talks : Talks Z) (last_packet : ℕ)
     (lines lines' : Lines T sink) (tally tally' : Tally) (firsts firsts' : List (Option Refusal))
@@ -76,6 +77,7 @@ pub record PutsAll {T : Type 0} {sink : sinks.Ghosts T} (options : CheckOptions)
   pub rise : IsStrictlySortedBy nat_cmp places
   pub puts : PutsBlocks options packets last_packet places lines lines' tally tally' firsts firsts'
   pub lacks : (lacking ≡ None) ⊎ (lacking ≡ Some (refusals.Memory last_packet))
+  pub none : (lacking ≡ None) ⊎ (places ≡ [])
   pub all : lacking ≡ None → HoldsEach options.port packets talks
       → HasAll options.port packets (Contains places)
 
@@ -102,11 +104,17 @@ nothing_line port = codes "not judged: no connection at port "
 abbrev pub nothing_text : ℕ → Tally → List ℕ
 nothing_text port tally = if is_empty tally then nothing_line port else []
 
--- that no end is judged is told where the file was read to its end
-abbrev pub nothing_by : ℕ → Bool → Option Refusal → Option NothingJudged
-nothing_by port true refusal = None
-nothing_by port false (Some refusal) = None
-nothing_by port false None = Some (record { port = port })
+-- that no end is judged is told where the file was read to its end, and whether more could be, if
+-- more were recorded
+abbrev pub nothing_where : ℕ → Bool → Bool → Option Refusal → Option NothingJudged
+nothing_where port true incomplete refusal = None
+nothing_where port false incomplete (Some refusal) = None
+nothing_where port false incomplete None =
+    Some (record { port = port; is_incomplete = incomplete })
+
+abbrev pub nothing_by : ℕ → Tally → Option Refusal → Option NothingJudged
+nothing_by port tally refusal =
+    nothing_where port (has_verdict tally) (is_incomplete tally) refusal
 
 -- These packets are read, up to the end, or to where the file was cut short, or to what keeps it
 -- from being read on; the source counts one failure more where that is a device that failed. Of
@@ -134,13 +142,14 @@ pub record ChecksRecording {S T : Type 0} (gives : S → S → List ℕ → Type
   pub told : AllByRecursion (λ (b : ℕ × Block). IsToldAt (options_by stopped options) packets
       (looked_at packets stopped) b.0 b.1) blocks
   pub rise : IsStrictlySortedBy nat_cmp (keys_of blocks)
+  pub none : (lacking ≡ None) ⊎ (blocks ≡ [])
   pub all : lacking ≡ None → ¬ IsMemory stopped
       → HasAll options.port packets (Contains (keys_of blocks))
   pub tally : Tally
   pub counts : tally ≡ with_file (with_file (tally_from no_tally blocks) stopped) lacking
   pub are_firsts : firsts
       ≡ with_first (with_first (firsts_after [] (refusals_in blocks)) stopped) lacking
-  pub is_nothing : nothing ≡ nothing_by options.port (has_verdict tally) refusal
+  pub is_nothing : nothing ≡ nothing_by options.port tally refusal
   pub written : IsWritten takes failures
       (blocks_text options.routes blocks
       ++ (file_text stopped ++ (file_text lacking ++ (cut_note cut_short

@@ -1,5 +1,5 @@
 -- How what is told of a recording is counted.
-use Rattle.std.specs.Prelude.{ℕ}
+use Rattle.std.specs.Prelude.{ℕ, false}
 use Rattle.bgp_import.specs.Refusals.{cause_of}
 use Rattle.bgp_import.specs.declared.refusal.Cause.{Cause}
 use Rattle.bgp_import.specs.declared.refusal.Cause.TheVariants as causes
@@ -20,6 +20,7 @@ with_refused tally refusal = with_refusal tally (cause_status (cause_of refusal)
 abbrev pub with_block : Tally → Block → Tally
 with_block tally (BothEnds session opening first second opener other) =
     with_end (with_end tally opener.answer) other.answer
-with_block tally (OneEnd session opening first second) = with_unjudged (with_unjudged tally)
+with_block tally (OneEnd session opening first second) =
+    with_unjudged (with_unjudged tally false) false
 with_block tally (Refused session opening refusal) = with_refused tally refusal
 with_block tally (AllRefused addresses refusal) = with_refused tally refusal

@@ -20,7 +20,7 @@ use Rattle.bgp_import.specs.ListText.{other_side}
 use Rattle.bgp_check.specs.Answered.{JudgedAs}
 use Rattle.bgp_check.specs.Configurations.{IsOf}
 use Rattle.bgp_check.specs.NotJudged.{SendsSome}
-use Rattle.bgp_check.specs.Opens.{HasOwnOpen}
+use Rattle.bgp_parts.specs.Opens.{HasOwnOpen}
 use Rattle.bgp_check.specs.Over.{HasVerdictOver}
 use Rattle.bgp_check.specs.Stretch.{IsStretch}
 use Rattle.bgp_check.specs.WidestMade.{IsFaultless}
@@ -41,10 +41,10 @@ abbrev pub VerdictIsOverAll : Type 0
 VerdictIsOverAll =
     (options : CheckOptions) (asked : Asked) (session : Session) (opening : Opening)
     (connection : Connection) (side : Side) (told : EndTold) (number : Option ℕ) (peer : PeerAs)
-    (verdict : VerdictValue) (own : Option (List ℕ))
+    (under : Config) (verdict : VerdictValue) (own : Option (List ℕ))
     (end : IsEndTold options asked session opening connection side told)
-    → told.answer ≡ JudgedAs number peer verdict → HasOwnOpen (records_of end.entries) own
-    → IsFaultless own
+    → told.answer ≡ JudgedAs number peer under verdict
+    → HasOwnOpen (records_of end.entries) own → IsFaultless own
     → HasVerdictOver (IsOf (session_from side session) own) (records_of end.entries) verdict
 
 -- A no after so many records says that no configuration under which the router's OPEN is its own
@@ -53,10 +53,10 @@ abbrev pub NoConfigurationHasARun : Type 0
 NoConfigurationHasARun =
     (options : CheckOptions) (asked : Asked) (session : Session) (opening : Opening)
     (connection : Connection) (side : Side) (told : EndTold) (number : Option ℕ) (peer : PeerAs)
-    (count : ℕ) (own : Option (List ℕ)) (config : Config)
+    (under : Config) (count : ℕ) (own : Option (List ℕ)) (config : Config)
     (end : IsEndTold options asked session opening connection side told)
-    → told.answer ≡ JudgedAs number peer (No count) → HasOwnOpen (records_of end.entries) own
-    → IsOf (session_from side session) own config
+    → told.answer ≡ JudgedAs number peer under (No count)
+    → HasOwnOpen (records_of end.entries) own → IsOf (session_from side session) own config
     → (¬ Begins config (take (count + 1) (records_of end.entries)))
     × (¬ Begins config (records_of end.entries))
 
@@ -65,8 +65,9 @@ abbrev pub NothingIsVacuous : Type 0
 NothingIsVacuous =
     (options : CheckOptions) (asked : Asked) (session : Session) (opening : Opening)
     (connection : Connection) (side : Side) (told : EndTold) (number : Option ℕ) (peer : PeerAs)
-    (verdict : VerdictValue) (end : IsEndTold options asked session opening connection side told)
-    → told.answer ≡ JudgedAs number peer verdict
+    (under : Config) (verdict : VerdictValue)
+    (end : IsEndTold options asked session opening connection side told)
+    → told.answer ≡ JudgedAs number peer under verdict
     → IsStretch (records_of end.entries) × SendsSome (records_of end.entries)
 
 -- ---- of a no that is told of a recording
@@ -104,8 +105,9 @@ abbrev pub ToldNoHasNoRun : Type 0
 ToldNoHasNoRun =
     (options : CheckOptions) (last_packet place : ℕ) (packets : List Recorded) (session : Session)
     (opening : Opening) (first second : ℕ) (opener other told : EndTold) (side : Side)
-    (number : Option ℕ) (peer : PeerAs) (count : ℕ)
+    (number : Option ℕ) (peer : PeerAs) (under : Config) (count : ℕ)
     → IsToldAt options packets last_packet place
     (BothEnds session opening first second opener other)
-    → IsToldOfSide opening opener other side told → told.answer ≡ JudgedAs number peer (No count)
+    → IsToldOfSide opening opener other side told
+    → told.answer ≡ JudgedAs number peer under (No count)
     → NoneHasARun options.port packets options.within last_packet session opening side count

@@ -1,6 +1,5 @@
 -- How `bgp judge` gives a verdict that is told of an end.
 use Rattle.std.specs.Prelude.{◌≡◌, Bool, true, false, ℕ, List, [], Option, None, Some}
-use Rattle.bgp_prefix.specs.declared.session.Session.{Session}
 use Rattle.bgp_open.specs.declared.config.Config.{Config}
 use Rattle.streams.specs.declared.connection.Connection.{Connection}
 use Rattle.bgp_judge.specs.Verdict.{VerdictValue}
@@ -9,8 +8,7 @@ use Rattle.bgp_recording.specs.declared.entry.Entry.{Entry}
 use Rattle.bgp_recording.specs.declared.framing.Unshown.{Unshown}
 use Rattle.bgp_import.specs.declared.refusal.Refusal.{Refusal}
 use Rattle.bgp_check.specs.Answered.{AnswerValue, JudgedAs, Unjudged}
-use Rattle.bgp_check.specs.declared.peer_as.PeerAs.{PeerAs}
-use Rattle.bgp_check_reason.specs.Under.{IsToldConfiguration}
+use Rattle.bgp_check_reason.specs.OwnFaults.{IsToldConfiguration}
 use Rattle.bgp_judge_line.specs.Line.{judge_line}
 use Rattle.bgp_judge_line.specs.ReadAlike.{AreJudgeOptions}
 use Rattle.bgp_judge_line.specs.declared.options.Asked.{Asked}
@@ -38,25 +36,23 @@ abbrev pub judge_text : Option JudgeOptions → List ℕ
 judge_text None = []
 judge_text (Some options) = judge_line options
 
--- Of the end of this session that has the connection so, whose records these are; its connection is
--- asked for so.
-module _ (within : ℕ) (asked : Asked) (session : Session) (connection : Connection)
-    (entries : List Entry) (received_unshown sent_unshown : Unshown) where
+-- For the end that has the connection so, whose records these are; its connection is asked for so.
+module _ (within : ℕ) (asked : Asked) (connection : Connection) (entries : List Entry)
+    (received_unshown sent_unshown : Unshown) where
   -- under the configuration for which the verdict is told, if the OPEN is one's own
   abbrev pub AreOptionsUnder : Option Config → Option JudgeOptions → Type 0
   AreOptionsUnder None judge = judge ≡ None
   AreOptionsUnder (Some config) judge =
       AreJudgeOptions config asked within connection entries received_unshown sent_unshown judge
 
-  abbrev pub AreOptionsFor : Bool → PeerAs → Option JudgeOptions → Type 0
-  AreOptionsFor false peer judge = judge ≡ None
-  AreOptionsFor true peer judge =
-      (config : Option Config)
-      × IsToldConfiguration session (records_of entries) peer config
+  abbrev pub AreOptionsFor : Bool → Config → Option JudgeOptions → Type 0
+  AreOptionsFor false under judge = judge ≡ None
+  AreOptionsFor true under judge =
+      (config : Option Config) × IsToldConfiguration (records_of entries) under config
       × AreOptionsUnder config judge
 
   -- the options by which `judge` gives what is answered of them, if it does
   abbrev pub AreOptionsTo : Settings → AnswerValue → Option JudgeOptions → Type 0
   AreOptionsTo settings (Unjudged why) judge = judge ≡ None
-  AreOptionsTo settings (JudgedAs number peer verdict) judge =
-      AreOptionsFor (are_told settings verdict) peer judge
+  AreOptionsTo settings (JudgedAs number peer under verdict) judge =
+      AreOptionsFor (are_told settings verdict) under judge

@@ -1,5 +1,6 @@
 pub mod Seen
 pub mod Made
+pub mod Late
 pub mod Judging
 pub mod Told
 pub mod Text
@@ -10,3 +11,4 @@ pub mod Checking
 pub mod Headline
 pub mod Repeated
 pub mod Alone
+pub mod Printed

@@ -14,7 +14,7 @@ use Rattle.bgp_recording.specs.declared.framing.Framing.{Framing}
 use Rattle.bgp_recording.specs.declared.framing.Framings.{Framings}
 use Rattle.bgp_recording.specs.declared.framing.Unshown.{Unshown}
 use Rattle.bgp_recording.specs.Pieces.{alike}
-use Rattle.bgp_check.specs.Opens.{HasHeardOpen, HasOwnOpen}
+use Rattle.bgp_parts.specs.Opens.{HasHeardOpen, HasOwnOpen}
 use Rattle.bgp_check.specs.Refresh.{offers_refresh}
 
 -- How what comes to a system is framed: that may come which its OPEN offers, extended messages

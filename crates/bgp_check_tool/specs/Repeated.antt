@@ -2,6 +2,7 @@
 use Rattle.std.specs.Prelude.{◌≡◌, ℕ, IsFalse, Option, Some}
 use Rattle.std.specs.List.{AllByRecursion}
 use Rattle.bgp_prefix.specs.declared.session.Session.{Session}
+use Rattle.bgp_open.specs.declared.config.Config.{Config}
 use Rattle.streams.specs.declared.connection.Connection.{Connection}
 use Rattle.streams.specs.declared.connection.Opening.{Opening}
 use Rattle.streams.specs.declared.passed.Side.{Side}
@@ -24,9 +25,9 @@ abbrev pub LineGivesTheVerdict : Type 0
 LineGivesTheVerdict =
     (options : CheckOptions) (asked : Asked) (session : Session) (opening : Opening)
     (connection : Connection) (side : Side) (told : EndTold) (number : Option ℕ) (peer : PeerAs)
-    (verdict : VerdictValue) (line : JudgeOptions)
+    (under : Config) (verdict : VerdictValue) (line : JudgeOptions)
     (end : IsEndTold options asked session opening connection side told)
-    → told.answer ≡ JudgedAs number peer verdict → told.judge ≡ Some line
+    → told.answer ≡ JudgedAs number peer under verdict → told.judge ≡ Some line
     → IsReadAlike (framings_by line.config line.skips_refresh) options.within
     (seen_from side connection) end.entries
     × HasVerdict line.config (records_of end.entries) verdict

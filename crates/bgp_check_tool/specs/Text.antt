@@ -11,6 +11,7 @@ use Rattle.bgp_check.specs.Answered.{AnswerValue, JudgedAs, Unjudged}
 use Rattle.bgp_check_reason.specs.Unshown.{unshown_notes}
 use Rattle.bgp_check_text.specs.Text.{as_text, ending_text, no_text, peer_text, why_text}
 use Rattle.bgp_check_tool.specs.Judging.{judge_text}
+use Rattle.bgp_check_tool.specs.Late.{late_text}
 use Rattle.bgp_check_tool.specs.Told.{EndTold}
 
 -- ---- an end that isn't judged
@@ -46,15 +47,15 @@ verdict_text routes told number peer (Yes ends) =
 verdict_text routes told number peer (No count) =
     no_text count told.packet ++ (whose_text told.end number peer
     ++ (told.reason ++ (unshown_notes told.received told.sent
-    ++ (note_line told.put_off ++ judge_text told.judge))))
+    ++ (note_line told.put_off ++ (late_text told.within told.late ++ judge_text told.judge)))))
 verdict_text routes told number peer Unfinished =
     codes "unfinished" ++ (whose_text told.end number peer
     ++ (told.reason ++ (unshown_notes told.received told.sent
-    ++ (note_line told.put_off ++ judge_text told.judge))))
+    ++ (note_line told.put_off ++ (late_text told.within told.late ++ judge_text told.judge)))))
 
 abbrev pub answer_text : Bool → EndTold → AnswerValue → List ℕ
 answer_text routes told (Unjudged why) = not_judged_line told.end why
-answer_text routes told (JudgedAs number peer verdict) =
+answer_text routes told (JudgedAs number peer under verdict) =
     verdict_text routes told number peer verdict
 
 abbrev pub told_lines : Bool → EndTold → List ℕ

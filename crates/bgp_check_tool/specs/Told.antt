@@ -22,6 +22,8 @@ use Rattle.bgp_judge_line.specs.declared.options.Asked.{Asked}
 use Rattle.bgp_judge_line.specs.declared.options.JudgeOptions.{JudgeOptions}
 use Rattle.bgp_check_tool.specs.declared.options.CheckOptions.{CheckOptions}
 use Rattle.bgp_check_tool.specs.Judging.{AreOptionsTo}
+use Rattle.bgp_check_tool.specs.Late.{IsLate}
+use Rattle.bgp_check_tool.specs.declared.late.Late.{Late}
 use Rattle.bgp_check_tool.specs.Made.{IsMade}
 use Rattle.bgp_check_tool.specs.Seen.{seen_from, session_from}
 
@@ -33,6 +35,10 @@ pub record EndTold : Type 0 where
   pub packet : Option ℕ
   -- how many received messages are put off in the order that is judged
   pub put_off : ℕ
+  -- within how many seconds a message is handled in that order
+  pub within : ℕ
+  -- what a no or an unfinished becomes, where it may be handled as late as it can be said
+  pub late : Option Late
   -- the number of the highest state that is told
   pub highest : ℕ
   -- the lines on why it is a no or unfinished, where it is
@@ -49,6 +55,8 @@ told_value told = record {
   answer = answer_value told.answer;
   packet = told.packet;
   put_off = told.put_off;
+  within = told.within;
+  late = told.late;
   highest = told.highest;
   reason = reason_text told.reason;
   received = told.received;
@@ -65,11 +73,12 @@ packet_by Unfinished entries = None
 
 abbrev pub packet_of : AnswerValue → List Entry → Option ℕ
 packet_of (Unjudged why) entries = None
-packet_of (JudgedAs number peer verdict) entries = packet_by verdict entries
+packet_of (JudgedAs number peer under verdict) entries = packet_by verdict entries
 
 -- This is told of that end of the connection: what is answered of the records that are made of it
--- as this end has it, and why; the line of a message that it sent goes by the limit of its
--- receiver. And how `bgp judge` gives it, where the connection is asked for so.
+-- as this end has it, and why; what that becomes, where a message may be handled as late as it can
+-- be said; the line of a message that it sent goes by the limit of its receiver. And how `bgp
+-- judge` gives it, where the connection is asked for so.
 pub record IsEndTold (options : CheckOptions) (asked : Asked) (session : Session)
     (opening : Opening) (connection : Connection) (side : Side) (told : EndTold) : Type 0 where
   pub entries : List Entry
@@ -82,11 +91,13 @@ pub record IsEndTold (options : CheckOptions) (asked : Asked) (session : Session
   pub answers : IsAnswerTo (session_from side session) (records_of entries) told.answer
   pub is_packet : told.packet ≡ packet_of told.answer entries
   pub is_put_off : told.put_off ≡ put_off 0 entries
+  pub is_within : told.within ≡ options.within
+  pub is_late : IsLate (session_from side session) (seen_from side connection) told.answer
+      told.late
   pub is_highest : told.highest ≡ highest_state (records_of entries)
   pub explains : IsReasonTo (session_from side session) framings.sent.limit (shown_places entries)
       (records_of entries) told.answer told.reason
   pub is_received : told.received ≡ received_unshown
   pub is_sent : told.sent ≡ sent_unshown
-  pub judges : AreOptionsTo options.within asked (session_from side session)
-      (seen_from side connection) entries received_unshown sent_unshown options.settings
-      told.answer told.judge
+  pub judges : AreOptionsTo options.within asked (seen_from side connection) entries
+      received_unshown sent_unshown options.settings told.answer told.judge

@@ -16,7 +16,7 @@ use crate::counted::Counted;
 use crate::nothing::{NothingJudged, put_nothing};
 use crate::options::CheckOptions;
 use arrayvec::ArrayVec;
-use bgp_check_text::Settings;
+use bgp_check_text::{Settings, Tally};
 use bgp_connections::{Listed, Talks, cut_short_at, listed_in, selection_of, take_all};
 use bgp_import::{CutShort, Refusal, put_refusal, refused};
 use bgp_judge::Tracker;
@@ -139,13 +139,17 @@ fn put_cut_short<W: Sink>(lines: &mut Lines<'_, W>, cut_short: Option<CutShort>)
     }
 }
 
-/// That no end is judged, where the file was read to its end.
-fn nothing_by(port: u16, judged: bool, refusal: Option<Refusal>) -> Option<NothingJudged>
-    ensures { result ≡ nothing_by port judged refusal }
+/// That no end is judged, if the file was read to its end.
+fn nothing_by(port: u16, tally: Tally, refusal: Option<Refusal>) -> Option<NothingJudged>
+    ensures { result ≡ nothing_by port tally refusal }
 {
-    match (judged, refusal) {
+    let is_incomplete = tally.is_incomplete();
+    match (tally.has_verdict(), refusal) {
         (true, _) | (false, Some(_)) => None,
-        (false, None) => Some(NothingJudged { port }),
+        (false, None) => Some(NothingJudged {
+            port,
+            is_incomplete,
+        }),
     }
 }
 
@@ -159,29 +163,9 @@ fn settings_by(stopped: Option<Refusal>, settings: Settings) -> Settings
     }
 }
 
-/// Checks each end of each connection in a recording that holds octets and one of whose ports is
-/// this one: whether its messages are those of a run of the session machine (RFC 4271, 8.2.2) under
-/// some configuration under which the OPEN that it sent is its own.
-///
-/// It writes a line for each connection, in the order of their first packets, and after it what is
-/// told of both ends, first of that which opened it: the verdict, for which AS number of its peer
-/// it is told, of a yes each possible end, of a no and an unfinished why it is so, and with which
-/// options `bgp judge` gives the verdict; or why it isn't judged. Then why the file can't be read
-/// on, if it can't, that memory was refused for a list of the connections, if it was, and that the
-/// file was cut short, if it was; last how many ends there are of each verdict. It answers the exit
-/// status over all ends, the first of 5, 4, 1, 3, 2, 0 for which there is something:
-///
-/// * 0: a yes.
-/// * 1: a no. What it is worth says
-///   [`no_configuration_has_a_run`](crate::no_configuration_has_a_run).
-/// * 2: an end is unfinished: the recording stops within what it had to do.
-/// * 3: the recording or a connection is refused; or no end is judged.
-/// * 4: memory was refused.
-/// * 5: a device failed.
-///
-/// A recording holds its packets one at a time; of all connections it holds the streams, and of one
-/// end its messages and records besides.
-pub fn check_recording<A: Allocator + Copy, T: Tracker<A>, R: Source, W: Sink>(
+/// Reads the recording, and checks all that is listed of it: what
+/// [`check_recording`](crate::check_recording) is made of, on whose page its sentence stands.
+pub(crate) fn check_recording<A: Allocator + Copy, T: Tracker<A>, R: Source, W: Sink>(
     alloc: A,
     options: &CheckOptions,
     source: &mut R,
@@ -220,6 +204,6 @@ pub fn check_recording<A: Allocator + Copy, T: Tracker<A>, R: Source, W: Sink>(
         cut_short,
         refusals,
         refusal,
-        nothing: nothing_by(options.port, tally.has_verdict(), refusal),
+        nothing: nothing_by(options.port, tally, refusal),
     }
 }

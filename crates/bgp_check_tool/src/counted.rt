@@ -83,7 +83,9 @@ impl Counted {
                     .with_end(&both.opener.answer)
                     .with_end(&both.other.answer);
             }
-            Ok(EndsTold::One(..)) => self.tally = self.tally.with_unjudged().with_unjudged(),
+            Ok(EndsTold::One(..)) => {
+                self.tally = self.tally.with_unjudged(false).with_unjudged(false);
+            }
             Err(refusal) => self.add_refusal(*refusal),
         }
     }

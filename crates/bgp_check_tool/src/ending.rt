@@ -1,6 +1,7 @@
 //! What is told of one of a connection's two ends.
 
-ghost use Rattle.std.specs.Prelude.{◌≡◌, IfOk};
+ghost use Rattle.std.specs.Prelude.{◌≡◌, IfOk, map};
+ghost use Rattle.mrt.specs.Reader.{shown_of};
 ghost use Rattle.bgp_check.specs.Answered.{IsAnswerTo, answer_value};
 ghost use Rattle.bgp_check_reason.specs.Reason.{IsReasonTo, reason_text};
 ghost use Rattle.bgp_explain.specs.Places.{shown_places};
@@ -9,10 +10,12 @@ ghost use Rattle.bgp_recording.specs.Captured.{records_of};
 ghost use Rattle.bgp_recording.specs.Gathered.{IsClocked, IsCovered};
 ghost use Rattle.bgp_check_text.specs.Highest.{highest_state};
 ghost use Rattle.bgp_check_tool.specs.Judging.{AreOptionsTo};
+ghost use Rattle.bgp_check_tool.specs.Late.{IsLate};
 ghost use Rattle.bgp_check_tool.specs.Told.{packet_of};
 
 use crate::judging::options_to;
-use crate::making::{Made, records_of};
+use crate::late::{Late, late_of};
+use crate::making::Made;
 use crate::options::CheckOptions;
 use bgp_check::{Answer, check_end};
 use bgp_check_reason::{Reason, reason_of};
@@ -52,6 +55,10 @@ pub(crate) struct Told<A: Allocator> {
     pub(crate) packet: Option<u64>,
     /// How many received messages are put off in the order that is judged.
     pub(crate) put_off: usize,
+    /// Within how many seconds a message is handled in that order.
+    pub(crate) within: u16,
+    /// What a no or an unfinished becomes, where it may be handled as late as it can be said.
+    pub(crate) late: Option<Late>,
     /// The number of the highest state that the records tell (RFC 6396, 4.4.1).
     pub(crate) highest: u16,
     /// Why the verdict is a no or unfinished, where it is.
@@ -87,6 +94,8 @@ pub(crate) fn told_by<A: Allocator + Copy, T: Tracker<A>>(
 ) -> Result<Told<A>, AllocError>
     requires received { IsCovered viewed.now.connection.received }
     requires sent { IsCovered viewed.now.connection.sent }
+    requires records { map shown_of made.now.recording.records.items
+        ≡ records_of made.now.recording.entries.items }
     ensures end { IfOk result (λ told. told.end ≡ viewed.now.end) }
     ensures answers { IfOk result (λ told. IsAnswerTo viewed.now.session
         (records_of made.now.recording.entries.items) (answer_value told.answer)) }
@@ -94,6 +103,9 @@ pub(crate) fn told_by<A: Allocator + Copy, T: Tracker<A>>(
         ≡ packet_of (answer_value told.answer) made.now.recording.entries.items) }
     ensures put_off { IfOk result (λ told. told.put_off
         ≡ put_off 0 made.now.recording.entries.items) }
+    ensures within { IfOk result (λ told. told.within ≡ viewed.now.options.within) }
+    ensures late { IfOk result (λ told. IsClocked viewed.now.connection → IsLate
+        viewed.now.session viewed.now.connection (answer_value told.answer) told.late) }
     ensures highest { IfOk result (λ told. told.highest
         ≡ highest_state (records_of made.now.recording.entries.items)) }
     ensures reason { IfOk result (λ told. IsReasonTo viewed.now.session
@@ -103,7 +115,7 @@ pub(crate) fn told_by<A: Allocator + Copy, T: Tracker<A>>(
     ensures unshown { IfOk result (λ told. (told.received ≡ made.now.recording.received)
         × (told.sent ≡ made.now.recording.sent)) }
     ensures judge { IfOk result (λ told. IsClocked viewed.now.connection → AreOptionsTo
-        viewed.now.options.within viewed.now.asked viewed.now.session viewed.now.connection
+        viewed.now.options.within viewed.now.asked viewed.now.connection
         made.now.recording.entries.items made.now.recording.received made.now.recording.sent
         viewed.now.options.settings (answer_value told.answer) told.judge) }
 {
@@ -111,17 +123,20 @@ pub(crate) fn told_by<A: Allocator + Copy, T: Tracker<A>>(
     let recording = &made.recording;
     let sent = made.framings.sent.limit;
     let entries = recording.entries.as_slice();
-    let records = records_of(alloc, entries)?;
-    let answer = check_end::<A, T>(alloc, session, &records)?;
+    let records = recording.records.as_slice();
+    let answer = check_end::<A, T>(alloc, session, records)?;
+    let late = late_of::<A, T>(alloc, viewed, &answer)?;
     let places = Places::Shown(entries);
-    let reason = reason_of::<A, T>(alloc, session, sent, places, &records, &answer)?;
-    let judge = options_to(alloc, viewed, recording, &records, &answer)?;
+    let reason = reason_of::<A, T>(alloc, sent, places, records, &answer)?;
+    let judge = options_to(alloc, viewed, recording, &answer)?;
     Ok(Told {
         end: viewed.end,
         packet: packet_of(&answer, entries),
         answer,
         put_off: notes_on(recording).put_off,
-        highest: highest_state(&records),
+        within: viewed.options.within,
+        late,
+        highest: highest_state(records),
         reason,
         received: recording.received,
         sent: recording.sent,

@@ -3,7 +3,7 @@
 ghost use Rattle.std.specs.Prelude.{◌≡◌, IfOk, map};
 ghost use Rattle.mrt.specs.Reader.{shown_of};
 ghost use Rattle.bgp_judge.specs.Verdict.{verdict_value};
-ghost use Rattle.bgp_check.specs.Answered.{IsAnswerTo, IsJudged, answer_value};
+ghost use Rattle.bgp_check.specs.Answered.{answer_value};
 ghost use Rattle.bgp_recording.specs.Captured.{records_of};
 ghost use Rattle.bgp_recording.specs.Gathered.{IsClocked, IsCovered};
 ghost use Rattle.bgp_text.specs.Lines.{Writes};
@@ -16,7 +16,7 @@ use bgp_check_reason::told_configuration;
 use bgp_judge_line::{JudgeOptions, judge_options, put_judge_line};
 use bgp_recording::Recording;
 use bgp_text::Lines;
-use mrt::{Record, Sink};
+use mrt::Sink;
 use std::alloc::{AllocError, Allocator};
 
 /// The options by which `bgp judge` gives what is answered of the records that were made of an end,
@@ -25,22 +25,19 @@ pub(crate) fn options_to<A: Allocator + Copy>(
     alloc: A,
     viewed: &Viewed<'_>,
     made: &Recording<'_, A>,
-    records: &[Record<'_>],
     answer: &Answer<A>,
 ) -> Result<Option<JudgeOptions>, AllocError>
     requires received { IsCovered viewed.now.connection.received }
     requires sent { IsCovered viewed.now.connection.sent }
-    requires records { map shown_of records.now ≡ records_of made.now.entries.items }
-    requires answer { IsAnswerTo viewed.now.session (records_of made.now.entries.items)
-        (answer_value answer.now) }
+    requires records { map shown_of made.now.records.items ≡ records_of made.now.entries.items }
     ensures { IfOk result (λ judge. IsClocked viewed.now.connection → AreOptionsTo
-        viewed.now.options.within viewed.now.asked viewed.now.session viewed.now.connection
+        viewed.now.options.within viewed.now.asked viewed.now.connection
         made.now.entries.items made.now.received made.now.sent viewed.now.options.settings
         (answer_value answer.now) judge) }
 {
     match answer {
         Answer::NotJudged(_) => Ok(None),
-        Answer::Judged(judged) => options_for(alloc, viewed, made, records, judged),
+        Answer::Judged(judged) => options_for(alloc, viewed, made, judged),
     }
 }
 
@@ -49,24 +46,21 @@ fn options_for<A: Allocator + Copy>(
     alloc: A,
     viewed: &Viewed<'_>,
     made: &Recording<'_, A>,
-    records: &[Record<'_>],
     judged: &Judged<A>,
 ) -> Result<Option<JudgeOptions>, AllocError>
     requires received { IsCovered viewed.now.connection.received }
     requires sent { IsCovered viewed.now.connection.sent }
-    requires records { map shown_of records.now ≡ records_of made.now.entries.items }
-    requires judged { IsJudged viewed.now.session (records_of made.now.entries.items)
-        judged.now.as_number judged.now.peer_as (verdict_value judged.now.verdict) }
+    requires records { map shown_of made.now.records.items ≡ records_of made.now.entries.items }
     ensures { IfOk result (λ judge. IsClocked viewed.now.connection → AreOptionsFor
-        viewed.now.options.within viewed.now.asked viewed.now.session viewed.now.connection
+        viewed.now.options.within viewed.now.asked viewed.now.connection
         made.now.entries.items made.now.received made.now.sent
         (are_told viewed.now.options.settings (verdict_value judged.now.verdict))
-        judged.now.peer_as judge) }
+        judged.now.under judge) }
 {
     if !viewed.options.settings.are_told(&judged.verdict) {
         return Ok(None);
     }
-    let Some(config) = told_configuration(&viewed.session, records, judged) else {
+    let Some(config) = told_configuration(&made.records, judged) else {
         return Ok(None);
     };
     let within = viewed.options.within;

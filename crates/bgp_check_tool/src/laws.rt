@@ -5,8 +5,7 @@ ghost use Rattle.bgp_check_tool.specs.Headline.{NoConfigurationHasARun, NothingI
 ghost use Rattle.bgp_check_tool.specs.Headline.{ToldNoHasNoRun, VerdictIsOverAll};
 ghost use Rattle.bgp_check_tool.specs.Repeated.{LineGivesTheVerdict};
 
-use bgp_check::no_configuration_explains_a_no;
-use bgp_check_reason::the_verdict_is_told_under_one;
+use bgp_check::{a_verdict_holds_under_its_configuration, no_configuration_explains_a_no};
 
 /// A no of [`check_recording`](crate::check_recording) says that no configuration under which the
 /// router's OPEN is its own has a run that shows these records: none shows even those before the
@@ -45,5 +44,5 @@ pub fn each_of_them_is_told()
 pub fn a_judge_line_gives_the_verdict()
     ensures { LineGivesTheVerdict }
 {
-    the_verdict_is_told_under_one();
+    a_verdict_holds_under_its_configuration();
 }

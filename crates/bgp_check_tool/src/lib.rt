@@ -14,7 +14,9 @@ mod checking;
 mod connection;
 mod counted;
 mod ending;
+mod headline;
 mod judging;
+mod late;
 mod laws;
 mod lines;
 mod making;
@@ -23,7 +25,8 @@ mod options;
 mod seen;
 
 pub use bgp_check_text::Settings;
-pub use checking::{CheckedRecording, check_recording};
+pub use checking::CheckedRecording;
+pub use headline::{a_printed_verdict_is_over_all_configurations, check_recording};
 pub use laws::{
     a_judge_line_gives_the_verdict, a_verdict_is_over_all_configurations, each_of_them_is_told,
     no_configuration_has_a_run, no_verdict_is_vacuous,

@@ -12,6 +12,7 @@ ghost use Rattle.bgp_check_tool.specs.Told.{told_value};
 
 use crate::ending::Told;
 use crate::judging::put_judge;
+use crate::late::put_late;
 use bgp_check::{Answer, Judged, NotJudged, PeerAs};
 use bgp_check_reason::{put_reason, put_unshown};
 use bgp_check_text::{put_as, put_endings, put_no, put_peer, put_why};
@@ -87,6 +88,7 @@ fn put_verdict<W: Sink, A: Allocator>(
             put_reason(lines, &told.reason);
             put_unshown(lines, told.received, told.sent);
             put_note(lines, told.put_off);
+            put_late(lines, told.within, told.late);
             put_judge(lines, told.judge);
         }
         Verdict::Unfinished => {
@@ -95,6 +97,7 @@ fn put_verdict<W: Sink, A: Allocator>(
             put_reason(lines, &told.reason);
             put_unshown(lines, told.received, told.sent);
             put_note(lines, told.put_off);
+            put_late(lines, told.within, told.late);
             put_judge(lines, told.judge);
         }
     }

@@ -10,25 +10,11 @@ ghost use Rattle.bgp_check_tool.specs.Made.{with_both_offers};
 
 use bgp_check::{heard_open, offer_of, own_open};
 use bgp_open::{Open, read_open};
-use bgp_recording::{Entry, Framing, Framings, Recording, make_records};
+use bgp_recording::{Framing, Framings, Recording, make_records};
 use bgp_wire::Limit;
 use mrt::Record;
 use std::alloc::{AllocError, Allocator};
 use streams::Connection;
-
-/// The records of entries.
-pub(crate) fn records_of<'a, A: Allocator + Copy>(
-    alloc: A,
-    entries: &[Entry<'a>],
-) -> Result<Vec<Record<'a>, A>, AllocError>
-    ensures { IfOk result (λ records. map shown_of records.items ≡ records_of entries.now) }
-{
-    let mut records = Vec::new(alloc);
-    for entry in entries {
-        records.push(entry.record)?;
-    }
-    Ok(records)
-}
 
 /// By which rules what comes to a system is framed that sent this OPEN.
 fn framing_with(message: &Open<'_>) -> Framing
@@ -102,13 +88,14 @@ pub(crate) fn made_of<'a, A: Allocator + Copy>(
     requires received { IsCovered connection.now.received }
     requires sent { IsCovered connection.now.sent }
     // Where the packets' seconds don't fall, the records tell the connection.
-    ensures { IfOk result (λ made. IsClocked connection.now → IsMade within connection.now
+    ensures told { IfOk result (λ made. IsClocked connection.now → IsMade within connection.now
         made.framings made.recording.entries.items made.recording.received
         made.recording.sent) }
+    ensures records { IfOk result (λ made. map shown_of made.recording.records.items
+        ≡ records_of made.recording.entries.items) }
 {
     let looked_in = make_records(alloc, connection, with_both_offers(), within)?;
-    let records = records_of(alloc, looked_in.entries.as_slice())?;
-    let framings = offered_in(&records);
+    let framings = offered_in(&looked_in.records);
     if has_both_offers(framings.received) && has_both_offers(framings.sent) {
         return Ok(Made {
             recording: looked_in,

@@ -14,10 +14,18 @@ use std::fmt;
 pub struct NothingJudged {
     /// The port whose connections were looked for.
     pub port: u16,
+    /// Whether more could be judged, if more were recorded.
+    pub is_incomplete: bool,
 }
 
 impl fmt::Display for NothingJudged {
     fn fmt<W: fmt::Write>(&self, f: &mut fmt::Formatter<W>) -> fmt::Result {
+        if !self.is_incomplete {
+            return f.write_str(
+                "no end is judged, as each line says why: another recording of such a session \
+                 doesn't help",
+            );
+        }
         write!(
             f,
             "no end is judged, as each line says why: record all packets of both directions from \

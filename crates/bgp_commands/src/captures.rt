@@ -3,7 +3,7 @@
 use crate::devices::tell_note;
 use crate::recordings::tell_unwritten;
 use bgp_capture_list::list_capture;
-use bgp_check_capture_tool::{CaptureOptions, NothingJudged, check_capture};
+use bgp_check_capture_tool::{CaptureOptions, check_capture};
 use bgp_compact::CompactTracker;
 use bgp_tool::Note;
 use mrt::{CaptureFault, FaultKind, FromRead, FromWrite, Sink};
@@ -50,8 +50,8 @@ pub(crate) fn check_records<R: Print + Eprint + AllocGlobal, F: Read + Drop>(
     for fault in &checked.refusals {
         tell_fault(rt, file, &source, *fault);
     }
-    if checked.nothing {
-        let _ = eprintln!(rt; "bgp: {}", NothingJudged);
+    if let Some(nothing) = checked.nothing {
+        let _ = eprintln!(rt; "bgp: {nothing}");
     }
     checked.status
 }

@@ -3,8 +3,9 @@
 use bgp_compact::CompactTracker;
 use bgp_import::CutShort;
 use bgp_open::Config;
+use bgp_options::RecordingOptions;
 use bgp_prefix::Session;
-use bgp_recording_tool::{FileOutcome, RecordingOptions, decode_file, judge_file};
+use bgp_recording_tool::{FileOutcome, decode_file, judge_file};
 use bgp_tool::{ErrorWords, Note, Outcome, decode_opened, passed_over};
 use bgp_wire::Limit;
 use mrt::{FromWrite, SkippedRecords};

@@ -3,8 +3,8 @@
 use crate::devices::{buffered, open, tell_all};
 use bgp_compact::CompactTracker;
 use bgp_open::Config;
+use bgp_options::RecordingOptions;
 use bgp_recording_explain::explain_file;
-use bgp_recording_tool::RecordingOptions;
 use mrt::FromWrite;
 use std::alloc::Global;
 use std::io;

@@ -13,5 +13,7 @@ mod made_file;
 mod recordings;
 mod running;
 mod speaker;
+mod words;
 
 pub use running::run_words;
+pub use words::words_status;

@@ -1,9 +1,11 @@
 //! A command line, from its words to the exit status.
 
+use crate::words::words_status;
 use crate::{devices, explaining, recordings, speaker};
 use bgp_check_tool::{CheckOptions, Settings};
-use bgp_tool::{Command, Status, command_line, words_status};
+use bgp_tool::Status;
 use bgp_wire::Limit;
+use bgp_words::{Command, command_line};
 use clap::Error;
 use std::convert::AsStr;
 use std::net::Net;

@@ -1,4 +1,4 @@
-//! `bgp speak` and `bgp pair`: files and sockets as the wires and sinks of `bgp_tool`'s calls.
+//! `bgp speak` and `bgp pair`: files and sockets as the wires and sinks of bgp_speak_tool's calls.
 
 ghost use Rattle.std.specs.Prelude.{◌≡◌, ◌<◌, ◌^◌, IfOk};
 ghost use Rattle.bgp_prefix.specs.Address.{family_of};
@@ -7,9 +7,10 @@ ghost use Rattle.bgp_talk.specs.declared.wire.Connection.TheVariants.{NotAsked};
 use crate::devices::tell;
 use bgp_compact::CompactTracker;
 use bgp_open::Config;
+use bgp_options::{Speaking, Start};
+use bgp_speak_tool::{Watched, announce_note, pair_session, speak_as};
 use bgp_talk::SocketWire;
-use bgp_tool::{ErrorWords, Note, Speaking, Start, Status, announce_note, pair_session, speak_as};
-use bgp_watch::Watched;
+use bgp_tool::{ErrorWords, Note, Status};
 use mrt::FromWrite;
 use std::alloc::Global;
 use std::io::{ErrorKind, Write};

@@ -6,10 +6,10 @@ use Rattle.bgp_machine.specs.declared.fsm.Fsm.{Fsm}
 use Rattle.bgp_machine.specs.declared.fsm.Fsm.TheVariants as fsms
 use Rattle.bgp_judge.specs.Told.{Told, fresh_told, told, told_from, told_next}
 use Rattle.bgp_judge.proofs.Telling.{told_one_more}
-use Rattle.bgp_check.specs.Opens.{FirstSent, IsSent, SendsNone}
-use Rattle.bgp_check.specs.Unjudged.{IsUnjudgedOffer, both_offer, no_offer}
-use Rattle.bgp_check.specs.declared.unjudged.Unjudged.{Unjudged}
-use Rattle.bgp_check.specs.declared.unjudged.UnjudgedOffer.{UnjudgedOffer}
+use Rattle.bgp_parts.specs.Opens.{FirstSent, IsSent, SendsNone}
+use Rattle.bgp_parts.specs.Unjudged.{IsUnjudgedOffer, both_offer, no_offer}
+use Rattle.bgp_parts.specs.declared.unjudged.Unjudged.{Unjudged}
+use Rattle.bgp_parts.specs.declared.unjudged.UnjudgedOffer.{UnjudgedOffer}
 use Rattle.bgp_explain.specs.Offers.{AreUnjudged, IsOfferOf, IsOwnOffer, settling_by, settling_from, settling_in, settling_next, settling_open}
 
 -- ---- the first OPEN that was sent

@@ -31,10 +31,10 @@ use Rattle.bgp_reason_text.specs.Notes.{notes_text, with_offers}
 use Rattle.bgp_reason_text.specs.NotWhole.{not_whole_line}
 use Rattle.bgp_reason_text.specs.Record.{state_line}
 use Rattle.bgp_tool.specs.Judging.{SaysVerdict}
-use Rattle.bgp_check.specs.declared.unjudged.Unjudged.{Unjudged}
-use Rattle.bgp_check.specs.declared.unjudged.UnjudgedOffer.{UnjudgedOffer}
-use Rattle.bgp_check.specs.Unjudged.{IsUnjudgedOffer, both_offer}
-use Rattle.bgp_check.proofs.Answered.{one_own}
+use Rattle.bgp_parts.specs.declared.unjudged.Unjudged.{Unjudged}
+use Rattle.bgp_parts.specs.declared.unjudged.UnjudgedOffer.{UnjudgedOffer}
+use Rattle.bgp_parts.specs.Unjudged.{IsUnjudgedOffer, both_offer}
+use Rattle.bgp_parts.proofs.OneOwnOpen.{one_own}
 use Rattle.bgp_explain.specs.Capture.{HasOneText, SaysExplained, SaysMore, TellsWhy, TellsWhyNot}
 use Rattle.bgp_explain.specs.declared.places.Place.{Place}
 use Rattle.bgp_explain.specs.Places.{counted_places}

@@ -15,7 +15,7 @@ use Rattle.bgp_text.specs.Capture.{IsRecordText}
 use Rattle.bgp_tool.specs.Answer.{IsWritten}
 use Rattle.bgp_tool.specs.Judging.{SaysVerdict, TellsFault}
 use Rattle.bgp_tool.specs.Seen.{seen_in}
-use Rattle.bgp_check.specs.declared.unjudged.Unjudged.{Unjudged}
+use Rattle.bgp_parts.specs.declared.unjudged.Unjudged.{Unjudged}
 use Rattle.bgp_explain.specs.Offers.{AreUnjudged}
 use Rattle.bgp_explain.specs.declared.places.Place.{Place}
 use Rattle.bgp_explain.specs.Places.{counted_places}

@@ -5,10 +5,10 @@ use Rattle.bgp_prefix.specs.Shown.{ShownRecord}
 use Rattle.bgp_machine.specs.declared.fsm.Fsm.{Fsm}
 use Rattle.bgp_machine.specs.declared.fsm.Fsm.TheVariants as fsms
 use Rattle.bgp_judge.specs.Told.{Told, fresh_told, told, told_next}
-use Rattle.bgp_check.specs.Opens.{HasOwnOpen}
-use Rattle.bgp_check.specs.Unjudged.{IsUnjudgedOffer, both_offer, no_offer}
-use Rattle.bgp_check.specs.declared.unjudged.Unjudged.{Unjudged}
-use Rattle.bgp_check.specs.declared.unjudged.UnjudgedOffer.{UnjudgedOffer}
+use Rattle.bgp_parts.specs.Opens.{HasOwnOpen}
+use Rattle.bgp_parts.specs.Unjudged.{IsUnjudgedOffer, both_offer, no_offer}
+use Rattle.bgp_parts.specs.declared.unjudged.Unjudged.{Unjudged}
+use Rattle.bgp_parts.specs.declared.unjudged.UnjudgedOffer.{UnjudgedOffer}
 use Rattle.bgp_explain.specs.declared.offers.Offers.{Offers}
 
 -- ---- the OPEN that settles the link

@@ -17,7 +17,7 @@ use Rattle.bgp_reason_text.specs.declared.whole.NotWhole.{NotWhole}
 use Rattle.bgp_reason_text.specs.NotWhole.{IsWhyNotSent, not_whole_line}
 use Rattle.bgp_reason_text.specs.Notes.{AreEndNotes, AreNotes, notes_text, with_offers}
 use Rattle.bgp_reason_text.specs.Record.{record_line, state_line}
-use Rattle.bgp_check.specs.declared.unjudged.Unjudged.{Unjudged}
+use Rattle.bgp_parts.specs.declared.unjudged.Unjudged.{Unjudged}
 use Rattle.bgp_text.specs.Capture.{IsRecordText}
 use Rattle.bgp_tool.specs.Answer.{answer_text}
 use Rattle.bgp_explain.specs.declared.explained.Explained.{Explained}

@@ -3,9 +3,9 @@
 use crate::kept::KeptRecord;
 use crate::skipped::Skipped;
 use crate::tally::Tally;
-use bgp_check::Unjudged;
 use bgp_judge::Verdict;
 use bgp_open::Link;
+use bgp_parts::Unjudged;
 use bgp_reason::{Possible, Told};
 use bgp_tool::Seen;
 use mrt::CaptureFault;

@@ -38,7 +38,7 @@ pub use laws::{
 };
 pub use opened::explain_opened;
 pub use places::{Place, Places};
-pub use records::{ExplainedRecords, explain_entries, explain_records, put_explained_records};
+pub use records::{ExplainedRecords, explain_records, put_explained_records};
 pub use skipped::Skipped;
 pub use tally::Tally;
 pub use texts::{put_explained, put_reason};

@@ -6,14 +6,14 @@ ghost use Rattle.bgp_prefix.specs.Shown.{ShownRecord};
 ghost use Rattle.bgp_open.specs.OpenFault.{IsWellFormed};
 ghost use Rattle.mrt.specs.Reader.{shown_of};
 ghost use Rattle.bgp_judge.specs.Told as judged;
-ghost use Rattle.bgp_check.specs.Opens.{IsSent, SendsNone};
-ghost use Rattle.bgp_check.specs.Unjudged.{IsUnjudgedOffer};
+ghost use Rattle.bgp_parts.specs.Opens.{IsSent, SendsNone};
+ghost use Rattle.bgp_parts.specs.Unjudged.{IsUnjudgedOffer};
 ghost use Rattle.bgp_explain.specs.Offers.{AreOffersAt, AreUnjudged, IsOwnOffer};
 ghost use Rattle.bgp_explain.specs.Offers.{no_offers, settling_by};
 
-use bgp_check::{Unjudged, UnjudgedOffer};
 use bgp_machine::Fsm;
 use bgp_open::read_open;
+use bgp_parts::{Unjudged, UnjudgedOffer};
 use mrt::Record;
 
 /// Idle's number in a record (RFC 6396, 4.4.1).

@@ -16,19 +16,12 @@ use crate::kept::KeptRecord;
 use crate::sending::Sending;
 use crate::so_far::{Found, Progress, Stop};
 use crate::tally::Tally;
-use bgp_judge::{End, Tracker, Verdict};
+use bgp_judge::{Tracker, Verdict, verdict_of};
 use bgp_open::Config;
 use bgp_reason::{Possible, Told, possible, records_tell_one_by_one};
 use bgp_tool::Seen;
 use mrt::Record;
 use std::alloc::{AllocError, Allocator};
-
-/// Whether there is an end.
-fn is_some<A: Allocator>(ends: &[End<A>]) -> bool
-    ensures { IsTrue result ↔ (ends.now ≢ []) }
-{
-    !ends.is_empty()
-}
 
 /// No effect: it says that the second from which Hold Timer Expired may be sent has 32 bits.
 fn expires_in_time(possible: &Possible)
@@ -262,11 +255,12 @@ impl<A: Allocator + Copy> Progress<A> {
             let reason = stopped(told, sending, last_message, found);
             return Ok((Verdict::No(count), reason));
         }
-        let ends = tracker.ends()?;
-        if is_some(ends.as_slice()) {
-            return Ok((Verdict::Yes(ends), None));
+        match verdict_of(tracker)? {
+            Verdict::Unfinished => {
+                let reason = unfinished(alloc, tracker, config, told, sending, last_message);
+                Ok((Verdict::Unfinished, reason))
+            }
+            verdict => Ok((verdict, None)),
         }
-        let reason = unfinished(alloc, tracker, config, told, sending, last_message);
-        Ok((Verdict::Unfinished, reason))
     }
 }

@@ -4,7 +4,6 @@ ghost use Rattle.std.specs.Prelude.{List, ℕ, IfOk, is_some, map};
 ghost use Rattle.bgp_prefix.specs.Shown.{ShownRecord};
 ghost use Rattle.mrt.specs.Reader.{shown_of};
 ghost use Rattle.bgp_judge.specs.Verdict.{verdict_value};
-ghost use Rattle.bgp_recording.specs.Captured.{records_of};
 ghost use Rattle.bgp_text.specs.Lines.{Writes};
 ghost use Rattle.bgp_explain.specs.Details.{AreDetailsOf};
 ghost use Rattle.bgp_explain.specs.Places.{places_of};
@@ -21,7 +20,6 @@ use crate::texts::put_any_reason;
 use bgp_judge::{Tracker, Verdict};
 use bgp_open::Config;
 use bgp_prefix::Session;
-use bgp_recording::Entry;
 use bgp_text::Lines;
 use bgp_tool::Seen;
 use mrt::{Record, Sink};
@@ -76,22 +74,6 @@ pub fn explain_records<A: Allocator + Copy, T: Tracker<A>>(
     let mut progress = Progress::new(alloc);
     for shown in records {
         progress.advance(alloc, &mut tracker, config, shown)?;
-    }
-    concluded(alloc, config, &tracker, progress)
-}
-
-/// Judges the records of a recording's entries, as [`explain_records`] does.
-pub fn explain_entries<A: Allocator + Copy, T: Tracker<A>>(
-    alloc: A,
-    config: &Config,
-    entries: &[Entry<'_>],
-) -> Result<ExplainedRecords<A>, AllocError>
-    ensures { IfOk result (AreExplained config.now (records_of entries.now)) }
-{
-    let mut tracker = T::start(alloc, config)?;
-    let mut progress = Progress::new(alloc);
-    for entry in entries {
-        progress.advance(alloc, &mut tracker, config, &entry.record)?;
     }
     concluded(alloc, config, &tracker, progress)
 }

@@ -17,9 +17,9 @@ use crate::details::Details;
 use crate::explained::{Explained, Impossible, Reason, Totals};
 use crate::places::{Place, Places, place_of};
 use crate::tally::put_yes_lines;
-use bgp_check::Unjudged;
 use bgp_judge::Verdict;
 use bgp_open::Config;
+use bgp_parts::Unjudged;
 use bgp_prefix::Session;
 use bgp_reason::{Possible, Told};
 use bgp_reason_text::{

@@ -1,9 +1,12 @@
 //! `bgp import`: the capture that is made of one connection of a recording.
 
-ghost use Rattle.std.specs.Prelude.{◌≡◌, ◌<◌, ◌+◌, List, length, reverse, MatchResult};
+ghost use Rattle.std.specs.Prelude.{◌≡◌, ◌<◌, ◌+◌, List, length, map, reverse, IfOk};
+ghost use Rattle.std.specs.Prelude.{MatchResult};
+ghost use Rattle.mrt.specs.Reader.{shown_of};
 ghost use Rattle.bgp_prefix.specs.Address.{family_of};
 ghost use Rattle.packets.specs.Packet.{Recorded};
 ghost use Rattle.streams.specs.Passed.{Segment};
+ghost use Rattle.bgp_recording.specs.Captured as captured;
 ghost use Rattle.bgp_import.specs.Gathers.{HoldsSession};
 ghost use Rattle.bgp_import.specs.Imports.{Imports, source_failures, sink_failures};
 ghost use Rattle.bgp_import.specs.Making.{HoldsTaken, TellsOne, IsTurnedDown, ImportsTaken};
@@ -62,11 +65,13 @@ pub fn records_of<'a, A: Allocator + Copy>(
     requires families { family_of import.now.selection.session.peer
         ≡ family_of import.now.selection.session.local }
     requires holds { HoldsTaken import.now.selection gathered.now }
-    ensures { (packets : List Recorded) (segments : List Segment)
+    ensures told { (packets : List Recorded) (segments : List Segment)
         → AreTaken import.now.selection 0 packets segments
         → HoldsSession (reverse segments) (length packets) gathered.entry.now
         → MatchResult result (TellsOne import.now number packets segments)
         (IsTurnedDown number packets segments) }
+    ensures records { IfOk result (λ made.
+        map shown_of made.records.items ≡ captured.records_of made.entries.items) }
 {
     let connection = match gathered.choose(number) {
         Ok(connection) => connection,

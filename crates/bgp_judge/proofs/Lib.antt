@@ -3,6 +3,7 @@ pub mod Paying
 pub mod FirstShown
 pub mod OneRecordMore
 pub mod Standing
+pub mod Chains
 pub mod KeptSteps
 pub mod OwnChanges
 pub mod Gaining

@@ -1,4 +1,4 @@
--- Of each configuration and list of records just one verdict holds.
+-- For each configuration and list of records just one verdict holds.
 use Rattle.std.proofs.Common.{◌≡◌, ◌≢◌, ◌∙◌, ◌⊎◌, ◌+◌, ◌≤◌, ◌<◌, ◌++◌, ◌∷◌, ℕ, zero, suc, List, [], Bool, true, false, arith, refl, sym, ap, subst, inl, inr, length, take, drop, append_assoc, append-nil}
 use Rattle.std.proofs.Math.Dec.{ltb}
 use Rattle.std.proofs.lemmas.Bool.{ltb-true, ltb-false}

@@ -1,6 +1,7 @@
 pub mod Member
 pub mod Next
 pub mod Stands
+pub mod Chains
 pub mod Image
 pub mod Unshown
 pub mod Openings

@@ -1,4 +1,4 @@
--- What becomes of a member by one record more.
+-- What one more record makes of a member.
 use Rattle.std.specs.Prelude.{◌≡◌, ◌⊎◌, List, Option}
 use Rattle.bgp_prefix.specs.Shown.{ShownRecord, Received, second_of}
 use Rattle.bgp_open.specs.declared.config.Config.{Config}

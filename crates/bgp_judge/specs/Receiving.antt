@@ -30,8 +30,8 @@ HasAStep config head t octets =
     (wants : List Want) × (change : Option (Fsm × Fsm)) × (turn : Turn)
     × IsShown head config t (OnMessage octets) wants change turn
 
--- Where the octets are impossible after records that tell this link, no run shows just the records:
--- a message or a change of state is owed before.
+-- Where the octets are impossible after records that settle this link, no run shows just the
+-- records: a message or a change of state is owed before.
 abbrev pub IsImpossibleWhereOwed : Config → Link → List ℕ → Type 0
 IsImpossibleWhereOwed config link octets =
     (records : List ShownRecord) (t : ℕ) → link ≡ link_told config (told records)

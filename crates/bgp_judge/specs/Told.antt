@@ -1,5 +1,5 @@
--- What a session's records tell of each run that shows them: the name of its state; the OPEN that
--- settles its link; and the messages that its routes come from.
+-- What a session's records settle for each run that shows them: the name of its state; the OPEN
+-- that gives its link; and the messages that its routes come from.
 use Rattle.std.specs.Prelude.{◌≡◌, ◌≢◌, ◌⊎◌, ◌++◌, ℕ, List, [], ◌∷◌, Option, None, Some}
 use Rattle.bgp_prefix.specs.Shown.{ShownRecord, Received, Sent, Changed}
 use Rattle.bgp_open.specs.declared.config.Config.{Config}
@@ -24,7 +24,7 @@ pub record Told : Type 0 where
   pub peer_open : List ℕ
   pub received : List (List ℕ)
 
--- what no record tells
+-- before the first record
 abbrev pub fresh_told : Told
 fresh_told = record { fsm = fsms.Idle; peer_open = []; received = [] }
 
@@ -74,8 +74,8 @@ IsTableAfter config link table (octets ∷ others) last =
     (next : Routes) × IsTableNext config link octets table next
     × IsTableAfter config link next others last
 
--- The state is as told. In Established its routes are those of the table that the messages make,
--- without those of the disabled families; elsewhere it has none.
+-- The state is as the records say. In Established its routes are those of the table that the
+-- messages make, without those of the disabled families; elsewhere it has none.
 pub record IsAsTold (config : Config) (t : Told) (s : SessionState) : Type 0 where
   pub fsm : fsm_of s.head ≡ t.fsm
   pub link : (link : Link) → link_at s.head ≡ Some link → link ≡ link_told config t
@@ -86,13 +86,13 @@ pub record IsAsTold (config : Config) (t : Told) (s : SessionState) : Type 0 whe
 
 -- ---- the laws
 
--- each run that shows the records ends as they tell
+-- each run that shows the records ends as they say
 abbrev pub EachRunIsAsTold : Type 0
 EachRunIsAsTold =
     (config : Config) (records : List ShownRecord) (e : SessionState)
     → Run config fresh_state records e → IsAsTold config (told records) e
 
--- what one record more tells
+-- by one more record
 abbrev pub ToldOneMore : Type 0
 ToldOneMore =
     (records : List ShownRecord) (shown : ShownRecord)

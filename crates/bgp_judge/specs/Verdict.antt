@@ -1,4 +1,4 @@
--- The verdict on a session's records: yes, no or unfinished. Of each configuration and list of
+-- The verdict on a session's records: yes, no or unfinished. For each configuration and list of
 -- records just one holds.
 use Rattle.std.specs.Prelude.{◌≡◌, ◌≢◌, ◌<◌, ◌+◌, ℕ, List, [], length, take, map}
 use Rattle.bgp_prefix.specs.Shown.{ShownRecord}

@@ -13,7 +13,7 @@ use bgp_open::Config;
 use mrt::{CaptureFault, FaultKind, Reader, Source};
 use std::alloc::Allocator;
 
-/// No memory at this octet.
+/// Returns the fault of refused memory at this octet.
 fn out_of_memory(offset: u64) -> CaptureFault
     ensures { result ≡ record { kind = Memory; offset = offset } }
 {
@@ -23,8 +23,8 @@ fn out_of_memory(offset: u64) -> CaptureFault
     }
 }
 
-/// Reads the records of the session, to the end of the capture or to its first fault, and lets the
-/// tracker take them, to the first impossible one. Answers which that is.
+/// Reads the session's records to the end of the capture or to its first fault, and gives them to
+/// the tracker up to the first impossible one. Returns how many records stand before that one.
 fn follow<A: Allocator + Copy, T: Tracker<A>, S: Source>(
     tracker: &mut T,
     reader: &mut Reader<A>,
@@ -56,18 +56,18 @@ fn follow<A: Allocator + Copy, T: Tracker<A>, S: Source>(
     }
 }
 
-/// The verdict on the session's records in a capture, over any tracker: yes with every possible
-/// end, no at the first impossible record, or unfinished. A capture that is refused has none, also
-/// where its fault stands behind an impossible record.
+/// Judges the session's records in a capture with any tracker: yes with every possible end, no at
+/// the first impossible record, or unfinished. A capture that is refused gets no verdict, even if
+/// its fault comes after an impossible record.
 ///
-/// It reads in one pass to the end or to the first fault, and holds one record at a time; the
-/// tracker takes no record behind an impossible one. It asks for few octets at a time: put a buffer
+/// Reads in one pass to the end or to the first fault, and holds one record at a time; the tracker
+/// takes no record after an impossible one. Asks the source for few octets at a time: put a buffer
 /// before a file.
 ///
 /// A fault's offset is that of the first octet of the record in which it was found. Faults 1 to 8
-/// are what is wrong in the octets; 9, `Device`, is answered where the source failed; and 10,
-/// `Memory`, where memory was refused: at offset 0 to begin with, at the offset of a record for
-/// which the tracker may lack it, at the capture's length where the ends are listed.
+/// say what is wrong with the octets; 9, `Device`, that the source failed; and 10, `Memory`, that
+/// memory was refused: at offset 0 before anything is read, at the offset of a record for which the
+/// tracker may lack it, at the capture's length while the ends are listed.
 pub fn judge<A: Allocator + Copy, T: Tracker<A>, S: Source>(
     alloc: A,
     config: &Config,
@@ -82,7 +82,7 @@ pub fn judge<A: Allocator + Copy, T: Tracker<A>, S: Source>(
     judge_with::<A, T, S>(&mut reader, alloc, config, source)
 }
 
-/// The same verdict, or the same fault, by a reader that has read nothing. It tells afterwards
+/// Judges as [`judge`] does, with a reader that has read nothing. Afterwards the reader knows
 /// whether it found a record of the session, and the addresses of the first record of another one.
 pub fn judge_with<A: Allocator + Copy, T: Tracker<A>, S: Source>(
     reader: &mut Reader<A>,

@@ -10,19 +10,21 @@ use crate::member::{PlainMember, same_routes};
 use bgp_open::Families;
 use std::alloc::{AllocError, Allocator};
 
+/// Returns the set of these families.
 fn families(v4: bool, v6: bool) -> Families
     ensures { result ≡ record { v4 = v4; v6 = v6 } }
 {
     Families { v4, v6 }
 }
 
+/// Checks whether both sets have the same families.
 fn are_same(families: Families, others: Families) -> bool
     ensures { IsTrue result ↔ (families ≡ others) }
 {
     families == others
 }
 
-/// Whether the member's state ends so.
+/// Checks whether this is the end of the member's state.
 fn ends_so<A: Allocator>(member: &PlainMember<A>, end: &End<A>) -> bool
     ensures { IsTrue result ↔ (end_value end.now ≡ end_of_member member.now) }
 {
@@ -32,7 +34,7 @@ fn ends_so<A: Allocator>(member: &PlainMember<A>, end: &End<A>) -> bool
     same_routes(&end.rib, &member.state.rib)
 }
 
-/// Whether the member's end is among them.
+/// Checks whether the member's end is in the list.
 fn has_end<A: Allocator>(ends: &[End<A>], member: &PlainMember<A>) -> bool
     ensures { IsTrue result ↔ Has (λ x. x ≡ end_of_member member.now) (map end_value ends.now) }
 {
@@ -44,7 +46,8 @@ fn has_end<A: Allocator>(ends: &[End<A>], member: &PlainMember<A>) -> bool
     false
 }
 
-/// Adds the member's end, if it is one with these families disabled, and isn't there yet.
+/// Adds the member's end, if the member has nothing left to show, just these families are disabled,
+/// and the end isn't in the list yet.
 fn add_end<A: Allocator + Copy>(
     member: &PlainMember<A>,
     families: Families,
@@ -69,7 +72,7 @@ fn add_end<A: Allocator + Copy>(
     Ok(())
 }
 
-/// Adds the ends of members with these families disabled.
+/// Adds the ends of the members with just these families disabled.
 fn add_ends<A: Allocator + Copy>(
     members: &[PlainMember<A>],
     families: Families,
@@ -85,7 +88,7 @@ fn add_ends<A: Allocator + Copy>(
     Ok(())
 }
 
-/// The ends of the members that have nothing left to show, none twice, in the order of their
+/// Lists the ends of the members that have nothing left to show, each once, in the order of their
 /// disabled families.
 pub(crate) fn ends_of<A: Allocator + Copy>(
     alloc: A,

@@ -1,4 +1,4 @@
-//! The verdict on a list of records.
+//! The verdict on a list of records, and on the records that a tracker stands for.
 
 ghost use Rattle.std.specs.Prelude.{◌↔◌, ◌≢◌, ◌≡◌, ◌++◌, ◌∷◌, [], List, IfOk, OnErr, IsTrue, None};
 ghost use Rattle.std.specs.Prelude.{length, map};
@@ -16,17 +16,18 @@ use bgp_open::Config;
 use mrt::Record;
 use std::alloc::{AllocError, Allocator};
 
-/// Whether there is an end.
+/// Checks whether there is an end.
 fn is_some<A: Allocator>(ends: &[End<A>]) -> bool
     ensures { IsTrue result ↔ (ends.now ≢ []) }
 {
     !ends.is_empty()
 }
 
-/// The verdict on records that begin a run.
-pub(crate) fn verdict_of<A: Allocator + Copy, T: Tracker<A>>(
-    tracker: &T,
-) -> Result<Verdict<A>, AllocError>
+/// Returns the verdict on the records that the tracker stands for, if they begin a run: yes with
+/// every possible end, or unfinished. It is the only verdict that holds
+/// ([law](crate::records_have_just_one_verdict)). Returns `AllocError` and no verdict if memory is
+/// refused for the ends.
+pub fn verdict_of<A: Allocator + Copy, T: Tracker<A>>(tracker: &T) -> Result<Verdict<A>, AllocError>
     ensures { (config : TheConfig) (records : List ShownRecord)
         → T.stands_for tracker.now config records → Begins config records
         → IfOk result (IsVerdict config records) }
@@ -39,9 +40,10 @@ pub(crate) fn verdict_of<A: Allocator + Copy, T: Tracker<A>>(
     }
 }
 
-/// Lets the tracker take one record more, after so many, if none of them is impossible. Answers
-/// the first impossible one. Memory is refused where the tracker may lack it, alone.
-pub(crate) fn advance<A: Allocator + Copy, T: Tracker<A>>(
+/// Gives the tracker one more record, after `count` others, if none of those was impossible.
+/// Returns how many records stand before the first impossible one. Memory is refused only where the
+/// tracker may lack it.
+pub fn advance<A: Allocator + Copy, T: Tracker<A>>(
     tracker: &mut T,
     impossible: Option<u64>,
     count: u64,
@@ -66,10 +68,10 @@ pub(crate) fn advance<A: Allocator + Copy, T: Tracker<A>>(
     }
 }
 
-/// The verdict on these records of a session: yes with every possible end, no, or unfinished.
-/// `AllocError` is answered where the tracker was refused memory, and then no verdict.
+/// Judges these records of a session: yes with every possible end, no, or unfinished. Returns
+/// `AllocError` and no verdict if the tracker is refused memory.
 ///
-/// It is the same with every tracker.
+/// The verdict is the same with every tracker.
 pub fn judge_records<A: Allocator + Copy, T: Tracker<A>>(
     alloc: A,
     config: &Config,

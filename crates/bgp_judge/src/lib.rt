@@ -25,11 +25,14 @@ mod verdict;
 
 pub use capture::{judge, judge_with};
 pub use end::End;
-pub use judging::judge_records;
+pub use judging::{advance, judge_records, verdict_of};
 pub use laws::{
-    each_message_has_a_step, impossible_only_where_owed, one_end_for_each_disabled_set,
-    records_have_just_one_verdict, records_tell_the_state,
+    a_member_is_reached, each_message_has_a_step, impossible_only_where_owed,
+    one_end_for_each_disabled_set, records_have_just_one_verdict, records_tell_the_state,
+    routes_decide_nothing,
 };
+pub use member::PlainMember;
+pub use members::next_members;
 pub use opening::{OpenedSteps, list_openings, openings};
 pub use plain::PlainTracker;
 pub use tracker::Tracker;

@@ -3,6 +3,7 @@
 ghost use Rattle.std.specs.Prelude.{◌≡◌, ◌↔◌, IsTrue, IfOk};
 ghost use Rattle.bgp_machine.specs.State.{state_value};
 ghost use Rattle.bgp_machine.specs.Want.{wants_of};
+ghost use Rattle.bgp_judge.specs.Chains.{bare};
 ghost use Rattle.bgp_judge.specs.Member.{IsFree, fresh_member, link_for};
 ghost use Rattle.bgp_judge.specs.Plain.{member_value};
 
@@ -12,18 +13,21 @@ use bgp_open::Link;
 use bgp_rib::{RibIn, equality_is_real};
 use std::alloc::{AllocError, Allocator, Global};
 
-/// One explanation of the records so far.
+/// One explanation of the records so far: the session machine's steps led to a state, and the last
+/// of them may have something left to show. Members are what the judge goes by: it starts with the
+/// fresh one, and [`next_members`](crate::next_members) is its step from one record to the next
+/// ([law](crate::a_member_is_reached)).
 #[derive(Drop)]
-pub(crate) struct PlainMember<A: Allocator = Global> {
-    /// The state that its steps lead to.
+pub struct PlainMember<A: Allocator = Global> {
+    /// The state that the steps lead to.
     pub state: State<A>,
-    /// The link that stood before the last of them, where it has something left to send.
+    /// The link that stood before the last step, if that has something left to send.
     pub link: Option<Link>,
-    /// What the last of them has still to show.
+    /// What the last step has still to show.
     pub unshown: Unshown,
 }
 
-/// The link on which these are sent.
+/// Returns the link on which these are sent.
 pub(crate) fn link_for(wants: Wants, link: Option<Link>) -> Option<Link>
     ensures { result ≡ link_for (wants_of wants) link }
 {
@@ -33,7 +37,7 @@ pub(crate) fn link_for(wants: Wants, link: Option<Link>) -> Option<Link>
     }
 }
 
-/// An equal copy of a state.
+/// Returns an equal copy of a state.
 pub(crate) fn copy_of<A: Allocator + Copy>(state: &State<A>) -> Result<State<A>, AllocError>
     ensures { IfOk result (λ copy. state_value copy ≡ state_value state.now) }
 {
@@ -44,8 +48,9 @@ pub(crate) fn copy_of<A: Allocator + Copy>(state: &State<A>) -> Result<State<A>,
 }
 
 impl<A: Allocator + Copy> PlainMember<A> {
-    /// The one of which no record is shown yet.
-    pub(crate) fn fresh(alloc: A) -> PlainMember<A>
+    /// Returns the member before the first record: in Idle, with nothing left to show. Takes no
+    /// memory.
+    pub fn fresh(alloc: A) -> PlainMember<A>
         ensures { member_value result ≡ fresh_member }
     {
         PlainMember {
@@ -59,7 +64,7 @@ impl<A: Allocator + Copy> PlainMember<A> {
     }
 }
 
-/// Whether both have the same left to show.
+/// Checks whether both have the same left to show.
 fn same_unshown(a: Unshown, b: Unshown) -> bool
     ensures { IsTrue result ↔ ((wants_of a.wants ≡ wants_of b.wants) × (a.change ≡ b.change)) }
 {
@@ -69,7 +74,7 @@ fn same_unshown(a: Unshown, b: Unshown) -> bool
     same_change(a.change, b.change)
 }
 
-/// Whether both are one link, or none.
+/// Checks whether both are the same link, or none.
 fn same_links(a: Option<Link>, b: Option<Link>) -> bool
     ensures { IsTrue result ↔ (a ≡ b) }
 {
@@ -80,7 +85,7 @@ fn same_links(a: Option<Link>, b: Option<Link>) -> bool
     }
 }
 
-/// Whether both have the same routes and disabled families.
+/// Checks whether both have the same routes and disabled families.
 pub(crate) fn same_routes<A: Allocator>(a: &RibIn<A>, b: &RibIn<A>) -> bool
     ensures { IsTrue result ↔ (a.now ≡ b.now) }
 {
@@ -89,8 +94,8 @@ pub(crate) fn same_routes<A: Allocator>(a: &RibIn<A>, b: &RibIn<A>) -> bool
 }
 
 impl<A: Allocator> PlainMember<A> {
-    /// Whether nothing is left to show.
-    pub(crate) fn is_free(&self) -> bool
+    /// Checks whether nothing is left to show.
+    pub fn is_free(&self) -> bool
         ensures { IsTrue result ↔ IsFree (member_value self.now) }
     {
         match (self.unshown.wants, self.unshown.change) {
@@ -99,8 +104,8 @@ impl<A: Allocator> PlainMember<A> {
         }
     }
 
-    /// Whether both are one explanation.
-    pub(crate) fn is_same(&self, other: &PlainMember<A>) -> bool
+    /// Checks whether both are the same explanation.
+    pub fn is_same(&self, other: &PlainMember<A>) -> bool
         ensures { IsTrue result ↔ (member_value self.now ≡ member_value other.now) }
     {
         if !same_head(self.state.head, other.state.head) {
@@ -113,5 +118,13 @@ impl<A: Allocator> PlainMember<A> {
             return false;
         }
         same_routes(&self.state.rib, &other.state.rib)
+    }
+
+    /// Forgets the routes, and enables every family. No step looks at them
+    /// ([law](crate::routes_decide_nothing)). Takes no memory.
+    pub fn forget_routes(&mut self)
+        ensures { member_value self.new ≡ bare (member_value self.old) }
+    {
+        self.state.rib.clear();
     }
 }

@@ -26,7 +26,7 @@ use bgp_update::Changes;
 use mrt::Record;
 use std::alloc::{AllocError, Allocator};
 
-/// Whether the member is among them.
+/// Checks whether the member is in the list.
 fn has<A: Allocator>(members: &[PlainMember<A>], member: &PlainMember<A>) -> bool
     ensures { IsTrue result ↔ Among members.now (member_value member.now) }
 {
@@ -38,14 +38,14 @@ fn has<A: Allocator>(members: &[PlainMember<A>], member: &PlainMember<A>) -> boo
     false
 }
 
-/// Whether there is a member.
+/// Checks whether there is a member.
 pub(crate) fn has_some<A: Allocator>(members: &[PlainMember<A>]) -> bool
     ensures { IsTrue result ↔ (members.now ≢ []) }
 {
     !members.is_empty()
 }
 
-/// Adds a member that isn't there yet.
+/// Adds a member, if it isn't in the list yet.
 fn add<A: Allocator + Copy>(
     members: &mut Vec<PlainMember<A>, A>,
     member: PlainMember<A>,
@@ -60,7 +60,7 @@ fn add<A: Allocator + Copy>(
     Ok(())
 }
 
-/// Adds what a step makes of a state, which it takes from a head.
+/// Adds what a step from a head makes of a state.
 fn add_step<A: Allocator + Copy>(
     state: &State<A>,
     head: Head,
@@ -85,7 +85,7 @@ fn add_step<A: Allocator + Copy>(
     add(members, member)
 }
 
-/// Adds what the steps make of a state that the record opens from a head.
+/// Adds what the steps that the record opens from a head make of a state.
 fn add_openings<A: Allocator + Copy>(
     alloc: A,
     config: &Config,
@@ -105,7 +105,7 @@ fn add_openings<A: Allocator + Copy>(
     Ok(())
 }
 
-/// Adds what the steps make of a state that the record opens, silence going before.
+/// Adds what the steps that the record opens make of a state, with steps that show nothing first.
 fn add_starts<A: Allocator + Copy>(
     alloc: A,
     config: &Config,
@@ -123,7 +123,7 @@ fn add_starts<A: Allocator + Copy>(
     Ok(())
 }
 
-/// Adds the member as the record leaves it, whose last step shows the record next.
+/// Adds the member as the record leaves it, if its last step shows the record next.
 fn add_continued<A: Allocator + Copy>(
     config: &Config,
     member: &PlainMember<A>,
@@ -162,8 +162,10 @@ fn add_next<A: Allocator + Copy>(
     }
 }
 
-/// What the record makes of all members.
-pub(crate) fn next_members<A: Allocator + Copy>(
+/// Returns what one more record makes of all members, each once: a step of the judge. With the
+/// members that some records lead to, these are the ones that they lead to with this record
+/// ([law](crate::a_member_is_reached)).
+pub fn next_members<A: Allocator + Copy>(
     alloc: A,
     config: &Config,
     members: &[PlainMember<A>],

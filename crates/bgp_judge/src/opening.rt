@@ -21,17 +21,17 @@ use bgp_update::Changes;
 use mrt::Record;
 use std::alloc::{AllocError, Allocator, Global};
 
-/// The steps that a record opens: it is the first that they show.
+/// The steps that a record opens: those that show it first.
 #[derive(Drop)]
 pub struct OpenedSteps<A: Allocator = Global> {
-    /// The steps, with what each has left to show behind the record.
+    /// The steps, with what each has left to show after the record.
     pub steps: ArrayVec<Step, MOST_STEPS>,
-    /// The changes of the record's UPDATE, which each step makes whose routes are
-    /// [given](bgp_machine::Routes::Given); `None` where there is no such step.
+    /// The changes of the record's UPDATE, for the steps whose routes are
+    /// [given](bgp_machine::Routes::Given); `None` if there is no such step.
     pub changes: Option<Changes<A>>,
 }
 
-/// The step with what is left to show behind the record, if the record opens it.
+/// Returns the step with what is left to show after the record, if the record opens it.
 fn opened(config: &Config, head: Head, step: Step, shown: &Record<'_>) -> Option<Step>
     ensures { MatchOption result
         (PaysNothing config.now (link_at head) (shown_of shown.now) (unshown_of step))
@@ -87,8 +87,8 @@ fn own_openings(
     }
 }
 
-/// Lists the steps that the record opens and that aren't about a message, and answers that no
-/// changes stand beside them.
+/// Lists the steps that the record opens and that aren't about a message. Returns that no changes
+/// stand beside them.
 fn hidden_openings<A: Allocator>(
     config: &Config,
     head: Head,
@@ -109,8 +109,8 @@ fn hidden_openings<A: Allocator>(
     None
 }
 
-/// Lists what [`openings`] lists, in a list that is empty, and answers the changes beside the
-/// steps. A list has many octets, which this doesn't move. Where memory is refused the list stays
+/// Lists what [`openings`] lists, in a list that is empty, and returns the changes beside the
+/// steps. A list has many octets, which this doesn't move. If memory is refused, the list stays
 /// empty.
 pub fn list_openings<A: Allocator + Copy>(
     alloc: A,
@@ -133,9 +133,9 @@ pub fn list_openings<A: Allocator + Copy>(
     }
 }
 
-/// The steps of a session that a record opens: just those of which it is the first record, with
-/// what each has left to show behind it. Only for an UPDATE received in Established that may be
-/// applied does it take memory.
+/// Returns the steps that a record opens from this head, just those that show it first, with what
+/// each has left to show after it. Takes memory only for an UPDATE received in Established that may
+/// be applied.
 pub fn openings<A: Allocator + Copy>(
     alloc: A,
     config: &Config,

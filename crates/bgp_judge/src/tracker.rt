@@ -1,4 +1,4 @@
-//! What keeps the explanations of a session's records, one record after another.
+//! A keeper of the explanations of a session's records, one record after another.
 
 ghost use Rattle.std.specs.Prelude.{◌↔◌, ◌++◌, ◌∷◌, [], List, IsTrue, IfOk, OnErr, map};
 ghost use Rattle.bgp_prefix.specs.Shown.{ShownRecord};
@@ -12,21 +12,21 @@ use bgp_open::Config;
 use mrt::Record;
 use std::alloc::{AllocError, Allocator};
 
-/// What keeps the explanations of a session's records, one record after another.
+/// A keeper of the explanations of a session's records, one record after another.
 pub trait Tracker<A: Allocator + Copy>: Drop {
-    /// For which configuration and which records it stands, by what it holds now.
+    /// Says for which configuration and which records the tracker stands, by what it holds now.
     ghost stands_for: { Self → TheConfig → List ShownRecord → Type 0 };
 
-    /// After which records, under a configuration, it may lack memory for one record more.
+    /// Says after which records, under a configuration, the tracker may lack memory for one more.
     ghost may_lack: { TheConfig → List ShownRecord → ShownRecord → Type 0 };
 
-    /// A tracker that stands for no record.
+    /// Returns a tracker that stands for no record.
     fn start(alloc: A, config: &Config) -> Result<Self, AllocError>
         ensures { IfOk result (λ tracker. stands_for tracker config.now []) };
 
-    /// Takes one record more, and answers whether the records begin a run of the session machine.
-    /// Where they don't, and where memory is refused, which is where it may lack it alone, it
-    /// stands for what it stood for.
+    /// Takes one more record, and returns whether the records begin a run of the session machine.
+    /// If they don't, or if memory is refused, the tracker stands for what it stood for. Memory is
+    /// refused only where the tracker may lack it.
     fn take(&mut self, shown: &Record<'_>) -> Result<bool, AllocError>
         ensures alive { (config : TheConfig) (records : List ShownRecord)
             → stands_for self.old config records
@@ -46,8 +46,8 @@ pub trait Tracker<A: Allocator + Copy>: Drop {
             → stands_for self.old config records
             → OnErr result (may_lack config records (shown_of shown.now)) };
 
-    /// Whether the records with this one after them begin a run: what `take` would answer. The
-    /// tracker stays as it is.
+    /// Checks whether the records with this one after them begin a run: what `take` would return.
+    /// The tracker stays as it is.
     fn may_take(&self, shown: &Record<'_>) -> Result<bool, AllocError>
         ensures may { (config : TheConfig) (records : List ShownRecord)
             → stands_for self.now config records
@@ -57,8 +57,8 @@ pub trait Tracker<A: Allocator + Copy>: Drop {
             → stands_for self.now config records
             → OnErr result (may_lack config records (shown_of shown.now)) };
 
-    /// All ends of the runs that show just the records, none twice, in the order of their disabled
-    /// families: none, IPv4, IPv6, both.
+    /// Lists all ends of the runs that show just the records, each once, in the order of their
+    /// disabled families: none, IPv4, IPv6, both.
     fn ends(&self) -> Result<Vec<End<A>, A>, AllocError>
         ensures { (config : TheConfig) (records : List ShownRecord)
             → stands_for self.now config records

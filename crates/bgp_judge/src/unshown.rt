@@ -14,13 +14,13 @@ use mrt::Record;
 /// What a step has still to show.
 #[derive(Clone, Copy, Debug, PartialEq, Eq)]
 pub struct Unshown {
-    /// What it has still to send, in order.
+    /// The messages that it has still to send, in order.
     pub wants: Wants,
     /// The change of state that isn't shown yet: the old state and the new one.
     pub change: Option<(Fsm, Fsm)>,
 }
 
-/// The first of them and the others.
+/// Splits the first want from the others.
 fn split_first(wants: Wants) -> Option<(Want, Wants)>
     ensures { MatchOption result (wants_of wants ≡ [])
         (λ x. wants_of wants ≡ x.0 ∷ wants_of x.1) }
@@ -32,7 +32,7 @@ fn split_first(wants: Wants) -> Option<(Want, Wants)>
     }
 }
 
-/// What a sent message leaves, which is to be the first that is owed.
+/// Returns what a sent message leaves, if it is the first that is owed.
 fn pay_message(
     config: &Config,
     link: Option<Link>,
@@ -53,7 +53,7 @@ fn pay_message(
     })
 }
 
-/// What a change of state leaves, which is to be the one that is owed.
+/// Returns what a change of state leaves, if it is the one that is owed.
 fn pay_change(unshown: Unshown, old: u16, new: u16) -> Option<Unshown>
     ensures { MatchOption result
         ((config : TheConfig) (link : _) (t : _)
@@ -74,9 +74,9 @@ fn pay_change(unshown: Unshown, old: u16, new: u16) -> Option<Unshown>
     })
 }
 
-/// What is left to show once the record is shown, on the link that stood before the step. `None`
-/// where the record isn't what comes next: a message sent that doesn't meet the first want, another
-/// change, or a message received. It takes no memory.
+/// Returns what is left to show after the record, on the link that stood before the step. Returns
+/// `None` if the record isn't what comes next: a sent message that doesn't meet the first want,
+/// another change, or a received message. Takes no memory.
 pub fn pay(
     config: &Config,
     link: Option<Link>,

@@ -6,3 +6,6 @@ pub mod FineUpdates
 pub mod QuietAttributes
 pub mod CleanUpdates
 pub mod Withdrawals
+pub mod ReadableOpen
+pub mod Tuples
+pub mod OneOwnOpen

@@ -4,3 +4,5 @@ pub mod NotificationParts
 pub mod AttributeFaults
 pub mod UpdateParts
 pub mod Withdrawal
+pub mod Unjudged
+pub mod Opens

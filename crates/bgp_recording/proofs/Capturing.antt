@@ -34,9 +34,11 @@ use Rattle.bgp_recording.specs.declared.framing.Unshown.{Unshown}
 use Rattle.bgp_recording.specs.Pieces.{IsFaultyOf, framing_of, framings_of, skips_with}
 use Rattle.bgp_recording.specs.Recorded.{IsRecorded}
 use Rattle.bgp_recording.proofs.Pieces.{frame_no_refresh, header_no_refresh}
-use Rattle.bgp_recording.specs.Changes.{led_by_received, led_by_sent, led_by_end, led_by_left, is_open, is_rejected, are_left, opened_state, state_then}
+use Rattle.bgp_recording.specs.Changes.{led_by_received, led_by_sent, led_by_end, led_by_left, is_answered_before_open, just_received, just_sent, are_left, opened_state, state_then}
 use Rattle.bgp_recording.specs.States.{state_number}
 use Rattle.bgp_recording.specs.Tells.{Numbered, numbered_of, Event, Passed, items_in, numbered_in, change, AreTimed, HasSecond}
+use Rattle.bgp_recording.specs.declared.standing.Before.{Before}
+use Rattle.bgp_recording.specs.declared.standing.Before.TheVariants.{Other}
 use Rattle.bgp_recording.specs.declared.state.State.{State}
 use Rattle.bgp_recording.specs.declared.state.State.TheVariants.{Idle, Connect, Active, OpenSent, OpenConfirm, Established}
 
@@ -209,18 +211,18 @@ change_can : (framings : Framings) (packet second : ℕ) (state : State) (led : 
 change_can framings packet second state None rest h = h
 change_can framings packet second state (Some led) rest h = ((is_state state, is_state led), h)
 
-events_can : (framings : Framings) (events : List Event) (state : State) (follows : Bool) → AllByRecursion (HasKind framings.received) (received_in (items_in events))
-    → AllByRecursion (HasKind framings.sent) (sent_in (items_in events)) → AllByRecursion (CanBeRecord framings) (shown_in (numbered_in state follows events))
-events_can framings [] state follows received sent = tt
-events_can framings (Passed second (Received m) ∷ later) state follows received sent = (
+events_can : (framings : Framings) (events : List Event) (state : State) (before : Before) → AllByRecursion (HasKind framings.received) (received_in (items_in events))
+    → AllByRecursion (HasKind framings.sent) (sent_in (items_in events)) → AllByRecursion (CanBeRecord framings) (shown_in (numbered_in state before events))
+events_can framings [] state before received sent = tt
+events_can framings (Passed second (Received m) ∷ later) state before received sent = (
   kind_can framings.received m m.kind refl received.0,
-  change_can framings m.packet second state (led_by_received state m.kind (is_rejected (sent_in (items_in later)))) _ (events_can framings later _ (is_open m.kind) received.1 sent),
+  change_can framings m.packet second state (led_by_received state m.kind (is_answered_before_open m.kind (sent_in (items_in later)))) _ (events_can framings later _ (just_received m.kind) received.1 sent),
 )
-events_can framings (Passed second (Sent m) ∷ later) state follows received sent =
-    (kind_can framings.sent m m.kind refl sent.0, change_can framings m.packet second state (led_by_sent state m.kind follows) _ (events_can framings later _ false received sent.1))
-events_can framings (Passed second (Ended e) ∷ later) state follows received sent =
+events_can framings (Passed second (Sent m) ∷ later) state before received sent =
+    (kind_can framings.sent m m.kind refl sent.0, change_can framings m.packet second state (led_by_sent state m.kind before) _ (events_can framings later _ (just_sent state m.kind before) received sent.1))
+events_can framings (Passed second (Ended e) ∷ later) state before received sent =
     change_can framings e.packet second state (led_by_end state) _
-    (change_can framings e.packet second (state_then state (led_by_end state)) (led_by_left state (are_left (received_in (items_in later)))) _ (events_can framings later _ false received sent))
+    (change_can framings e.packet second (state_then state (led_by_end state)) (led_by_left state (are_left (received_in (items_in later)))) _ (events_can framings later _ Other received sent))
 
 from_later : (least second : ℕ) (records : List ShownRecord) → least ≤ second → AreInOrder second records → AreInOrder least records
 from_later least second [] le h = tt
@@ -234,19 +236,19 @@ change_order least second packet state (Some led) rest le h = (le, h)
 same_second : (second : ℕ) → second ≤ second
 same_second second = omega arith
 
-events_order : (least : ℕ) (events : List Event) (state : State) (follows : Bool) → AreTimed least events → AreInOrder least (shown_in (numbered_in state follows events))
-events_order least [] state follows h = tt
-events_order least (Passed second (Received m) ∷ later) state follows h = (
+events_order : (least : ℕ) (events : List Event) (state : State) (before : Before) → AreTimed least events → AreInOrder least (shown_in (numbered_in state before events))
+events_order least [] state before h = tt
+events_order least (Passed second (Received m) ∷ later) state before h = (
   h.0,
-  change_order second second m.packet state (led_by_received state m.kind (is_rejected (sent_in (items_in later)))) _ (same_second second)
-      (events_order second later _ (is_open m.kind) h.2),
+  change_order second second m.packet state (led_by_received state m.kind (is_answered_before_open m.kind (sent_in (items_in later)))) _ (same_second second)
+      (events_order second later _ (just_received m.kind) h.2),
 )
-events_order least (Passed second (Sent m) ∷ later) state follows h =
-    (h.0, change_order second second m.packet state (led_by_sent state m.kind follows) _ (same_second second) (events_order second later _ false h.2))
-events_order least (Passed second (Ended e) ∷ later) state follows h =
+events_order least (Passed second (Sent m) ∷ later) state before h =
+    (h.0, change_order second second m.packet state (led_by_sent state m.kind before) _ (same_second second) (events_order second later _ (just_sent state m.kind before) h.2))
+events_order least (Passed second (Ended e) ∷ later) state before h =
     change_order least second e.packet state (led_by_end state) _ h.0
     (change_order second second e.packet (state_then state (led_by_end state)) (led_by_left state (are_left (received_in (items_in later)))) _ (same_second second)
-    (events_order second later _ false h.2))
+    (events_order second later _ Other h.2))
 
 same_records : (entries : List Entry) → shown_in (map numbered_of entries) ≡ records_of entries
 same_records [] = refl
@@ -262,7 +264,7 @@ made_can framings within connection entries received_unshown sent_unshown made =
     let kinds_received = subst (λ (ms : List Message). AllByRecursion (HasKind framings.received) ms) (sym t.allowed.of_received) made.heard.kinds in
     let kinds_sent = subst (λ (ms : List Message). AllByRecursion (HasKind framings.sent) ms) (sym t.allowed.of_sent) made.said.kinds in
     subst (λ (rs : List ShownRecord). AllByRecursion (CanBeRecord framings) rs) (entries_are _ entries t.shown)
-    ((is_state Idle, is_state (opened_state connection.opened_by)), events_can framings t.events (opened_state connection.opened_by) false kinds_received kinds_sent)
+    ((is_state Idle, is_state (opened_state connection.opened_by)), events_can framings t.events (opened_state connection.opened_by) Other kinds_received kinds_sent)
 
 -- what is made can be written, where both addresses are of one family
 pub made_are_writable : (session : Session) (within : ℕ) (connection : Connection) (entries : List Entry) (received_unshown sent_unshown : Unshown) → family_of session.peer ≡ family_of session.local
@@ -292,5 +294,5 @@ made_are_read session peer_as local_as within connection entries received_unshow
     let t = made.tells in
     let can = made_can (framings_of session) within connection entries received_unshown sent_unshown made in
     let order = subst (λ (rs : List ShownRecord). AreInOrder 0 rs) (entries_are _ entries t.shown)
-    (omega arith, events_order connection.second t.events (opened_state connection.opened_by) false t.timed) in
+    (omega arith, events_order connection.second t.events (opened_state connection.opened_by) Other t.timed) in
     captures_read_back session peer_as local_as (records_of entries) (all_captured session (records_of entries) named can (of_entries entries made.seconds) without) order

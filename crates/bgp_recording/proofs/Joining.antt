@@ -1,5 +1,5 @@
 -- The messages of the made records, joined, and what is left, are the streams.
-use Rattle.std.proofs.Common.{◌≡◌, ◌∙◌, ℕ, Bool, false, List, [], ◌∷◌, Option, None, Some, ◌++◌, length, drop, ap, subst, sym, refl, arith, append_assoc}
+use Rattle.std.proofs.Common.{◌≡◌, ◌∙◌, ℕ, List, [], ◌∷◌, Option, None, Some, ◌++◌, length, drop, ap, subst, sym, refl, arith, append_assoc}
 use Rattle.std.proofs.lemmas.List.{take-append-drop, length-append, length-take}
 use Rattle.std.specs.List.{AllByRecursion}
 use Rattle.bgp_prefix.specs.Shown.{ShownRecord}
@@ -10,10 +10,12 @@ use Rattle.bgp_recording.specs.declared.framing.Rest.{Rest}
 use Rattle.bgp_recording.specs.declared.framing.Rest.TheVariants.{Short, BehindFault}
 use Rattle.bgp_recording.specs.declared.framing.Unshown.{Unshown}
 use Rattle.bgp_recording.specs.declared.message.Message.{Message}
+use Rattle.bgp_recording.specs.declared.standing.Before.{Before}
+use Rattle.bgp_recording.specs.declared.standing.Before.TheVariants.{Other}
 use Rattle.bgp_recording.specs.declared.state.State.{State}
 use Rattle.bgp_recording.specs.Allowed.{Received, Sent, Ended, received_in, sent_in}
 use Rattle.bgp_recording.specs.Captured.{records_of}
-use Rattle.bgp_recording.specs.Changes.{led_by_received, led_by_sent, led_by_end, led_by_left, is_open, is_rejected, are_left, opened_state, state_then}
+use Rattle.bgp_recording.specs.Changes.{led_by_received, led_by_sent, led_by_end, led_by_left, is_answered_before_open, just_received, just_sent, are_left, opened_state, state_then}
 use Rattle.bgp_recording.specs.Framed.{octets_of, AreFramed, IsRest}
 use Rattle.bgp_recording.specs.Joined.{received_octets, sent_octets, IsLeft, IsWhole, MayStand, MadeRecordsAreTheStreams}
 use Rattle.bgp_recording.specs.Pieces.{Piece, Kept, PassedOver, stream_of, passed_over, IsPiece}
@@ -35,24 +37,24 @@ sent_change : (packet second : ℕ) (state : State) (led : Option State) (rest :
 sent_change packet second state None rest = refl
 sent_change packet second state (Some led) rest = refl
 
-received_are : (events : List Event) (state : State) (follows : Bool) → received_octets (shown_in (numbered_in state follows events)) ≡ messages_joined (received_in (items_in events))
-received_are [] state follows = refl
-received_are (Passed second (Received m) ∷ later) state follows =
-    ap (λ (os : List ℕ). m.octets.now ++ os) (received_change m.packet second state (led_by_received state m.kind (is_rejected (sent_in (items_in later)))) _ ∙ received_are later _ (is_open m.kind))
-received_are (Passed second (Sent m) ∷ later) state follows = received_change m.packet second state (led_by_sent state m.kind follows) _ ∙ received_are later _ false
-received_are (Passed second (Ended e) ∷ later) state follows =
+received_are : (events : List Event) (state : State) (before : Before) → received_octets (shown_in (numbered_in state before events)) ≡ messages_joined (received_in (items_in events))
+received_are [] state before = refl
+received_are (Passed second (Received m) ∷ later) state before =
+    ap (λ (os : List ℕ). m.octets.now ++ os) (received_change m.packet second state (led_by_received state m.kind (is_answered_before_open m.kind (sent_in (items_in later)))) _ ∙ received_are later _ (just_received m.kind))
+received_are (Passed second (Sent m) ∷ later) state before = received_change m.packet second state (led_by_sent state m.kind before) _ ∙ received_are later _ (just_sent state m.kind before)
+received_are (Passed second (Ended e) ∷ later) state before =
     received_change e.packet second state (led_by_end state) _
-    ∙ received_change e.packet second (state_then state (led_by_end state)) (led_by_left state (are_left (received_in (items_in later)))) _ ∙ received_are later _ false
+    ∙ received_change e.packet second (state_then state (led_by_end state)) (led_by_left state (are_left (received_in (items_in later)))) _ ∙ received_are later _ Other
 
-sent_are : (events : List Event) (state : State) (follows : Bool) → sent_octets (shown_in (numbered_in state follows events)) ≡ messages_joined (sent_in (items_in events))
-sent_are [] state follows = refl
-sent_are (Passed second (Received m) ∷ later) state follows =
-    sent_change m.packet second state (led_by_received state m.kind (is_rejected (sent_in (items_in later)))) _ ∙ sent_are later _ (is_open m.kind)
-sent_are (Passed second (Sent m) ∷ later) state follows =
-    ap (λ (os : List ℕ). m.octets.now ++ os) (sent_change m.packet second state (led_by_sent state m.kind follows) _ ∙ sent_are later _ false)
-sent_are (Passed second (Ended e) ∷ later) state follows =
+sent_are : (events : List Event) (state : State) (before : Before) → sent_octets (shown_in (numbered_in state before events)) ≡ messages_joined (sent_in (items_in events))
+sent_are [] state before = refl
+sent_are (Passed second (Received m) ∷ later) state before =
+    sent_change m.packet second state (led_by_received state m.kind (is_answered_before_open m.kind (sent_in (items_in later)))) _ ∙ sent_are later _ (just_received m.kind)
+sent_are (Passed second (Sent m) ∷ later) state before =
+    ap (λ (os : List ℕ). m.octets.now ++ os) (sent_change m.packet second state (led_by_sent state m.kind before) _ ∙ sent_are later _ (just_sent state m.kind before))
+sent_are (Passed second (Ended e) ∷ later) state before =
     sent_change e.packet second state (led_by_end state) _
-    ∙ sent_change e.packet second (state_then state (led_by_end state)) (led_by_left state (are_left (received_in (items_in later)))) _ ∙ sent_are later _ false
+    ∙ sent_change e.packet second (state_then state (led_by_end state)) (led_by_left state (are_left (received_in (items_in later)))) _ ∙ sent_are later _ Other
 
 -- what is a piece may stand
 may_stand : (framing : Framing) (p : Piece) → IsPiece framing p → MayStand framing p
@@ -97,11 +99,11 @@ pub made_are_the_streams : MadeRecordsAreTheStreams
 made_are_the_streams framings within connection entries received_unshown sent_unshown made =
     let t = made.tells in
     let opened = opened_state connection.opened_by in
-    let records : shown_in (opening connection.opened_by connection.packet connection.second ∷ numbered_in opened false t.events) ≡ records_of entries = entries_are _ entries t.shown in
+    let records : shown_in (opening connection.opened_by connection.packet connection.second ∷ numbered_in opened Other t.events) ≡ records_of entries = entries_are _ entries t.shown in
     let received : messages_joined made.received ≡ received_octets (records_of entries) =
-    ap (λ (ms : List Message). messages_joined ms) (sym t.allowed.of_received) ∙ sym (received_are t.events opened false) ∙ ap (λ (rs : List ShownRecord). received_octets rs) records in
+    ap (λ (ms : List Message). messages_joined ms) (sym t.allowed.of_received) ∙ sym (received_are t.events opened Other) ∙ ap (λ (rs : List ShownRecord). received_octets rs) records in
     let sent : messages_joined made.sent ≡ sent_octets (records_of entries) =
-    ap (λ (ms : List Message). messages_joined ms) (sym t.allowed.of_sent) ∙ sym (sent_are t.events opened false) ∙ ap (λ (rs : List ShownRecord). sent_octets rs) records in (
+    ap (λ (ms : List Message). messages_joined ms) (sym t.allowed.of_sent) ∙ sym (sent_are t.events opened Other) ∙ ap (λ (rs : List ShownRecord). sent_octets rs) records in (
       subst (λ (os : List ℕ). IsWhole framings.received connection.received.octets.now os received_unshown) received
           (framed_whole framings.received connection.received.octets.now made.heard.pieces made.received received_unshown made.heard.framed),
       subst (λ (os : List ℕ). IsWhole framings.sent connection.sent.octets.now os sent_unshown) sent

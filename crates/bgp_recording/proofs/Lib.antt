@@ -12,3 +12,4 @@ pub mod Recordings
 pub mod Once
 pub mod Capturing
 pub mod Joining
+pub mod Alone

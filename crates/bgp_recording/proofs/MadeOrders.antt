@@ -4,6 +4,7 @@ use Rattle.std.proofs.lemmas.Bool.{false≢true}
 use Rattle.std.proofs.lemmas.List.{drop_more, drop_all, length-map}
 use Rattle.std.specs.Option.{option_or, option_map}
 use Rattle.bgp_prefix.specs.Shown as shown
+use Rattle.bgp_wire.specs.declared.header.MessageType.{MessageType}
 use Rattle.streams.specs.Connections.{last_index}
 use Rattle.streams.specs.declared.connection.End.{End}
 use Rattle.streams.proofs.Numbering as numbering
@@ -12,13 +13,14 @@ use Rattle.bgp_recording.specs.declared.pending.Place.{Place}
 use Rattle.bgp_recording.specs.declared.ordering.Exchange.{Exchange}
 use Rattle.bgp_recording.specs.declared.pending.Turn.{Turn}
 use Rattle.bgp_recording.specs.declared.pending.Turn.TheVariants as turns
+use Rattle.bgp_recording.specs.declared.standing.Before.{Before}
 use Rattle.bgp_recording.specs.declared.state.State.{State}
 use Rattle.bgp_recording.specs.declared.waiting.Foresight.{Foresight}
 use Rattle.bgp_recording.specs.declared.waiting.Waiting.{Waiting}
-use Rattle.bgp_recording.specs.Changes.{led_by_received, led_by_sent, led_by_end, led_by_left, is_rejected, are_left, state_then}
+use Rattle.bgp_recording.specs.Changes.{led_by_received, led_by_sent, led_by_end, led_by_left, is_answered_before_open, awaits_keepalive, just_sent, are_left, state_then}
 use Rattle.bgp_recording.specs.Allowed.{ends_of}
 use Rattle.bgp_recording.specs.Leads.{Pending, Leads, LeadsReceived, LeadsSent, LeadsEnd, IsDone, is_next_taken, turn_by, turn_of, place_after}
-use Rattle.bgp_recording.specs.MadeOrder.{Course, first_waits, first_is_answered, is_taken, takes_received, shown_next, is_turned_away, values_left, after_received, after_sent, after_end, after_own, after_turn, after_next, after_more, begun_course, count_of}
+use Rattle.bgp_recording.specs.MadeOrder.{Course, first_waits, first_is_answered, is_taken, takes_received, shown_next, is_answer_next, values_left, after_received, after_sent, after_end, after_own, after_turn, after_next, after_more, begun_course, count_of}
 use Rattle.bgp_recording.specs.Steps.{Making, ShowsReceived, ShowsSent, ShowsEnd, Shows, StepsOrEnds, Begins, course_of, order_of, answering_after}
 use Rattle.bgp_recording.specs.Tells.{Numbered, numbered_with, change}
 use Rattle.bgp_recording.specs.First.{IsFirst}
@@ -72,18 +74,18 @@ no_notification ms n le = ap (λ (xs : List Message). notification_from n (value
 
 -- ---- the decision that is made, and what it makes
 
-rejected_value : (ms : List Message) → is_turned_away (values_of ms) ≡ is_rejected ms
-rejected_value [] = refl
-rejected_value (m ∷ ms) = refl
+answer_value : (kind : Option MessageType) (ms : List Message) → is_answer_next kind (values_of ms) ≡ is_answered_before_open kind ms
+answer_value kind [] = refl
+answer_value kind (m ∷ ms) = refl
 
 left_value : (ms : List Message) → values_left (values_of ms) ≡ are_left ms
 left_value [] = refl
 left_value (m ∷ ms) = refl
 
 -- a course by its parts
-course_same : (a : Making) (received sent : List MessageValue) (end : Option End) (place : Place) (last : ℕ) (state : State) (is_answering follows_open : Bool) (numbered : List Numbered)
+course_same : (a : Making) (received sent : List MessageValue) (end : Option End) (place : Place) (last : ℕ) (state : State) (is_answering : Bool) (before : Before) (numbered : List Numbered)
     → values_of a.pending.received ≡ received → values_of a.pending.sent ≡ sent → a.pending.end ≡ end → a.place ≡ place → a.last ≡ last → a.state ≡ state
-    → a.is_answering ≡ is_answering → a.follows_open ≡ follows_open → a.numbered ≡ numbered
+    → a.is_answering ≡ is_answering → a.before ≡ before → a.numbered ≡ numbered
     → course_of a ≡ record {
       received = received;
       sent = sent;
@@ -92,10 +94,10 @@ course_same : (a : Making) (received sent : List MessageValue) (end : Option End
       last = last;
       state = state;
       is_answering = is_answering;
-      follows_open = follows_open;
+      before = before;
       numbered = numbered;
     }
-course_same a received sent end place last state is_answering follows_open numbered e1 e2 e3 e4 e5 e6 e7 e8 e9 = cc
+course_same a received sent end place last state is_answering before numbered e1 e2 e3 e4 e5 e6 e7 e8 e9 = cc
 
 -- a received message is next
 next_received : (foresight : Foresight) (within : ℕ) (old new : Making) (m : Message) → takes_received foresight within (course_of old) ≡ true → LeadsReceived old.pending m new.pending
@@ -104,27 +106,27 @@ next_received : (foresight : Foresight) (within : ℕ) (old new : Making) (m : M
     → course_of new ≡ after_next foresight within (course_of old)
 next_received foresight within old new m taken leads shows place answering =
     let c = course_of old in
-    let led : led_by_received old.state m.kind (is_rejected new.pending.sent) ≡ led_by_received old.state m.kind (is_turned_away (values_of old.pending.sent)) =
-    ap (λ (b : Bool). led_by_received old.state m.kind b) (ap is_rejected leads.sent ∙ sym (rejected_value old.pending.sent)) in
+    let led : led_by_received old.state m.kind (is_answered_before_open m.kind new.pending.sent) ≡ led_by_received old.state m.kind (is_answer_next m.kind (values_of old.pending.sent)) =
+    ap (λ (b : Bool). led_by_received old.state m.kind b) (ap (is_answered_before_open m.kind) leads.sent ∙ sym (answer_value m.kind old.pending.sent)) in
     let made : course_of new ≡ after_received foresight c (message_value m) (values_of new.pending.received) =
     course_same new _ _ _ _ _ _ _ _ _ refl (ap values_of leads.sent) leads.end place shows.second
-    (shows.state ∙ ap (λ (o : Option State). state_then old.state o) led) answering shows.follows
+    (shows.state ∙ ap (λ (o : Option State). state_then old.state o) led) answering shows.before
     (shows.put ∙ ap (λ (o : Option State). old.numbered ++ numbered_with m.packet (shown.Received new.last m.octets.now) ∷ change m.packet new.last old.state o) led
     ∙ ap (λ (n : ℕ). old.numbered ++ numbered_with m.packet (shown.Received n m.octets.now)
-    ∷ change m.packet n old.state (led_by_received old.state m.kind (is_turned_away (values_of old.pending.sent)))) shows.second) in
+    ∷ change m.packet n old.state (led_by_received old.state m.kind (is_answer_next m.kind (values_of old.pending.sent)))) shows.second) in
     made
     ∙ sym (ap (λ (ms : List MessageValue). after_turn foresight c true ms) (ap values_of leads.received))
     ∙ sym (ap (λ (b : Bool). after_turn foresight c b c.received) taken)
 
 -- a sent one
 next_sent : (foresight : Foresight) (within : ℕ) (old new : Making) (m : Message) → takes_received foresight within (course_of old) ≡ false → LeadsSent within old.pending m new.pending
-    → ShowsSent old m new → new.place ≡ place_after old.place (Some (turns.Sent m)) → new.is_answering ≡ false
+    → ShowsSent old m new → new.place ≡ place_after old.place (Some (turns.Sent m)) → new.is_answering ≡ awaits_keepalive (just_sent old.state m.kind old.before)
     → course_of new ≡ after_next foresight within (course_of old)
 next_sent foresight within old new m taken leads shows place answering =
     let c = course_of old in
-    let led = led_by_sent old.state m.kind old.follows_open in
+    let led = led_by_sent old.state m.kind old.before in
     let made : course_of new ≡ after_sent c (message_value m) (values_of new.pending.sent) =
-    course_same new _ _ _ _ _ _ _ _ _ (ap values_of leads.received) refl leads.end place shows.second shows.state answering shows.follows
+    course_same new _ _ _ _ _ _ _ _ _ (ap values_of leads.received) refl leads.end place shows.second shows.state answering shows.before
     (shows.put ∙ ap (λ (n : ℕ). old.numbered ++ numbered_with m.packet (shown.Sent n m.octets.now) ∷ change m.packet n old.state led) shows.second) in
     made
     ∙ sym (ap (λ (ms : List MessageValue). after_own c ms old.pending.end) (ap values_of leads.sent))
@@ -141,7 +143,7 @@ next_end foresight within old new e taken leads shows place answering =
     ap (led_by_left old.state) (ap are_left leads.received ∙ sym (left_value old.pending.received)) in
     let made : course_of new ≡ after_end c e =
     course_same new _ _ _ _ _ _ _ _ _ (ap values_of leads.received) (ap values_of (leads.sent ∙ sym leads.sent_before)) leads.end_after place shows.second
-    (shows.state ∙ ap (λ (o : Option State). state_then ended o) left) answering shows.follows
+    (shows.state ∙ ap (λ (o : Option State). state_then ended o) left) answering shows.before
     (shows.put ∙ ap (λ (o : Option State). old.numbered ++ (change e.packet new.last old.state (led_by_end old.state) ++ change e.packet new.last ended o)) left
     ∙ ap (λ (n : ℕ). old.numbered ++ (change e.packet n old.state (led_by_end old.state)
     ++ change e.packet n ended (led_by_left old.state (values_left (values_of old.pending.received))))) shows.second) in
@@ -227,7 +229,7 @@ own_kept false rs ss end turn is e = refl
 -- the turn that is taken, by what the rules say of it
 pub next_by : (foresight : Foresight) (within : ℕ) (old new : Making) (turn : Turn) (waits answered : Bool) → waits ≡ first_waits foresight (course_of old) (values_of old.pending.received)
     → answered ≡ first_is_answered foresight (course_of old) (values_of old.pending.received) → Some turn ≡ turn_of within waits old.pending
-    → Leads within old.pending turn new.pending → Shows old turn new → new.place ≡ place_after old.place (Some turn) → new.is_answering ≡ answering_after turn answered
+    → Leads within old.pending turn new.pending → Shows old turn new → new.place ≡ place_after old.place (Some turn) → new.is_answering ≡ answering_after old turn answered
     → course_of new ≡ after_next foresight within (course_of old)
 next_by foresight within old new (turns.Received m) waits answered is_waits is_answered is_turn leads shows place answering =
     let taken = received_taken (is_next_taken within waits old.pending) _ _ _ (turns.Received m) refl is_turn in
@@ -261,7 +263,7 @@ begins_ordered within exchange making begun =
     let received = values_of exchange.received.now in
     let sent = values_of exchange.sent.now in
     let course : course_of making ≡ begun_course exchange.opened_by exchange.packet exchange.second received sent exchange.end =
-    course_same making _ _ _ _ _ _ _ _ _ (ap values_of begun.received) (ap values_of begun.sent) begun.end begun.place begun.last begun.state begun.answering begun.follows begun.opens in
+    course_same making _ _ _ _ _ _ _ _ _ (ap values_of begun.received) (ap values_of begun.sent) begun.end begun.place begun.last begun.state begun.answering begun.before begun.opens in
     let count : left_in making.pending ≡ count_of received sent exchange.end = omega (
       arith,
       ap length begun.received,

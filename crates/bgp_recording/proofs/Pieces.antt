@@ -1,13 +1,13 @@
 -- Pieces of a stream, one after another, and what stands where none does.
-use Rattle.std.proofs.Common.{◌≡◌, ◌∙◌, ◌≢◌, ◌<◌, ◌≤◌, ◌+◌, ℕ, List, [], ◌∷◌, ◌++◌, drop, take, length, Bool, true, false, IsTrue, ap, subst, sym, refl, inl, inr, arith, append_assoc, append-nil}
+use Rattle.std.proofs.Common.{◌≡◌, ◌∙◌, ◌≤◌, ◌+◌, ℕ, List, [], ◌∷◌, ◌++◌, drop, take, length, ap, subst, sym, refl, inr, arith, append_assoc, append-nil}
 use Rattle.std.proofs.lemmas.List.{drop-drop, length-append, length-take-le, take-append-le, take-take}
 use Rattle.byteorder.specs.Endian.{big_bytes}
 use Rattle.bgp_wire.specs.declared.header.Limit.{Limit}
-use Rattle.bgp_wire.specs.Framing.{IsFrame, IsShort, IsFaulty}
+use Rattle.bgp_wire.specs.Framing.{IsFrame}
 use Rattle.bgp_wire.specs.Header.{header_of, length_of, type_of, IsSound, IsSynchronized}
 use Rattle.mrt.specs.Rules.{IsWholeRefresh}
 use Rattle.bgp_recording.specs.declared.framing.Framing.{Framing}
-use Rattle.bgp_recording.specs.Pieces.{Piece, Kept, PassedOver, octets_in, stream_of, kept, passed_over, IsPiece, IsRefreshHeader, BeginsRefresh, IsCutRefresh, IsShortOf, IsFaultyOf}
+use Rattle.bgp_recording.specs.Pieces.{Piece, Kept, PassedOver, octets_in, stream_of, kept, passed_over, IsPiece, IsRefreshHeader}
 
 -- ---- one more
 

@@ -12,13 +12,15 @@ use Rattle.bgp_recording.specs.declared.framing.Framings.{Framings}
 use Rattle.bgp_recording.specs.declared.framing.Unshown.{Unshown}
 use Rattle.bgp_recording.specs.declared.pending.Moment.{Moment}
 use Rattle.bgp_recording.specs.Framed.{AreSplit, EachAt, IsStamped}
-use Rattle.bgp_recording.specs.Recorded.{IsRecordedInOrder}
+use Rattle.bgp_recording.specs.Recorded.{IsExchangeOf, IsRecordedInOrder}
 use Rattle.bgp_recording.specs.Tells.{Tells, HasSecond, numbered_of}
 use Rattle.bgp_recording.specs.declared.message.Message.{Message}
 use Rattle.bgp_recording.specs.declared.ordering.Exchange.{Exchange}
 use Rattle.bgp_recording.specs.Gathered.{GoesFrom, IsClocked, IsHeard, IsSaid, AreMade}
 use Rattle.bgp_recording.specs.Givers.{own_end, AreLatest, AreEarliest}
-use Rattle.bgp_recording.specs.Told.{IsTold}
+use Rattle.bgp_recording.specs.Told.{IsTold, IsMade as IsMadeOf}
+use Rattle.bgp_recording.specs.Steps.{order_of}
+use Rattle.streams.specs.declared.passed.Side.{Side}
 use Rattle.bgp_recording.specs.MadeOrder.{made_order}
 use Rattle.bgp_recording.specs.Values.{values_of}
 use Rattle.bgp_recording.proofs.Lists.{all_weaker}
@@ -105,3 +107,25 @@ recorded_by framings within connection entries received_unshown sent_unshown rec
       ∙ ap (λ (ms : List Message). made_order within connection.opened_by connection.packet connection.second (values_of ms) (values_of said_now) connection.end) p
       ∙ ap (λ (ms : List Message). made_order within connection.opened_by connection.packet connection.second (values_of received) (values_of ms) connection.end) q;
 }
+
+pub recorded_of : (framings : Framings) (within : ℕ) (connection : Connection) (exchange : Exchange) (entries : List Entry) (received sent : List Message) (received_unshown sent_unshown : Unshown)
+    → IsExchangeOf connection received sent exchange → IsHeard framings.received connection.received received received_unshown
+    → IsSaid framings.sent connection.sent connection.end sent sent_unshown → IsClocked connection → (IsTold exchange → IsMadeOf within exchange entries) → AllByRecursion HasSecond entries
+    → map numbered_of entries ≡ order_of within exchange → IsRecordedInOrder framings within connection entries received_unshown sent_unshown
+recorded_of framings within connection exchange entries received sent received_unshown sent_unshown of heard said clocked made seconds order =
+    let told = is_told_by framings connection exchange received sent received_unshown sent_unshown of.packet of.second of.end of.received of.sent clocked heard said in
+    let ns = map numbered_of entries in
+    let rs = exchange.received.now in
+    let ss = exchange.sent.now in
+    let tells : Tells within connection.opened_by connection.packet connection.second rs ss connection.end ns =
+    subst (λ (e : Option End). Tells within connection.opened_by connection.packet connection.second rs ss e ns) of.end
+    (subst (λ (n : ℕ). Tells within connection.opened_by connection.packet n rs ss exchange.end ns) of.second
+    (subst (λ (n : ℕ). Tells within connection.opened_by n exchange.second rs ss exchange.end ns) of.packet
+    (subst (λ (s : Side). Tells within s exchange.packet exchange.second rs ss exchange.end ns) of.opened_by (made told)))) in
+    let ordered : ns ≡ made_order within connection.opened_by connection.packet connection.second (values_of rs) (values_of ss) connection.end =
+    order
+    ∙ ap (λ (s : Side). made_order within s exchange.packet exchange.second (values_of rs) (values_of ss) exchange.end) of.opened_by
+    ∙ ap (λ (n : ℕ). made_order within connection.opened_by n exchange.second (values_of rs) (values_of ss) exchange.end) of.packet
+    ∙ ap (λ (n : ℕ). made_order within connection.opened_by connection.packet n (values_of rs) (values_of ss) exchange.end) of.second
+    ∙ ap (λ (e : Option End). made_order within connection.opened_by connection.packet connection.second (values_of rs) (values_of ss) e) of.end in
+    recorded_by framings within connection entries received_unshown sent_unshown received sent rs ss of.received of.sent heard said tells seconds ordered

@@ -1,9 +1,8 @@
 -- A stream split into pieces, one after another.
-use Rattle.std.proofs.Common.{◌≡◌, ◌∙◌, ◌≤◌, ◌+◌, ◌-◌, ℕ, Bool, List, [], ◌∷◌, ◌++◌, ◌↔◌, drop, take, length, Option, None, Some, IsTrue, ap, subst, sym, refl, inl, inr, arith, append_assoc, append-nil}
+use Rattle.std.proofs.Common.{◌≡◌, ◌∙◌, ◌≤◌, ◌+◌, ◌-◌, ℕ, Bool, List, [], ◌∷◌, ◌++◌, ◌↔◌, drop, take, length, Option, None, Some, IsTrue, ap, subst, sym, refl, arith, append_assoc, append-nil}
 use Rattle.std.proofs.lemmas.List.{length-append, length-drop, length-take}
 use Rattle.std.specs.List.{AllByRecursion}
 use Rattle.std.specs.Prelude.{MatchOption}
-use Rattle.bgp_wire.specs.declared.header.Limit.{Limit}
 use Rattle.bgp_wire.specs.declared.header.MessageType.{MessageType}
 use Rattle.bgp_wire.specs.Framing.{IsFrame}
 use Rattle.bgp_wire.specs.Header.{header_of, type_of, IsSound}
@@ -14,10 +13,9 @@ use Rattle.streams.specs.declared.connection.Run.{Run}
 use Rattle.bgp_recording.specs.declared.framing.Direction.{Direction}
 use Rattle.bgp_recording.specs.declared.framing.Framing.{Framing}
 use Rattle.bgp_recording.specs.declared.framing.Rest.TheVariants.{Short, BehindFault}
-use Rattle.bgp_recording.specs.declared.framing.Unshown.{Unshown}
 use Rattle.bgp_recording.specs.declared.givers.Cursor.{Cursor}
 use Rattle.bgp_recording.specs.declared.message.Message.{Message}
-use Rattle.bgp_recording.specs.Framed.{octets_of, AreFramed, AreSplit, Begins, EachAt, HasKind, IsStamped}
+use Rattle.bgp_recording.specs.Framed.{octets_of, AreSplit, Begins, EachAt, HasKind, IsStamped}
 use Rattle.bgp_recording.specs.Givers.{IsAt}
 use Rattle.bgp_recording.specs.Pieces.{Piece, Kept, PassedOver, stream_of, kept, passed_over, IsPiece, IsRefreshHeader, BeginsRefresh, IsShortOf, IsFaultyOf}
 use Rattle.bgp_recording.proofs.Lists.{all_append}

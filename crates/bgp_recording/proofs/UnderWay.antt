@@ -5,6 +5,8 @@ use Rattle.std.proofs.Math.Nat.{le-max_right, max-le}
 use Rattle.std.specs.List.{AllByRecursion}
 use Rattle.bgp_prefix.specs.Shown as shown
 use Rattle.streams.specs.declared.connection.End.{End}
+use Rattle.bgp_recording.specs.declared.standing.Before.{Before}
+use Rattle.bgp_recording.specs.declared.standing.Before.TheVariants.{Other}
 use Rattle.bgp_recording.specs.declared.state.State.{State}
 use Rattle.bgp_recording.specs.declared.message.Message.{Message}
 use Rattle.bgp_recording.specs.declared.ordering.Exchange.{Exchange}
@@ -12,7 +14,7 @@ use Rattle.bgp_recording.specs.declared.pending.Turn.{Turn}
 use Rattle.bgp_recording.specs.declared.pending.Turn.TheVariants as turns
 use Rattle.bgp_recording.specs.Allowed.{ends_of}
 use Rattle.bgp_recording.specs.Leads.{Pending, LeadsReceived, LeadsSent, LeadsEnd, Leads, IsDone, MayKeep, own_of}
-use Rattle.bgp_recording.specs.Changes.{led_by_received, led_by_sent, is_open, is_rejected, opened_state, state_then}
+use Rattle.bgp_recording.specs.Changes.{led_by_received, led_by_sent, is_answered_before_open, just_received, just_sent, opened_state, state_then}
 use Rattle.bgp_recording.specs.Steps.{Making, ShowsReceived, ShowsSent, ShowsEnd, Shows, Steps, StepsOrEnds, Begins}
 use Rattle.bgp_recording.specs.Tells.{Numbered, numbered_with, change, opening, Tells}
 use Rattle.bgp_recording.specs.Told.{IsClock, GoesBy, Rises, IsLast, AreClocked, IsTold}
@@ -31,7 +33,7 @@ TellsIt within exchange numbered =
 -- whatever may follow the records so far
 abbrev pub Goes : ℕ → Exchange → Making → Type 0
 Goes within exchange making =
-    (rest : List Numbered) → Follows within making.last making.state making.follows_open making.pending.received making.pending.sent making.pending.end rest
+    (rest : List Numbered) → Follows within making.last making.state making.before making.pending.received making.pending.sent making.pending.end rest
     → TellsIt within exchange (making.numbered ++ rest)
 
 pub record IsUnderWay (within : ℕ) (exchange : Exchange) (making : Making) : Type 0 where
@@ -93,18 +95,18 @@ put_then : (within : ℕ) (exchange : Exchange) (before after more rest : List N
 put_then within exchange before after more rest e h =
     subst (λ (ns : List Numbered). TellsIt within exchange ns) (sym (ap (λ (ns : List Numbered). ns ++ rest) e ∙ append_assoc before more rest)) h
 
-same_state : (within least : ℕ) (state state' : State) (follows follows' : Bool) (rs ss : List Message) (end : Option End) (rest : List Numbered) → state ≡ state' → follows ≡ follows'
-    → Follows within least state follows rs ss end rest → Follows within least state' follows' rs ss end rest
-same_state within least state state' follows follows' rs ss end rest p q h =
-    subst (λ (b : Bool). Follows within least state' b rs ss end rest) q (subst (λ (s : State). Follows within least s follows rs ss end rest) p h)
+same_state : (within least : ℕ) (state state' : State) (before before' : Before) (rs ss : List Message) (end : Option End) (rest : List Numbered) → state ≡ state' → before ≡ before'
+    → Follows within least state before rs ss end rest → Follows within least state' before' rs ss end rest
+same_state within least state state' before before' rs ss end rest p q h =
+    subst (λ (b : Before). Follows within least state' b rs ss end rest) q (subst (λ (s : State). Follows within least s before rs ss end rest) p h)
 
-same_left : (within least : ℕ) (state state' : State) (follows : Bool) (rs rs' ss ss' : List Message) (end end' : Option End) (rest : List Numbered) → state ≡ state' → rs ≡ rs' → ss ≡ ss'
-    → end ≡ end' → Follows within least state follows rs ss end rest → Follows within least state' follows rs' ss' end' rest
-same_left within least state state' follows rs rs' ss ss' end end' rest p q r e h =
-    subst (λ (o : Option End). Follows within least state' follows rs' ss' o rest) e
-    (subst (λ (xs : List Message). Follows within least state' follows rs' xs end rest) r
-    (subst (λ (xs : List Message). Follows within least state' follows xs ss end rest) q
-    (subst (λ (s : State). Follows within least s follows rs ss end rest) p h)))
+same_left : (within least : ℕ) (state state' : State) (before : Before) (rs rs' ss ss' : List Message) (end end' : Option End) (rest : List Numbered) → state ≡ state' → rs ≡ rs' → ss ≡ ss'
+    → end ≡ end' → Follows within least state before rs ss end rest → Follows within least state' before rs' ss' end' rest
+same_left within least state state' before rs rs' ss ss' end end' rest p q r e h =
+    subst (λ (o : Option End). Follows within least state' before rs' ss' o rest) e
+    (subst (λ (xs : List Message). Follows within least state' before rs' xs end rest) r
+    (subst (λ (xs : List Message). Follows within least state' before xs ss end rest) q
+    (subst (λ (s : State). Follows within least s before rs ss end rest) p h)))
 
 -- seconds of what is still to be sent
 ahead_received : (clock : ℕ → ℕ) (r : Message) (last : ℕ) (ss : List Message) → IsClock clock → GoesBy clock r → AllByRecursion (GoesBy clock) ss
@@ -135,7 +137,7 @@ from_first clock packet second (s ∷ ss) clocked by sent first =
 after_received : (within : ℕ) (exchange : Exchange) (old new : Making) (r : Message) → LeadsReceived old.pending r new.pending → ShowsReceived old r new
     → IsUnderWay within exchange old → IsUnderWay within exchange new
 after_received within exchange old new r leads shows h =
-    let before = before_all r old.pending.sent old.pending.end leads.before h.go_by.sent_rise in
+    let ahead = before_all r old.pending.sent old.pending.end leads.before h.go_by.sent_rise in
     let ended = before_end r old.pending.sent old.pending.end leads.before h.go_by.sent_last in
     let by = (tail_by _ _ _ _ leads.received h.go_by.received_by).0 in
     record {
@@ -143,22 +145,22 @@ after_received within exchange old new r leads shows h =
       go_by = clocked_received h.clock old.pending new.pending r leads h.go_by;
       ahead = subst (λ (n : ℕ). AllByRecursion (λ s. n ≤ s.second) new.pending.sent) (sym shows.second)
           (subst (λ (xs : List Message). AllByRecursion (λ s. max r.second old.last ≤ s.second) xs) (sym leads.sent)
-          (ahead_received h.clock r old.last old.pending.sent h.go_by.clocked by h.go_by.sent_by before h.ahead));
+          (ahead_received h.clock r old.last old.pending.sent h.go_by.clocked by h.go_by.sent_by ahead h.ahead));
       so_far = λ rest follows.
-          let led = led_by_received old.state r.kind (is_rejected old.pending.sent) in
+          let led = led_by_received old.state r.kind (is_answered_before_open r.kind old.pending.sent) in
           let n = numbered_with r.packet (shown.Received new.last r.octets.now) in
-          let after : Follows within new.last (state_then old.state led) (is_open r.kind) new.pending.received old.pending.sent old.pending.end rest =
-          same_left within new.last (state_then old.state (led_by_received old.state r.kind (is_rejected new.pending.sent))) (state_then old.state led) (is_open r.kind)
+          let after : Follows within new.last (state_then old.state led) (just_received r.kind) new.pending.received old.pending.sent old.pending.end rest =
+          same_left within new.last (state_then old.state (led_by_received old.state r.kind (is_answered_before_open r.kind new.pending.sent))) (state_then old.state led) (just_received r.kind)
           new.pending.received new.pending.received new.pending.sent old.pending.sent new.pending.end old.pending.end rest
-          (ap (λ (xs : List Message). state_then old.state (led_by_received old.state r.kind (is_rejected xs))) leads.sent) refl leads.sent leads.end
-          (same_state within new.last new.state (state_then old.state (led_by_received old.state r.kind (is_rejected new.pending.sent))) new.follows_open (is_open r.kind)
-          new.pending.received new.pending.sent new.pending.end rest shows.state shows.follows follows) in
-          let with_it = follows_received within old.last new.last old.state old.follows_open r new.pending.received old.pending.sent old.pending.end rest before ended
+          (ap (λ (xs : List Message). state_then old.state (led_by_received old.state r.kind (is_answered_before_open r.kind xs))) leads.sent) refl leads.sent leads.end
+          (same_state within new.last new.state (state_then old.state (led_by_received old.state r.kind (is_answered_before_open r.kind new.pending.sent))) new.before (just_received r.kind)
+          new.pending.received new.pending.sent new.pending.end rest shows.state shows.before follows) in
+          let with_it = follows_received within old.last new.last old.state old.before r new.pending.received old.pending.sent old.pending.end rest ahead ended
           (omega (arith, le-max_right r.second old.last, shows.second)) shows.second after in
           let put : new.numbered ≡ old.numbered ++ (n ∷ change r.packet new.last old.state led) =
-          shows.put ∙ ap (λ (xs : List Message). old.numbered ++ (n ∷ change r.packet new.last old.state (led_by_received old.state r.kind (is_rejected xs)))) leads.sent in
+          shows.put ∙ ap (λ (xs : List Message). old.numbered ++ (n ∷ change r.packet new.last old.state (led_by_received old.state r.kind (is_answered_before_open r.kind xs)))) leads.sent in
           put_then within exchange old.numbered new.numbered (n ∷ change r.packet new.last old.state led) rest put
-          (h.so_far _ (subst (λ (xs : List Message). Follows within old.last old.state old.follows_open xs old.pending.sent old.pending.end
+          (h.so_far _ (subst (λ (xs : List Message). Follows within old.last old.state old.before xs old.pending.sent old.pending.end
           (n ∷ (change r.packet new.last old.state led ++ rest))) (sym leads.received) with_it));
     }
 
@@ -176,16 +178,16 @@ after_sent within exchange old new s leads shows h =
       ahead = subst (λ (n : ℕ). AllByRecursion (λ t. n ≤ t.second) new.pending.sent) (sym shows.second)
           (from_first h.clock s.packet s.second new.pending.sent h.go_by.clocked by.0 by.1 rises.0);
       so_far = λ rest follows.
-          let led = led_by_sent old.state s.kind old.follows_open in
+          let led = led_by_sent old.state s.kind old.before in
           let n = numbered_with s.packet (shown.Sent new.last s.octets.now) in
-          let after : Follows within new.last (state_then old.state led) false old.pending.received new.pending.sent old.pending.end rest =
-          same_left within new.last (state_then old.state led) (state_then old.state led) false new.pending.received old.pending.received new.pending.sent new.pending.sent
+          let after : Follows within new.last (state_then old.state led) (just_sent old.state s.kind old.before) old.pending.received new.pending.sent old.pending.end rest =
+          same_left within new.last (state_then old.state led) (state_then old.state led) (just_sent old.state s.kind old.before) new.pending.received old.pending.received new.pending.sent new.pending.sent
           new.pending.end old.pending.end rest refl leads.received refl leads.end
-          (same_state within new.last new.state (state_then old.state led) new.follows_open false new.pending.received new.pending.sent new.pending.end rest shows.state shows.follows follows) in
-          let with_it = follows_sent within old.last new.last old.state old.follows_open s old.pending.received new.pending.sent old.pending.end rest in_time
+          (same_state within new.last new.state (state_then old.state led) new.before (just_sent old.state s.kind old.before) new.pending.received new.pending.sent new.pending.end rest shows.state shows.before follows) in
+          let with_it = follows_sent within old.last new.last old.state old.before s old.pending.received new.pending.sent old.pending.end rest in_time
           (omega (arith, le, shows.second)) shows.second after in
           put_then within exchange old.numbered new.numbered (n ∷ change s.packet new.last old.state led) rest shows.put
-          (h.so_far _ (subst (λ (xs : List Message). Follows within old.last old.state old.follows_open old.pending.received xs old.pending.end
+          (h.so_far _ (subst (λ (xs : List Message). Follows within old.last old.state old.before old.pending.received xs old.pending.end
           (n ∷ (change s.packet new.last old.state led ++ rest))) (sym leads.sent) with_it));
     }
 
@@ -201,18 +203,18 @@ after_end within exchange old new e leads shows h =
       ahead = subst (λ (xs : List Message). AllByRecursion (λ s. new.last ≤ s.second) xs) (sym leads.sent) tt;
       so_far = λ rest follows.
           let left = new.pending.received in
-          let after : Follows within new.last (ended_with old.state old.pending.received) false old.pending.received [] None rest =
-          same_left within new.last (ended_with old.state left) (ended_with old.state old.pending.received) false left old.pending.received new.pending.sent [] new.pending.end None rest
+          let after : Follows within new.last (ended_with old.state old.pending.received) Other old.pending.received [] None rest =
+          same_left within new.last (ended_with old.state left) (ended_with old.state old.pending.received) Other left old.pending.received new.pending.sent [] new.pending.end None rest
           (ap (λ (xs : List Message). ended_with old.state xs) leads.received) leads.received leads.sent leads.end_after
-          (same_state within new.last new.state (ended_with old.state left) new.follows_open false left new.pending.sent new.pending.end rest shows.state shows.follows follows) in
-          let with_it = follows_end within old.last new.last old.state old.follows_open e old.pending.received rest in_time
+          (same_state within new.last new.state (ended_with old.state left) new.before Other left new.pending.sent new.pending.end rest shows.state shows.before follows) in
+          let with_it = follows_end within old.last new.last old.state old.before e old.pending.received rest in_time
           (omega (arith, le-max_right e.second old.last, shows.second)) shows.second after in
           let put : new.numbered ≡ old.numbered ++ changes_at_end e.packet new.last old.state old.pending.received =
           shows.put ∙ ap (λ (xs : List Message). old.numbered ++ changes_at_end e.packet new.last old.state xs) leads.received in
           put_then within exchange old.numbered new.numbered (changes_at_end e.packet new.last old.state old.pending.received) rest put
-          (h.so_far _ (subst (λ (o : Option End). Follows within old.last old.state old.follows_open old.pending.received old.pending.sent o
+          (h.so_far _ (subst (λ (o : Option End). Follows within old.last old.state old.before old.pending.received old.pending.sent o
           (changes_at_end e.packet new.last old.state old.pending.received ++ rest)) (sym leads.end_before)
-          (subst (λ (xs : List Message). Follows within old.last old.state old.follows_open old.pending.received xs (Some e)
+          (subst (λ (xs : List Message). Follows within old.last old.state old.before old.pending.received xs (Some e)
           (changes_at_end e.packet new.last old.state old.pending.received ++ rest)) (sym leads.sent_before) with_it)));
     }
 
@@ -238,11 +240,11 @@ begins_under_way within exchange making begun told =
       ahead = subst (λ (n : ℕ). AllByRecursion (λ s. n ≤ s.second) making.pending.sent) (sym begun.last)
           (subst (λ (xs : List Message). AllByRecursion (λ s. exchange.second ≤ s.second) xs) (sym begun.sent) ahead);
       so_far = λ rest follows.
-          let all : Follows within exchange.second (opened_state exchange.opened_by) false exchange.received.now exchange.sent.now exchange.end rest =
-          same_left within exchange.second making.state (opened_state exchange.opened_by) false making.pending.received exchange.received.now making.pending.sent exchange.sent.now
+          let all : Follows within exchange.second (opened_state exchange.opened_by) Other exchange.received.now exchange.sent.now exchange.end rest =
+          same_left within exchange.second making.state (opened_state exchange.opened_by) Other making.pending.received exchange.received.now making.pending.sent exchange.sent.now
           making.pending.end exchange.end rest begun.state begun.received begun.sent begun.end
-          (subst (λ (n : ℕ). Follows within n making.state false making.pending.received making.pending.sent making.pending.end rest) begun.last
-          (subst (λ (b : Bool). Follows within making.last making.state b making.pending.received making.pending.sent making.pending.end rest) begun.follows follows)) in
+          (subst (λ (n : ℕ). Follows within n making.state Other making.pending.received making.pending.sent making.pending.end rest) begun.last
+          (subst (λ (b : Before). Follows within making.last making.state b making.pending.received making.pending.sent making.pending.end rest) begun.before follows)) in
           subst (λ (ns : List Numbered). TellsIt within exchange (ns ++ rest)) (sym begun.opens) record {
             events = all.events;
             allowed = all.allowed;
@@ -251,9 +253,9 @@ begins_under_way within exchange making begun told =
           };
     }
 
-nothing_follows : (within last : ℕ) (state : State) (follows : Bool) (rs ss : List Message) (end : Option End) → rs ≡ [] → ss ≡ [] → end ≡ None
-    → Follows within last state follows rs ss end []
-nothing_follows within last state follows rs ss end p q r = record {
+nothing_follows : (within last : ℕ) (state : State) (before : Before) (rs ss : List Message) (end : Option End) → rs ≡ [] → ss ≡ [] → end ≡ None
+    → Follows within last state before rs ss end []
+nothing_follows within last state before rs ss end p q r = record {
   events = [];
   allowed = record { of_received = sym p; of_sent = sym q; of_end = sym (ap ends_of r); each = tt };
   timed = tt;
@@ -263,7 +265,7 @@ nothing_follows within last state follows rs ss end p q r = record {
 pub all_made : (within : ℕ) (exchange : Exchange) (making : Making) → IsDone making.pending → IsUnderWay within exchange making → TellsIt within exchange making.numbered
 all_made within exchange making done h =
     subst (λ (ns : List Numbered). TellsIt within exchange ns) (append-nil making.numbered)
-    (h.so_far [] (nothing_follows within making.last making.state making.follows_open making.pending.received making.pending.sent making.pending.end done.received done.sent done.end))
+    (h.so_far [] (nothing_follows within making.last making.state making.before making.pending.received making.pending.sent making.pending.end done.received done.sent done.end))
 
 -- ---- by what a step answers
 

@@ -2,7 +2,6 @@
 use Rattle.std.specs.Prelude.{◌≡◌, ◌+◌, ◌-◌, ◌++◌, ◌↔◌, ℕ, List, [], ◌∷◌, length, map, drop}
 use Rattle.std.specs.Prelude.{Option, None, Some, MatchOption, IsTrue}
 use Rattle.std.specs.List.{AllByRecursion}
-use Rattle.bgp_wire.specs.declared.header.MessageType.{MessageType}
 use Rattle.bgp_wire.specs.Framing.{IsFrame}
 use Rattle.bgp_wire.specs.Header.{header_of, type_of}
 use Rattle.bgp_wire.specs.Verdict.{type_code}

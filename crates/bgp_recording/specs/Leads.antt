@@ -1,6 +1,6 @@
 -- What is left to be ordered, and what may stand next.
 use Rattle.std.specs.Prelude.{◌≡◌, ◌<◌, ◌≤◌, ◌+◌, ℕ, List, [], ◌∷◌, drop}
-use Rattle.std.specs.Prelude.{Option, None, Some, IfSome, Bool, true, false}
+use Rattle.std.specs.Prelude.{Option, None, Some, IfSome, IsSomeAnd, Bool, true, false}
 use Rattle.bgp_recording.specs.declared.message.Message.{Message}
 use Rattle.streams.specs.declared.connection.End.{End}
 use Rattle.bgp_recording.specs.declared.pending.Moment.{Moment}
@@ -8,6 +8,8 @@ use Rattle.bgp_recording.specs.declared.pending.Pending.{Pending as Slices}
 use Rattle.bgp_recording.specs.declared.pending.Place.{Place}
 use Rattle.bgp_recording.specs.declared.pending.Turn.{Turn}
 use Rattle.bgp_recording.specs.declared.pending.Turn.TheVariants as turns
+use Rattle.streams.specs.declared.passed.Side.TheVariants.{Local}
+use Rattle.bgp_recording.specs.First.{IsFirst}
 use Rattle.bgp_recording.specs.MadeOrder.{is_taken, shown_next}
 use Rattle.bgp_recording.specs.Values.{values_of}
 
@@ -54,6 +56,43 @@ TakesReceived pending = MayTake pending.received (own_of pending.sent pending.en
 
 abbrev pub TakesOwn : ℕ → Pending → Type 0
 TakesOwn within pending = MayKeep within pending.received (own_of pending.sent pending.end)
+
+-- ---- what may stand next in an order that is allowed, looked at where it would stand
+
+-- the first of them has it, if there is one
+abbrev pub IfFirst : List Message → (Message → Type 0) → Type 0
+IfFirst [] P = Unit {0}
+IfFirst (message ∷ later) P = P message
+
+-- A received message may stand next before these sent ones and this end: it came by a packet before
+-- the one that shows the next sent one, and not after an end that is the local system's own.
+abbrev pub MayReceive : Message → List Message → Option End → Type 0
+MayReceive message sent end =
+    IfFirst sent (λ s. message.packet < s.packet)
+    × IfSome end (λ e. e.side ≡ Local → message.packet ≤ e.packet)
+
+-- a sent message or the end of this second may, before these received ones: the next isn't overdue
+abbrev pub MayPass : ℕ → ℕ → List Message → Type 0
+MayPass within second received = IfFirst received (λ r. second ≤ r.second + within)
+
+-- the next received message may stand next
+abbrev pub MayReceiveNext : Pending → Type 0
+MayReceiveNext pending =
+    (message : Message) × IsFirst pending.received message
+    × MayReceive message pending.sent pending.end
+
+-- the next sent one
+abbrev pub MaySendNext : ℕ → Pending → Type 0
+MaySendNext within pending =
+    (message : Message) × IsFirst pending.sent message
+    × MayPass within message.second pending.received
+
+-- the end: all that is sent stands before it
+abbrev pub MayEndNext : ℕ → Pending → Type 0
+MayEndNext within pending =
+    (pending.sent ≡ []) × IsSomeAnd pending.end (λ e. MayPass within e.second pending.received)
+
+-- ---- what stands next
 
 -- a received message stands next, and this is left then
 pub record LeadsReceived (old : Pending) (message : Message) (new : Pending) : Type 0 where

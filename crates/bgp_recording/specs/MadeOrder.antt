@@ -4,22 +4,26 @@
 use Rattle.std.specs.Prelude.{◌+◌, ◌&&◌, ◌||◌, ◌++◌, ℕ, zero, suc, Bool, true, false, not}
 use Rattle.std.specs.Prelude.{List, [], ◌∷◌, length, max, nat_lt, Option, None, Some}
 use Rattle.bgp_prefix.specs.Shown as shown
+use Rattle.bgp_wire.specs.declared.header.MessageType.{MessageType}
 use Rattle.streams.specs.declared.connection.End.{End}
 use Rattle.bgp_recording.specs.declared.pending.Moment.{Moment}
 use Rattle.bgp_recording.specs.declared.pending.Place.{Place}
+use Rattle.bgp_recording.specs.declared.standing.Before.{Before}
+use Rattle.bgp_recording.specs.declared.standing.Before.TheVariants.{Other}
 use Rattle.bgp_recording.specs.declared.state.State.{State}
 use Rattle.bgp_recording.specs.declared.waiting.Foresight.{Foresight}
 use Rattle.streams.specs.declared.passed.Side.{Side}
 use Rattle.bgp_recording.specs.Allowed.{ends_of}
 use Rattle.bgp_recording.specs.Changes.{led_by_received, led_by_sent, led_by_end, led_by_left}
-use Rattle.bgp_recording.specs.Changes.{is_open, rejects, opened_state, state_then}
+use Rattle.bgp_recording.specs.Changes.{answers_before_open, just_received, just_sent}
+use Rattle.bgp_recording.specs.Changes.{awaits_keepalive, opened_state, state_then}
 use Rattle.bgp_recording.specs.Tells.{Numbered, numbered_with, change, opening}
 use Rattle.bgp_recording.specs.Values.{MessageValue, code_of, first_of}
 use Rattle.bgp_recording.specs.Waiting.{foresight_of, is_answered, reason_of, waits_for}
 
 -- An order while it is made: what is left, how many messages of each direction are in it, the
 -- second of the last record, the state, whether the message that was taken last is being answered,
--- whether a received OPEN stands just before, and the records.
+-- what stands just before, and the records.
 pub record Course : Type 0 where
   pub received : List MessageValue
   pub sent : List MessageValue
@@ -28,7 +32,7 @@ pub record Course : Type 0 where
   pub last : ℕ
   pub state : State
   pub is_answering : Bool
-  pub follows_open : Bool
+  pub before : Before
   pub numbered : List Numbered
 
 -- the packet of what the local system shows next: of its next message, or else of the end
@@ -66,16 +70,17 @@ takes_received foresight within course =
 
 -- ---- what stands then
 
--- the next message that is sent rejects a connection before the own OPEN
-abbrev pub is_turned_away : List MessageValue → Bool
-is_turned_away [] = false
-is_turned_away (next ∷ later) = rejects (code_of next)
+-- the next message that is sent answers one of this type that is received before the own OPEN
+abbrev pub is_answer_next : Option MessageType → List MessageValue → Bool
+is_answer_next kind [] = false
+is_answer_next kind (next ∷ later) = answers_before_open kind next.kind (code_of next)
 
 -- a received message is shown at its second, or at that of the item before it
 abbrev pub after_received : Foresight → Course → MessageValue → List MessageValue → Course
 after_received foresight course message later =
     let second = max message.second course.last in
-    let led = led_by_received course.state message.kind (is_turned_away course.sent) in
+    let answered = is_answer_next message.kind course.sent in
+    let led = led_by_received course.state message.kind answered in
     record {
       received = later;
       sent = course.sent;
@@ -84,16 +89,17 @@ after_received foresight course message later =
       last = second;
       state = state_then course.state led;
       is_answering = first_is_answered foresight course course.received;
-      follows_open = is_open message.kind;
+      before = just_received message.kind;
       numbered = course.numbered
           ++ numbered_with message.packet (shown.Received second message.octets)
           ∷ change message.packet second course.state led;
     }
 
--- a sent one at its own
+-- A sent one at its own. The own OPEN for one that is accepted late is half of the answer.
 abbrev pub after_sent : Course → MessageValue → List MessageValue → Course
 after_sent course message later =
-    let led = led_by_sent course.state message.kind course.follows_open in
+    let led = led_by_sent course.state message.kind course.before in
+    let before = just_sent course.state message.kind course.before in
     record {
       received = course.received;
       sent = later;
@@ -101,8 +107,8 @@ after_sent course message later =
       place = record { received = course.place.received; sent = course.place.sent + 1 };
       last = message.second;
       state = state_then course.state led;
-      is_answering = false;
-      follows_open = false;
+      is_answering = awaits_keepalive before;
+      before = before;
       numbered = course.numbered
           ++ numbered_with message.packet (shown.Sent message.second message.octets)
           ∷ change message.packet message.second course.state led;
@@ -127,7 +133,7 @@ after_end course end =
       last = second;
       state = state_then ended left;
       is_answering = false;
-      follows_open = false;
+      before = Other;
       numbered = course.numbered
           ++ (change end.packet second course.state (led_by_end course.state)
           ++ change end.packet second ended left);
@@ -168,7 +174,7 @@ begun_course opened_by packet second received sent end = record {
   last = second;
   state = opened_state opened_by;
   is_answering = false;
-  follows_open = false;
+  before = Other;
   numbered = opening opened_by packet second ∷ [];
 }
 

@@ -6,10 +6,21 @@ use Rattle.bgp_recording.specs.declared.entry.Entry.{Entry}
 use Rattle.bgp_recording.specs.declared.framing.Framings.{Framings}
 use Rattle.bgp_recording.specs.declared.framing.Unshown.{Unshown}
 use Rattle.bgp_recording.specs.declared.message.Message.{Message}
+use Rattle.bgp_recording.specs.declared.ordering.Exchange.{Exchange}
 use Rattle.bgp_recording.specs.Gathered.{IsHeard, IsSaid}
 use Rattle.bgp_recording.specs.MadeOrder.{made_order}
 use Rattle.bgp_recording.specs.Tells.{Tells, HasSecond, numbered_of}
 use Rattle.bgp_recording.specs.Values.{values_of}
+
+-- what packets tell of the connection's session, whose messages these are
+pub record IsExchangeOf
+    (connection : Connection) (heard said : List Message) (exchange : Exchange) : Type 0 where
+  pub opened_by : exchange.opened_by ≡ connection.opened_by
+  pub packet : exchange.packet ≡ connection.packet
+  pub second : exchange.second ≡ connection.second
+  pub received : exchange.received.now ≡ heard
+  pub sent : exchange.sent.now ≡ said
+  pub end : exchange.end ≡ connection.end
 
 -- These records tell the connection: the messages in its streams, each framed by its direction's
 -- rules, in an order that is allowed where one is handled so many seconds after it came, with the

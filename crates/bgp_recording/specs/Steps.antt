@@ -1,6 +1,6 @@
 -- An order while it is made: what is left, how many messages of each direction are in it, the
 -- second of the last record, the state, whether the message that was taken last is being answered,
--- whether a received OPEN stands just before, and the records.
+-- what stands just before, and the records.
 use Rattle.std.specs.Prelude.{◌≡◌, ◌<◌, ◌^◌, ◌++◌, ℕ, Bool, true, false, List, [], ◌∷◌, max}
 use Rattle.bgp_prefix.specs.Shown as shown
 use Rattle.streams.specs.declared.connection.End.{End}
@@ -9,9 +9,12 @@ use Rattle.bgp_recording.specs.declared.ordering.Exchange.{Exchange}
 use Rattle.bgp_recording.specs.declared.pending.Place.{Place}
 use Rattle.bgp_recording.specs.declared.pending.Turn.{Turn}
 use Rattle.bgp_recording.specs.declared.pending.Turn.TheVariants as turns
+use Rattle.bgp_recording.specs.declared.standing.Before.{Before}
+use Rattle.bgp_recording.specs.declared.standing.Before.TheVariants.{Other}
 use Rattle.bgp_recording.specs.declared.state.State.{State}
 use Rattle.bgp_recording.specs.Changes.{led_by_received, led_by_sent, led_by_end, led_by_left}
-use Rattle.bgp_recording.specs.Changes.{is_open, is_rejected, are_left, opened_state, state_then}
+use Rattle.bgp_recording.specs.Changes.{is_answered_before_open, just_received, just_sent}
+use Rattle.bgp_recording.specs.Changes.{awaits_keepalive, are_left, opened_state, state_then}
 use Rattle.bgp_recording.specs.Leads.{Pending, Leads, IsDone}
 use Rattle.bgp_recording.specs.MadeOrder.{Course, made_order}
 use Rattle.bgp_recording.specs.Tells.{Numbered, numbered_with, change, opening}
@@ -23,7 +26,7 @@ pub record Making : Type 0 where
   pub last : ℕ
   pub state : State
   pub is_answering : Bool
-  pub follows_open : Bool
+  pub before : Before
   pub numbered : List Numbered
 
 -- a received message is shown at its second, or at that of the item before it, and the change to
@@ -31,25 +34,26 @@ pub record Making : Type 0 where
 pub record ShowsReceived (old : Making) (message : Message) (new : Making) : Type 0 where
   pub second : new.last ≡ max message.second old.last
   pub fits : new.last < 2 ^ 32
-  pub put : let led = led_by_received old.state message.kind (is_rejected new.pending.sent) in
+  pub put : let answered = is_answered_before_open message.kind new.pending.sent in
+      let led = led_by_received old.state message.kind answered in
       new.numbered ≡ old.numbered
       ++ numbered_with message.packet (shown.Received new.last message.octets.now)
       ∷ change message.packet new.last old.state led
-  pub state : new.state ≡ state_then old.state
-      (led_by_received old.state message.kind (is_rejected new.pending.sent))
-  pub follows : new.follows_open ≡ is_open message.kind
+  pub state : let answered = is_answered_before_open message.kind new.pending.sent in
+      new.state ≡ state_then old.state (led_by_received old.state message.kind answered)
+  pub before : new.before ≡ just_received message.kind
 
 -- a sent one at its own
 pub record ShowsSent (old : Making) (message : Message) (new : Making) : Type 0 where
   pub second : new.last ≡ message.second
   pub fits : new.last < 2 ^ 32
-  pub put : let led = led_by_sent old.state message.kind old.follows_open in
+  pub put : let led = led_by_sent old.state message.kind old.before in
       new.numbered ≡ old.numbered
       ++ numbered_with message.packet (shown.Sent new.last message.octets.now)
       ∷ change message.packet new.last old.state led
   pub state : new.state
-      ≡ state_then old.state (led_by_sent old.state message.kind old.follows_open)
-  pub follows : new.follows_open ≡ false
+      ≡ state_then old.state (led_by_sent old.state message.kind old.before)
+  pub before : new.before ≡ just_sent old.state message.kind old.before
 
 -- the end by the changes to which it leads
 pub record ShowsEnd (old : Making) (end : End) (new : Making) : Type 0 where
@@ -60,7 +64,7 @@ pub record ShowsEnd (old : Making) (end : End) (new : Making) : Type 0 where
       ++ change end.packet new.last ended (led_by_left old.state (are_left new.pending.received)))
   pub state : new.state ≡ state_then (state_then old.state (led_by_end old.state))
       (led_by_left old.state (are_left new.pending.received))
-  pub follows : new.follows_open ≡ false
+  pub before : new.before ≡ Other
 
 abbrev pub Shows : Making → Turn → Making → Type 0
 Shows old (turns.Received message) new = ShowsReceived old message new
@@ -68,10 +72,11 @@ Shows old (turns.Sent message) new = ShowsSent old message new
 Shows old (turns.End end) new = ShowsEnd old end new
 
 -- whether a message is being answered after it, where its answer is next or not
-abbrev pub answering_after : Turn → Bool → Bool
-answering_after (turns.Received message) is_answered = is_answered
-answering_after (turns.Sent message) is_answered = false
-answering_after (turns.End end) is_answered = false
+abbrev pub answering_after : Making → Turn → Bool → Bool
+answering_after old (turns.Received message) is_answered = is_answered
+answering_after old (turns.Sent message) is_answered =
+    awaits_keepalive (just_sent old.state message.kind old.before)
+answering_after old (turns.End end) is_answered = false
 
 -- one that may stand next is taken, and shown
 pub record Steps (within : ℕ) (old new : Making) : Type 0 where
@@ -94,7 +99,7 @@ course_of making = record {
   last = making.last;
   state = making.state;
   is_answering = making.is_answering;
-  follows_open = making.follows_open;
+  before = making.before;
   numbered = making.numbered;
 }
 
@@ -113,6 +118,6 @@ pub record Begins (exchange : Exchange) (making : Making) : Type 0 where
   pub place : making.place ≡ record { received = 0; sent = 0 }
   pub state : making.state ≡ opened_state exchange.opened_by
   pub answering : making.is_answering ≡ false
-  pub follows : making.follows_open ≡ false
+  pub before : making.before ≡ Other
   pub opens : making.numbered
       ≡ opening exchange.opened_by exchange.packet exchange.second ∷ []

@@ -1,11 +1,13 @@
 -- The records that tell a session: its messages in an allowed order, and the changes of state to
 -- which that order leads.
-use Rattle.std.specs.Prelude.{◌≡◌, ◌<◌, ◌≤◌, ◌^◌, ◌++◌, ℕ, Bool, false, List, [], ◌∷◌, max}
+use Rattle.std.specs.Prelude.{◌≡◌, ◌<◌, ◌≤◌, ◌^◌, ◌++◌, ℕ, List, [], ◌∷◌, max}
 use Rattle.std.specs.Prelude.{Option, None, Some}
 use Rattle.bgp_prefix.specs.Shown as shown
 use Rattle.bgp_prefix.specs.Shown.{ShownRecord, second_of}
 use Rattle.mrt.specs.Reader.{shown_of}
 use Rattle.bgp_recording.specs.declared.message.Message.{Message}
+use Rattle.bgp_recording.specs.declared.standing.Before.{Before}
+use Rattle.bgp_recording.specs.declared.standing.Before.TheVariants.{Other}
 use Rattle.bgp_recording.specs.declared.state.State.{State}
 use Rattle.streams.specs.declared.connection.End.{End}
 use Rattle.streams.specs.declared.passed.Side.{Side}
@@ -13,7 +15,8 @@ use Rattle.bgp_recording.specs.declared.entry.Entry.{Entry}
 use Rattle.bgp_recording.specs.Allowed.{Item, Received, Sent, Ended, IsAllowed}
 use Rattle.bgp_recording.specs.Allowed.{received_in, sent_in}
 use Rattle.bgp_recording.specs.Changes.{led_by_received, led_by_sent, led_by_end, led_by_left}
-use Rattle.bgp_recording.specs.Changes.{is_open, is_rejected, are_left, opened_state, state_then}
+use Rattle.bgp_recording.specs.Changes.{is_answered_before_open, just_received, just_sent}
+use Rattle.bgp_recording.specs.Changes.{are_left, opened_state, state_then}
 use Rattle.bgp_recording.specs.States.{state_number}
 
 -- a record, and the packet that shows it
@@ -62,23 +65,25 @@ change packet second state (Some led) =
 
 -- The records of an order from a state on, each with its packet: the messages, and right after each
 -- message and the end the changes to which it leads, with its packet and at its second. The end
--- itself has none. `follows_open` says whether a received OPEN stands just before.
-abbrev pub numbered_in : State → Bool → List Event → List Numbered
-numbered_in state follows_open [] = []
-numbered_in state follows_open (Passed second (Received m) ∷ later) =
-    let led = led_by_received state m.kind (is_rejected (sent_in (items_in later))) in
+-- itself has none. `before` is what stands just before.
+abbrev pub numbered_in : State → Before → List Event → List Numbered
+numbered_in state before [] = []
+numbered_in state before (Passed second (Received m) ∷ later) =
+    let answered = is_answered_before_open m.kind (sent_in (items_in later)) in
+    let led = led_by_received state m.kind answered in
     numbered_with m.packet (shown.Received second m.octets.now)
     ∷ (change m.packet second state led
-    ++ numbered_in (state_then state led) (is_open m.kind) later)
-numbered_in state follows_open (Passed second (Sent m) ∷ later) =
-    let led = led_by_sent state m.kind follows_open in
+    ++ numbered_in (state_then state led) (just_received m.kind) later)
+numbered_in state before (Passed second (Sent m) ∷ later) =
+    let led = led_by_sent state m.kind before in
     numbered_with m.packet (shown.Sent second m.octets.now)
-    ∷ (change m.packet second state led ++ numbered_in (state_then state led) false later)
-numbered_in state follows_open (Passed second (Ended e) ∷ later) =
+    ∷ (change m.packet second state led
+    ++ numbered_in (state_then state led) (just_sent state m.kind before) later)
+numbered_in state before (Passed second (Ended e) ∷ later) =
     let ended = state_then state (led_by_end state) in
     let left = led_by_left state (are_left (received_in (items_in later))) in
     change e.packet second state (led_by_end state)
-    ++ (change e.packet second ended left ++ numbered_in (state_then ended left) false later)
+    ++ (change e.packet second ended left ++ numbered_in (state_then ended left) Other later)
 
 -- the first record: the change from Idle to the state before the own OPEN
 abbrev pub opening : Side → ℕ → ℕ → Numbered
@@ -95,4 +100,4 @@ pub record Tells
   pub allowed : IsAllowed within received sent end (items_in events)
   pub timed : AreTimed second events
   pub shown : numbered
-      ≡ opening opened_by packet second ∷ numbered_in (opened_state opened_by) false events
+      ≡ opening opened_by packet second ∷ numbered_in (opened_state opened_by) Other events

@@ -14,7 +14,7 @@ use Rattle.bgp_recording.specs.declared.waiting.FirstNotification.{FirstNotifica
 use Rattle.bgp_recording.specs.declared.waiting.Foresight.{Foresight}
 use Rattle.bgp_recording.specs.declared.waiting.Waiting.{Waiting}
 use Rattle.bgp_recording.specs.declared.waiting.Waiting.TheVariants as why
-use Rattle.bgp_recording.specs.Changes.{is_open, rejects}
+use Rattle.bgp_recording.specs.Changes.{answers_before_open, is_open}
 use Rattle.bgp_recording.specs.Values.{MessageValue, code_of}
 
 -- ---- messages and states
@@ -145,13 +145,13 @@ is_cause_answered foresight place =
     is_at place.received foresight.cause && is_at_first place.sent foresight.notification
 
 -- The next message that is sent answers one that is received, by their types alone: before the own
--- OPEN a rejection; in OpenSent to an OPEN a KEEPALIVE or OPEN Message Error, to a faulty header
--- Message Header Error, and to another message Finite State Machine Error; and after both OPENs to
--- a faulty header Message Header Error, in Established also Finite State Machine Error, and to an
--- UPDATE in OpenConfirm the latter.
+-- OPEN a rejection, and to an OPEN that is accepted late the own one; in OpenSent to an OPEN a
+-- KEEPALIVE or OPEN Message Error, to a faulty header Message Header Error, and to another message
+-- Finite State Machine Error; and after both OPENs to a faulty header Message Header Error, in
+-- Established also Finite State Machine Error, and to an UPDATE in OpenConfirm the latter.
 abbrev pub answers : State → Option MessageType → MessageValue → Bool
-answers Connect kind next = rejects (code_of next)
-answers Active kind next = rejects (code_of next)
+answers Connect kind next = answers_before_open kind next.kind (code_of next)
+answers Active kind next = answers_before_open kind next.kind (code_of next)
 answers OpenSent (Some types.Open) next = is_keepalive next.kind || is_code 2 (code_of next)
 answers OpenSent (Some kind) next = is_code 5 (code_of next)
 answers OpenSent None next = is_code 1 (code_of next)

@@ -13,7 +13,7 @@ use crate::message::Message;
 use bgp_prefix::{RouteRefresh, Session};
 use bgp_wire::{HEADER_LEN, HeaderVerdict, Limit, MessageType, check_header, header_at, read_type};
 use byteorder::{BigEndian, ByteOrder};
-use std::alloc::{AllocError, Allocator};
+use std::alloc::{AllocError, Allocator, Global};
 use streams::Run;
 
 /// The type of a ROUTE-REFRESH (RFC 2918, 3).
@@ -118,10 +118,12 @@ enum Front<'a> {
 }
 
 /// The messages of a stream, and what of it is none.
-#[derive(Drop)]
-pub(crate) struct Framed<'a, A: Allocator> {
-    pub(crate) messages: Vec<Message<'a>, A>,
-    pub(crate) unshown: Unshown,
+#[derive(Debug, Drop)]
+pub struct Framed<'a, A: Allocator = Global> {
+    /// The messages, in their order.
+    pub messages: Vec<Message<'a>, A>,
+    /// What of the stream is in none of them.
+    pub unshown: Unshown,
 }
 
 impl Direction {

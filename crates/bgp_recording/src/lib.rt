@@ -28,11 +28,13 @@ mod state;
 mod waiting;
 
 pub use entry::Entry;
-pub use framing::{Framing, Framings, Rest, Unshown};
+pub use framing::{Framed, Framing, Framings, Rest, Unshown};
 pub use laws::{
     connections_are_recorded_once, made_records_are_read, made_records_are_the_streams,
 };
-pub use making::{Recording, make_records};
+pub use making::{FramedConnection, Recording, frame_connection, make_records};
 pub use message::Message;
 pub use ordering::{Exchange, made_entries};
+pub use pending::{Pending, Place};
+pub use standing::Before;
 pub use state::State;

@@ -1,23 +1,37 @@
-//! The records of a connection.
+//! The messages of a connection, and the records that tell it.
 
-ghost use Rattle.std.specs.Prelude.{◌≡◌, IfOk};
+ghost use Rattle.std.specs.Prelude.{◌≡◌, IfOk, map};
+ghost use Rattle.mrt.specs.Reader.{shown_of};
+ghost use Rattle.bgp_recording.specs.Captured.{records_of};
 ghost use Rattle.bgp_recording.specs.Givers.{own_end};
 ghost use Rattle.bgp_recording.specs.Gathered.{IsCovered, IsClocked, IsHeard, IsSaid};
-ghost use Rattle.bgp_recording.specs.Recorded.{IsRecordedInOrder};
+ghost use Rattle.bgp_recording.specs.Recorded.{IsExchangeOf, IsRecordedInOrder};
 
 use crate::entry::Entry;
 use crate::framing::{Direction, Framed, Framing, Framings, Unshown, split_messages};
 use crate::givers::{earliest, latest};
 use crate::ordering::{Exchange, made_entries};
 use crate::pending::Moment;
+use mrt::Record;
 use std::alloc::{AllocError, Allocator, Global};
 use streams::{Connection, End, Side, Stream};
+
+/// The messages of a connection, whatever order they are handled in.
+#[derive(Debug, Drop)]
+pub struct FramedConnection<'a, A: Allocator = Global> {
+    /// Those that the local system received.
+    pub received: Framed<'a, A>,
+    /// Those that it sent.
+    pub sent: Framed<'a, A>,
+}
 
 /// The records of a connection, and what is left of its streams.
 #[derive(Debug, Drop)]
 pub struct Recording<'a, A: Allocator = Global> {
-    /// The records, in the made order.
+    /// The records, in the made order, each with the packet that shows it.
     pub entries: Vec<Entry<'a>, A>,
+    /// The same records alone, as they are judged.
+    pub records: Vec<Record<'a>, A>,
     /// What of the octets that the local system received is in none of them.
     pub received: Unshown,
     /// What of those that it sent.
@@ -69,6 +83,57 @@ fn sent_messages<'a, A: Allocator + Copy>(
     Ok(framed)
 }
 
+/// The messages in both streams of a connection, those of either direction framed by its rules, each
+/// with the packet by which it came or is known to have been made.
+pub fn frame_connection<'a, A: Allocator + Copy>(
+    alloc: A,
+    connection: &Connection<'a>,
+    framings: Framings,
+) -> Result<FramedConnection<'a, A>, AllocError>
+    requires received { IsCovered connection.now.received }
+    requires sent { IsCovered connection.now.sent }
+    ensures received { IfOk result (λ framed. IsHeard framings.received connection.now.received
+        framed.received.messages.items framed.received.unshown) }
+    ensures sent { IfOk result (λ framed. IsSaid framings.sent connection.now.sent
+        connection.now.end framed.sent.messages.items framed.sent.unshown) }
+{
+    Ok(FramedConnection {
+        received: received_messages(alloc, framings.received, &connection.received)?,
+        sent: sent_messages(alloc, framings.sent, &connection.sent, connection.end)?,
+    })
+}
+
+impl<'a, A: Allocator> FramedConnection<'a, A> {
+    /// What packets tell of the session of the connection whose messages these are.
+    pub fn exchange<'l>(&'l self, connection: &Connection<'a>) -> Exchange<'l, 'a>
+        ensures { IsExchangeOf connection.now self.entry.now.received.messages.items
+            self.entry.now.sent.messages.items result }
+    {
+        Exchange {
+            opened_by: connection.opened_by,
+            packet: connection.packet,
+            second: connection.second,
+            received: &self.received.messages,
+            sent: &self.sent.messages,
+            end: connection.end,
+        }
+    }
+}
+
+/// The records of entries.
+fn records_of<'a, A: Allocator>(
+    alloc: A,
+    entries: &[Entry<'a>],
+) -> Result<Vec<Record<'a>, A>, AllocError>
+    ensures { IfOk result (λ records. map shown_of records.items ≡ records_of entries.now) }
+{
+    let mut records = Vec::new(alloc);
+    for entry in entries {
+        records.push(entry.record)?;
+    }
+    Ok(records)
+}
+
 /// The records that tell a connection whose packets' seconds don't fall, the messages of either
 /// direction framed by its rules. The order is allowed where a received message is handled within
 /// so many seconds after it came. The session begins in Idle, and the changes of state are those to
@@ -84,21 +149,16 @@ pub fn make_records<'a, A: Allocator + Copy>(
     // Where the packets' seconds don't fall, the records tell the connection.
     ensures told { IfOk result (λ made. IsClocked connection.now → IsRecordedInOrder framings
         within connection.now made.entries.items made.received made.sent) }
+    ensures records { IfOk result (λ made.
+        map shown_of made.records.items ≡ records_of made.entries.items) }
 {
-    let received = received_messages(alloc, framings.received, &connection.received)?;
-    let sent = sent_messages(alloc, framings.sent, &connection.sent, connection.end)?;
-    let exchange = Exchange {
-        opened_by: connection.opened_by,
-        packet: connection.packet,
-        second: connection.second,
-        received: &received.messages,
-        sent: &sent.messages,
-        end: connection.end,
-    };
-    let entries = made_entries(alloc, exchange, within)?;
+    let framed = frame_connection(alloc, connection, framings)?;
+    let entries = made_entries(alloc, framed.exchange(connection), within)?;
+    let records = records_of(alloc, &entries)?;
     Ok(Recording {
         entries,
-        received: received.unshown,
-        sent: sent.unshown,
+        records,
+        received: framed.received.unshown,
+        sent: framed.sent.unshown,
     })
 }

@@ -1,7 +1,7 @@
 //! Messages of a recorded session, each with the packet that shows it.
 
 ghost use Rattle.std.specs.Prelude.{◌≡◌, ◌↔◌, Some, IsTrue};
-ghost use Rattle.bgp_recording.specs.Changes.{error_code, rejects};
+ghost use Rattle.bgp_recording.specs.Changes.{answers_before_open, error_code, rejects};
 ghost use Rattle.bgp_recording.specs.Waiting.{is_code};
 
 use bgp_prefix::Seconds;
@@ -60,12 +60,24 @@ impl Message<'_> {
 
     /// Whether it is a NOTIFICATION that rejects a connection before the own OPEN: Message Header
     /// Error or OPEN Message Error (RFC 4271, 6.1 and 6.2).
-    pub(crate) fn rejects_opening(&self) -> bool
+    fn rejects_opening(&self) -> bool
         ensures { result ≡ rejects (error_code self.now) }
     {
         matches!(
             self.error_code(),
             Some(MESSAGE_HEADER_ERROR | OPEN_MESSAGE_ERROR)
         )
+    }
+
+    /// Whether it answers a message of this type that is received before the own OPEN: it rejects
+    /// the connection, or both are OPENs, and the received one is accepted late (RFC 4271, 8.2.2,
+    /// event 20).
+    pub(crate) fn answers_before_open(&self, kind: Option<MessageType>) -> bool
+        ensures { result ≡ answers_before_open kind self.now.kind (error_code self.now) }
+    {
+        match (kind, self.kind) {
+            (Some(MessageType::Open), Some(MessageType::Open)) => true,
+            _ => self.rejects_opening(),
+        }
     }
 }

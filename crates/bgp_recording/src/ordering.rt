@@ -2,7 +2,7 @@
 
 ghost use Rattle.std.specs.Prelude.{◌≡◌, IfOk, OnOk, false, map};
 ghost use Rattle.std.specs.List.{AllByRecursion};
-ghost use Rattle.bgp_recording.specs.Changes.{opened_state};
+ghost use Rattle.bgp_recording.specs.Changes.{awaits_keepalive, just_sent, opened_state};
 ghost use Rattle.bgp_recording.specs.Told.{IsTold, IsMade};
 ghost use Rattle.bgp_recording.specs.Tells.{HasSecond, numbered_of};
 ghost use Rattle.bgp_recording.specs.MadeOrder.{first_waits, first_is_answered, after_next};
@@ -14,7 +14,7 @@ use crate::entry::Entry;
 use crate::message::Message;
 use crate::pending::{Pending, Place, Turn};
 use crate::putting::{Shown, put_change, put_message};
-use crate::standing::{Standing, led_by_end, led_by_left};
+use crate::standing::{Before, Standing, led_by_end, led_by_left};
 use crate::state::State;
 use crate::waiting::Foresight;
 use bgp_prefix::Seconds;
@@ -65,7 +65,7 @@ impl<'l, 'a, A: Allocator> Model for Making<'l, 'a, A> {
       last = f.last;
       state = f.standing.state;
       is_answering = f.standing.is_answering;
-      follows_open = f.standing.follows_open;
+      before = f.standing.before;
       numbered = map numbered_of f.entries.items;
     } };
 }
@@ -105,7 +105,8 @@ impl<'l, 'a, A: Allocator> Making<'l, 'a, A> {
     {
         let second = message.second.max(self.last);
         let old = self.standing;
-        let led = old.led_by_received(message.kind, self.pending.is_rejected());
+        let is_answer_next = self.pending.is_answered_before_open(message.kind);
+        let led = old.led_by_received(message.kind, is_answer_next);
         self.standing = old.after_received(&message, led, is_answered);
         self.last = second;
         let entry = Entry {
@@ -121,12 +122,13 @@ impl<'l, 'a, A: Allocator> Making<'l, 'a, A> {
         ensures ok { OnOk result (ShowsSent self.old message.entry self.new) }
         ensures pending { self.new.pending ≡ self.old.pending }
         ensures place { self.new.place ≡ self.old.place }
-        ensures answering { self.new.is_answering ≡ false }
+        ensures answering { self.new.is_answering
+            ≡ awaits_keepalive (just_sent self.old.state message.entry.kind self.old.before) }
     {
         let second = message.second;
         let old = self.standing;
         let led = old.led_by_sent(message.kind);
-        self.standing = old.after_own(led);
+        self.standing = old.after_sent(message.kind, led);
         self.last = second;
         let entry = Entry {
             packet: message.packet,
@@ -149,9 +151,9 @@ impl<'l, 'a, A: Allocator> Making<'l, 'a, A> {
         };
         let old = self.standing;
         let led = led_by_end(old.state);
-        let ended = old.after_own(led);
+        let ended = old.after_end(led);
         let left = led_by_left(old.state, self.pending.are_left());
-        self.standing = ended.after_own(left);
+        self.standing = ended.after_end(left);
         self.last = shown.second;
         put_change(&mut self.entries, shown, old.state, led)?;
         put_change(&mut self.entries, shown, ended.state, left)?;
@@ -164,7 +166,8 @@ impl<'l, 'a, A: Allocator> Making<'l, 'a, A> {
         ensures ok { OnOk result (Shows self.old turn.entry self.new) }
         ensures pending { self.new.pending ≡ self.old.pending }
         ensures place { self.new.place ≡ self.old.place }
-        ensures answering { self.new.is_answering ≡ answering_after turn.entry is_answered }
+        ensures answering { self.new.is_answering
+            ≡ answering_after self.old turn.entry is_answered }
     {
         match turn {
             Turn::Received(message) => self.put_received(message, is_answered),
@@ -227,7 +230,7 @@ fn begun<'l, 'a, A: Allocator>(
         standing: Standing {
             state,
             is_answering: false,
-            follows_open: false,
+            before: Before::Other,
         },
         last: exchange.second,
     })

@@ -1,19 +1,22 @@
 //! What is left to be ordered, and what stands next.
 
-ghost use Rattle.std.specs.Prelude.{◌≡◌, ◌<◌, ◌+◌, ◌↔◌, ◌∷◌, [], IsTrue, IsFalse, Some};
+ghost use Rattle.std.specs.Prelude.{◌≡◌, ◌<◌, ◌≤◌, ◌+◌, ◌↔◌, ◌∷◌, [], IsTrue, IsFalse, Some};
 ghost use Rattle.std.specs.Prelude.{true, false};
 ghost use Rattle.std.specs.Prelude.{IfSome, IfNone};
 ghost use Rattle.bgp_recording.specs.Leads.{own_of, pending_of, IsBeforeOwn, IsInTime};
-ghost use Rattle.bgp_recording.specs.Changes.{are_left, is_rejected};
+ghost use Rattle.bgp_recording.specs.Changes.{are_left, is_answered_before_open};
 ghost use Rattle.bgp_recording.specs.First.{IsFirst};
 ghost use Rattle.bgp_recording.specs.Leads.{TakesReceived, TakesOwn, LeadsOrEnds};
+ghost use Rattle.bgp_recording.specs.Leads.{MayReceiveNext, MayPass, MaySendNext, MayEndNext};
+ghost use Rattle.streams.specs.declared.passed.Side.TheVariants.{Local};
 ghost use Rattle.bgp_recording.specs.Leads.{is_next_taken, turn_by, turn_of, place_after};
 ghost use Rattle.bgp_recording.specs.MadeOrder.{is_taken};
 ghost use Rattle.bgp_recording.specs.Values.{message_value};
 
 use crate::message::Message;
 use bgp_prefix::Seconds;
-use streams::End;
+use bgp_wire::MessageType;
+use streams::{End, Side};
 
 /// A packet of the recording, and its second.
 #[derive(Clone, Copy)]
@@ -31,20 +34,26 @@ pub(crate) enum Turn<'a> {
 }
 
 /// How many messages of each direction stand in the order already.
-#[derive(Clone, Copy)]
-pub(crate) struct Place {
-    pub(crate) received: usize,
-    pub(crate) sent: usize,
+#[derive(Clone, Copy, Debug, PartialEq, Eq)]
+pub struct Place {
+    /// Of those that the local system received.
+    pub received: usize,
+    /// Of those that it sent.
+    pub sent: usize,
 }
 
 /// What isn't in the order yet: of each direction the messages from a place on, and the end where
 /// it is still to come.
-#[derive(Clone, Copy)]
-pub(crate) struct Pending<'l, 'a> {
-    pub(crate) received: &'l [Message<'a>],
-    pub(crate) sent: &'l [Message<'a>],
-    pub(crate) end: Option<End>,
-    pub(crate) place: Place,
+#[derive(Clone, Copy, Debug)]
+pub struct Pending<'l, 'a> {
+    /// All messages that the local system received.
+    pub received: &'l [Message<'a>],
+    /// All that it sent.
+    pub sent: &'l [Message<'a>],
+    /// The end of the connection, where it doesn't stand in the order.
+    pub end: Option<End>,
+    /// How many messages do.
+    pub place: Place,
 }
 
 /// Whether what came at this second is overdue at that one.
@@ -66,6 +75,26 @@ fn is_taken(message: &Message<'_>, own: Moment, within: u16, waits: bool) -> boo
         return false;
     }
     is_overdue(message.second, within, own.second) || !waits
+}
+
+/// Whether a received message came by a packet before the one that shows this sent one.
+fn came_before(message: &Message<'_>, sent: Option<&Message<'_>>) -> bool
+    ensures { IsTrue result ↔ IfSome sent.entry (λ s. message.now.packet < s.now.packet) }
+{
+    match sent {
+        Some(sent) => message.packet < sent.packet,
+        None => true,
+    }
+}
+
+/// Whether a received message came by a packet before or at an end that is the local system's own.
+fn came_until(message: &Message<'_>, end: Option<End>) -> bool
+    ensures { IsTrue result ↔ IfSome end (λ e. e.side ≡ Local → message.now.packet ≤ e.packet) }
+{
+    match end {
+        Some(end) => end.side != Side::Local || message.packet <= end.packet,
+        None => true,
+    }
 }
 
 impl<'l, 'a> Pending<'l, 'a> {
@@ -94,12 +123,12 @@ impl<'l, 'a> Pending<'l, 'a> {
         self.next_received().is_some()
     }
 
-    /// Whether the next message sent rejects a connection before the own OPEN.
-    pub(crate) fn is_rejected(&self) -> bool
-        ensures { result ≡ is_rejected (pending_of self.now).sent }
+    /// Whether the next message sent answers one of this type that is received before the own OPEN.
+    pub(crate) fn is_answered_before_open(&self, kind: Option<MessageType>) -> bool
+        ensures { result ≡ is_answered_before_open kind (pending_of self.now).sent }
     {
         match self.next_sent() {
-            Some(message) => message.rejects_opening(),
+            Some(message) => message.answers_before_open(kind),
             None => false,
         }
     }
@@ -135,6 +164,50 @@ impl<'l, 'a> Pending<'l, 'a> {
             return true;
         };
         is_taken(message, own, within, waits)
+    }
+
+    /// Whether the next message received may stand next in an order that is allowed: it came by a
+    /// packet before the one that shows the next message sent, and not after an end that is the
+    /// local system's own.
+    pub fn may_receive(&self) -> bool
+        ensures { IsTrue result ↔ MayReceiveNext (pending_of self.now) }
+    {
+        let Some(message) = self.next_received() else {
+            return false;
+        };
+        came_before(message, self.next_sent()) && came_until(message, self.end)
+    }
+
+    /// Whether something that is shown at this second may stand next: the next message received
+    /// isn't overdue.
+    fn may_pass(&self, within: u16, second: Seconds) -> bool
+        ensures { IsTrue result ↔ MayPass within second (pending_of self.now).received }
+    {
+        match self.next_received() {
+            Some(message) => !is_overdue(message.second, within, second),
+            None => true,
+        }
+    }
+
+    /// Whether the next message sent may stand next in an order that is allowed, where a received
+    /// message is handled within so many seconds.
+    pub fn may_send(&self, within: u16) -> bool
+        ensures { IsTrue result ↔ MaySendNext within (pending_of self.now) }
+    {
+        match self.next_sent() {
+            Some(message) => self.may_pass(within, message.second),
+            None => false,
+        }
+    }
+
+    /// Whether the end may stand next in such an order: nothing is left to be sent.
+    pub fn may_end(&self, within: u16) -> bool
+        ensures { IsTrue result ↔ MayEndNext within (pending_of self.now) }
+    {
+        match (self.next_sent(), self.end) {
+            (None, Some(end)) => self.may_pass(within, end.second),
+            _ => false,
+        }
     }
 
     /// Takes the next received message away.

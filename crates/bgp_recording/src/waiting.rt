@@ -327,7 +327,7 @@ fn answers(state: State, kind: Option<MessageType>, next: &Message<'_>) -> bool
     ensures { result ≡ answers state kind (message_value next.now) }
 {
     match (state, kind) {
-        (State::Connect | State::Active, _) => next.rejects_opening(),
+        (State::Connect | State::Active, _) => next.answers_before_open(kind),
         (State::OpenSent, Some(MessageType::Open)) => {
             matches!(next.kind, Some(MessageType::Keepalive)) || next.has_code(OPEN_MESSAGE_ERROR)
         }

@@ -7,7 +7,7 @@ use Rattle.bgp_tool.specs.Answer.{IsWritten}
 use Rattle.bgp_import.specs.Gathers.{HasReadAll, cut_short_by}
 use Rattle.bgp_import.specs.declared.cut_short.CutShort.{CutShort}
 use Rattle.bgp_import.specs.declared.importing.Import.{Import}
-use Rattle.bgp_words.specs.declared.recording.RecordingOptions.{RecordingOptions}
+use Rattle.bgp_options.specs.declared.recording.RecordingOptions.{RecordingOptions}
 use Rattle.bgp_recording_tool.specs.declared.judging.Judged.{Judged}
 use Rattle.bgp_recording_tool.specs.declared.remark.Remark.{Remark}
 use Rattle.bgp_recording_tool.specs.Judging.{IsUnmeant, TellsRefusal}

@@ -6,7 +6,7 @@ use Rattle.bgp_open.specs.declared.config.Config.{Config}
 use Rattle.mrt.specs.FromRead.{reader_state}
 use Rattle.mrt.specs.FromWrite.{writer_state}
 use Rattle.mrt.specs.declared.sink.FromWrite.{FromWrite}
-use Rattle.bgp_words.specs.declared.recording.RecordingOptions.{RecordingOptions}
+use Rattle.bgp_options.specs.declared.recording.RecordingOptions.{RecordingOptions}
 use Rattle.bgp_explain.specs.Opened.{ExplainsOpened}
 use Rattle.bgp_recording_tool.specs.declared.files.FileOutcome.{FileOutcome}
 use Rattle.bgp_recording_tool.specs.Files.{GivesRead, ReadsFile, TakesWritten, judged_by}

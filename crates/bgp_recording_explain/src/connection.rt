@@ -1,7 +1,8 @@
 //! What is told of one of a recording's connections: the verdict on its records, and why it is so.
 
-ghost use Rattle.std.specs.Prelude.{◌≡◌, ◌++◌, ℕ, List, length, reverse};
+ghost use Rattle.std.specs.Prelude.{◌≡◌, ◌++◌, ℕ, List, length, map, reverse};
 ghost use Rattle.std.specs.Prelude.{MatchResult};
+ghost use Rattle.mrt.specs.Reader.{shown_of};
 ghost use Rattle.std.specs.List.{AllByRecursion};
 ghost use Rattle.packets.specs.Packet.{Recorded};
 ghost use Rattle.streams.specs.Passed.{Segment};
@@ -24,7 +25,7 @@ ghost use Rattle.bgp_explain.specs.Text.{CanBePutOf};
 ghost use Rattle.bgp_recording_explain.specs.Connections.{IsToldAs};
 ghost use Rattle.bgp_recording_explain.specs.Putting.{PutsExplained, PutsNothing};
 
-use bgp_explain::{Details, ExplainedRecords, Places, explain_entries, put_explained_records};
+use bgp_explain::{Details, ExplainedRecords, Places, explain_records, put_explained_records};
 use bgp_import::{Gathered, Import, Refusal, put_refusal, records_of};
 use bgp_judge::Tracker;
 use bgp_open::Config;
@@ -73,14 +74,17 @@ fn explain_made<A: Allocator + Copy, T: Tracker<A>, W: Sink>(
     lines: &mut Lines<'_, W>,
     remarks: &mut Vec<Remark, A>,
 ) -> Result<Status, AllocError>
-    requires { AllByRecursion (CanBeShown config.now.parts.session) made.now.entries.items }
+    requires records { map shown_of made.now.records.items
+        ≡ captured.records_of made.now.entries.items }
+    requires can { AllByRecursion (CanBeShown config.now.parts.session)
+        made.now.entries.items }
     ensures { MatchResult result
         (λ status. PutsExplained config.now named made.now.entries.items (notes_of made.now)
         lines.old lines.new remarks.old.items remarks.new.items (code_of status))
         (λ error. PutsNothing lines.old lines.new remarks.old.items remarks.new.items) }
 {
     let entries = made.entries.as_slice();
-    let explained = explain_entries::<A, T>(alloc, config, entries)?;
+    let explained = explain_records::<A, T>(alloc, config, &made.records)?;
     let details = explained.details(alloc, config);
     add_remarks_on(remarks, named, made, &explained.verdict)?;
     Ok(put_explained(lines, config, entries, &explained, &details))

@@ -10,4 +10,3 @@ pub mod Texts
 mod ToldAlike
 mod YesShown
 mod EntryLines
-mod JudgedEntries

@@ -19,7 +19,7 @@ use Rattle.bgp_tool.specs.declared.note.Note.{Note}
 use Rattle.bgp_tool.specs.declared.note.Note.TheVariants.{Unread, OutOfMemory}
 use Rattle.bgp_recording_tool.specs.declared.files.FileOutcome.{FileOutcome}
 use Rattle.bgp_recording_tool.specs.declared.judging.Judged.{Judged}
-use Rattle.bgp_words.specs.declared.recording.RecordingOptions.{RecordingOptions}
+use Rattle.bgp_options.specs.declared.recording.RecordingOptions.{RecordingOptions}
 use Rattle.bgp_recording_tool.specs.declared.peeked.Peeked.{Peeked}
 use Rattle.bgp_recording_tool.specs.Decoding.{DecodesRecording}
 use Rattle.bgp_recording_tool.specs.Judging.{JudgesRecording}

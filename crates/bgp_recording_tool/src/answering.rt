@@ -1,7 +1,7 @@
 //! What is answered of one of a recording's connections.
 
-ghost use Rattle.std.specs.Prelude.{◌≡◌, ◌++◌, List, length, reverse, IfOk, IfSome, IfNone};
-ghost use Rattle.std.specs.Prelude.{Err, OnErr, OnOk, Some};
+ghost use Rattle.std.specs.Prelude.{◌≡◌, ◌++◌, List, length, map, reverse, IfOk, IfSome};
+ghost use Rattle.std.specs.Prelude.{IfNone, Err, OnErr, OnOk, Some};
 ghost use Rattle.std.specs.List.{AllByRecursion};
 ghost use Rattle.bgp_judge.specs.Verdict.{IsVerdict, verdict_value};
 ghost use Rattle.bgp_prefix.specs.declared.session.RouteRefresh.TheVariants.{Refused};
@@ -22,9 +22,8 @@ ghost use Rattle.mrt.specs.Reader.{shown_of};
 ghost use Rattle.bgp_recording_tool.specs.Told.{told_by};
 
 use crate::remark::{Remark, RemarkKind, add_help, add_remarks};
-use crate::verdict::judge_entries;
 use bgp_import::{Gathered, Import, Note, Refusal, notes_on, records_of, refresh_in};
-use bgp_judge::{Tracker, Verdict};
+use bgp_judge::{Tracker, Verdict, judge_records};
 use bgp_open::Config;
 use bgp_prefix::{RouteRefresh, Session};
 use bgp_recording::{Entry, Recording};
@@ -156,12 +155,14 @@ fn judge_made<A: Allocator + Copy, T: Tracker<A>>(
     made: &Recording<'_, A>,
     remarks: &mut Vec<Remark, A>,
 ) -> Result<Verdict<A>, AllocError>
+    requires records { map shown_of made.now.records.items
+        ≡ records_of made.now.entries.items }
     ensures is { IfOk result (IsVerdict config.now (records_of made.now.entries.items)) }
     ensures remarked { IfOk result (λ verdict. remarks.new.items ≡ remarks.old.items
         ++ remarks_on named made.now.entries.items (notes_of made.now) (verdict_value verdict)) }
     ensures err { OnErr result (remarks.new.items ≡ remarks.old.items) }
 {
-    let verdict = judge_entries::<A, T>(alloc, config, made.entries.as_slice())?;
+    let verdict = judge_records::<A, T>(alloc, config, &made.records)?;
     add_remarks_on(remarks, named, made, &verdict)?;
     Ok(verdict)
 }

@@ -22,11 +22,11 @@ use crate::judging::{Judged, misfit, status_of};
 use crate::options::{import_of, misfit_of};
 use crate::remark::{Remark, add_help, add_remarks};
 use bgp_import::{CutShort, Gathered, Import, Refusal, gather, put_refusal, records_of};
+use bgp_options::RecordingOptions;
 use bgp_prefix::{RouteRefresh, Session};
 use bgp_recording::{Entry, Recording};
 use bgp_text::{Lines, put_record};
 use bgp_tool::{Status, hand_over};
-use bgp_words::RecordingOptions;
 use mrt::{Sink, Source};
 use std::alloc::{AllocError, Allocator};
 

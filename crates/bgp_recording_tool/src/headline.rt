@@ -11,10 +11,10 @@ use crate::options::{import_of, misfit_of};
 use bgp_import::recordings_are_made_once;
 use bgp_judge::{Tracker, records_have_just_one_verdict};
 use bgp_open::Config;
+use bgp_options::RecordingOptions;
 use bgp_recording::made_records_are_read;
 use bgp_text::Lines;
 use bgp_tool::hand_over;
-use bgp_words::RecordingOptions;
 use mrt::{Sink, Source, each_capture_has_one_reading};
 use std::alloc::Allocator;
 

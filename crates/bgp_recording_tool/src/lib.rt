@@ -21,10 +21,8 @@ mod judging;
 mod options;
 mod peeked;
 mod remark;
-mod verdict;
 
 pub use answering::{add_remarks_on, refused_refresh};
-pub use bgp_words::RecordingOptions;
 pub use decoding::decode_recording;
 pub use files::{FileOutcome, decode_file, judge_file, recording_note};
 pub use headline::{a_no_is_told, each_end_is_shown, import_and_judge_agree, judge_recording};

@@ -6,8 +6,8 @@ ghost use Rattle.bgp_recording_tool.specs.Remarks.{remark_on};
 
 use crate::remark::{Remark, RemarkKind};
 use bgp_import::{Import, Selection};
+use bgp_options::RecordingOptions;
 use bgp_prefix::Session;
-use bgp_words::RecordingOptions;
 
 /// What is imported of a recording that is read so, for this session.
 pub fn import_of(session: &Session, options: &RecordingOptions) -> Import

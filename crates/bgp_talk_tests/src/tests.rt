@@ -7,6 +7,8 @@
 mod arising;
 mod core_memory;
 mod memory;
+mod pairs;
+mod reports;
 mod sinks;
 mod wires;
 
@@ -155,6 +157,11 @@ fn spoken<A: Allocator + Copy>(
         capture: sink.into_octets(),
         failures,
     })
+}
+
+/// Whether that was written and answered.
+fn same(written: &[u8], answer: u8, text: &str, status: u8) -> bool {
+    written == text.as_bytes() && answer == status
 }
 
 /// What happens to a wire, if anything does: there is no read of the number that it is told.

@@ -11,6 +11,3 @@ pub mod SeenSoFar
 pub mod ToldCapture
 pub mod OneVerdict
 pub mod Fronts
-pub mod DriveJudged
-pub mod Driving
-pub mod PairJudged

@@ -11,6 +11,3 @@ pub mod OpenedCapture
 pub mod Answer
 pub mod Judging
 pub mod OpenedJudging
-pub mod Driven
-pub mod Speaking
-pub mod Pairing

@@ -3,19 +3,14 @@
 
 ghost use Rattle.std.specs.Prelude.{◌<◌, ◌≤◌, ◌^◌};
 ghost use Rattle.bgp_tool.specs.Decoding.{IsDecoded, IsBegun};
-ghost use Rattle.bgp_tool.specs.Driven.{DrivesAreJudgedYes, DrivesAreNotRefused};
-ghost use Rattle.bgp_tool.specs.Driven.{DrivesSpellTheirRecords};
 ghost use Rattle.bgp_tool.specs.Judging.{JudgesCapture, HasOneVerdict, NeverNone};
 
 use crate::decoding::decode_raw;
 use crate::judging::write_answer;
 use bgp_judge::{Tracker, judge, records_have_just_one_verdict};
 use bgp_open::Config;
-use bgp_speaker::{each_drive_can_be_written, each_drive_is_a_run};
 use bgp_wire::Limit;
-use mrt::{
-    MemSink, MemSource, Sink, Source, each_capture_has_one_reading, written_captures_are_read,
-};
+use mrt::{MemSink, MemSource, Sink, Source, each_capture_has_one_reading};
 use std::alloc::Allocator;
 
 /// Judges the capture that a source gives: whether its records are those of a run of the session
@@ -24,7 +19,7 @@ use std::alloc::Allocator;
 ///
 /// And the capture of whatever the speaker's core does is answered `yes`, with the state and the
 /// routes in which the core ended among the ends, where both addresses are of one family and no
-/// ROUTE-REFRESH is to be refused ([`each_drive_is_judged_yes`]).
+/// ROUTE-REFRESH is to be refused (`each_drive_is_judged_yes` of bgp_speak_tool).
 ///
 /// It writes exactly the text of the one verdict on the records that the octets spell, and answers
 /// its exit status:
@@ -62,22 +57,6 @@ pub fn each_capture_has_one_verdict()
 {
     each_capture_has_one_reading();
     records_have_just_one_verdict();
-}
-
-/// Law: what a speaker's core shows is judged yes. Octets that are written of the records of a
-/// drive spell just these records and are never refused, and whatever verdict holds of them is yes,
-/// with the state and the routes in which the core ended among the ends. For each list of inputs
-/// whose seconds have 32 bits, where both addresses are of one family and no ROUTE-REFRESH is to be
-/// refused.
-pub fn each_drive_is_judged_yes()
-    ensures spells { DrivesSpellTheirRecords }
-    ensures sound { DrivesAreNotRefused }
-    ensures yes { DrivesAreJudgedYes }
-{
-    each_capture_has_one_reading();
-    written_captures_are_read();
-    each_drive_can_be_written();
-    each_drive_is_a_run();
 }
 
 /// The text of a stream of octets in memory, whose messages may be so long, and the exit status.

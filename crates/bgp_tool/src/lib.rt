@@ -8,7 +8,6 @@
 //! ```
 #![tactic(auto)]
 
-mod announcing;
 mod captures;
 mod decoding;
 mod error_words;
@@ -21,39 +20,27 @@ mod note;
 mod opened;
 mod opened_capture;
 mod opened_judging;
-mod pair_end;
-mod pair_judging;
-mod pairing;
+mod pair_fault;
 mod refreshes;
 mod refusal_note;
 mod seeing;
 mod seen;
-mod speaking;
 mod status;
 mod verdicts;
-mod words;
 
-pub use announcing::{AnnounceNote, announce_note};
-pub use bgp_words::{Command, Speaking, Start, command_line};
 pub use captures::{decode_capture, hand_over};
 pub use decoding::decode_raw;
 pub use error_words::ErrorWords;
 pub use front::{Form, WithFront};
-pub use headline::{
-    each_capture_has_one_verdict, each_drive_is_judged_yes, judge_capture, text_and_status,
-};
+pub use headline::{each_capture_has_one_verdict, judge_capture, text_and_status};
 pub use judging::put_answer;
 pub use laws::each_stream_has_one_text;
 pub use note::{CaptureCommand, Note, Unmet};
 pub use opened::{Outcome, decode_opened, unopened, unwritten};
 pub use opened_capture::{decode_opened_capture, note_of};
 pub use opened_judging::judge_opened;
-pub use pair_end::{PairEnd, PairFault};
-pub use pair_judging::judge_pair;
-pub use pairing::pair_session;
+pub use pair_fault::{PairEnd, PairFault};
 pub use refreshes::passed_over;
 pub use seen::Seen;
-pub use speaking::{speak_as, speak_session};
 pub use status::Status;
-pub use verdicts::{put_end, put_verdict};
-pub use words::words_status;
+pub use verdicts::{put_end, put_routes, put_verdict};

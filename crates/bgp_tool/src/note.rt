@@ -3,7 +3,7 @@
 use crate::error_words::ErrorWords;
 use crate::front::Form;
 use crate::front_note::put_form;
-use crate::pair_end::{PairEnd, PairFault};
+use crate::pair_fault::{PairEnd, PairFault};
 use crate::refusal_note::put_refusal;
 use crate::seen::Seen;
 use mrt::{CaptureFault, Endpoints};

@@ -1,23 +1,16 @@
 //! The verdict on one session of a capture, with what its records show of the local system's work.
 
-ghost use Rattle.std.specs.Prelude.{◌↔◌, ◌≢◌, ◌≡◌, ◌<◌, ◌+◌, ◌++◌, ◌∷◌, [], List};
-ghost use Rattle.std.specs.Prelude.{IfOk, OnErr, None};
-ghost use Rattle.std.specs.Prelude.{IsTrue, length};
-ghost use Rattle.bgp_prefix.specs.Shown.{ShownRecord};
-ghost use Rattle.bgp_open.specs.declared.config.Config.{Config as TheConfig};
-ghost use Rattle.bgp_machine.specs.Run.{Begins};
+ghost use Rattle.std.specs.Prelude.{◌≡◌, ◌<◌, ◌+◌, []};
 ghost use Rattle.mrt.specs.declared.fault.FaultKind.TheVariants.{Memory};
 ghost use Rattle.mrt.specs.Progress.{failures_of};
-ghost use Rattle.mrt.specs.Reader.{fresh_reader, shown_of};
-ghost use Rattle.bgp_judge.specs.Judging.{IsAt};
-ghost use Rattle.bgp_judge.specs.Verdict.{IsVerdict};
+ghost use Rattle.mrt.specs.Reader.{fresh_reader};
 ghost use Rattle.bgp_tool.specs.Seen.{FollowsSeeing, JudgesSeeing, seen_in};
 
 use crate::seen::Seen;
-use bgp_judge::{End, Tracker, Verdict};
+use bgp_judge::{Tracker, Verdict, advance, verdict_of};
 use bgp_open::Config;
-use mrt::{CaptureFault, FaultKind, Reader, Record, Source};
-use std::alloc::{AllocError, Allocator};
+use mrt::{CaptureFault, FaultKind, Reader, Source};
+use std::alloc::Allocator;
 
 /// No memory at this octet.
 fn out_of_memory(offset: u64) -> CaptureFault
@@ -26,54 +19,6 @@ fn out_of_memory(offset: u64) -> CaptureFault
     CaptureFault {
         kind: FaultKind::Memory,
         offset,
-    }
-}
-
-/// Whether there is an end.
-fn is_some<A: Allocator>(ends: &[End<A>]) -> bool
-    ensures { IsTrue result ↔ (ends.now ≢ []) }
-{
-    !ends.is_empty()
-}
-
-/// The verdict on records that begin a run.
-fn verdict_of<A: Allocator + Copy, T: Tracker<A>>(tracker: &T) -> Result<Verdict<A>, AllocError>
-    ensures { (config : TheConfig) (records : List ShownRecord)
-        → T.stands_for tracker.now config records → Begins config records
-        → IfOk result (IsVerdict config records) }
-{
-    let ends = tracker.ends()?;
-    if is_some(ends.as_slice()) {
-        Ok(Verdict::Yes(ends))
-    } else {
-        Ok(Verdict::Unfinished)
-    }
-}
-
-/// Lets the tracker take one record more, after so many, if none of them is impossible. Answers
-/// the first impossible one. Memory is refused where the tracker may lack it, alone.
-fn advance<A: Allocator + Copy, T: Tracker<A>>(
-    tracker: &mut T,
-    impossible: Option<u64>,
-    count: u64,
-    shown: &Record<'_>,
-) -> Result<Option<u64>, AllocError>
-    ensures next { (config : TheConfig) (records : List ShownRecord) → length records ≡ count
-        → IsAt (T.stands_for tracker.old) config records impossible
-        → IfOk result (IsAt (T.stands_for tracker.new) config
-        (records ++ shown_of shown.now ∷ [])) }
-    ensures err { OnErr result (impossible ≡ None) }
-    ensures memory { (config : TheConfig) (records : List ShownRecord)
-        → IsAt (T.stands_for tracker.old) config records impossible
-        → OnErr result (T.may_lack config records (shown_of shown.now)) }
-{
-    if impossible.is_some() {
-        return Ok(impossible);
-    }
-    if tracker.take(shown)? {
-        Ok(None)
-    } else {
-        Ok(Some(count))
     }
 }
 

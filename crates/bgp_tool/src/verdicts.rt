@@ -52,8 +52,8 @@ fn put_route_line<W: Sink, A: Allocator>(lines: &mut Lines<'_, W>, prefix: Prefi
     lines.put(b"\n");
 }
 
-/// The lines of routes, in the order of their prefixes.
-pub(crate) fn put_routes<W: Sink, A: Allocator>(lines: &mut Lines<'_, W>, rib: &RibIn<A>)
+/// Puts the lines of routes, in the order of their prefixes.
+pub fn put_routes<W: Sink, A: Allocator>(lines: &mut Lines<'_, W>, rib: &RibIn<A>)
     ensures { Writes lines.old lines.new (flat_map route_line rib.now.entries) }
 {
     for (prefix, path) in rib.routes() {

@@ -6,7 +6,6 @@ mod captures;
 mod great;
 mod judging;
 mod opened;
-mod speaking;
 mod words;
 
 use bgp_tool::*;

@@ -22,6 +22,4 @@ mod texts;
 mod values;
 mod words;
 
-pub use recording::RecordingOptions;
-pub use speak::{Speaking, Start};
 pub use words::{Command, command_line};

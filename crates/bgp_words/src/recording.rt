@@ -5,28 +5,15 @@ ghost use Rattle.clap.specs.Words.{app_of, found_of, rows_of};
 ghost use Rattle.clap.specs.declared.builder.command.Command.TheViews.{out-Command as fields_of};
 ghost use Rattle.bgp_words.specs.Words.{with_recording};
 ghost use Rattle.bgp_words.specs.Recording.{AreRecordingOptions, refresh_told};
-ghost use Rattle.bgp_words.specs.declared.recording.RecordingOptions.{RecordingOptions as Told};
+ghost use Rattle.bgp_options.specs.declared.recording.RecordingOptions.{RecordingOptions as Told};
 
 use crate::misfit::Misfit;
 use crate::options::{Word, with_words};
 use crate::values::{connection_of, has_flag, optional_port_of, port_of, seconds_of};
+use bgp_options::RecordingOptions;
 use bgp_prefix::RouteRefresh;
 use clap::ArgMatches;
 use std::alloc::{AllocError, Global};
-
-/// What is told of a recording besides its session.
-#[derive(Clone, Copy, Debug, PartialEq, Eq)]
-pub struct RecordingOptions {
-    /// The port on which BGP is awaited, 179 (RFC 4271, 2) unless told: each connection of the
-    /// session has it at one of its ends. It isn't 0.
-    pub port: u16,
-    /// The local system's port, where only its connections at that port are meant. It isn't 0.
-    pub local_port: Option<u16>,
-    /// The number of the connection that is meant, from 1: `None` for each, or for the only one.
-    pub connection: Option<usize>,
-    /// How many seconds after it came a received message is handled at the latest.
-    pub within: u16,
-}
 
 /// The port of a session in a recording.
 pub(crate) const PORT: Word<'static> = Word::Default(

@@ -3,7 +3,8 @@
 use bgp_compact::CompactTracker;
 use bgp_judge::{PlainTracker, Tracker};
 use bgp_open::Config;
-use bgp_tool::{Command, command_line, judge_opened};
+use bgp_tool::judge_opened;
+use bgp_words::{Command, command_line};
 use mrt::FromWrite;
 use std::alloc::{AllocError, Global};
 use std::rt::Files;

@@ -13,11 +13,9 @@ use crate::case::{malformed, octets_of};
 use crate::devices::{Given, Paper};
 use bgp_compact::CompactTracker;
 use bgp_judge::{PlainTracker, Tracker};
-use bgp_tool::{
-    Command, Outcome, announce_note, command_line, decode_opened, decode_opened_capture,
-    judge_opened, passed_over,
-};
+use bgp_tool::{Outcome, decode_opened, decode_opened_capture, judge_opened, passed_over};
 use bgp_wire::Limit;
+use bgp_words::{Command, command_line};
 use mrt::{FromWrite, SkippedRecords};
 use std::alloc::{AllocError, Global};
 use std::fmt;
@@ -50,15 +48,6 @@ pub(crate) fn is_told(alloc: Global, block: &str) -> io::Result<bool> {
 
 /// Whether this command does so.
 fn is_done(alloc: Global, command: &Command<'_>, block: &str) -> io::Result<bool> {
-    if let Command::Speak {
-        config,
-        speaking,
-        ..
-    } = command
-    {
-        let note = announce_note(config.parts.families, speaking);
-        return Ok(are_lines(alloc, block, "! ", told_of(alloc, note)?.as_str())?);
-    }
     let octets = octets_of(alloc, line_of(block, "octets ").unwrap_or("-"))?;
     Ok(
         is_done_by::<PlainTracker<Global>>(alloc, command, block, octets.as_slice())?

@@ -11,11 +11,12 @@ use bgp_explain::explain_capture;
 use bgp_import::{Imported, Stopped, import_recording};
 use bgp_judge::{PlainTracker, Tracker};
 use bgp_open::Config;
+use bgp_options::RecordingOptions;
 use bgp_prefix::Session;
 use bgp_recording_explain::explain_recording;
 use bgp_recording_list::{ListedRecording, list_recording};
 use bgp_recording_tool::{Judged, decode_recording, judge_recording};
-use bgp_words::{Command, RecordingOptions};
+use bgp_words::Command;
 use mrt::{MemSink, MemSource};
 use std::alloc::Global;
 use std::io;
@@ -202,6 +203,8 @@ fn check<T: Tracker<Global>>(
         for refusal in checked.refusals.iter().flatten() {
             told.put_note(refusal.help());
         }
+        // What to record is told of many files; that nothing helps is what cases say.
+        told.put_note(checked.nothing.filter(|nothing| !nothing.is_incomplete));
         return told.end();
     }
     let CheckOptions {
@@ -215,7 +218,10 @@ fn check<T: Tracker<Global>>(
         &mut source,
         &mut sink,
     );
-    printed(alloc, checked.status, sink)
+    let mut told = Told::with_status(alloc, checked.status);
+    told.put_printed(sink.octets());
+    told.put_note(checked.nothing.filter(|nothing| !nothing.is_incomplete));
+    told.end()
 }
 
 /// What `bgp list` answers of a recording.

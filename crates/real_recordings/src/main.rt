@@ -6,10 +6,13 @@
 //! judged, and decoded. `explained.txt` and `explained-by-hand.txt` have captures whose verdict is
 //! explained. `checked.txt` and `captures.txt` have recordings and captures that are checked, whose
 //! settings aren't known: by hand, at random with planted oddities, and of real sessions; and where
-//! a verdict is told with the options of `bgp judge`, that is asked by them for the same. Each file
-//! is read at once and octet by octet, and what judges does so by the plain tracker and by the
+//! a verdict is told with the options of `bgp judge`, that is asked by them for the same.
+//! `slow.txt` has nine recordings, each of which is imported, judged, decoded and checked: of
+//! routers that answer an OPEN late, and of messages in the packet that ends the connection. Each
+//! file is read at once and octet by octet, and what judges does so by the plain tracker and by the
 //! compact one. `words.txt` has command lines, and the command that each spells, or the status and
-//! what is told.
+//! what is told. `announced.txt` has prefixes that `bgp speak` is to announce, and what is told of
+//! each.
 //!
 //! Then recordings of real sessions between five daemons, in `sessions`, are listed, judged from
 //! both ends, and explained as the captures that are made of them, but for the packets. Last some
@@ -20,6 +23,7 @@
 //! HoldTimer expires where that is after the last second of 32 bits, so that no record is of it.
 #![tactic(auto)]
 
+mod announced;
 mod answer;
 mod case;
 mod explained;

@@ -1,5 +1,6 @@
 //! Tables of cases and of command lines: blocks of lines, with an empty line between two.
 
+use crate::announced::compare_announced;
 use crate::case::compare_case;
 use crate::spelled::compare_line;
 use std::rt::Files;
@@ -10,16 +11,19 @@ use std::{fs, io};
 enum Kind {
     Cases,
     CommandLines,
+    Prefixes,
 }
 
-static TABLES: [(&str, Kind); 7] = [
+static TABLES: [(&str, Kind); 9] = [
     ("cases.txt", Kind::Cases),
     ("judged.txt", Kind::Cases),
     ("explained.txt", Kind::Cases),
     ("explained-by-hand.txt", Kind::Cases),
     ("checked.txt", Kind::Cases),
     ("captures.txt", Kind::Cases),
+    ("slow.txt", Kind::Cases),
     ("words.txt", Kind::CommandLines),
+    ("announced.txt", Kind::Prefixes),
 ];
 
 /// Prints what is not so in each table, and how much was compared. Answers whether all is so.
@@ -67,6 +71,7 @@ fn compare_block<R: Print + AllocGlobal>(
     match kind {
         Kind::Cases => compare_case(rt, block),
         Kind::CommandLines => compare_line(rt, block),
+        Kind::Prefixes => compare_announced(rt, block),
     }
 }
 
@@ -80,6 +85,7 @@ fn print_counts<R: Print>(
     let what = match kind {
         Kind::Cases => "cases",
         Kind::CommandLines => "command lines",
+        Kind::Prefixes => "prefixes",
     };
     if verdicts == 0 {
         println!(rt; "{name}: {blocks} {what}")

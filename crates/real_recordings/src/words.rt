@@ -5,8 +5,9 @@ ghost use Rattle.bgp_prefix.specs.Address.{family_of};
 
 use crate::case::malformed;
 use bgp_import::Import;
+use bgp_options::RecordingOptions;
 use bgp_prefix::Session;
-use bgp_words::{Command, RecordingOptions, command_line};
+use bgp_words::{Command, command_line};
 use std::alloc::Global;
 use std::io;
 

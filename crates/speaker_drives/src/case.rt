@@ -4,7 +4,7 @@
 
 use bgp_open::Config;
 use bgp_prefix::{Address, read_address};
-use bgp_tool::{Command, command_line};
+use bgp_words::{Command, command_line};
 use hex::FromHexError;
 use std::alloc::{AllocError, Global};
 use std::io;

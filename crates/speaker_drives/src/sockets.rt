@@ -8,7 +8,7 @@ mod watching;
 mod wire;
 
 use bgp_compact::CompactTracker;
-use bgp_tool::pair_session;
+use bgp_speak_tool::pair_session;
 use mrt::FromWrite;
 use noise::Noisy;
 use std::alloc::Global;

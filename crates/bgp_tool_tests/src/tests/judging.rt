@@ -59,7 +59,7 @@ fn put(sink: &mut MemSink, record: &Record<'_>) -> bool {
 }
 
 /// A capture of so many of [`RECORDS`], if they could be written.
-pub(super) fn capture_of(alloc: Global, count: usize) -> Option<Vec<u8>> {
+fn capture_of(alloc: Global, count: usize) -> Option<Vec<u8>> {
     let mut sink = MemSink::new(alloc);
     for record in RECORDS.iter().take(count) {
         if !put(&mut sink, record) {

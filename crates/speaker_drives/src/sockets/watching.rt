@@ -1,7 +1,7 @@
 //! Captures that are shown while they are written.
 
 use bgp_prefix::{Address, RouteRefresh, Session};
-use bgp_watch::Watched;
+use bgp_speak_tool::Watched;
 use mrt::{MemSink, SinkUpset, write_all};
 use std::num::NonZeroUsize;
 use std::rt::Files;

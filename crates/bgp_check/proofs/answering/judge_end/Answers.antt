@@ -2,7 +2,7 @@ use Rattle.std.proofs.Common.{map, option_map}
 use Rattle.bgp_judge.specs.Verdict.{verdict_value}
 use Rattle.mrt.specs.Reader.{shown_of}
 use Rattle.bgp_check.proofs.Answered.{with_fault}
-use Rattle.bgp_check.proofs.ReadableOpen.{told_of}
+use Rattle.bgp_check.proofs.ToldOpen.{told_of}
 use Rattle.bgp_check.proofs.answering.judge_end.Goals as goal
 
 pub returns : goal.returns
@@ -16,7 +16,7 @@ returns g c =
     let wants = c.in_ok-checked.checked.wants_peers in
     let verdict = verdict_value c.in_ok-checked.checked.verdict in
     let made = c.in-Some.ensures.some told.0 told.1 in
-    let is_told = c.in_ok-checked.ensures in
+    let is_told = c.in_ok-checked.ensures.told in
     record {
       own = own;
       peers = peers;
@@ -29,6 +29,7 @@ returns g c =
       are_told = told.1;
       made = made;
       is_told = is_told;
+      is_under = c.in_ok-checked.ensures.under;
       over = λ stretch faultless. c.what_is_told_holds_over_all.ensures session own peers widest records wants verdict
           (c.widest_settings_are_widest.ensures session own peers told.0 widest faultless told.1 made) stretch c.requires.own c.requires.peers is_told;
       among = λ fault is. (with_fault c.an_own_fault_is_a_no.ensures own fault widest records wants verdict is c.requires.own is_told).0;

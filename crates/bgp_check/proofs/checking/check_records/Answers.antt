@@ -6,8 +6,8 @@ use Rattle.bgp_check.specs.Checked.{IsToldBy}
 use Rattle.bgp_check.proofs.Told.{first_is_told}
 use Rattle.bgp_check.proofs.checking.check_records.Goals as goal
 
-pub returns-else-tells_other : goal.returns-else-tells_other
-returns-else-tells_other g c =
+pub returns-else-tells_other-clause-told : goal.returns-else-tells_other-clause-told
+returns-else-tells_other-clause-told g c =
     let records = map shown_of c.args.records.now in
     let another = c.args.widest.now.another in
     let first = verdict_value c.in_ok-first.first in

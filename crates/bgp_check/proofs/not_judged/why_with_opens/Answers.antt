@@ -1,6 +1,6 @@
 use Rattle.std.proofs.Common.{option_map}
 use Rattle.bgp_check.proofs.Answered.{family_if}
-use Rattle.bgp_check.proofs.ReadableOpen.{told_of}
+use Rattle.bgp_check.proofs.ToldOpen.{told_of}
 use Rattle.bgp_check.proofs.not_judged.why_with_opens.Goals as goal
 
 pub returns-clause-why : goal.returns-clause-why
@@ -19,6 +19,8 @@ returns-clause-why c =
       is_sends = c.sends_some.ensures;
       extended = c.have_extended_length-extended.result;
       is_extended = c.have_extended_length-extended.ensures;
+      confederated = c.some_show_confederations-confederated.result;
+      is_confederated = c.some_show_confederations-confederated.ensures;
       is_why = c.first_reason.ensures told.0 told.1;
     }
 
@@ -26,4 +28,4 @@ pub returns-clause-family : goal.returns-clause-family
 returns-clause-family c =
     let told = told_of (option_map (λ o. o.now) c.args.peers) in
     family_if c.first_reason.result c.sends_some.result c.have_extended_length-extended.result (option_map (λ o. o.now) c.args.own) told.0
-    (c.first_reason.ensures told.0 told.1)
+    c.some_show_confederations-confederated.result (c.first_reason.ensures told.0 told.1)

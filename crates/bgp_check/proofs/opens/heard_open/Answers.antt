@@ -3,7 +3,7 @@ use Rattle.std.proofs.Math.ListN.{drop_of_length-le}
 use Rattle.bgp_open.specs.OpenFault.{IsWellFormed}
 use Rattle.mrt.specs.Reader.{shown_of}
 use Rattle.mrt.specs.declared.record.Record.{Record}
-use Rattle.bgp_check.specs.Opens.{FirstReceived}
+use Rattle.bgp_parts.specs.Opens.{FirstReceived}
 use Rattle.bgp_check.proofs.FirstOpens.{received_here, received_behind}
 use Rattle.bgp_check.proofs.opens.heard_open.Goals as goal
 

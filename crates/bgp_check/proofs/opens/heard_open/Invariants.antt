@@ -1,7 +1,7 @@
 use Rattle.std.proofs.Common.{ℕ, List, Option, drop, map}
 use Rattle.bgp_open.specs.OpenFault.{IsWellFormed}
 use Rattle.mrt.specs.Reader.{shown_of}
-use Rattle.bgp_check.specs.Opens.{FirstReceived}
+use Rattle.bgp_parts.specs.Opens.{FirstReceived}
 use Rattle.bgp_check.proofs.opens.heard_open.Given as goal
 
 -- the OPEN of the rest is that of all

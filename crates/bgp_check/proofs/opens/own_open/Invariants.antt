@@ -1,7 +1,7 @@
 use Rattle.std.proofs.Common.{ℕ, List, Option, drop, map}
 use Rattle.bgp_open.specs.OpenFault.{IsWellFormed}
 use Rattle.mrt.specs.Reader.{shown_of}
-use Rattle.bgp_check.specs.Opens.{FirstSent}
+use Rattle.bgp_parts.specs.Opens.{FirstSent}
 use Rattle.bgp_check.proofs.opens.own_open.Given as goal
 
 -- the OPEN of the rest is that of all

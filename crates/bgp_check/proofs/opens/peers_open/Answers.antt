@@ -2,7 +2,7 @@ use Rattle.std.proofs.Common.{List, None, Some, map, refl, subst, sym}
 use Rattle.std.proofs.Math.ListN.{drop_of_length-le}
 use Rattle.mrt.specs.Reader.{shown_of}
 use Rattle.mrt.specs.declared.record.Record.{Record}
-use Rattle.bgp_check.specs.Opens.{HasPeersOpen, IsOpenMessage}
+use Rattle.bgp_parts.specs.Opens.{HasPeersOpen, IsOpenMessage}
 use Rattle.bgp_check.proofs.FirstOpens.{received_here, received_behind}
 use Rattle.bgp_check.proofs.opens.peers_open.Goals as goal
 

@@ -1,6 +1,6 @@
 use Rattle.std.proofs.Common.{ℕ, List, Option, drop, map}
 use Rattle.mrt.specs.Reader.{shown_of}
-use Rattle.bgp_check.specs.Opens.{HasPeersOpen}
+use Rattle.bgp_parts.specs.Opens.{HasPeersOpen}
 use Rattle.bgp_check.proofs.opens.peers_open.Given as goal
 
 -- the OPEN of the rest is that of all

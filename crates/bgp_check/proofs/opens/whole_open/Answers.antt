@@ -3,7 +3,7 @@ use Rattle.std.proofs.Math.ListN.{drop_of_length-le}
 use Rattle.bgp_open.specs.Open.{IsOpen}
 use Rattle.mrt.specs.Reader.{shown_of}
 use Rattle.mrt.specs.declared.record.Record.{Record}
-use Rattle.bgp_check.specs.Opens.{FirstSent}
+use Rattle.bgp_parts.specs.Opens.{FirstSent}
 use Rattle.bgp_check.proofs.FirstOpens.{sent_here, sent_behind}
 use Rattle.bgp_check.proofs.opens.whole_open.Goals as goal
 

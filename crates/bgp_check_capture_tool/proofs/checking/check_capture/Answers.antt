@@ -1,8 +1,8 @@
-use Rattle.std.proofs.Common.{◌∙◌, List, ℕ, Bool, subst, ap, rules}
+use Rattle.std.proofs.Common.{List, ℕ, subst, rules}
 use Rattle.bgp_tool.proofs.CaptureJudged.{is_written}
 use Rattle.bgp_text.proofs.Fresh.{IsFresh}
 use Rattle.bgp_text.proofs.Pieces.{Joins, and_nothing, and_then}
-use Rattle.bgp_check_capture_tool.specs.Checking.{Tells, nothing_by}
+use Rattle.bgp_check_capture_tool.specs.Checking.{Tells}
 use Rattle.bgp_check_capture_tool.proofs.Statuses.{coded_as, told_as}
 use Rattle.bgp_check_capture_tool.proofs.checking.check_capture.Goals as goal
 
@@ -24,7 +24,7 @@ returns g c =
       tally = c.add_fault.new.self.tally;
       counts = c.add_fault.ensures.tallied;
       are_firsts = c.add_fault.ensures.added;
-      is_nothing = c.nothing_by.ensures ∙ ap (λ (b : Bool). nothing_by b c.put_file-counted.result.1) c.has_verdict.ensures;
+      is_nothing = c.nothing_by.ensures;
       written = is_written c.new-lines.result c.hand_over-status.new.lines c.args.sink.now _ fresh c.new-lines.ensures.now (search rules)
           _ _ _ wrote c.hand_over-status.ensures.none (coded_as _ _ _ _ c.code.ensures (told_as _ _ _ _ c.hand_over-status.ensures.told c.status.ensures));
     }

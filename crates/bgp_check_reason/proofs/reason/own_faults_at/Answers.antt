@@ -2,7 +2,7 @@ use Rattle.std.proofs.Common.{◌+◌, List, ℕ, Option, None, Some, map, rules
 use Rattle.std.proofs.lemmas.List.{take-map}
 use Rattle.bgp_open.specs.Open.{open_of}
 use Rattle.bgp_check.specs.Configurations.{own_faults}
-use Rattle.bgp_check.specs.Opens.{HasOwnOpen}
+use Rattle.bgp_parts.specs.Opens.{HasOwnOpen}
 use Rattle.bgp_check.specs.declared.own_fault.OwnFault.{OwnFault}
 use Rattle.bgp_prefix.specs.Shown.{ShownRecord}
 use Rattle.mrt.specs.Reader.{shown_of}

@@ -1,4 +1,4 @@
-use Rattle.std.proofs.Common.{◌≡◌, ◌∙◌, ◌⊎◌, ◌+◌, ℕ, Bool, List, [], Option, None, Some, ap, subst, sym, rules}
+use Rattle.std.proofs.Common.{◌≡◌, ◌∙◌, ◌⊎◌, ◌+◌, ℕ, List, [], Option, None, Some, ap, subst, sym, rules}
 use Rattle.std.specs.List.Sorted.{IsStrictlySortedBy}
 use Rattle.std.specs.Map.{keys_of}
 use Rattle.std.specs.Ordering.{nat_cmp}
@@ -6,7 +6,7 @@ use Rattle.bgp_tool.proofs.CaptureJudged.{is_written}
 use Rattle.bgp_text.proofs.Fresh.{IsFresh}
 use Rattle.bgp_text.proofs.Pieces.{Joins, and_nothing, and_then}
 use Rattle.bgp_check_text.specs.declared.tally.Tally.{Tally}
-use Rattle.bgp_check_tool.specs.Checking.{PutsAll, nothing_by, refusals_in, tally_from, with_file}
+use Rattle.bgp_check_tool.specs.Checking.{PutsAll, refusals_in, tally_from, with_file}
 use Rattle.bgp_check_tool.specs.Judging.{options_by}
 use Rattle.bgp_check_text.specs.declared.settings.Settings.{Settings}
 use Rattle.bgp_recording_list.specs.Firsts.{AreApart, firsts_after, with_first}
@@ -16,7 +16,7 @@ use Rattle.bgp_connections.specs.Talks.{HoldsEach, HoldsSome}
 use Rattle.bgp_import.specs.declared.refusal.Refusal.{Refusal}
 use Rattle.bgp_import.specs.declared.refusal.Refusal.TheVariants as refusals
 use Rattle.bgp_check_tool.proofs.Texts.{coded_as, told_as}
-use Rattle.bgp_check_tool.proofs.AllTold.{as_many, nothing_lacks}
+use Rattle.bgp_check_tool.proofs.AllTold.{as_many, no_block_lacks, nothing_lacks}
 use Rattle.bgp_check_tool.proofs.checking.check_recording.Goals as goal
 
 pub take_all-requires-clause-empty : goal.take_all-requires-clause-empty
@@ -58,6 +58,7 @@ returns g c =
       blocks = puts.blocks;
       told = as_many (options_by c.err-stopped.result options) _ _ taken.packets puts.blocks last puts.told;
       rise = subst (λ (ks : List ℕ). IsStrictlySortedBy nat_cmp ks) (sym puts.are_places) all.rise;
+      none = no_block_lacks c.put_all-lacking.result all.places puts.blocks puts.are_places all.none;
       all = nothing_lacks c.args.options.now.port taken.packets all.places (keys_of puts.blocks) _ c.put_all-lacking.result c.err-stopped.result (sym puts.are_places)
           (λ ample. taken.all (subst (λ (s : Option Refusal). ¬ IsMemory s) same ample)) all.all;
       tally = c.put_file-2.new.counted.tally;
@@ -67,7 +68,7 @@ returns g c =
       are_firsts = c.put_file-2.ensures.added
           ∙ ap (λ (f : List (Option Refusal)). with_first f c.put_all-lacking.result) (c.put_file.ensures.added ∙ ap (λ (f : List (Option Refusal)). with_first f c.err-stopped.result)
           (puts.added ∙ ap (λ (f : List (Option Refusal)). firsts_after f (refusals_in puts.blocks)) c.new-counted.ensures.refusals));
-      is_nothing = c.nothing_by.ensures ∙ ap (λ (b : Bool). nothing_by c.args.options.now.port b c.or-refusal.result) c.has_verdict.ensures;
+      is_nothing = c.nothing_by.ensures;
       written = is_written c.new-lines.result c.hand_over-status.new.lines c.args.sink.now _ fresh c.new-lines.ensures.now (search rules)
           _ _ _ wrote c.hand_over-status.ensures.none (coded_as _ _ _ _ c.code.ensures (told_as _ _ _ _ c.hand_over-status.ensures.told c.status.ensures));
     }

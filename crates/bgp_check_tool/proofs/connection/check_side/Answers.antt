@@ -7,6 +7,7 @@ use Rattle.bgp_check.specs.Answered.{IsAnswerTo, answer_value}
 use Rattle.bgp_check_reason.specs.Reason.{IsReasonTo, reason_text}
 use Rattle.bgp_explain.specs.Places.{shown_places}
 use Rattle.bgp_check_tool.specs.Judging.{AreOptionsTo}
+use Rattle.bgp_check_tool.specs.Late.{IsLate}
 use Rattle.bgp_check_tool.specs.Made.{IsMade}
 use Rattle.bgp_check_tool.specs.Seen.{session_from}
 use Rattle.bgp_check_tool.proofs.OtherEnd.{clocked}
@@ -27,11 +28,14 @@ returns g c = λ clock.
       entries = made.entries.items;
       received_unshown = made.received;
       sent_unshown = made.sent;
-      made = subst (λ (v : Connection). IsMade options.within v framings made.entries.items made.received made.sent) c.seen_from.ensures (c.in_ok-made.ensures its_clock);
+      made = subst (λ (v : Connection). IsMade options.within v framings made.entries.items made.received made.sent) c.seen_from.ensures (c.in_ok-made.ensures.told its_clock);
       is_end = is.end ∙ c.end_of.ensures;
       answers = subst (λ (v : Session). IsAnswerTo v (records_of made.entries.items) (answer_value told.answer)) c.session_from.ensures is.answers;
       is_packet = is.packet;
       is_put_off = is.put_off;
+      is_within = is.within;
+      is_late = subst (λ (v : Connection). IsLate session v (answer_value told.answer) told.late) c.seen_from.ensures
+          (subst (λ (v : Session). IsLate v seen (answer_value told.answer) told.late) c.session_from.ensures (is.late its_clock));
       is_highest = is.highest;
       explains = subst (λ (v : Session).
           IsReasonTo v framings.sent.limit (shown_places made.entries.items) (records_of made.entries.items) (answer_value told.answer) (reason_text told.reason))
@@ -39,9 +43,6 @@ returns g c = λ clock.
       is_received = is.unshown.0;
       is_sent = is.unshown.1;
       judges = subst (λ (v : Connection).
-          AreOptionsTo options.within c.args.asked session v made.entries.items made.received made.sent options.settings (answer_value told.answer) told.judge)
-          c.seen_from.ensures
-          (subst (λ (v : Session).
-          AreOptionsTo options.within c.args.asked v seen made.entries.items made.received made.sent options.settings (answer_value told.answer) told.judge)
-          c.session_from.ensures (is.judge its_clock));
+          AreOptionsTo options.within c.args.asked v made.entries.items made.received made.sent options.settings (answer_value told.answer) told.judge)
+          c.seen_from.ensures (is.judge its_clock);
     }

@@ -1,4 +1,4 @@
-use Rattle.bgp_check_tool.proofs.Headline.{over_all}
+use Rattle.bgp_check_tool.proofs.Verdicts.{over_all}
 use Rattle.bgp_check_tool.proofs.laws.a_verdict_is_over_all_configurations.Goals as goal
 
 pub returns : goal.returns

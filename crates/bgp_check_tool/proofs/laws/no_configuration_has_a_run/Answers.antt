@@ -1,4 +1,4 @@
-use Rattle.bgp_check_tool.proofs.Headline.{no_run, told_no}
+use Rattle.bgp_check_tool.proofs.Verdicts.{no_run, told_no}
 use Rattle.bgp_check_tool.proofs.laws.no_configuration_has_a_run.Goals as goal
 
 pub returns-clause-end : goal.returns-clause-end

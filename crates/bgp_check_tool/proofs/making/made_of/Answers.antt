@@ -13,8 +13,8 @@ both_offered : (framings : Framings) → framings.received ≡ with_both_offers.
     → with_both_offers ≡ framings
 both_offered framings received sent = ap₂ (λ (r s : Framing). record { received = r; sent = s }) (sym received) (sym sent)
 
-pub returns-then-has_both_offers-2 : goal.returns-then-has_both_offers-2
-returns-then-has_both_offers-2 g c = λ clock.
+pub returns-then-has_both_offers-2-clause-told : goal.returns-then-has_both_offers-2-clause-told
+returns-then-has_both_offers-2-clause-told g c = λ clock.
     let connection = c.args.connection.now in
     let looked_in = c.in_ok-looked_in.looked_in in
     let framings = c.offered_in-framings.result in
@@ -23,7 +23,7 @@ returns-then-has_both_offers-2 g c = λ clock.
     let both = both_offered framings (c.has_both_offers.ensures.0 c.if-has_both_offers.true)
     (c.has_both_offers-then-has_both_offers.ensures.0 c.if-has_both_offers-2.true) in
     let same : map shown_of c.deref.result.now ≡ records_of looked_in.entries.items =
-    ap (map shown_of) c.deref.ensures.value ∙ c.in_ok-records.ensures ∙ ap records_of c.as_slice.ensures.value in
+    ap (map shown_of) c.deref.ensures.value ∙ c.in_ok-looked_in.ensures.records in
     record {
       looked_in = looked_in.entries.items;
       looked_in_received = looked_in.received;

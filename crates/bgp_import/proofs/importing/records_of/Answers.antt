@@ -18,12 +18,12 @@ make_records-requires-clause-sent g c =
     let answered = rw c.in-Ok.is at (c.choose.ensures (reverse h.segments) (length h.packets) h.holds) in
     (are_covered _ _ _ c.in-Ok.connection answered).1
 
-pub returns-in-Err : goal.returns-in-Err
-returns-in-Err g c = λ packets segments taken holds.
+pub returns-in-Err-clause-told : goal.returns-in-Err-clause-told
+returns-in-Err-clause-told g c = λ packets segments taken holds.
     inl (rw c.in-Err.is at (c.choose.ensures (reverse segments) (length packets) holds))
 
-pub returns-in-Ok-make_records : goal.returns-in-Ok-make_records
-returns-in-Ok-make_records g c = λ packets segments taken holds.
+pub returns-in-Ok-make_records-clause-told : goal.returns-in-Ok-make_records-clause-told
+returns-in-Ok-make_records-clause-told g c = λ packets segments taken holds.
     let session = c.args.import.now.selection.session in
     let connection = c.in-Ok.connection in
     let made = c.in-Ok-make_records.made in
@@ -37,6 +37,6 @@ returns-in-Ok-make_records g c = λ packets segments taken holds.
       writable = entries_written session made.entries.items (made_are_writable session c.args.import.now.within connection made.entries.items made.received made.sent c.requires.families recorded.told);
     }
 
-pub returns-in-Err-make_records : goal.returns-in-Err-make_records
-returns-in-Err-make_records g c = λ packets segments taken holds.
+pub returns-in-Err-make_records-clause-told : goal.returns-in-Err-make_records-clause-told
+returns-in-Err-make_records-clause-told g c = λ packets segments taken holds.
     inr (c.no_memory.ensures (reverse segments) (length packets) holds)

@@ -1,5 +1,5 @@
 use Rattle.std.proofs.Common.{◌≡◌, ◌∙◌, ◌≤◌, List, ℕ, Bool, true, false, not, IsTrue, length, refl, arith, ap, subst}
-use Rattle.bgp_wire.specs.Header.{header_of, length_of}
+use Rattle.bgp_wire.specs.Header.{length_of}
 use Rattle.bgp_wire.proofs.Front.{front_and_rest}
 use Rattle.bgp_recording.specs.Pieces.{IsRefreshHeader}
 use Rattle.bgp_recording.proofs.Pieces.{whole_by}

@@ -1,16 +1,9 @@
-use Rattle.std.proofs.Common.{refl}
-use Rattle.bgp_recording.proofs.Recordings.{is_told_by, recorded_by}
+use Rattle.bgp_recording.proofs.Recordings.{recorded_of}
 use Rattle.bgp_recording.proofs.making.make_records.Goals as goal
 
-pub returns : goal.returns
-returns g c = record {
-  told = λ clocked.
-      let connection = c.args.connection.now in
-      let received = c.in_ok-received.received in
-      let sent = c.in_ok-sent.sent in
-      recorded_by c.args.framings c.args.within connection c.in_ok-entries.entries.items received.unshown sent.unshown received.messages.items sent.messages.items c.deref.result.now c.deref-2.result.now
-      c.deref.ensures.value c.deref-2.ensures.value c.in_ok-received.ensures c.in_ok-sent.ensures
-      (c.in_ok-entries.ensures.told
-      (is_told_by c.args.framings connection _ received.messages.items sent.messages.items received.unshown sent.unshown refl refl refl c.deref.ensures.value c.deref-2.ensures.value clocked
-      c.in_ok-received.ensures c.in_ok-sent.ensures)) c.in_ok-entries.ensures.seconds c.in_ok-entries.ensures.order;
-}
+pub returns-clause-told : goal.returns-clause-told
+returns-clause-told g c =
+    let framed = c.in_ok-framed.framed in
+    let made = c.in_ok-entries.ensures in
+    λ clocked. recorded_of c.args.framings c.args.within c.args.connection.now c.exchange.result c.in_ok-entries.entries.items framed.received.messages.items framed.sent.messages.items
+    framed.received.unshown framed.sent.unshown c.exchange.ensures c.in_ok-framed.ensures.received c.in_ok-framed.ensures.sent clocked made.told made.seconds made.order

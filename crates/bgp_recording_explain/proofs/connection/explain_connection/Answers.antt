@@ -13,19 +13,19 @@ use Rattle.bgp_recording_explain.proofs.connection.explain_connection.Goals as g
 pub returns-in-Err : goal.returns-in-Err
 returns-in-Err g c = λ packets segments taken holds.
     was_turned_down c.args.config.now c.args.import.now packets segments c.args.number c.args.named c.args.lines.now c.put_refused.new.lines c.args.remarks.now.items
-    c.put_refused.new.remarks.items (code_of c.put_refused.result) c.in-Err.refusal (rw c.in-Err.is at (c.records_of.ensures packets segments taken holds))
+    c.put_refused.new.remarks.items (code_of c.put_refused.result) c.in-Err.refusal (rw c.in-Err.is at (c.records_of.ensures.told packets segments taken holds))
     c.put_refused.ensures.writes c.put_refused.ensures.status c.put_refused.ensures.helps
 
 pub returns-in-Some : goal.returns-in-Some
 returns-in-Some g c = λ packets segments taken holds.
     was_refreshed c.args.config.now c.args.import.now packets segments c.args.number c.args.named c.args.lines.now c.put_refused-in-Some.new.lines c.args.remarks.now.items
-    c.put_refused-in-Some.new.remarks.items (code_of c.put_refused-in-Some.result) c.in-Some.refusal c.in-Ok.made (rw c.in-Ok.is at (c.records_of.ensures packets segments taken holds))
+    c.put_refused-in-Some.new.remarks.items (code_of c.put_refused-in-Some.result) c.in-Some.refusal c.in-Ok.made (rw c.in-Ok.is at (c.records_of.ensures.told packets segments taken holds))
     c.in-Some.ensures.some.0 c.in-Some.ensures.some.1 c.put_refused-in-Some.ensures.writes c.put_refused-in-Some.ensures.status c.put_refused-in-Some.ensures.helps
 
-pub explain_made-requires : goal.explain_made-requires
-explain_made-requires g c =
+pub explain_made-requires-clause-can : goal.explain_made-requires-clause-can
+explain_made-requires-clause-can g c =
     let h = c.requires.holds in
-    let tells = rw c.in-Ok.is at (c.records_of.ensures h.packets h.segments h.taken h.holds) in
+    let tells = rw c.in-Ok.is at (c.records_of.ensures.told h.packets h.segments h.taken h.holds) in
     let session = c.args.config.now.parts.session in
     made_are_allowed session c.args.import.now.within tells.connection c.in-Ok.made.entries.items c.in-Ok.made.received c.in-Ok.made.sent
     (λ refuses. c.in_default.ensures.none (subst (λ (s : Session). s.refresh ≡ refreshes.Refused) (sym c.requires.session) refuses))
@@ -35,7 +35,7 @@ explain_made-requires g c =
 pub returns-in-Ok-explain_made : goal.returns-in-Ok-explain_made
 returns-in-Ok-explain_made g c = λ packets segments taken holds.
     was_explained c.args.config.now c.args.import.now packets segments c.args.number c.args.named c.args.lines.now c.explain_made.new.lines c.args.remarks.now.items
-    c.explain_made.new.remarks.items (code_of c.in-Ok-explain_made.status) c.in-Ok.made (rw c.in-Ok.is at (c.records_of.ensures packets segments taken holds))
+    c.explain_made.new.remarks.items (code_of c.in-Ok-explain_made.status) c.in-Ok.made (rw c.in-Ok.is at (c.records_of.ensures.told packets segments taken holds))
     c.in_default.ensures.none c.in-Ok-explain_made.ensures
 
 pub returns : goal.returns

@@ -9,18 +9,18 @@ pub returns-in-Err : goal.returns-in-Err
 returns-in-Err g c = λ packets segments taken holds.
     rw c.refuse.ensures.is
     (adds_refused c.args.config.now c.args.import.now packets segments c.args.number c.args.named c.args.remarks.now.items c.refuse.new.remarks.items
-    c.in-Err.refusal (rw c.in-Err.is at (c.records_of.ensures packets segments taken holds)) c.refuse.ensures.helps)
+    c.in-Err.refusal (rw c.in-Err.is at (c.records_of.ensures.told packets segments taken holds)) c.refuse.ensures.helps)
 
 pub returns-in-Some : goal.returns-in-Some
 returns-in-Some g c = λ packets segments taken holds.
     rw c.refuse-in-Some.ensures.is
     (adds_refresh c.args.config.now c.args.import.now packets segments c.args.number c.args.named c.args.remarks.now.items c.refuse-in-Some.new.remarks.items c.in-Some.refusal
-    c.in-Ok.made (rw c.in-Ok.is at (c.records_of.ensures packets segments taken holds)) c.in-Some.ensures.some.0 c.in-Some.ensures.some.1 c.refuse-in-Some.ensures.helps)
+    c.in-Ok.made (rw c.in-Ok.is at (c.records_of.ensures.told packets segments taken holds)) c.in-Some.ensures.some.0 c.in-Some.ensures.some.1 c.refuse-in-Some.ensures.helps)
 
 pub returns-in-Ok-judge_made : goal.returns-in-Ok-judge_made
 returns-in-Ok-judge_made g c = λ packets segments taken holds.
     adds_judged c.args.config.now c.args.import.now packets segments c.args.number c.args.named c.args.remarks.now.items c.judge_made.new.remarks.items
-    c.in-Ok.made (rw c.in-Ok.is at (c.records_of.ensures packets segments taken holds)) (verdict_value c.in-Ok-judge_made.verdict) c.in_default.ensures.none c.in-Ok-judge_made.ensures.is
+    c.in-Ok.made (rw c.in-Ok.is at (c.records_of.ensures.told packets segments taken holds)) (verdict_value c.in-Ok-judge_made.verdict) c.in_default.ensures.none c.in-Ok-judge_made.ensures.is
     c.in-Ok-judge_made.ensures.remarked
 
 pub returns : goal.returns

@@ -13,7 +13,7 @@ pub returns-in-Err : goal.returns-in-Err
 returns-in-Err g c = λ packets segments taken holds. (
   inr (record {
     refusal = c.in-Err.refusal;
-    turned_down = rw c.in-Err.is at (c.records_of.ensures packets segments taken holds);
+    turned_down = rw c.in-Err.is at (c.records_of.ensures.told packets segments taken holds);
     written = c.refused.ensures.written;
     helps = c.refused.ensures.helps;
   }),
@@ -34,13 +34,13 @@ returns-in-Err-made_remarks g c = λ packets segments taken holds. (
 pub write_entries-requires-clause-lines : goal.write_entries-requires-clause-lines
 write_entries-requires-clause-lines g c =
     let h = c.requires.holds in
-    let tells = rw c.in-Ok.is at (c.records_of.ensures h.packets h.segments h.taken h.holds) in
+    let tells = rw c.in-Ok.is at (c.records_of.ensures.told h.packets h.segments h.taken h.holds) in
     subst (λ (es : List Entry). AllByRecursion (HasLine c.args.import.now.selection.session) es) (sym c.as_slice.ensures.value)
     (have_lines c.args.import.now.selection.session c.args.import.now.within tells.connection c.in-Ok.made.entries.items c.in-Ok.made.received c.in-Ok.made.sent tells.recorded.told)
 
 pub returns : goal.returns
 returns g c = λ packets segments taken holds.
-    let tells = rw c.in-Ok.is at (c.records_of.ensures packets segments taken holds) in
+    let tells = rw c.in-Ok.is at (c.records_of.ensures.told packets segments taken holds) in
     let (text, are_lines, written) = c.write_entries.ensures in (
       inl (record {
         connection = tells.connection;

@@ -1,6 +1,5 @@
-use Rattle.std.proofs.Common.{◌∙◌, IsTrue, ap, map, refl, sym}
-use Rattle.bgp_judge.specs.Ends.{end_value}
-use Rattle.bgp_judge.proofs.Verdicts.{empty, map_none, no_end}
+use Rattle.std.proofs.Common.{subst}
+use Rattle.bgp_judge.specs.Verdict.{IsVerdict}
 use Rattle.bgp_explain.specs.Progress.{AreSaidBy}
 use Rattle.bgp_explain.proofs.Keeping.{no_for, no_is, none_yet, some_stop, unfinished_for}
 use Rattle.bgp_explain.proofs.so_far.Progress.conclude.Goals as goal
@@ -15,24 +14,10 @@ returns-in-Some-clause-is g c = λ records at.
       tt,
     )
 
-pub returns-then-is_some-clause-is : goal.returns-then-is_some-clause-is
-returns-then-is_some-clause-is g c = λ records at.
+pub returns-in-Unfinished-clause-is : goal.returns-in-Unfinished-clause-is
+returns-in-Unfinished-clause-is g c = λ records at.
     let so = none_yet (g.T.Tracker.stands_for c.args.tracker.now) c.args.config.now records c.args.self c.args.self.stop c.in_default.is at in (
-      (
-        λ none. c.is_some.ensures.0 c.if-is_some.true (c.as_slice.ensures.value ∙ map_none end_value c.in_ok-ends.ends.items none),
-        c.in_ok-ends.ensures c.args.config.now records so.0,
-      ),
-      refl,
-      (so.2.tally, so.2.seen),
-    )
-
-pub returns-clause-is : goal.returns-clause-is
-returns-clause-is g c = λ records at.
-    let so = none_yet (g.T.Tracker.stands_for c.args.tracker.now) c.args.config.now records c.args.self c.args.self.stop c.in_default.is at in
-    let ends = map end_value c.in_ok-ends.ends.items in
-    let none = sym c.as_slice.ensures.value ∙ empty c.as_slice.result.now
-    (λ some. let h : IsTrue c.is_some.result = c.is_some.ensures.1 some in cc) in (
-      (so.1, no_end c.args.config.now records ends (c.in_ok-ends.ensures c.args.config.now records so.0) (ap (λ v. map end_value v) none)),
+      subst (λ verdict. IsVerdict c.args.config.now records verdict) c.in-Unfinished.is (c.in_ok-verdict.ensures c.args.config.now records so.0 so.1),
       unfinished_for c.args.config.now records g.row.A.Denot c.unfinished-reason.result
           (c.unfinished-reason.ensures records so.0 (record { told = so.2.told; sending = so.2.sending; last_message = so.2.last_message })),
       tt,

@@ -1,0 +1,92 @@
+-- What a verdict on an end is worth.
+use Rattle.std.proofs.Common.{◌≡◌, Bool, true, false, IsTrue, ℕ, List, Option, None, option_map, inl, inr, refl, reverse, sym, subst}
+use Rattle.bgp_prefix.specs.Shown.{ShownRecord}
+use Rattle.bgp_prefix.specs.declared.session.Session.{Session}
+use Rattle.bgp_open.specs.Open.{OpenFields, open_of}
+use Rattle.streams.specs.declared.connection.Connection.{Connection}
+use Rattle.streams.specs.declared.connection.Opening.{Opening}
+use Rattle.streams.specs.declared.passed.Side.{Side}
+use Rattle.bgp_judge.specs.Verdict.{No}
+use Rattle.bgp_recording.specs.Captured.{records_of}
+use Rattle.bgp_import.specs.ListText.{other_side}
+use Rattle.bgp_check.specs.Answered.{AnswerValue, IsAnswerTo, JudgedAs, NoConfigurationExplains}
+use Rattle.bgp_check.specs.Configurations.{IsOf}
+use Rattle.bgp_check.specs.NotJudged.{IsWhyNot, SendsSome, why_not}
+use Rattle.bgp_check.specs.Over.{HasVerdictOver}
+use Rattle.bgp_check.specs.WidestMade.{IsFaultless}
+use Rattle.bgp_parts.proofs.OneOwnOpen.{one_own}
+use Rattle.bgp_judge_line.specs.Asked.{asked_of}
+use Rattle.bgp_judge_line.specs.declared.options.Asked.{Asked}
+use Rattle.streams.specs.Connections.{numbered}
+use Rattle.bgp_check_tool.specs.declared.options.CheckOptions.{CheckOptions}
+use Rattle.bgp_check_tool.specs.Headline.{IsToldOfSide, NoConfigurationHasARun, NothingIsVacuous, ToldNoHasNoRun, VerdictIsOverAll}
+use Rattle.bgp_check_tool.specs.Seen.{seen_from, session_from}
+use Rattle.bgp_check_tool.specs.Told.{EndTold, IsEndTold}
+use Rattle.bgp_check_tool.proofs.Stretch.{stretch_of}
+
+pub over_all : VerdictIsOverAll
+over_all options asked session opening connection side told number peer under verdict own end is has faultless =
+    let its = session_from side session in
+    let records = records_of end.entries in
+    let answer : IsAnswerTo its records (JudgedAs number peer under verdict) = subst (λ (a : AnswerValue). IsAnswerTo its records a) is end.answers in
+    let stretch = stretch_of end.framings options.within (seen_from side connection) end.entries end.received_unshown end.sent_unshown end.made.recorded.told in
+    let same = one_own records own answer.own has answer.has_own in
+    subst (λ (o : Option (List ℕ)). HasVerdictOver (IsOf its o) records verdict) (sym same)
+    (answer.over stretch (subst (λ (o : Option (List ℕ)). IsFaultless o) same faultless))
+
+pub no_run : NoConfigurationExplains → NoConfigurationHasARun
+no_run law options asked session opening connection side told number peer under count own config end is has of =
+    let its = session_from side session in
+    let records = records_of end.entries in
+    let answer : IsAnswerTo its records (JudgedAs number peer under (No count)) = subst (λ (a : AnswerValue). IsAnswerTo its records a) is end.answers in
+    let stretch = stretch_of end.framings options.within (seen_from side connection) end.entries end.received_unshown end.sent_unshown end.made.recorded.told in
+    law its records number peer under count own config stretch answer has of
+
+sends_by : (sends extended : Bool) (own told : Option OpenFields) (confederated : Bool) → None ≡ why_not sends extended own told confederated → IsTrue sends
+sends_by false extended own told confederated is = let k : ⊥ = cc in absurd k
+sends_by true extended own told confederated is = refl
+
+sends_some : (records : List ShownRecord) → IsWhyNot records None → SendsSome records
+sends_some records none = none.is_sends.0 (sends_by none.sends none.extended (option_map open_of none.own) none.told none.confederated none.is_why)
+
+pub not_vacuous : NothingIsVacuous
+not_vacuous options asked session opening connection side told number peer under verdict end is =
+    let its = session_from side session in
+    let records = records_of end.entries in
+    let answer : IsAnswerTo its records (JudgedAs number peer under verdict) = subst (λ (a : AnswerValue). IsAnswerTo its records a) is end.answers in (
+      stretch_of end.framings options.within (seen_from side connection) end.entries end.received_unshown end.sent_unshown end.made.recorded.told,
+      sends_some records answer.none,
+    )
+
+-- ---- of a no that is told of a recording
+
+pub side_told : (options : CheckOptions) (asked : Side → Asked) (session : Session) (opening : Opening) (connection : Connection) (opener other told : EndTold) (side : Side)
+    → IsEndTold options (asked opening.opened_by) session opening connection opening.opened_by opener
+    → IsEndTold options (asked (other_side opening.opened_by)) session opening connection (other_side opening.opened_by) other
+    → IsToldOfSide opening opener other side told → IsEndTold options (asked side) session opening connection side told
+side_told options asked session opening connection opener other told side is_opener is_other (inl (here, same)) =
+    subst (λ (s : Side). IsEndTold options (asked s) session opening connection s told) (sym here)
+    (subst (λ (t : EndTold). IsEndTold options (asked opening.opened_by) session opening connection opening.opened_by t) (sym same) is_opener)
+side_told options asked session opening connection opener other told side is_opener is_other (inr (here, same)) =
+    subst (λ (s : Side). IsEndTold options (asked s) session opening connection s told) (sym here)
+    (subst (λ (t : EndTold). IsEndTold options (asked (other_side opening.opened_by)) session opening connection (other_side opening.opened_by) t) (sym same) is_other)
+
+pub told_no : NoConfigurationExplains → ToldNoHasNoRun
+told_no law options last_packet place packets session opening first second opener other told side number peer under count block of_side is =
+    let both = block.is_block.2 in
+    let asked = λ (s : Side). asked_of options.port options.within session (numbered (reverse block.segments)) opening s in
+    let end = side_told options asked session opening both.connection opener other told side both.is_opener both.is_other of_side in
+    record {
+      addresses = block.addresses;
+      segments = block.segments;
+      has = block.has;
+      is_session = block.is_session;
+      connection = both.connection;
+      chosen = both.chosen;
+      entries = end.entries;
+      framings = end.framings;
+      received_unshown = end.received_unshown;
+      sent_unshown = end.sent_unshown;
+      made = end.made;
+      none = λ own config has of. (no_run law options (asked side) session opening both.connection side told number peer under count own config end is has of).0;
+    }

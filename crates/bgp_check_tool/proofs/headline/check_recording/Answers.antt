@@ -1,0 +1,24 @@
+use Rattle.bgp_check_tool.specs.Judging.{options_by}
+use Rattle.bgp_connections.specs.Reading.{looked_at}
+use Rattle.bgp_check_tool.proofs.Printed.{all_as, all_true}
+use Rattle.bgp_check_tool.proofs.headline.check_recording.Goals as goal
+
+pub returns-clause-no : goal.returns-clause-no
+returns-clause-no g c =
+    let checks = c.check_recording.ensures in
+    let options = c.args.options.now in record {
+      packets = checks.packets;
+      short = checks.short;
+      stopped = checks.stopped;
+      read = checks.read;
+      blocks = checks.blocks;
+      noes = all_as checks.stopped options checks.packets (looked_at checks.packets checks.stopped) checks.blocks
+          (all_true c.no_configuration_explains_a_no.ensures c.a_verdict_holds_under_its_configuration.ensures (options_by checks.stopped options) checks.packets
+          (looked_at checks.packets checks.stopped) checks.blocks checks.told);
+      lacking = checks.lacking;
+      tally = checks.tally;
+      written = checks.written;
+    }
+
+pub returns-clause-all : goal.returns-clause-all
+returns-clause-all g c = c.check_recording.ensures

@@ -1,0 +1,160 @@
+-- What the lines of an end are worth: a verdict that is printed of a recording.
+use Rattle.std.specs.Prelude.{◌≡◌, ◌+◌, ◌++◌, ℕ, Bool, List, Option, Some, codes, reverse, take}
+use Rattle.std.specs.List.{AllByRecursion, slice_get}
+use Rattle.packets.specs.Packet.{Recorded}
+use Rattle.bgp_prefix.specs.declared.session.Session.{Session}
+use Rattle.bgp_open.specs.declared.config.Config.{Config}
+use Rattle.bgp_machine.specs.Run.{Begins}
+use Rattle.bgp_judge.specs.Verdict.{VerdictValue}
+use Rattle.segments.specs.declared.found.Addresses.{Addresses}
+use Rattle.streams.specs.Choice.{IsAnswered}
+use Rattle.streams.specs.Connections.{numbered}
+use Rattle.streams.specs.Passed.{Segment}
+use Rattle.streams.specs.declared.connection.Connection.{Connection}
+use Rattle.streams.specs.declared.connection.Opening.{Opening}
+use Rattle.streams.specs.declared.passed.Side.{Side}
+use Rattle.bgp_recording.specs.Captured.{records_of}
+use Rattle.bgp_recording.specs.Recorded.{IsRecorded}
+use Rattle.bgp_recording.specs.declared.entry.Entry.{Entry}
+use Rattle.bgp_recording.specs.declared.framing.Framings.{Framings}
+use Rattle.bgp_recording.specs.declared.framing.Unshown.{Unshown}
+use Rattle.bgp_import.specs.ListText.{other_side}
+use Rattle.bgp_import.specs.declared.cut_short.CutShort.{CutShort}
+use Rattle.bgp_import.specs.declared.refusal.Refusal.{Refusal}
+use Rattle.bgp_tool.specs.Answer.{IsWritten}
+use Rattle.bgp_check.specs.Answered.{JudgedAs}
+use Rattle.bgp_check.specs.Configurations.{IsOf}
+use Rattle.bgp_parts.specs.Opens.{HasOwnOpen}
+use Rattle.bgp_check.specs.Over.{HasVerdictOver}
+use Rattle.bgp_check.specs.WidestMade.{IsFaultless}
+use Rattle.bgp_check.specs.declared.peer_as.PeerAs.{PeerAs}
+use Rattle.bgp_check_text.specs.Tally.{status_of, tally_line}
+use Rattle.bgp_check_text.specs.Text.{no_text}
+use Rattle.bgp_check_text.specs.declared.tally.Tally.{Tally}
+use Rattle.bgp_connections.specs.Pairs.{session_of}
+use Rattle.bgp_connections.specs.Places.{HasConnection}
+use Rattle.bgp_connections.specs.Reading.{IsReadTo, looked_at}
+use Rattle.bgp_check_tool.specs.declared.options.CheckOptions.{CheckOptions}
+use Rattle.bgp_check_tool.specs.Blocks.{AllRefused, Block, BothEnds, OneEnd, Refused}
+use Rattle.bgp_check_tool.specs.Checking.{blocks_text, cut_note, file_text, nothing_text}
+use Rattle.bgp_check_tool.specs.Headline.{IsToldOfSide}
+use Rattle.bgp_check_tool.specs.Made.{AreOffered, with_both_offers}
+use Rattle.bgp_check_tool.specs.Places.{IsToldAt}
+use Rattle.bgp_check_tool.specs.Seen.{seen_from, session_from}
+use Rattle.bgp_check_tool.specs.Text.{told_lines}
+use Rattle.bgp_check_tool.specs.Told.{EndTold}
+
+-- ---- the records of an end
+
+-- These records show what an end sent and received over the connection, as it has it: the messages
+-- in both streams and the changes of state to which they lead, in an order that is allowed where a
+-- received message is handled so many seconds after it came at the latest. Either direction is
+-- framed by what its receiver offers, by the OPENs in records with the framing of both offers.
+pub record AreRecordsOf (within : ℕ) (connection : Connection) (entries : List Entry) : Type 0 where
+  pub framings : Framings
+  pub received_unshown : Unshown
+  pub sent_unshown : Unshown
+  pub recorded : IsRecorded framings within connection entries received_unshown sent_unshown
+  pub looked_in : List Entry
+  pub looked_in_received : Unshown
+  pub looked_in_sent : Unshown
+  pub is_looked_in : IsRecorded with_both_offers within connection looked_in looked_in_received
+      looked_in_sent
+  pub are_offered : AreOffered (records_of looked_in) framings
+
+-- The packets have the connection that was opened so, and these are records of that side of it.
+pub record HasRecords (options : CheckOptions) (packets : List Recorded) (last_packet : ℕ)
+    (session : Session) (opening : Opening) (side : Side) (entries : List Entry) : Type 0 where
+  pub addresses : Addresses
+  pub segments : List Segment
+  pub has : HasConnection options.port packets addresses segments opening
+  pub is_session : session ≡ session_of addresses
+  pub connection : Connection
+  pub chosen : IsAnswered (Some opening.number) last_packet (numbered (reverse segments))
+      connection
+  pub are_records : AreRecordsOf options.within (seen_from side connection) entries
+
+-- ---- a line that begins with `no`
+
+-- the lines of an end begin so
+abbrev pub BeginsWithNo : Bool → EndTold → Type 0
+BeginsWithNo routes told = (rest : List ℕ) × (told_lines routes told ≡ codes "no " ++ rest)
+
+-- They name a record of that side, and the packet that shows it. Up to that record none of its
+-- records are shown by a run under a configuration under which the OPEN that it sent is its own;
+-- nor are all of them.
+pub record IsTrueNo (options : CheckOptions) (packets : List Recorded) (last_packet : ℕ)
+    (session : Session) (opening : Opening) (side : Side) (told : EndTold) : Type 0 where
+  pub entries : List Entry
+  pub has_records : HasRecords options packets last_packet session opening side entries
+  pub count : ℕ
+  pub impossible : Entry
+  pub stands : slice_get entries count ≡ Some impossible
+  pub rest : List ℕ
+  pub named : told_lines options.routes told ≡ no_text count (Some impossible.packet) ++ rest
+  pub none : (own : Option (List ℕ)) (config : Config) → HasOwnOpen (records_of entries) own
+      → IsOf (session_from side session) own config
+      → (¬ Begins config (take (count + 1) (records_of entries)))
+      × (¬ Begins config (records_of entries))
+
+-- so it is of both ends of a connection, if their lines begin so
+abbrev pub NoesAreTrue : CheckOptions → List Recorded → ℕ → Block → Type 0
+NoesAreTrue options packets last_packet (BothEnds session opening first second opener other) =
+    (BeginsWithNo options.routes opener
+    → IsTrueNo options packets last_packet session opening opening.opened_by opener)
+    × (BeginsWithNo options.routes other
+    → IsTrueNo options packets last_packet session opening (other_side opening.opened_by) other)
+NoesAreTrue options packets last_packet (OneEnd session opening first second) = Unit {0}
+NoesAreTrue options packets last_packet (Refused session opening refusal) = Unit {0}
+NoesAreTrue options packets last_packet (AllRefused addresses refusal) = Unit {0}
+
+-- These packets are read of the source. What is written are the blocks of their connections, in
+-- which each no is true, and behind these no line of an end.
+pub record PrintsTrueNoes {S T : Type 0} (gives : S → S → List ℕ → Type 0) (has_ended : S → Bool)
+    (takes : T → T → List ℕ → Type 0) (failures : T → ℕ) (options : CheckOptions)
+    (source source' : S) (sink sink' : T) (status : ℕ) (cut_short : Option CutShort) : Type 0
+  where
+    pub packets : List Recorded
+    pub short : Bool
+    pub stopped : Option Refusal
+    pub read : IsReadTo gives has_ended source source' packets short stopped
+    pub blocks : List (ℕ × Block)
+    pub noes : AllByRecursion
+        (λ (b : ℕ × Block). NoesAreTrue options packets (looked_at packets stopped) b.1) blocks
+    pub lacking : Option Refusal
+    pub tally : Tally
+    pub written : IsWritten takes failures
+        (blocks_text options.routes blocks
+        ++ (file_text stopped ++ (file_text lacking ++ (cut_note cut_short
+        ++ (nothing_text options.port tally ++ tally_line tally)))))
+        (status_of tally) sink sink' status
+
+-- ---- the laws
+
+-- The lines of an end of a recording begin with `no` only if no run shows its records.
+abbrev pub ToldNoesAreTrue : Type 0
+ToldNoesAreTrue =
+    (options : CheckOptions) (last_packet place : ℕ) (packets : List Recorded) (block : Block)
+    → IsToldAt options packets last_packet place block
+    → NoesAreTrue options packets last_packet block
+
+-- The verdict on that side's records is this one over all configurations under which the OPEN that
+-- it sent is its own, where that has no own fault.
+pub record HasVerdictOverAll (options : CheckOptions) (packets : List Recorded) (last_packet : ℕ)
+    (session : Session) (opening : Opening) (side : Side) (verdict : VerdictValue) : Type 0 where
+  pub entries : List Entry
+  pub has_records : HasRecords options packets last_packet session opening side entries
+  pub over_all : (own : Option (List ℕ)) → HasOwnOpen (records_of entries) own → IsFaultless own
+      → HasVerdictOver (IsOf (session_from side session) own) (records_of entries) verdict
+
+-- So it is of each verdict in a block: of a yes, a no and an unfinished.
+abbrev pub ToldVerdictIsOverAll : Type 0
+ToldVerdictIsOverAll =
+    (options : CheckOptions) (last_packet place : ℕ) (packets : List Recorded) (session : Session)
+    (opening : Opening) (first second : ℕ) (opener other told : EndTold) (side : Side)
+    (number : Option ℕ) (peer : PeerAs) (under : Config) (verdict : VerdictValue)
+    → IsToldAt options packets last_packet place
+    (BothEnds session opening first second opener other)
+    → IsToldOfSide opening opener other side told
+    → told.answer ≡ JudgedAs number peer under verdict
+    → HasVerdictOverAll options packets last_packet session opening side verdict

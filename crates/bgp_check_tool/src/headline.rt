@@ -1,0 +1,67 @@
+//! The page to show: what checking a recording promises.
+
+ghost use Rattle.std.specs.Prelude.{◌<◌, ◌^◌};
+ghost use Rattle.bgp_check_tool.specs.Checking.{ChecksRecording};
+ghost use Rattle.bgp_check_tool.specs.Printed.{PrintsTrueNoes, ToldVerdictIsOverAll};
+
+use crate::checking::{self, CheckedRecording};
+use crate::options::CheckOptions;
+use bgp_check::{a_verdict_holds_under_its_configuration, no_configuration_explains_a_no};
+use bgp_judge::Tracker;
+use mrt::{Sink, Source};
+use std::alloc::Allocator;
+
+/// Checks each end of each connection in a recording that holds octets and one of whose ports is
+/// this one: whether its messages are those of a run of the session machine (RFC 4271, 8.2.2) under
+/// some configuration under which the OPEN that it sent is its own.
+///
+/// **The sentence.** Where the lines of an end begin with `no at record N, packet P`, no
+/// configuration under which that end's OPEN is its own has a run that shows the first N of its
+/// records, in one order that the packets allow if each message is handled within D seconds after it
+/// came (`--within`); the last of these is shown by packet P. That is the clause `no`.
+///
+/// It writes a line for each connection, in the order of their first packets, and after it what is
+/// told of both ends, first of that which opened it: the verdict, for which AS number of its peer
+/// it is told, of a yes each possible end, of a no and an unfinished why it is so, and with which
+/// options `bgp judge` gives the verdict; or why it isn't judged. Then why the file can't be read
+/// on, if it can't, that memory was refused for a list of the connections, if it was, and that the
+/// file was cut short, if it was; last how many ends there are of each verdict. It answers the exit
+/// status over all ends, the first of 5, 4, 1, 3, 2, 0 for which there is something:
+///
+/// * 0: a yes.
+/// * 1: a no.
+/// * 2: an end is unfinished: the recording stops within what it had to do.
+/// * 3: the recording or a connection is refused; or no end is judged.
+/// * 4: memory was refused.
+/// * 5: a device failed.
+///
+/// A recording holds its packets one at a time; of all connections it holds the streams, and of one
+/// end its messages and records besides.
+///
+/// It rests on the contract of [`Tracker`] alone, and so holds with every tracker; and on those of
+/// its source and sink.
+pub fn check_recording<A: Allocator + Copy, T: Tracker<A>, R: Source, W: Sink>(
+    alloc: A,
+    options: &CheckOptions,
+    source: &mut R,
+    sink: &mut W,
+) -> CheckedRecording
+    requires source { R.failures source.old < 2 ^ 63 }
+    requires sink { W.failures sink.old < 2 ^ 63 }
+    ensures no { PrintsTrueNoes R.gives R.has_ended W.takes W.failures options.now source.old
+        source.new sink.old sink.new result.status result.cut_short }
+    ensures all { ChecksRecording R.gives R.has_ended W.takes R.failures W.failures options.now
+        source.old source.new sink.old sink.new result.status result.cut_short
+        result.refusals.items result.refusal result.nothing }
+{
+    no_configuration_explains_a_no();
+    a_verdict_holds_under_its_configuration();
+    checking::check_recording::<A, T, R, W>(alloc, options, source, sink)
+}
+
+/// Law: each verdict that is told of an end in a block, a yes, a no and an unfinished, is the one
+/// over all configurations under which the OPEN that the end sent is its own, where that has no own
+/// fault; of records in an order that the packets allow.
+pub fn a_printed_verdict_is_over_all_configurations()
+    ensures { ToldVerdictIsOverAll }
+{}

@@ -1,0 +1,153 @@
+//! What the verdict on an end is, where each message may be handled as late as it can be said.
+
+ghost use Rattle.std.specs.Prelude.{◌≡◌, IfOk};
+ghost use Rattle.bgp_check.specs.Answered.{answer_value};
+ghost use Rattle.bgp_judge.specs.Verdict.{verdict_value};
+ghost use Rattle.bgp_recording.specs.Gathered.{IsClocked, IsCovered};
+ghost use Rattle.bgp_text.specs.Lines.{Writes};
+ghost use Rattle.bgp_check_tool.specs.Late.{IsAnsweredLater, IsLate, IsLateFor, IsLateOf, late_by};
+ghost use Rattle.bgp_check_tool.specs.Late.{late_name, late_note, late_over, late_text};
+
+use crate::ending::Viewed;
+use crate::making::made_of;
+use bgp_check::{Answer, check_end};
+use bgp_judge::{Tracker, Verdict};
+use bgp_text::Lines;
+use mrt::Sink;
+use std::alloc::{AllocError, Allocator};
+
+/// The greatest number of seconds after which a message can be handled at the latest.
+const GREATEST: u16 = u16::MAX;
+
+/// A verdict that is no no.
+#[derive(Clone, Copy, Debug, PartialEq, Eq)]
+pub(crate) enum Late {
+    /// A yes.
+    Yes,
+    /// An unfinished.
+    Unfinished,
+}
+
+/// What a verdict that isn't a yes becomes, where this is the one on later records: a yes, or of a
+/// no unfinished.
+fn late_over<A: Allocator>(verdict: &Verdict<A>, later: &Verdict<A>) -> Option<Late>
+    ensures { result ≡ late_over (verdict_value verdict.now) (verdict_value later.now) }
+{
+    match (verdict, later) {
+        (Verdict::Yes(_), _) => None,
+        (Verdict::No(_) | Verdict::Unfinished, Verdict::Yes(_)) => Some(Late::Yes),
+        (Verdict::No(_), Verdict::Unfinished) => Some(Late::Unfinished),
+        (Verdict::No(_), Verdict::No(_)) => None,
+        (Verdict::Unfinished, Verdict::Unfinished | Verdict::No(_)) => None,
+    }
+}
+
+/// The same, where an end may not be judged.
+fn late_by<A: Allocator>(verdict: &Verdict<A>, later: &Answer<A>) -> Option<Late>
+    ensures { result ≡ late_by (verdict_value verdict.now) (answer_value later.now) }
+{
+    match later {
+        Answer::NotJudged(_) => None,
+        Answer::Judged(judged) => late_over(verdict, &judged.verdict),
+    }
+}
+
+/// What is answered of an end whose connection is recorded so, where each message may be handled as
+/// late as it can be said.
+fn answered_later<A: Allocator + Copy, T: Tracker<A>>(
+    alloc: A,
+    viewed: &Viewed<'_>,
+) -> Result<Answer<A>, AllocError>
+    requires received { IsCovered viewed.now.connection.received }
+    requires sent { IsCovered viewed.now.connection.sent }
+    ensures { IfOk result (λ answer. IsClocked viewed.now.connection → IsAnsweredLater
+        viewed.now.session viewed.now.connection (answer_value answer)) }
+{
+    let made = made_of(alloc, &viewed.connection, GREATEST)?;
+    let records = made.recording.records.as_slice();
+    let answer = check_end::<A, T>(alloc, &viewed.session, records)?;
+    Ok(answer)
+}
+
+/// What this verdict that isn't a yes becomes, where each message may be handled as late as it can
+/// be said.
+fn late_again<A: Allocator + Copy, T: Tracker<A>>(
+    alloc: A,
+    viewed: &Viewed<'_>,
+    verdict: &Verdict<A>,
+) -> Result<Option<Late>, AllocError>
+    requires received { IsCovered viewed.now.connection.received }
+    requires sent { IsCovered viewed.now.connection.sent }
+    ensures { IfOk result (λ late. IsClocked viewed.now.connection → IsLateOf
+        viewed.now.session viewed.now.connection (verdict_value verdict.now) late) }
+{
+    let later = answered_later::<A, T>(alloc, viewed)?;
+    Ok(late_by(verdict, &later))
+}
+
+/// The same of any verdict: a yes is judged once.
+fn late_for<A: Allocator + Copy, T: Tracker<A>>(
+    alloc: A,
+    viewed: &Viewed<'_>,
+    verdict: &Verdict<A>,
+) -> Result<Option<Late>, AllocError>
+    requires received { IsCovered viewed.now.connection.received }
+    requires sent { IsCovered viewed.now.connection.sent }
+    ensures { IfOk result (λ late. IsClocked viewed.now.connection → IsLateFor
+        viewed.now.session viewed.now.connection (verdict_value verdict.now) late) }
+{
+    match verdict {
+        Verdict::Yes(_) => Ok(None),
+        Verdict::No(_) => late_again::<A, T>(alloc, viewed, verdict),
+        Verdict::Unfinished => late_again::<A, T>(alloc, viewed, verdict),
+    }
+}
+
+/// What the verdict in an answer becomes, if it isn't a yes, where each message may be handled as
+/// late as it can be said: judged once more, of records that are made so.
+pub(crate) fn late_of<A: Allocator + Copy, T: Tracker<A>>(
+    alloc: A,
+    viewed: &Viewed<'_>,
+    answer: &Answer<A>,
+) -> Result<Option<Late>, AllocError>
+    requires received { IsCovered viewed.now.connection.received }
+    requires sent { IsCovered viewed.now.connection.sent }
+    ensures { IfOk result (λ late. IsClocked viewed.now.connection → IsLate
+        viewed.now.session viewed.now.connection (answer_value answer.now) late) }
+{
+    match answer {
+        Answer::NotJudged(_) => Ok(None),
+        Answer::Judged(judged) => late_for::<A, T>(alloc, viewed, &judged.verdict),
+    }
+}
+
+/// The word of a verdict.
+fn late_name(late: Late) -> &'static str
+    ensures { result.now ≡ late_name late }
+{
+    match late {
+        Late::Yes => "yes",
+        Late::Unfinished => "unfinished",
+    }
+}
+
+/// Puts what a router may do that handles a message later than within so many seconds.
+fn put_late_note<W: Sink>(lines: &mut Lines<'_, W>, within: u16, late: Late)
+    ensures { Writes lines.old lines.new (late_note within late) }
+{
+    lines.put(b"  note a router that handles what it received more than ");
+    lines.put_decimal(within);
+    lines.put(b" s late may do this: with --within 65535 the answer is ");
+    lines.put(late_name(late).as_bytes());
+    lines.put(b"\n");
+}
+
+/// Puts that, where the verdict becomes another.
+pub(crate) fn put_late<W: Sink>(lines: &mut Lines<'_, W>, within: u16, late: Option<Late>)
+    ensures { Writes lines.old lines.new (late_text within late) }
+{
+    match late {
+        Some(late) => put_late_note(lines, within, late),
+        None => lines.put(b""),
+    }
+}

@@ -1,0 +1,3 @@
+pub mod DriveJudged
+pub mod Driving
+pub mod PairJudged

@@ -1,0 +1,3 @@
+pub mod Driven
+pub mod Speaking
+pub mod Pairing

@@ -1,6 +1,0 @@
-use Rattle.bgp_tool.proofs.Driving.{drove_on}
-use Rattle.bgp_tool.proofs.pair_end.End.take_turn.Goals as goal
-
-pub returns-clause-ok : goal.returns-clause-ok
-returns-clause-ok g c =
-    drove_on g.W.Write.contents c.args.self.now.config _ _ _ _ _ _ _ c.in_ok-heard.ensures.config c.in_ok-heard.ensures.ok c.in_ok-ticked.ensures.ok
