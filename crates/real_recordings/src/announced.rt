@@ -27,14 +27,17 @@ pub(crate) fn compare_announced<R: Print + AllocGlobal>(
 /// The sentence on the prefix that these words name: nothing where there is none.
 fn told_of(alloc: Global, words: &str) -> io::Result<String> {
     let words = words_of(alloc, words)?;
-    let note = match command_of(alloc, words.as_slice())? {
+    let Ok(
         Command::Speak {
             config,
             speaking,
             ..
-        } => announce_note(config.parts.families, &speaking),
-        _ => return Err(malformed()),
+        },
+    ) = command_of(alloc, words.as_slice())
+    else {
+        return Err(malformed());
     };
+    let note = announce_note(config.parts.families, &speaking);
     match note {
         Some(note) => Ok(format!(in alloc; "{note}")?),
         None => Ok(String::new(alloc)),
