@@ -30,3 +30,9 @@ pub no_block_lacks : (lacking : Option Refusal) (places : List ℕ) (blocks : Li
     → (lacking ≡ None) ⊎ (places ≡ []) → (lacking ≡ None) ⊎ (blocks ≡ [])
 no_block_lacks lacking places blocks are (inl calm) = inl calm
 no_block_lacks lacking places blocks are (inr empty) = inr (without_keys blocks (are ∙ empty))
+
+-- and where there is something to tell of
+pub some_block_lacks : (port : ℕ) (packets : List Recorded) (places places' : List ℕ) (lacking : Option Refusal) → places ≡ places'
+    → (lacking ≡ None) ⊎ (¬ HasAll port packets (Contains places)) → (lacking ≡ None) ⊎ (¬ HasAll port packets (Contains places'))
+some_block_lacks port packets places places' lacking same some =
+    subst (λ (ps : List ℕ). (lacking ≡ None) ⊎ (¬ HasAll port packets (Contains ps))) same some

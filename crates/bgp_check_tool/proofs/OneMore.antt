@@ -1,7 +1,7 @@
 -- Blocks are put one after another.
-use Rattle.std.proofs.Common.{◌≡◌, ◌∙◌, ◌++◌, ℕ, List, [], ◌∷◌, Option, None, Some, Result, Ok, Err, refl, sym, ap, subst, inl, inr, append-nil, append_assoc}
+use Rattle.std.proofs.Common.{◌≡◌, ◌∙◌, ◌++◌, ℕ, List, [], ◌∷◌, Option, None, Some, Result, Ok, Err, refl, sym, ap, subst, arith, inl, inr, append-nil, append_assoc}
 use Rattle.std.specs.BTreeMap.{BTreeMap, IsOrdered}
-use Rattle.std.specs.List.{AllByRecursion, flat_map}
+use Rattle.std.specs.List.{AllByRecursion, Contains, flat_map}
 use Rattle.std.specs.List.Sorted.{IsStrictlySortedBy}
 use Rattle.std.specs.Map.{keys_of}
 use Rattle.std.specs.Ordering.{nat_cmp}
@@ -30,7 +30,7 @@ use Rattle.bgp_connections.specs.declared.talks.Talks.{Talks}
 use Rattle.bgp_check_tool.specs.Checking.{PutsAll, PutsBlock, blocks_text, refusals_in, tally_from}
 use Rattle.bgp_connections.specs.Listed.{AreListed, IsListed, IsPlaceOf, ListsOne}
 use Rattle.bgp_connections.specs.Pairs.{selection_of}
-use Rattle.bgp_connections.specs.Places.{HasAll}
+use Rattle.bgp_connections.specs.Places.{HasAll, HasEach}
 use Rattle.bgp_check_tool.specs.Places.{IsToldAt}
 use Rattle.bgp_connections.specs.Talks.{HoldsEach}
 use Rattle.bgp_recording_list.specs.Firsts.{firsts_after, with_first}
@@ -159,17 +159,26 @@ all_put {T} {Z} options packets talks last_packet listed first rest lines lines'
       puts = record { blocks = front.blocks; told = front.told; are_places = whole; wrote = front.wrote; tallied = front.tallied; added = front.added };
       lacks = inl calm;
       none = inl calm;
+      some = inl calm;
       all = λ ample each. among_keys options.port packets listed (all each);
     }
 
+in_none : (place : ℕ) → Contains [] place → ⊥
+in_none place (k, within, is) = omega (arith, within)
+
+at_none : (port : ℕ) (packets : List Recorded) (q : Addresses) → HasEach port packets (Contains []) q → HasEach port packets (λ place. ⊥) q
+at_none port packets q (inl theirs) = inl record { segments = theirs.segments; taken = theirs.taken; each = λ number is. in_none _ (theirs.each number is) }
+at_none port packets q (inr refused) = absurd (in_none refused.place refused.is_place)
+
 pub none_put : {T Z : Type 0} {sink : sinks.Ghosts T} (options : CheckOptions) (packets : List Recorded) (talks : Talks Z) (last_packet : ℕ) (lines : Lines T sink) (tally : Tally)
     (firsts : List (Option Refusal)) (lacking : Option Refusal) → Writes lines lines [] → lacking ≡ Some (refusals.Memory last_packet)
-    → PutsAll options packets talks last_packet lines lines tally tally firsts firsts lacking
-none_put options packets talks last_packet lines tally firsts lacking wrote lacks = record {
+    → ¬ HasAll options.port packets (λ place. ⊥) → PutsAll options packets talks last_packet lines lines tally tally firsts firsts lacking
+none_put options packets talks last_packet lines tally firsts lacking wrote lacks few = record {
   places = [];
   rise = no_keys;
   puts = record { blocks = []; told = tt; are_places = refl; wrote = wrote; tallied = refl; added = refl };
   lacks = inr lacks;
   none = inr refl;
+  some = inr (λ all. few (λ q is. at_none options.port packets q (all q is)));
   all = λ ample each. absurd (some_none (refusals.Memory last_packet) (sym lacks ∙ ample));
 }

@@ -68,7 +68,8 @@ pub record PutsBlocks {T : Type 0} {sink : sinks.Ghosts T} (options : CheckOptio
   pub added : firsts' ≡ firsts_after firsts (refusals_in blocks)
 
 -- The blocks of these packets were put, in the order of their places; or none, where there was no
--- memory for a list of them: that memory was refused is no answer beside a block.
+-- memory for a list of them: that memory was refused is no answer beside a block, nor where there is
+-- nothing to tell of.
 pub record PutsAll {T : Type 0} {sink : sinks.Ghosts T} (options : CheckOptions)
     {Z : Type 0} (packets : List Recorded) (talks : Talks Z) (last_packet : ℕ)
     (lines lines' : Lines T sink) (tally tally' : Tally) (firsts firsts' : List (Option Refusal))
@@ -78,6 +79,7 @@ pub record PutsAll {T : Type 0} {sink : sinks.Ghosts T} (options : CheckOptions)
   pub puts : PutsBlocks options packets last_packet places lines lines' tally tally' firsts firsts'
   pub lacks : (lacking ≡ None) ⊎ (lacking ≡ Some (refusals.Memory last_packet))
   pub none : (lacking ≡ None) ⊎ (places ≡ [])
+  pub some : (lacking ≡ None) ⊎ (¬ HasAll options.port packets (Contains places))
   pub all : lacking ≡ None → HoldsEach options.port packets talks
       → HasAll options.port packets (Contains places)
 
@@ -120,9 +122,10 @@ nothing_by port tally refusal =
 -- from being read on; the source counts one failure more where that is a device that failed. Of
 -- them these blocks are told, in the order of their places: all, unless memory was refused. Then
 -- why the file can't be read on, if it can't, of which `judge` then gives no verdict; that there
--- was no memory for a list of the blocks, if there was none; that the file was cut short, if it
--- was; and last how many ends there are of each verdict. All of that was written, if the sink
--- didn't fail. Of all refusals those are answered that are the first of their number.
+-- was no memory for a list of the blocks, if there was none: then none of them is told, and there
+-- is something to tell of. Then that the file was cut short, if it was; and last how many ends
+-- there are of each verdict. All of that was written, if the sink didn't fail. Of all refusals
+-- those are answered that are the first of their number.
 pub record ChecksRecording {S T : Type 0} (gives : S → S → List ℕ → Type 0) (has_ended : S → Bool)
     (takes : T → T → List ℕ → Type 0) (source_failures : S → ℕ) (failures : T → ℕ)
     (options : CheckOptions) (source source' : S) (sink sink' : T) (status : ℕ)
@@ -143,6 +146,7 @@ pub record ChecksRecording {S T : Type 0} (gives : S → S → List ℕ → Type
       (looked_at packets stopped) b.0 b.1) blocks
   pub rise : IsStrictlySortedBy nat_cmp (keys_of blocks)
   pub none : (lacking ≡ None) ⊎ (blocks ≡ [])
+  pub some : (lacking ≡ None) ⊎ (¬ HasAll options.port packets (Contains (keys_of blocks)))
   pub all : lacking ≡ None → ¬ IsMemory stopped
       → HasAll options.port packets (Contains (keys_of blocks))
   pub tally : Tally

@@ -25,7 +25,7 @@ use bgp_text::Lines;
 use bgp_tool::hand_over;
 use mrt::{Sink, Source};
 use packets::Reader;
-use std::alloc::Allocator;
+use std::alloc::{AllocError, Allocator};
 
 /// How checking a recording ended.
 #[derive(Clone, Drop)]
@@ -97,10 +97,13 @@ fn put_all<A: Allocator + Copy, T: Tracker<A>, W: Sink>(
         counted.new.tally counted.old.refusals.items counted.new.refusals.items result }
     ensures apart { AreApart counted.new.refusals.items }
 {
-    let Ok(listed) = listed_in(alloc, talks) else {
-        return Some(Refusal::Memory {
-            packet: last_packet,
-        });
+    let listed = match listed_in(alloc, talks) {
+        Ok(listed) => listed,
+        Err(AllocError) => {
+            return Some(Refusal::Memory {
+                packet: last_packet,
+            });
+        }
     };
     for (packet, one) in &listed {
         put_listed::<A, T, W>(alloc, options, last_packet, *packet, one, lines, counted);

@@ -6,3 +6,4 @@ pub mod ReadSoFar
 pub mod ListedSoFar
 pub mod Rising
 pub mod Alone
+pub mod SomeListed

@@ -1,6 +1,6 @@
 //! What there is to tell of in a recording, in the order of packets.
 
-ghost use Rattle.std.specs.Prelude.{◌≤◌, ℕ, IfOk, List, OnOk, length, reverse};
+ghost use Rattle.std.specs.Prelude.{◌≤◌, ℕ, IfOk, List, OnErr, OnOk, length, reverse};
 ghost use Rattle.packets.specs.Packet.{Recorded};
 ghost use Rattle.streams.specs.Choice.{first_packet};
 ghost use Rattle.streams.specs.Connections.{numbered};
@@ -8,7 +8,7 @@ ghost use Rattle.streams.specs.Held.{HoldsConnections};
 ghost use Rattle.streams.specs.Passed.{Segment};
 ghost use Rattle.bgp_connections.specs.Listed.{AreListed, HasEachOf, IsPlaceOf, KeepsPlaces};
 ghost use Rattle.bgp_connections.specs.Pairs.{AreOrdered};
-ghost use Rattle.bgp_connections.specs.Places.{HasAll, HasEach, connection_in};
+ghost use Rattle.bgp_connections.specs.Places.{HasAll, HasEach, IsNumber, connection_in};
 ghost use Rattle.bgp_connections.specs.Talks.{HoldsAll, HoldsEach, HoldsSome, HoldsTalk};
 
 use crate::talk::Talk;
@@ -67,6 +67,9 @@ fn add_connections<'a, A: Allocator + Copy>(
     ensures adds { OnOk result ((segments : List Segment)
         → HoldsConnections (reverse segments) talk.entry.now.connections
         → HasEachOf segments listed.new) }
+    ensures some { OnErr result ((segments : List Segment)
+        → HoldsConnections (reverse segments) talk.entry.now.connections
+        → (number : ℕ) × IsNumber segments number) }
 {
     for index in 0..talk.connections.count() {
         add_connection(listed, addresses, talk, index + 1)?;
@@ -87,6 +90,9 @@ fn add_talk<'a, A: Allocator + Copy>(
     ensures adds { OnOk result ((port : ℕ) (packets : List Recorded)
         → HoldsTalk port packets addresses talk.entry.now
         → HasEach port packets (IsPlaceOf listed.new) addresses) }
+    ensures some { OnErr result ((port : ℕ) (packets : List Recorded)
+        → HoldsTalk port packets addresses talk.entry.now
+        → ¬ HasEach port packets (λ place. ⊥) addresses) }
 {
     match talk.refusal {
         Some((fault, packet)) => {
@@ -99,6 +105,8 @@ fn add_talk<'a, A: Allocator + Copy>(
 
 /// All that there is to tell of, by the packets at which it stands: a connection at its first one,
 /// two addresses of whose connections none can be told at the one that is refused.
+///
+/// `AllocError` is answered where memory was refused for something that there is to tell of.
 pub fn listed_in<'a, A: Allocator + Copy>(
     alloc: A,
     talks: &'a Talks<A>,
@@ -107,6 +115,8 @@ pub fn listed_in<'a, A: Allocator + Copy>(
         → IfOk result (λ listed. AreListed port packets listed.entries) }
     ensures all { (port : ℕ) (packets : List Recorded) → HoldsEach port packets talks.entry.now
         → IfOk result (λ listed. HasAll port packets (IsPlaceOf listed)) }
+    ensures some { (port : ℕ) (packets : List Recorded) → HoldsSome port packets talks.entry.now
+        → OnErr result (¬ HasAll port packets (λ place. ⊥)) }
 {
     let mut listed = BTreeMap::new(alloc);
     for (addresses, talk) in &talks.by_addresses {

@@ -16,7 +16,7 @@ use Rattle.bgp_connections.specs.Talks.{HoldsEach, HoldsSome}
 use Rattle.bgp_import.specs.declared.refusal.Refusal.{Refusal}
 use Rattle.bgp_import.specs.declared.refusal.Refusal.TheVariants as refusals
 use Rattle.bgp_check_tool.proofs.Texts.{coded_as, told_as}
-use Rattle.bgp_check_tool.proofs.AllTold.{as_many, no_block_lacks, nothing_lacks}
+use Rattle.bgp_check_tool.proofs.AllTold.{as_many, no_block_lacks, nothing_lacks, some_block_lacks}
 use Rattle.bgp_check_tool.proofs.checking.check_recording.Goals as goal
 
 pub take_all-requires-clause-empty : goal.take_all-requires-clause-empty
@@ -59,6 +59,7 @@ returns g c =
       told = as_many (options_by c.err-stopped.result options) _ _ taken.packets puts.blocks last puts.told;
       rise = subst (λ (ks : List ℕ). IsStrictlySortedBy nat_cmp ks) (sym puts.are_places) all.rise;
       none = no_block_lacks c.put_all-lacking.result all.places puts.blocks puts.are_places all.none;
+      some = some_block_lacks c.args.options.now.port taken.packets all.places (keys_of puts.blocks) c.put_all-lacking.result (sym puts.are_places) all.some;
       all = nothing_lacks c.args.options.now.port taken.packets all.places (keys_of puts.blocks) _ c.put_all-lacking.result c.err-stopped.result (sym puts.are_places)
           (λ ample. taken.all (subst (λ (s : Option Refusal). ¬ IsMemory s) same ample)) all.all;
       tally = c.put_file-2.new.counted.tally;

@@ -32,10 +32,11 @@ loop-packet-preserved g c =
       apart = c.put_listed.ensures.apart;
     }
 
-pub returns-in_default-clause-puts : goal.returns-in_default-clause-puts
-returns-in_default-clause-puts g c = λ packets right.
+pub returns-in-Err-clause-puts : goal.returns-in-Err-clause-puts
+returns-in-Err-clause-puts g c = λ packets right.
     none_put c.args.options.now packets c.args.talks.now c.args.last_packet c.args.lines.now c.args.counted.now.tally c.args.counted.now.refusals.items _
     (nothing_yet g.W.Sink g.met.W.Sink.nothing c.args.lines.now.outlet c.args.lines.now.held.items) refl
+    (c.in-Err.ensures.some c.args.options.now.port packets right)
 
 pub returns-clause-puts : goal.returns-clause-puts
 returns-clause-puts g c = λ packets right.

@@ -1,6 +1,7 @@
 use Rattle.std.proofs.Common.{rules}
 use Rattle.std.proofs.lemmas.Map.Iter.{btree_map_turn}
 use Rattle.std.specs.Map.Iter.{deref_pair}
+use Rattle.packets.proofs.Exits.{on_err}
 use Rattle.bgp_connections.proofs.AddressOrder.{pairs_total}
 use Rattle.bgp_connections.proofs.ListedSoFar.{all_through, gone_through}
 use Rattle.bgp_connections.proofs.listed.listed_in.Goals as goal
@@ -24,3 +25,10 @@ loop-addresses-preserved g c =
 pub returns-clause-all : goal.returns-clause-all
 returns-clause-all g c = λ port packets h q o.
     all_through port packets c.args.talks.now c.loop-addresses.listed q c.loop-addresses.addresses-iterator c.in-None.ensures.steps.0 h o (c.loop-addresses.invariant.all port packets h q o)
+
+pub returns-in_err-add_talk-clause-some : goal.returns-in_err-add_talk-clause-some
+returns-in_err-add_talk-clause-some g c = λ port packets right.
+    let turn = btree_map_turn deref_pair c.loop-addresses.yielded c.into_iter-addresses-iterator.result c.loop-addresses.addresses-iterator c.next.new.self c.next.result
+    (c.in-Some.addresses, c.in-Some.talk) c.loop-addresses.yielded_by c.in-Some.is c.next.ensures.steps pairs_total c.args.talks.now.by_addresses (search rules) (search rules) in
+    let held = right.each c.in-Some.addresses.now c.in-Some.talk.now turn.1 in
+    on_err c.from_residual.result _ (λ all. c.in_err-add_talk.ensures.some port packets held.1 (all c.in-Some.addresses.now held.0))
