@@ -1,5 +1,5 @@
 -- What the lines of an end are worth.
-use Rattle.std.proofs.Common.{◌≡◌, ◌∙◌, ◌+◌, ◌<◌, ◌++◌, ℕ, zero, suc, Bool, List, [], ◌∷◌, Option, None, Some, codes, option_map, refl, reverse, sym, ap, subst, arith, length, map, take}
+use Rattle.std.proofs.Common.{◌≡◌, ◌∙◌, ◌+◌, ◌<◌, ◌++◌, ℕ, zero, suc, Bool, List, [], ◌∷◌, Option, None, Some, codes, option_map, refl, reverse, sym, ap, append_assoc, subst, arith, length, map, take}
 use Rattle.std.specs.List.{AllByRecursion, slice_get}
 use Rattle.packets.specs.Packet.{Recorded}
 use Rattle.bgp_prefix.specs.Shown.{ShownRecord}
@@ -14,12 +14,14 @@ use Rattle.segments.specs.declared.found.Endpoint.{Endpoint}
 use Rattle.bgp_judge.specs.Verdict.{HasVerdict, No, Unfinished, VerdictValue, Yes}
 use Rattle.bgp_recording.specs.Captured.{records_of}
 use Rattle.bgp_recording.specs.declared.entry.Entry.{Entry}
-use Rattle.bgp_import.specs.ListText.{other_side}
+use Rattle.bgp_import.specs.ListText.{end_of, end_text, other_side}
 use Rattle.bgp_import.specs.declared.refusal.Refusal.{Refusal as WhyRefused}
-use Rattle.bgp_check.specs.Answered.{AnswerValue, HasItsVerdict, IsAnswerTo, IsJudged, JudgedAs, NoConfigurationExplains, Unjudged}
+use Rattle.bgp_check.specs.Answered.{AnswerValue, HasFault, HasItsVerdict, IsAnswerTo, IsJudged, JudgedAs, NoConfigurationExplains, Unjudged}
 use Rattle.bgp_check.specs.declared.not_judged.NotJudged.{NotJudged}
 use Rattle.bgp_check.specs.declared.peer_as.PeerAs.{PeerAs}
-use Rattle.bgp_check_text.specs.Text.{no_text}
+use Rattle.bgp_check_text.specs.Text.{as_text, no_text, peer_text}
+use Rattle.bgp_parts.proofs.OneOwnOpen.{one_own}
+use Rattle.bgp_parts.specs.Opens.{HasOwnOpen}
 use Rattle.bgp_judge_line.specs.Asked.{asked_of}
 use Rattle.bgp_judge_line.specs.declared.options.Asked.{Asked}
 use Rattle.bgp_check_tool.specs.declared.options.CheckOptions.{CheckOptions}
@@ -29,7 +31,7 @@ use Rattle.bgp_check_tool.specs.Judging.{options_by}
 use Rattle.bgp_check_tool.specs.Places.{IsToldAt, IsToldOfOne}
 use Rattle.bgp_check_tool.specs.Printed.{BeginsWithNo, HasRecords, IsTrueNo, NoesAreTrue, ToldNoesAreTrue, ToldVerdictIsOverAll}
 use Rattle.bgp_check_tool.specs.Seen.{seen_from, session_from}
-use Rattle.bgp_check_tool.specs.Text.{answer_text, not_judged_line, told_lines, verdict_text}
+use Rattle.bgp_check_tool.specs.Text.{answer_text, not_judged_line, told_lines, verdict_text, whose_text}
 use Rattle.bgp_check_tool.specs.Told.{EndTold, IsEndTold, packet_of}
 use Rattle.bgp_check_tool.proofs.Verdicts.{no_run, over_all, side_told}
 
@@ -96,21 +98,27 @@ stands_at (entry ∷ entries) (suc count) within =
     let later = stands_at entries count (omega (arith, within)) in
     record { impossible = later.impossible; is = later.is }
 
--- the text of a no begins with its record and its packet
-record Names (text : List ℕ) (count : ℕ) (packet : Option ℕ) : Type 0 where
+-- the text of a no begins with its record and its packet, and then the end
+record Names (text : List ℕ) (count : ℕ) (packet : Option ℕ) (end : Endpoint) : Type 0 where
   pub rest : List ℕ
-  pub named : text ≡ no_text count packet ++ rest
+  pub named : text ≡ no_text count packet ++ (codes ": " ++ (end_text end ++ rest))
 
-names : (count : ℕ) (packet : Option ℕ) (rest : List ℕ) → Names (no_text count packet ++ rest) count packet
-names count packet rest = record { rest = rest; named = refl }
+names : (count : ℕ) (packet : Option ℕ) (end : Endpoint) (number : Option ℕ) (peer : PeerAs) (rest : List ℕ) → Names (no_text count packet ++ (whose_text end number peer ++ rest)) count packet end
+unfolding whose_text
+names count packet end number peer rest =
+    let tail = as_text number ++ (codes ", peer as " ++ (peer_text peer ++ codes "\n")) in
+    record {
+      rest = tail ++ rest;
+      named = ap (λ (text : List ℕ). no_text count packet ++ (codes ": " ++ text)) (append_assoc (end_text end) tail rest);
+    }
 
-no_names : (routes : Bool) (told : EndTold) (number : Option ℕ) (peer : PeerAs) (count : ℕ) → Names (verdict_text routes told number peer (No count)) count told.packet
-no_names routes told number peer count = names count told.packet _
+no_names : (routes : Bool) (told : EndTold) (number : Option ℕ) (peer : PeerAs) (count : ℕ) → Names (verdict_text routes told number peer (No count)) count told.packet told.end
+no_names routes told number peer count = names count told.packet told.end number peer _
 
 told_names : (routes : Bool) (told : EndTold) (number : Option ℕ) (peer : PeerAs) (under : Config) (count : ℕ) → told.answer ≡ JudgedAs number peer under (No count)
-    → Names (told_lines routes told) count told.packet
+    → Names (told_lines routes told) count told.packet told.end
 told_names routes told number peer under count is =
-    subst (λ (a : AnswerValue). Names (answer_text routes told a) count told.packet) (sym is) (no_names routes told number peer count)
+    subst (λ (a : AnswerValue). Names (answer_text routes told a) count told.packet told.end) (sym is) (no_names routes told number peer count)
 
 -- ---- the records of an end that is told
 
@@ -153,7 +161,9 @@ module _ (options : CheckOptions) (packets : List Recorded) (last_packet place :
       let stands = stands_at end.entries no.count holds.0 in
       let packet : told.packet ≡ Some stands.impossible.packet =
       end.is_packet ∙ ap (λ (a : AnswerValue). packet_of a end.entries) no.is ∙ ap (λ (e : Option Entry). option_map (λ (entry : Entry). entry.packet) e) stands.is in
-      let named = subst (λ (p : Option ℕ). Names (told_lines options.routes told) no.count p) packet (told_names options.routes told no.number no.peer no.under no.count no.is) in
+      let names = told_names options.routes told no.number no.peer no.under no.count no.is in
+      let named = subst (λ (e : Endpoint). Names (told_lines options.routes told) no.count (Some stands.impossible.packet) e) end.is_end
+      (subst (λ (p : Option ℕ). Names (told_lines options.routes told) no.count p told.end) packet names) in
       record {
         entries = end.entries;
         has_records = records_so side told end;
@@ -163,6 +173,10 @@ module _ (options : CheckOptions) (packets : List Recorded) (last_packet place :
         rest = named.rest;
         named = named.named;
         none = λ own config has of. no_run explains options (asked side) session opening both.connection side told no.number no.peer no.under no.count own config end no.is has of;
+        possible = λ own has faultless. (over_all options (asked side) session opening both.connection side told no.number no.peer no.under (No no.count) own end no.is has faultless).1;
+        by_open = λ own fault has is_fault n within.
+            let same = one_own records own answer.own has answer.has_own in
+            answer.by_open fault (subst (λ (o : Option (List ℕ)). HasFault o fault) same is_fault) n (subst (λ (o : Option (List ℕ)). HasOwnOpen (take n records) o) same within);
       }
 
 pub noes_are_true : NoConfigurationExplains → HasItsVerdict → ToldNoesAreTrue
@@ -220,6 +234,8 @@ true_as stopped options packets last_packet session opening side told it = recor
   rest = it.rest;
   named = it.named;
   none = it.none;
+  possible = it.possible;
+  by_open = it.by_open;
 }
 
 noes_as : (stopped : Option WhyRefused) (options : CheckOptions) (packets : List Recorded) (last_packet : ℕ) (block : Block)

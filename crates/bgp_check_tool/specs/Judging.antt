@@ -2,7 +2,6 @@
 use Rattle.std.specs.Prelude.{◌≡◌, Bool, true, false, ℕ, List, [], Option, None, Some}
 use Rattle.bgp_open.specs.declared.config.Config.{Config}
 use Rattle.streams.specs.declared.connection.Connection.{Connection}
-use Rattle.bgp_judge.specs.Verdict.{VerdictValue}
 use Rattle.bgp_recording.specs.Captured.{records_of}
 use Rattle.bgp_recording.specs.declared.entry.Entry.{Entry}
 use Rattle.bgp_recording.specs.declared.framing.Unshown.{Unshown}

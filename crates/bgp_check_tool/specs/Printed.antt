@@ -1,5 +1,5 @@
 -- What the lines of an end are worth: a verdict that is printed of a recording.
-use Rattle.std.specs.Prelude.{◌≡◌, ◌+◌, ◌++◌, ℕ, Bool, List, Option, Some, codes, reverse, take}
+use Rattle.std.specs.Prelude.{◌≡◌, ◌<◌, ◌+◌, ◌++◌, ℕ, Bool, List, Option, Some, codes, reverse, take}
 use Rattle.std.specs.List.{AllByRecursion, slice_get}
 use Rattle.packets.specs.Packet.{Recorded}
 use Rattle.bgp_prefix.specs.declared.session.Session.{Session}
@@ -18,15 +18,16 @@ use Rattle.bgp_recording.specs.Recorded.{IsRecorded}
 use Rattle.bgp_recording.specs.declared.entry.Entry.{Entry}
 use Rattle.bgp_recording.specs.declared.framing.Framings.{Framings}
 use Rattle.bgp_recording.specs.declared.framing.Unshown.{Unshown}
-use Rattle.bgp_import.specs.ListText.{other_side}
+use Rattle.bgp_import.specs.ListText.{end_of, end_text, other_side}
 use Rattle.bgp_import.specs.declared.cut_short.CutShort.{CutShort}
 use Rattle.bgp_import.specs.declared.refusal.Refusal.{Refusal}
 use Rattle.bgp_tool.specs.Answer.{IsWritten}
-use Rattle.bgp_check.specs.Answered.{JudgedAs}
+use Rattle.bgp_check.specs.Answered.{HasFault, JudgedAs}
 use Rattle.bgp_check.specs.Configurations.{IsOf}
 use Rattle.bgp_parts.specs.Opens.{HasOwnOpen}
 use Rattle.bgp_check.specs.Over.{HasVerdictOver}
 use Rattle.bgp_check.specs.WidestMade.{IsFaultless}
+use Rattle.bgp_check.specs.declared.own_fault.OwnFault.{OwnFault}
 use Rattle.bgp_check.specs.declared.peer_as.PeerAs.{PeerAs}
 use Rattle.bgp_check_text.specs.Tally.{status_of, tally_line}
 use Rattle.bgp_check_text.specs.Text.{no_text}
@@ -38,6 +39,7 @@ use Rattle.bgp_check_tool.specs.declared.options.CheckOptions.{CheckOptions}
 use Rattle.bgp_check_tool.specs.Blocks.{AllRefused, Block, BothEnds, OneEnd, Refused}
 use Rattle.bgp_check_tool.specs.Checking.{blocks_text, cut_note, file_text, nothing_text}
 use Rattle.bgp_check_tool.specs.Headline.{IsToldOfSide}
+use Rattle.bgp_check_tool.specs.Judging.{options_by}
 use Rattle.bgp_check_tool.specs.Made.{AreOffered, with_both_offers}
 use Rattle.bgp_check_tool.specs.Places.{IsToldAt}
 use Rattle.bgp_check_tool.specs.Seen.{seen_from, session_from}
@@ -80,9 +82,11 @@ pub record HasRecords (options : CheckOptions) (packets : List Recorded) (last_p
 abbrev pub BeginsWithNo : Bool → EndTold → Type 0
 BeginsWithNo routes told = (rest : List ℕ) × (told_lines routes told ≡ codes "no " ++ rest)
 
--- They name a record of that side, and the packet that shows it. Up to that record none of its
--- records are shown by a run under a configuration under which the OPEN that it sent is its own;
--- nor are all of them.
+-- They name this end, a record of it, and the packet that shows that record. No run under a
+-- configuration under which the OPEN that the end sent is its own shows the records up to that one;
+-- nor all of them. Some run under one of these configurations shows those before it, if there is
+-- such a configuration: it is the record at which no run goes on. If there is none, for a fault of
+-- the OPEN, no record behind that OPEN is named. All of that is said of one order of the records.
 pub record IsTrueNo (options : CheckOptions) (packets : List Recorded) (last_packet : ℕ)
     (session : Session) (opening : Opening) (side : Side) (told : EndTold) : Type 0 where
   pub entries : List Entry
@@ -91,11 +95,18 @@ pub record IsTrueNo (options : CheckOptions) (packets : List Recorded) (last_pac
   pub impossible : Entry
   pub stands : slice_get entries count ≡ Some impossible
   pub rest : List ℕ
-  pub named : told_lines options.routes told ≡ no_text count (Some impossible.packet) ++ rest
+  pub named : told_lines options.routes told
+      ≡ no_text count (Some impossible.packet)
+      ++ (codes ": " ++ (end_text (end_of side session opening) ++ rest))
   pub none : (own : Option (List ℕ)) (config : Config) → HasOwnOpen (records_of entries) own
       → IsOf (session_from side session) own config
       → (¬ Begins config (take (count + 1) (records_of entries)))
       × (¬ Begins config (records_of entries))
+  pub possible : (own : Option (List ℕ)) → HasOwnOpen (records_of entries) own → IsFaultless own
+      → (config : Config) × IsOf (session_from side session) own config
+      × Begins config (take count (records_of entries))
+  pub by_open : (own : Option (List ℕ)) (fault : OwnFault) → HasOwnOpen (records_of entries) own
+      → HasFault own fault → (n : ℕ) → HasOwnOpen (take n (records_of entries)) own → count < n
 
 -- so it is of both ends of a connection, if their lines begin so
 abbrev pub NoesAreTrue : CheckOptions → List Recorded → ℕ → Block → Type 0
@@ -108,8 +119,9 @@ NoesAreTrue options packets last_packet (OneEnd session opening first second) = 
 NoesAreTrue options packets last_packet (Refused session opening refusal) = Unit {0}
 NoesAreTrue options packets last_packet (AllRefused addresses refusal) = Unit {0}
 
--- These packets are read of the source. What is written are the blocks of their connections, in
--- which each no is true, and behind these no line of an end.
+-- These packets are read of the source. What is written are blocks, each of which is told of the
+-- packets where it stands: so each line that begins with `no` is that of an end. In these each such
+-- line is true. Behind them stands no line of an end.
 pub record PrintsTrueNoes {S T : Type 0} (gives : S → S → List ℕ → Type 0) (has_ended : S → Bool)
     (takes : T → T → List ℕ → Type 0) (failures : T → ℕ) (options : CheckOptions)
     (source source' : S) (sink sink' : T) (status : ℕ) (cut_short : Option CutShort) : Type 0
@@ -119,6 +131,8 @@ pub record PrintsTrueNoes {S T : Type 0} (gives : S → S → List ℕ → Type 
     pub stopped : Option Refusal
     pub read : IsReadTo gives has_ended source source' packets short stopped
     pub blocks : List (ℕ × Block)
+    pub told : AllByRecursion (λ (b : ℕ × Block). IsToldAt (options_by stopped options) packets
+        (looked_at packets stopped) b.0 b.1) blocks
     pub noes : AllByRecursion
         (λ (b : ℕ × Block). NoesAreTrue options packets (looked_at packets stopped) b.1) blocks
     pub lacking : Option Refusal

@@ -18,7 +18,9 @@ use std::alloc::Allocator;
 /// **The sentence.** Where the lines of an end begin with `no at record N, packet P`, no
 /// configuration under which that end's OPEN is its own has a run that shows the first N of its
 /// records, in one order that the packets allow if each message is handled within D seconds after it
-/// came (`--within`); the last of these is shown by packet P. That is the clause `no`.
+/// came (`--within`); the last of these is shown by packet P. Some such configuration has a run that
+/// shows those before it, if the OPEN is any configuration's own. That is the clause `no`. All that is
+/// printed is tied to the packets, so that no other line passes for one of these.
 ///
 /// It writes a line for each connection, in the order of their first packets, and after it what is
 /// told of both ends, first of that which opened it: the verdict, for which AS number of its peer

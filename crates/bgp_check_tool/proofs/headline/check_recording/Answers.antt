@@ -12,6 +12,7 @@ returns-clause-no g c =
       stopped = checks.stopped;
       read = checks.read;
       blocks = checks.blocks;
+      told = checks.told;
       noes = all_as checks.stopped options checks.packets (looked_at checks.packets checks.stopped) checks.blocks
           (all_true c.no_configuration_explains_a_no.ensures c.a_verdict_holds_under_its_configuration.ensures (options_by checks.stopped options) checks.packets
           (looked_at checks.packets checks.stopped) checks.blocks checks.told);
