@@ -5,5 +5,6 @@ pub mod ToldSoFar
 pub mod WholeSession
 pub mod Blocks
 pub mod Statuses
-pub mod Headline
+pub mod Verdicts
+pub mod Printed
 pub mod Repeated

@@ -12,9 +12,10 @@ use Rattle.bgp_check_text.specs.Settings.{are_told}
 use Rattle.bgp_judge_line.specs.OfCapture.{IsReadAlike, session_of}
 use Rattle.bgp_judge_line.specs.declared.options.JudgeOptions.{JudgeOptions}
 use Rattle.bgp_check_capture_tool.specs.Judging.{AreOptionsFor, AreOptionsOf, AreOptionsTo}
+use Rattle.bgp_check_capture_tool.specs.Stretches.{first_of}
 use Rattle.bgp_check_capture_tool.specs.Repeated.{LineGivesTheVerdict}
 use Rattle.bgp_check_capture_tool.specs.declared.telling.Telling.{Telling}
-use Rattle.bgp_check_capture_tool.proofs.Headline.{found}
+use Rattle.bgp_check_capture_tool.proofs.Verdicts.{found}
 
 module _ (telling : Telling) (named : List Located) (told : ToldValue) (under : Config) (line : JudgeOptions) where
   record IsUnder (config : Config) : Type 0 where
@@ -48,9 +49,9 @@ pub gives_the_verdict : HasItsVerdict → LineGivesTheVerdict
 gives_the_verdict law telling addresses named end number peer under verdict line told is there =
     let f = found telling addresses named end told in
     let its = f.view.session in
-    let of_it = subst (λ (j : Option JudgeOptions). AreOptionsOf f.view.telling f.view.named end.told f.before f.leaving j) there f.is.judges in
-    let whole = of_all f.view.telling f.view.named end.told under line f.before f.leaving of_it in
-    let judged = judged_all its f.stretch (length f.stretch) f.leaving end.told number peer under verdict f.is.is_told whole.1 is in
+    let of_it = subst (λ (j : Option JudgeOptions). AreOptionsOf f.view.telling f.view.named end.told (length f.front) (first_of f.behind) j) there f.is.judges in
+    let whole = of_all f.view.telling f.view.named end.told under line (length f.front) (first_of f.behind) of_it in
+    let judged = judged_all its f.stretch (length f.stretch) (first_of f.behind) end.told number peer under verdict f.is.is_told whole.1 is in
     let for_it = subst (λ (a : AnswerValue). AreOptionsTo f.view.telling f.view.named end.told a (Some line)) is whole.0 in
     let (config, so) = of_told f.view.telling f.view.named end.told under line (are_told f.view.telling.settings verdict) for_it in (
       subst (λ (plain : Bool). IsReadAlike (session_of line) plain named end.told.records) f.is_plain

@@ -8,4 +8,5 @@ pub mod Firsts
 pub mod Putting
 pub mod Checking
 pub mod Headline
+pub mod Printed
 pub mod Repeated

@@ -159,27 +159,9 @@ fn nothing_by(tally: Tally, fault: Option<CaptureFault>) -> Option<NothingJudged
     }
 }
 
-/// Checks the local system of each session in a capture, stretch by stretch: whether its records
-/// are those of a run of the session machine (RFC 4271, 8.2.2) under some configuration under which
-/// the OPEN that it sent is its own. A stretch begins where the system leaves Idle.
-///
-/// It writes a line for each session, in the order of their first records, and after it what is
-/// told of each of its stretches: the verdict, for which AS number of its peer it is told, of a yes
-/// each possible end, of a no and an unfinished why it is so, and, of one that is all of its
-/// session, with which options `bgp judge` gives it; or why it isn't judged. After them stands why
-/// the session's next record is refused, if one is, and after all sessions why the file can't be
-/// read on, if it can't; last how many ends there are of each verdict. It answers the exit status
-/// over all ends, the first of 5, 4, 1, 3, 2, 0 for which there is something:
-///
-/// * 0: a yes.
-/// * 1: a no.
-/// * 2: an end is unfinished: its records stop within what it had to do.
-/// * 3: the file or a session is refused; or no end is judged.
-/// * 4: memory was refused.
-/// * 5: a device failed.
-///
-/// The file is held whole.
-pub fn check_capture<A: Allocator + Copy, T: Tracker<A>, R: Source, W: Sink>(
+/// Holds the capture, and checks all sessions in it: what [`check_capture`](crate::check_capture) is
+/// made of, on whose page its sentence stands.
+pub(crate) fn check_capture<A: Allocator + Copy, T: Tracker<A>, R: Source, W: Sink>(
     alloc: A,
     options: &CaptureOptions,
     source: &mut R,

@@ -14,6 +14,7 @@ mod counted;
 mod cutting;
 mod ends;
 mod firsts;
+mod headline;
 mod judging;
 mod laws;
 mod lines;
@@ -23,7 +24,8 @@ mod part;
 mod stretch_end;
 mod telling;
 
-pub use checking::{CheckedCapture, check_capture};
+pub use checking::CheckedCapture;
+pub use headline::{a_printed_verdict_is_over_all_configurations, check_capture};
 pub use laws::{a_judge_line_gives_the_verdict, no_configuration_has_a_run, no_verdict_is_vacuous};
 pub use nothing::NothingJudged;
 pub use options::CaptureOptions;

@@ -1,4 +1,4 @@
-use Rattle.bgp_check_capture_tool.proofs.Headline.{not_vacuous}
+use Rattle.bgp_check_capture_tool.proofs.Verdicts.{not_vacuous}
 use Rattle.bgp_check_capture_tool.proofs.laws.no_verdict_is_vacuous.Goals as goal
 
 pub returns : goal.returns

@@ -1,0 +1,240 @@
+-- What the lines of a session are worth.
+use Rattle.std.proofs.Common.{◌≡◌, ◌∙◌, ◌+◌, ◌++◌, ℕ, zero, suc, Bool, List, [], ◌∷◌, Option, None, Some, codes, refl, sym, ap, append_assoc, append-nil, subst, arith, inl, inr, length, take, unwrap_or}
+use Rattle.std.specs.Fmt.{decimal}
+use Rattle.std.specs.List.{AllByRecursion, slice_get}
+use Rattle.bgp_prefix.specs.Shown.{ShownRecord}
+use Rattle.bgp_prefix.specs.Text.{address_text}
+use Rattle.bgp_prefix.specs.declared.address.Address.{Address}
+use Rattle.bgp_prefix.specs.declared.session.Session.{Session}
+use Rattle.mrt.specs.declared.fault.CaptureFault.{CaptureFault}
+use Rattle.mrt_sessions.specs.File.{Located}
+use Rattle.mrt_sessions.specs.Sessions.{records_between}
+use Rattle.mrt_sessions.specs.declared.addresses.Addresses.{Addresses}
+use Rattle.bgp_open.specs.declared.config.Config.{Config}
+use Rattle.bgp_machine.specs.Lists.{Each, Has}
+use Rattle.bgp_judge.specs.Verdict.{No, Unfinished, VerdictValue, Yes}
+use Rattle.bgp_parts.specs.Opens.{HasOwnOpen}
+use Rattle.bgp_parts.proofs.OneOwnOpen.{one_own}
+use Rattle.bgp_check.specs.Answered.{AnswerValue, HasFault, IsAnswerTo, IsJudged, JudgedAs, NoConfigurationExplains, Unjudged}
+use Rattle.bgp_check.specs.Configurations.{IsOf}
+use Rattle.bgp_check.specs.Cut.{IsWholeStretch}
+use Rattle.bgp_check.specs.Over.{HasVerdictOver}
+use Rattle.bgp_check.specs.WidestMade.{IsFaultless}
+use Rattle.bgp_check.specs.declared.peer_as.PeerAs.{PeerAs}
+use Rattle.bgp_check_capture.specs.Left.{LeftVerdictIsOverAll}
+use Rattle.bgp_check_capture.specs.Named.{NoNamesItsRecord}
+use Rattle.bgp_check_capture.specs.StretchLaws.{IsLeftSo, JudgedAreStretches}
+use Rattle.bgp_check_capture.specs.Told.{IsStretchTold, ToldValue, with_leaving}
+use Rattle.bgp_check_capture.proofs.Stretched.{no_by}
+use Rattle.bgp_check_text.specs.Text.{as_text, peer_text}
+use Rattle.bgp_check_capture_tool.specs.Checking.{Block, IsBlock}
+use Rattle.bgp_check_capture_tool.specs.Ends.{End, IsSessionTold, Silent, Staying, Stretch, session_of}
+use Rattle.bgp_check_capture_tool.specs.Printed.{BeginsWithNo, HasVerdictBy, IsTrueIfNo, IsTrueNo, NoesAreTrue, ReadStretch, ToldVerdictIsOverAll, judged_of}
+use Rattle.bgp_check_capture_tool.specs.StretchEnd.{StretchEnd}
+use Rattle.bgp_check_capture_tool.specs.Stretches.{first_of}
+use Rattle.bgp_check_capture_tool.specs.Text.{answer_text, end_text, no_text, part_text, unjudged_line, verdict_text, whose_text}
+use Rattle.bgp_check_capture_tool.specs.declared.part.Part.{Part}
+use Rattle.bgp_check_capture_tool.specs.declared.telling.Telling.{Telling}
+use Rattle.bgp_check_capture_tool.proofs.Verdicts.{IsFound, found, left_so}
+
+-- ---- which lines begin with `no`
+
+-- a text's first octet, and its third one
+first : List ℕ → ℕ
+first [] = 0
+first (x ∷ xs) = x
+
+third : List ℕ → ℕ
+third [] = 0
+third (x ∷ []) = 0
+third (x ∷ y ∷ []) = 0
+third (x ∷ y ∷ z ∷ xs) = z
+
+-- it is a no
+record IsNo (answer : AnswerValue) : Type 0 where
+  pub number : Option ℕ
+  pub peer : PeerAs
+  pub under : Config
+  pub count : ℕ
+  pub is : answer ≡ JudgedAs number peer under (No count)
+
+unjudged_third : (local : Address) (part : Part) (why : List ℕ) → third (unjudged_line local part why) ≡ 116
+unfolding third unjudged_line
+unjudged_third local part why = refl
+
+no_third : (rest : List ℕ) → third (codes "no " ++ rest) ≡ 32
+unfolding third
+no_third rest = refl
+
+no_first : (rest : List ℕ) → first (codes "no " ++ rest) ≡ 110
+unfolding first
+no_first rest = refl
+
+yes_first : (rest : List ℕ) → first (codes "yes" ++ rest) ≡ 121
+unfolding first
+yes_first rest = refl
+
+unfinished_first : (rest : List ℕ) → first (codes "unfinished" ++ rest) ≡ 117
+unfolding first
+unfinished_first rest = refl
+
+no_by_text : (routes : Bool) (local : Address) (end : StretchEnd) (answer : AnswerValue) (rest : List ℕ) → answer_text routes local end answer ≡ codes "no " ++ rest → IsNo answer
+no_by_text routes local end (Unjudged why) rest is =
+    let differs : 116 ≡ 32 = sym (unjudged_third local end.part _) ∙ ap third is ∙ no_third rest in absurd (omega (arith, differs))
+no_by_text routes local end (JudgedAs number peer under (Yes ends)) rest is =
+    let differs : 121 ≡ 110 = sym (yes_first _) ∙ ap first is ∙ no_first rest in absurd (omega (arith, differs))
+no_by_text routes local end (JudgedAs number peer under (No count)) rest is = record { number = number; peer = peer; under = under; count = count; is = refl }
+no_by_text routes local end (JudgedAs number peer under Unfinished) rest is =
+    let differs : 117 ≡ 110 = sym (unfinished_first _) ∙ ap first is ∙ no_first rest in absurd (omega (arith, differs))
+
+-- ---- the record that is named
+
+-- the text of a no begins with the number of its record, and then the local system
+record Names (text : List ℕ) (number : ℕ) (local : Address) : Type 0 where
+  pub rest : List ℕ
+  pub is : text ≡ codes "no at record " ++ (decimal number ++ (codes ": " ++ (address_text local ++ rest)))
+
+names : (part : Part) (place : ℕ) (local : Address) (number : Option ℕ) (peer : PeerAs) (more : List ℕ)
+    → Names (no_text part place ++ (whose_text local part number peer ++ more)) (part.before + place + 1) local
+unfolding no_text whose_text
+names part place local number peer more =
+    let tail = as_text number ++ (codes ", peer as " ++ (peer_text peer ++ (part_text part ++ codes "\n"))) in
+    let shown = decimal (part.before + place + 1) in
+    record {
+      rest = tail ++ more;
+      is = append_assoc (codes "no at record ") shown ((codes ": " ++ (address_text local ++ tail)) ++ more)
+          ∙ ap (λ (text : List ℕ). codes "no at record " ++ (shown ++ (codes ": " ++ text))) (append_assoc (address_text local) tail more);
+    }
+
+no_names : (routes : Bool) (local : Address) (end : StretchEnd) (number : Option ℕ) (peer : PeerAs) (count : ℕ)
+    → Names (verdict_text routes local end number peer (No count)) (end.part.before + unwrap_or end.told.impossible 0 + 1) local
+no_names routes local end number peer count = names end.part (unwrap_or end.told.impossible 0) local number peer _
+
+told_names : (routes : Bool) (local : Address) (end : StretchEnd) (number : Option ℕ) (peer : PeerAs) (under : Config) (count : ℕ) → end.told.answer ≡ JudgedAs number peer under (No count)
+    → Names (end_text routes local (Stretch end)) (end.part.before + unwrap_or end.told.impossible 0 + 1) local
+told_names routes local end number peer under count is =
+    subst (λ (a : AnswerValue). Names (answer_text routes local end a) (end.part.before + unwrap_or end.told.impossible 0 + 1) local) (sym is) (no_names routes local end number peer count)
+
+-- where it stands
+behind_front : (front rest : List ShownRecord) (place : ℕ) (shown : ShownRecord) → slice_get rest place ≡ Some shown → slice_get (front ++ rest) (length front + place) ≡ Some shown
+behind_front [] rest place shown is =
+    let same : place ≡ 0 + place = omega arith in subst (λ (n : ℕ). slice_get rest n ≡ Some shown) same is
+behind_front (x ∷ front) rest place shown is =
+    let later : slice_get (x ∷ (front ++ rest)) (suc (length front + place)) ≡ Some shown = behind_front front rest place shown is in
+    let same : suc (length front + place) ≡ length (x ∷ front) + place = omega arith in
+    subst (λ (n : ℕ). slice_get (x ∷ (front ++ rest)) n ≡ Some shown) same later
+
+in_longer : (records behind : List ShownRecord) (leaving : ShownRecord) (place : ℕ) (shown : ShownRecord) → slice_get (records ++ leaving ∷ []) place ≡ Some shown
+    → slice_get (records ++ leaving ∷ behind) place ≡ Some shown
+in_longer [] behind leaving zero shown is = is
+in_longer [] behind leaving (suc place) shown is = let k : ⊥ = cc in absurd k
+in_longer (x ∷ records) behind leaving zero shown is = is
+in_longer (x ∷ records) behind leaving (suc place) shown is = in_longer records behind leaving place shown is
+
+in_session : (stretch behind : List ShownRecord) (place : ℕ) (shown : ShownRecord) → slice_get (with_leaving stretch (first_of behind)) place ≡ Some shown
+    → slice_get (stretch ++ behind) place ≡ Some shown
+in_session stretch [] place shown is = subst (λ (rs : List ShownRecord). slice_get rs place ≡ Some shown) (sym (append-nil stretch)) is
+in_session stretch (leaving ∷ behind) place shown is = in_longer stretch behind leaving place shown is
+
+-- ---- a stretch that is told
+
+module _ (addresses : Addresses) (named : List Located) (plain : Bool) (end : StretchEnd) (f : IsFound addresses named plain end) where
+  abbrev its_stretch : ReadStretch addresses named
+  its_stretch = record {
+    records = f.records;
+    are_read = f.are_read;
+    front = f.front;
+    stretch = f.stretch;
+    behind = f.behind;
+    whole = f.whole;
+    stretched = f.stretched;
+    next = f.next;
+    own = f.is.is_told.own;
+    heard = f.is.is_told.heard;
+    has_own = f.is.is_told.has_own;
+    has_heard = f.is.is_told.has_heard;
+    left = f.is.is_told.left;
+    keeps = f.is.is_told.keeps;
+  }
+
+  true_no : NoConfigurationExplains → JudgedAreStretches → NoNamesItsRecord → (routes : Bool) → BeginsWithNo routes addresses end → IsTrueNo routes addresses named end
+  true_no explains are_stretches names_it routes begins =
+      let is = f.is.is_told in
+      let leaving = first_of f.behind in
+      let judged = with_leaving is.left.records leaving in
+      let no = no_by_text routes addresses.local end end.told.answer begins.0 begins.1 in
+      let answered = no_by leaving is.answer no.number no.peer no.under no.count (sym is.is_answer ∙ no.is) in
+      let there : IsJudged f.view.session judged no.number no.peer no.under (No no.count) = subst (λ (a : AnswerValue). IsAnswerTo f.view.session judged a) answered is.answers in
+      let answer = subst (λ (s : Session). IsJudged s judged no.number no.peer no.under (No no.count)) f.is_session there in
+      let stretch = are_stretches f.view.session f.stretch (length f.stretch) leaving end.told is f.stretched (left_so f.behind f.next) in
+      let it = names_it f.view.session f.stretch leaving end.told no.number no.peer no.under no.count is no.is in
+      let place = ap (λ (p : Part). p.before + unwrap_or end.told.impossible 0 + 1) f.is.is_part ∙ ap (λ (o : Option ℕ). length f.front + unwrap_or o 0 + 1) it.is_named in
+      let names = subst (λ (n : ℕ). Names (end_text routes addresses.local (Stretch end)) n addresses.local) place
+      (told_names routes addresses.local end no.number no.peer no.under no.count no.is) in
+      record {
+        it = its_stretch;
+        count = no.count;
+        place = length f.front + it.place;
+        impossible = it.shown;
+        is_judged = subst (λ (rs : List ShownRecord). slice_get rs no.count ≡ Some it.shown) is.are_records it.is_judged;
+        stands = subst (λ (rs : List ShownRecord). slice_get rs (length f.front + it.place) ≡ Some it.shown) (sym f.whole)
+            (behind_front f.front (f.stretch ++ f.behind) it.place it.shown (in_session f.stretch f.behind it.place it.shown it.stands));
+        rest = names.rest;
+        is_named = names.is;
+        none = λ own config has of. explains (session_of addresses) judged no.number no.peer no.under no.count own config stretch answer has of;
+        possible = λ own has faultless.
+            let same = one_own judged own answer.own has answer.has_own in
+            (subst (λ (o : Option (List ℕ)). HasVerdictOver (IsOf (session_of addresses) o) judged (No no.count)) (sym same)
+            (answer.over stretch (subst (λ (o : Option (List ℕ)). IsFaultless o) same faultless))).1;
+        by_open = λ own fault has is_fault n within.
+            let same = one_own judged own answer.own has answer.has_own in
+            answer.by_open fault (subst (λ (o : Option (List ℕ)). HasFault o fault) same is_fault) n (subst (λ (o : Option (List ℕ)). HasOwnOpen (take n judged) o) same within);
+      }
+
+-- ---- of all blocks
+
+module _ (explains : NoConfigurationExplains) (are_stretches : JudgedAreStretches) (names_it : NoNamesItsRecord) (telling : Telling) (routes : Bool) where
+  ends_true : (addresses : Addresses) (named : List Located) (all ends : List End) (fault : Option CaptureFault) → IsSessionTold telling addresses named all fault
+      → ((e : StretchEnd) → Has (λ one. one ≡ Stretch e) ends → Has (λ one. one ≡ Stretch e) all) → Each (IsTrueIfNo routes addresses named) ends
+  ends_true addresses named all [] fault told among = tt
+  ends_true addresses named all (Silent part ∷ ends) fault told among = (tt, ends_true addresses named all ends fault told (λ e has. among e (inr has)))
+  ends_true addresses named all (Staying part ∷ ends) fault told among = (tt, ends_true addresses named all ends fault told (λ e has. among e (inr has)))
+  ends_true addresses named all (Stretch end ∷ ends) fault told among = (
+    λ begins. true_no addresses named telling.is_plain end (found telling addresses named end record { ends = all; fault = fault; told = told; among = among end (inl refl) })
+        explains are_stretches names_it routes begins,
+    ends_true addresses named all ends fault told (λ e has. among e (inr has)),
+  )
+
+  pub all_true : (named : List Located) (blocks : List Block) → AllByRecursion (IsBlock telling named) blocks → AllByRecursion (NoesAreTrue routes named) blocks
+  all_true named [] all = tt
+  all_true named (block ∷ blocks) all = (
+    ends_true block.addresses (records_between block.addresses named) block.ends block.ends block.fault all.0 (λ e has. has),
+    all_true named blocks all.1,
+  )
+
+-- ---- the verdict
+
+over_by : LeftVerdictIsOverAll → JudgedAreStretches → (session : Session) (stretch : List ShownRecord) (all : ℕ) (leaving : Option ShownRecord) (told : ToldValue) (number : Option ℕ)
+    (peer : PeerAs) (under : Config) (verdict : VerdictValue) (is : IsStretchTold session stretch all leaving told) → IsWholeStretch stretch → IsLeftSo leaving
+    → told.answer ≡ JudgedAs number peer under verdict → (own : Option (List ℕ)) → HasOwnOpen (with_leaving is.left.records leaving) own → IsFaultless own
+    → HasVerdictBy (IsOf session own) is.left.records leaving verdict
+over_by law are_stretches session stretch all None told number peer under verdict is stretched so answered own has faultless =
+    let judged = is.left.records in
+    let answer : IsJudged session judged number peer under verdict = subst (λ (a : AnswerValue). IsAnswerTo session judged a) (sym is.is_answer ∙ answered) is.answers in
+    let same = one_own judged own answer.own has answer.has_own in
+    subst (λ (o : Option (List ℕ)). HasVerdictOver (IsOf session o) judged verdict) (sym same)
+    (answer.over (are_stretches session stretch all None told is stretched so) (subst (λ (o : Option (List ℕ)). IsFaultless o) same faultless))
+over_by law are_stretches session stretch all (Some leaving) told number peer under verdict is stretched so answered own has faultless =
+    law session stretch all leaving told number peer under verdict own is stretched so answered has faultless
+
+pub verdict_over_all : LeftVerdictIsOverAll → JudgedAreStretches → ToldVerdictIsOverAll
+verdict_over_all law are_stretches telling addresses named end number peer under verdict told answered =
+    let f = found telling addresses named end told in
+    let is = f.is.is_told in
+    record {
+      it = its_stretch addresses named telling.is_plain end f;
+      is_part = f.is.is_part;
+      over_all = λ own has faultless.
+          subst (λ (s : Session). HasVerdictBy (IsOf s own) is.left.records (first_of f.behind) verdict) f.is_session
+          (over_by law are_stretches f.view.session f.stretch (length f.stretch) (first_of f.behind) end.told number peer under verdict is f.stretched (left_so f.behind f.next) answered own has faultless);
+    }

@@ -1,0 +1,76 @@
+//! The page to show: what checking a capture promises.
+
+ghost use Rattle.std.specs.Prelude.{◌<◌};
+ghost use Rattle.bgp_check_capture_tool.specs.Checking.{ChecksCapture};
+ghost use Rattle.bgp_check_capture_tool.specs.Printed.{PrintsTrueNoes, ToldVerdictIsOverAll};
+
+use crate::checking::{self, CheckedCapture};
+use crate::options::CaptureOptions;
+use bgp_check::no_configuration_explains_a_no;
+use bgp_check_capture::{
+    a_left_stretch_is_judged_over_all, a_no_names_its_record, what_is_judged_is_a_stretch,
+};
+use bgp_judge::Tracker;
+use mrt::{Sink, Source};
+use std::alloc::Allocator;
+
+/// Checks the local system of each session in a capture, stretch by stretch: whether its records
+/// are those of a run of the session machine (RFC 4271, 8.2.2) under some configuration under which
+/// the OPEN that it sent is its own. A stretch begins where the system leaves Idle.
+///
+/// **The sentence.** Where the lines of a stretch begin with `no at record N`, no configuration under
+/// which the OPEN that was sent is the local system's own has a run that shows the records of that
+/// stretch up to record N of the session; of these records, ROUTE-REFRESH messages that their
+/// receiver offered are passed over. Some such configuration has a run that shows those before it,
+/// if the OPEN is any configuration's own. That is the clause `no`. All that is printed is tied to
+/// the file, so that no other line passes for one of these.
+///
+/// It writes a line for each session, in the order of their first records, and after it what is
+/// told of each of its stretches: the verdict, for which AS number of its peer it is told, of a yes
+/// each possible end, of a no and an unfinished why it is so, and, of one that is all of its
+/// session, with which options `bgp judge` gives it; or why it isn't judged. After them stands why
+/// the session's next record is refused, if one is, and after all sessions why the file can't be
+/// read on, if it can't; last how many ends there are of each verdict. It answers the exit status
+/// over all ends, the first of 5, 4, 1, 3, 2, 0 for which there is something:
+///
+/// * 0: a yes.
+/// * 1: a no.
+/// * 2: an end is unfinished: its records stop within what it had to do.
+/// * 3: the file or a session is refused; or no end is judged.
+/// * 4: memory was refused.
+/// * 5: a device failed.
+///
+/// The file is held whole.
+///
+/// It rests on the contract of [`Tracker`] alone, and so holds with every tracker; and on those of
+/// its source and sink.
+pub fn check_capture<A: Allocator + Copy, T: Tracker<A>, R: Source, W: Sink>(
+    alloc: A,
+    options: &CaptureOptions,
+    source: &mut R,
+    sink: &mut W,
+) -> CheckedCapture
+    requires source { R.failures source.old < u64.MAX }
+    requires sink { W.failures sink.old < u64.MAX }
+    ensures no { PrintsTrueNoes R.gives R.has_ended W.takes W.failures options.now source.old
+        source.new sink.old sink.new result.status result.fault }
+    ensures all { ChecksCapture R.gives R.has_ended W.takes R.failures W.failures options.now
+        source.old source.new sink.old sink.new result.status result.refusals.items
+        result.fault result.nothing }
+{
+    no_configuration_explains_a_no();
+    what_is_judged_is_a_stretch();
+    a_no_names_its_record();
+    checking::check_capture::<A, T, R, W>(alloc, options, source, sink)
+}
+
+/// Law: each verdict that is told of a stretch, a yes, a no and an unfinished, is the one over all
+/// configurations under which the OPEN that was sent is the local system's own, where that has no
+/// own fault. Of a stretch that a record leaves it is a yes, with the one end Idle, if and only if
+/// one of them has a run that shows the stretch and then leaves it so.
+pub fn a_printed_verdict_is_over_all_configurations()
+    ensures { ToldVerdictIsOverAll }
+{
+    a_left_stretch_is_judged_over_all();
+    what_is_judged_is_a_stretch();
+}
