@@ -6,5 +6,6 @@ pub mod WholeSession
 pub mod Blocks
 pub mod Statuses
 pub mod Verdicts
+pub mod Headings
 pub mod Printed
 pub mod Repeated

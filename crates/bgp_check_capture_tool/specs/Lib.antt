@@ -7,6 +7,7 @@ pub mod Counted
 pub mod Firsts
 pub mod Putting
 pub mod Checking
+pub mod Headings
 pub mod Headline
 pub mod Printed
 pub mod Repeated

@@ -1,6 +1,7 @@
 //! Laws of what is told of a stretch of a session in a capture, each on a function that does
 //! nothing.
 
+ghost use Rattle.bgp_check_capture_tool.specs.Headings.{ListIsWithoutEnds};
 ghost use Rattle.bgp_check_capture_tool.specs.Headline.{NoConfigurationHasARun, NothingIsVacuous};
 ghost use Rattle.bgp_check_capture_tool.specs.Repeated.{LineGivesTheVerdict};
 
@@ -25,6 +26,13 @@ pub fn no_verdict_is_vacuous()
 {
     what_is_judged_is_a_stretch();
 }
+
+/// Without the lines of a session's ends, and why its next record is refused, what
+/// [`check_capture`](crate::check_capture) tells of a capture is what `bgp list` does: a line a
+/// session, and then why the file isn't read to its end, if it isn't.
+pub fn without_its_ends_it_is_the_list()
+    ensures { ListIsWithoutEnds }
+{}
 
 /// The line with the options of `bgp judge` gives the verdict that is told before it: by these
 /// options `judge` reads of the session's records in the file just those that were judged, and

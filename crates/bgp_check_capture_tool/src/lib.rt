@@ -26,6 +26,9 @@ mod telling;
 
 pub use checking::CheckedCapture;
 pub use headline::{a_printed_verdict_is_over_all_configurations, check_capture};
-pub use laws::{a_judge_line_gives_the_verdict, no_configuration_has_a_run, no_verdict_is_vacuous};
+pub use laws::{
+    a_judge_line_gives_the_verdict, no_configuration_has_a_run, no_verdict_is_vacuous,
+    without_its_ends_it_is_the_list,
+};
 pub use nothing::NothingJudged;
 pub use options::CaptureOptions;

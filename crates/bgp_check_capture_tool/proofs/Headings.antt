@@ -1,0 +1,27 @@
+-- The list of a capture is what is told of it without the lines of its ends.
+use Rattle.std.proofs.Common.{◌≡◌, ◌∙◌, ◌++◌, ℕ, List, [], ◌∷◌, refl, ap, map}
+use Rattle.std.specs.List.{flat_map}
+use Rattle.mrt_sessions.specs.File.{Located}
+use Rattle.mrt_sessions.specs.Sessions.{records_between}
+use Rattle.mrt_sessions.specs.declared.addresses.Addresses.{Addresses}
+use Rattle.bgp_capture_list.specs.Text.{session_line}
+use Rattle.bgp_check_capture_tool.specs.Checking.{Block}
+use Rattle.bgp_check_capture_tool.specs.Headings.{ListIsWithoutEnds, heading}
+
+each_heading : (named : List Located) (blocks : List Block)
+    → flat_map (heading named) blocks ≡ flat_map (λ (a : Addresses). session_line a (records_between a named)) (map (λ (b : Block). b.addresses) blocks)
+each_heading named [] = refl
+each_heading named (block ∷ blocks) = ap (λ (text : List ℕ). heading named block ++ text) (each_heading named blocks)
+
+pub without_ends : ListIsWithoutEnds
+without_ends options octets ending text tally firsts fault all = record {
+  is_text = all.is_text;
+  lists = record {
+    named = all.named;
+    offset = all.offset;
+    refusal = all.refusal;
+    has = all.has.has;
+    is_text = each_heading all.named all.blocks ∙ ap (λ (those : List Addresses). flat_map (λ (a : Addresses). session_line a (records_between a all.named)) those) all.are;
+    is_fault = all.is_fault;
+  };
+}
