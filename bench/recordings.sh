@@ -3,7 +3,7 @@
 # other hosts, and one of a session's UPDATEs. What `bgp judge` of a recording with 100,000 UPDATEs
 # costs, beside `bgp judge` of the capture that `bgp import` makes of it, and that import; and the
 # memory of the three. What `bgp check` of it costs, which judges both ends, beside `bgp judge` of
-# either, and of one whose OPENs offer extended messages, which it frames twice. How much memory
+# either, and of one whose OPENs offer extended messages. How much memory
 # judging needs behind 10 MB and behind 200 MB of packets between other hosts; and how much where a
 # packet near the front is lost of 100 MB of UPDATEs, and what is answered.
 # bench/recordings.py makes the recordings.

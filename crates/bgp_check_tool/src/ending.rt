@@ -8,6 +8,7 @@ ghost use Rattle.bgp_explain.specs.Places.{shown_places};
 ghost use Rattle.bgp_import.specs.Captures.{put_off};
 ghost use Rattle.bgp_recording.specs.Captured.{records_of};
 ghost use Rattle.bgp_recording.specs.Gathered.{IsClocked, IsCovered};
+ghost use Rattle.bgp_recording.specs.Recorded.{IsRecordedInOrder};
 ghost use Rattle.bgp_check_text.specs.Highest.{highest_state};
 ghost use Rattle.bgp_check_tool.specs.Judging.{AreOptionsTo};
 ghost use Rattle.bgp_check_tool.specs.Late.{IsLate};
@@ -114,8 +115,10 @@ pub(crate) fn told_by<A: Allocator + Copy, T: Tracker<A>>(
         (reason_text told.reason)) }
     ensures unshown { IfOk result (λ told. (told.received ≡ made.now.recording.received)
         × (told.sent ≡ made.now.recording.sent)) }
-    ensures judge { IfOk result (λ told. IsClocked viewed.now.connection → AreOptionsTo
-        viewed.now.options.within viewed.now.asked viewed.now.connection
+    ensures judge { IfOk result (λ told. IsClocked viewed.now.connection
+        → IsRecordedInOrder made.now.framings viewed.now.options.within viewed.now.connection
+        made.now.recording.entries.items made.now.recording.received made.now.recording.sent
+        → AreOptionsTo viewed.now.options.within viewed.now.asked viewed.now.connection
         made.now.recording.entries.items made.now.recording.received made.now.recording.sent
         viewed.now.options.settings (answer_value told.answer) told.judge) }
 {
@@ -128,7 +131,7 @@ pub(crate) fn told_by<A: Allocator + Copy, T: Tracker<A>>(
     let late = late_of::<A, T>(alloc, viewed, &answer)?;
     let places = Places::Shown(entries);
     let reason = reason_of::<A, T>(alloc, sent, places, records, &answer)?;
-    let judge = options_to(alloc, viewed, recording, &answer)?;
+    let judge = options_to(alloc, viewed, made, &answer)?;
     Ok(Told {
         end: viewed.end,
         packet: packet_of(&answer, entries),

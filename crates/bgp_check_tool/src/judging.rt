@@ -6,15 +6,16 @@ ghost use Rattle.bgp_judge.specs.Verdict.{verdict_value};
 ghost use Rattle.bgp_check.specs.Answered.{answer_value};
 ghost use Rattle.bgp_recording.specs.Captured.{records_of};
 ghost use Rattle.bgp_recording.specs.Gathered.{IsClocked, IsCovered};
+ghost use Rattle.bgp_recording.specs.Recorded.{IsRecordedInOrder};
 ghost use Rattle.bgp_text.specs.Lines.{Writes};
 ghost use Rattle.bgp_check_text.specs.Settings.{are_told};
 ghost use Rattle.bgp_check_tool.specs.Judging.{AreOptionsFor, AreOptionsTo, judge_text};
 
 use crate::ending::Viewed;
+use crate::making::Made;
 use bgp_check::{Answer, Judged};
 use bgp_check_reason::told_configuration;
 use bgp_judge_line::{JudgeOptions, judge_options, put_judge_line};
-use bgp_recording::Recording;
 use bgp_text::Lines;
 use mrt::Sink;
 use std::alloc::{AllocError, Allocator};
@@ -24,16 +25,19 @@ use std::alloc::{AllocError, Allocator};
 pub(crate) fn options_to<A: Allocator + Copy>(
     alloc: A,
     viewed: &Viewed<'_>,
-    made: &Recording<'_, A>,
+    made: &Made<'_, A>,
     answer: &Answer<A>,
 ) -> Result<Option<JudgeOptions>, AllocError>
     requires received { IsCovered viewed.now.connection.received }
     requires sent { IsCovered viewed.now.connection.sent }
-    requires records { map shown_of made.now.records.items ≡ records_of made.now.entries.items }
-    ensures { IfOk result (λ judge. IsClocked viewed.now.connection → AreOptionsTo
-        viewed.now.options.within viewed.now.asked viewed.now.connection
-        made.now.entries.items made.now.received made.now.sent viewed.now.options.settings
-        (answer_value answer.now) judge) }
+    requires records { map shown_of made.now.recording.records.items
+        ≡ records_of made.now.recording.entries.items }
+    ensures { IfOk result (λ judge. IsClocked viewed.now.connection
+        → IsRecordedInOrder made.now.framings viewed.now.options.within viewed.now.connection
+        made.now.recording.entries.items made.now.recording.received made.now.recording.sent
+        → AreOptionsTo viewed.now.options.within viewed.now.asked viewed.now.connection
+        made.now.recording.entries.items made.now.recording.received made.now.recording.sent
+        viewed.now.options.settings (answer_value answer.now) judge) }
 {
     match answer {
         Answer::NotJudged(_) => Ok(None),
@@ -45,22 +49,25 @@ pub(crate) fn options_to<A: Allocator + Copy>(
 fn options_for<A: Allocator + Copy>(
     alloc: A,
     viewed: &Viewed<'_>,
-    made: &Recording<'_, A>,
+    made: &Made<'_, A>,
     judged: &Judged<A>,
 ) -> Result<Option<JudgeOptions>, AllocError>
     requires received { IsCovered viewed.now.connection.received }
     requires sent { IsCovered viewed.now.connection.sent }
-    requires records { map shown_of made.now.records.items ≡ records_of made.now.entries.items }
-    ensures { IfOk result (λ judge. IsClocked viewed.now.connection → AreOptionsFor
-        viewed.now.options.within viewed.now.asked viewed.now.connection
-        made.now.entries.items made.now.received made.now.sent
+    requires records { map shown_of made.now.recording.records.items
+        ≡ records_of made.now.recording.entries.items }
+    ensures { IfOk result (λ judge. IsClocked viewed.now.connection
+        → IsRecordedInOrder made.now.framings viewed.now.options.within viewed.now.connection
+        made.now.recording.entries.items made.now.recording.received made.now.recording.sent
+        → AreOptionsFor viewed.now.options.within viewed.now.asked viewed.now.connection
+        made.now.recording.entries.items made.now.recording.received made.now.recording.sent
         (are_told viewed.now.options.settings (verdict_value judged.now.verdict))
         judged.now.under judge) }
 {
     if !viewed.options.settings.are_told(&judged.verdict) {
         return Ok(None);
     }
-    let Some(config) = told_configuration(&made.records, judged) else {
+    let Some(config) = told_configuration(&made.recording.records, judged) else {
         return Ok(None);
     };
     let within = viewed.options.within;
@@ -70,7 +77,8 @@ fn options_for<A: Allocator + Copy>(
         viewed.asked,
         &viewed.connection,
         within,
-        made,
+        &made.recording,
+        made.framings,
     )
 }
 

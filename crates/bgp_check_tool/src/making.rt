@@ -1,6 +1,6 @@
 //! The records that are made of a connection for one of its ends.
 
-ghost use Rattle.std.specs.Prelude.{◌≡◌, ◌↔◌, IfOk, IfSome, IsTrue, map, option_map};
+ghost use Rattle.std.specs.Prelude.{◌≡◌, IfOk, IfSome, map, option_map};
 ghost use Rattle.bgp_open.specs.OpenFault.{IsWellFormed};
 ghost use Rattle.mrt.specs.Reader.{shown_of};
 ghost use Rattle.bgp_recording.specs.Captured.{records_of};
@@ -9,6 +9,7 @@ ghost use Rattle.bgp_check_tool.specs.Made.{AreOffered, IsMade, framing_by, fram
 ghost use Rattle.bgp_check_tool.specs.Made.{with_both_offers};
 
 use bgp_check::{heard_open, offer_of, own_open};
+use bgp_judge_line::are_framed_alike;
 use bgp_open::{Open, read_open};
 use bgp_recording::{Framing, Framings, Recording, make_records};
 use bgp_wire::Limit;
@@ -54,13 +55,6 @@ fn with_both_offers() -> Framings
     })
 }
 
-/// Whether a system offers both.
-fn has_both_offers(framing: Framing) -> bool
-    ensures { IsTrue result ↔ (framing ≡ with_both_offers.received) }
-{
-    matches!(framing.limit, Limit::Extended) && framing.skips_refresh
-}
-
 /// Both directions by what the receiver of either offers in the first well-formed OPEN that it
 /// sent.
 fn offered_in(records: &[Record<'_>]) -> Framings
@@ -79,7 +73,8 @@ pub(crate) struct Made<'a, A: Allocator> {
     pub(crate) framings: Framings,
 }
 
-/// The records that tell a connection, either direction framed by what its receiver offers.
+/// The records that tell a connection, either direction framed by what its receiver offers. They are
+/// made once, unless something occurs that one of both doesn't offer.
 pub(crate) fn made_of<'a, A: Allocator + Copy>(
     alloc: A,
     connection: &Connection<'a>,
@@ -94,9 +89,10 @@ pub(crate) fn made_of<'a, A: Allocator + Copy>(
     ensures records { IfOk result (λ made. map shown_of made.recording.records.items
         ≡ records_of made.recording.entries.items) }
 {
-    let looked_in = make_records(alloc, connection, with_both_offers(), within)?;
+    let offered = with_both_offers();
+    let looked_in = make_records(alloc, connection, offered, within)?;
     let framings = offered_in(&looked_in.records);
-    if has_both_offers(framings.received) && has_both_offers(framings.sent) {
+    if are_framed_alike(&looked_in, offered, framings) {
         return Ok(Made {
             recording: looked_in,
             framings,

@@ -1,3 +1,4 @@
 mod SameAt
+mod FramedAlike
 mod Refreshes
 mod SameOptions

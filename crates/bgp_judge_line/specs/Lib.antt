@@ -1,4 +1,5 @@
 pub mod Line
 pub mod Asked
+pub mod FramedAlike
 pub mod ReadAlike
 pub mod OfCapture

@@ -3,7 +3,8 @@
 //!
 //! ```text
 //! let asked = asked_of(179, 10, &session, &connections, opening, side);
-//! if let Some(options) = judge_options(alloc, config, asked, &connection, 10, &made)? {
+//! let made = make_records(alloc, &connection, framings, 10)?;
+//! if let Some(options) = judge_options(alloc, config, asked, &connection, 10, &made, framings)? {
 //!     put_judge_line(&mut lines, &options);
 //! }
 //! if let Some(options) = capture_options(config, file.is_plain, named, &records, skips_refresh) {
@@ -13,6 +14,7 @@
 #![tactic(auto)]
 
 mod asking;
+mod framed_alike;
 mod laws;
 mod line;
 mod of_capture;
@@ -20,7 +22,8 @@ mod options;
 mod read_alike;
 
 pub use asking::asked_of;
-pub use laws::a_capture_is_read_alike;
+pub use framed_alike::are_framed_alike;
+pub use laws::{a_capture_is_read_alike, records_are_framed_alike};
 pub use line::put_judge_line;
 pub use of_capture::capture_options;
 pub use options::{Asked, JudgeOptions};

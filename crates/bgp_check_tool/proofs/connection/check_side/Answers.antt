@@ -44,5 +44,5 @@ returns g c = λ clock.
       is_sent = is.unshown.1;
       judges = subst (λ (v : Connection).
           AreOptionsTo options.within c.args.asked v made.entries.items made.received made.sent options.settings (answer_value told.answer) told.judge)
-          c.seen_from.ensures (is.judge its_clock);
+          c.seen_from.ensures (is.judge its_clock (c.in_ok-made.ensures.told its_clock).recorded);
     }
