@@ -1,11 +1,5 @@
-pub mod Places
-pub mod Lines
-pub mod Pieces
-pub mod Fronts
-pub mod Cuts
 pub mod Reasons
 pub mod EachShown
-pub mod FaultTexts
 pub mod Written
 pub mod Held
 pub mod RestTexts

@@ -1,8 +1,5 @@
--- What an OPEN that was sent says that no configuration has, and its text.
-use Rattle.std.specs.Prelude.{◌≡◌, ◌↔◌, ◌==◌, ◌++◌, ℕ, Bool, true, false, List, [], ◌∷◌, Option}
-use Rattle.std.specs.Prelude.{None, Some, IsTrue, MatchOption, codes, if◌then◌else◌}
-use Rattle.std.specs.Fmt.{decimal}
-use Rattle.bgp_wire.specs.AsNumber.{two_octet_as}
+-- What an OPEN that was sent says that no configuration has.
+use Rattle.std.specs.Prelude.{◌≡◌, ◌↔◌, ℕ, List, Option, None, Some, IsTrue, MatchOption}
 use Rattle.bgp_prefix.specs.Shown.{ShownRecord}
 use Rattle.bgp_open.specs.Open.{OpenFields, open_of}
 use Rattle.bgp_open.specs.declared.config.Config.{Config}
@@ -10,8 +7,7 @@ use Rattle.bgp_check.specs.Configurations.{as_of, own_faults}
 use Rattle.bgp_parts.specs.Opens.{HasOwnOpen}
 use Rattle.bgp_check.specs.declared.own_fault.OwnFault.{OwnFault}
 use Rattle.bgp_check.specs.declared.own_fault.OwnFault.TheVariants.{AsNumber, Identifier, Hold}
-use Rattle.bgp_parts_text.specs.Pieces.{separated}
-use Rattle.bgp_check_reason.specs.declared.own_faults.OwnFaults.{OwnFaults}
+use Rattle.bgp_reason_text.specs.declared.own_faults.OwnFaults.{OwnFaults}
 
 -- each own fault of an OPEN, with what it says
 pub record AreOwnFaults (message : OpenFields) (faults : OwnFaults) : Type 0 where
@@ -34,28 +30,3 @@ abbrev pub IsToldConfiguration : List ShownRecord → Config → Option Config �
 IsToldConfiguration records under None = ¬ HasFaultlessOpen records
 IsToldConfiguration records under (Some config) =
     HasFaultlessOpen records × (config ≡ under)
-
--- ---- the text
-
--- an AS number of 0; or both, where My Autonomous System isn't what stands for the other
-unfoldable pub as_text : ℕ → ℕ → List ℕ
-as_text my_as number =
-    codes "as " ++ (decimal my_as ++ (if my_as == two_octet_as number then []
-    else codes ", four-octet as " ++ decimal number))
-
-abbrev pub as_piece : Option (ℕ × ℕ) → Option (List ℕ)
-as_piece None = None
-as_piece (Some told) = Some (as_text told.0 told.1)
-
-abbrev pub id_piece : Bool → Option (List ℕ)
-id_piece false = None
-id_piece true = Some (codes "id 0.0.0.0")
-
-abbrev pub hold_piece : Option ℕ → Option (List ℕ)
-hold_piece None = None
-hold_piece (Some hold) = Some (codes "hold " ++ decimal hold)
-
--- one after another
-abbrev pub faults_text : OwnFaults → List ℕ
-faults_text faults =
-    separated [] (as_piece faults.as_numbers ∷ id_piece faults.id ∷ hold_piece faults.hold ∷ [])

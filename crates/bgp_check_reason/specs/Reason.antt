@@ -1,6 +1,6 @@
 -- Why a verdict on an end is a no or unfinished, and the lines that tell it.
 use Rattle.std.specs.Prelude.{◌≡◌, ◌⊎◌, ◌+◌, Bool, true, false, ℕ, List, [], Option, None, Some}
-use Rattle.std.specs.Prelude.{MatchOption, option_map, take}
+use Rattle.std.specs.Prelude.{MatchOption, take}
 use Rattle.std.specs.List.{AllByRecursion}
 use Rattle.bgp_prefix.specs.Shown.{ShownRecord}
 use Rattle.bgp_prefix.specs.declared.session.Session.{Session}
@@ -15,27 +15,27 @@ use Rattle.bgp_check.specs.declared.peer_as.PeerAs.{PeerAs}
 use Rattle.bgp_check.specs.declared.peer_as.PeerAs.TheVariants.{Any, Is, OtherThan}
 use Rattle.bgp_explain.specs.Records.{SaysOfRecords}
 use Rattle.bgp_explain.specs.declared.places.Place.{Place}
+use Rattle.bgp_reason_text.specs.declared.own_faults.OwnFaults.{OwnFaults}
+use Rattle.bgp_reason_text.specs.declared.style.Style.{Style}
 use Rattle.bgp_wire.specs.declared.header.Limit.{Limit}
-use Rattle.bgp_check_reason.specs.OwnFaults.{AreOwnFaults, faults_text}
+use Rattle.bgp_check_reason.specs.OwnFaults.{AreOwnFaults}
 use Rattle.bgp_check_reason.specs.Shown.{CanBeTold, session_at}
-use Rattle.bgp_check_reason.specs.Telling.{told_text}
-use Rattle.bgp_check_reason.specs.declared.own_faults.OwnFaults.{OwnFaults}
 use Rattle.bgp_check_reason.specs.declared.reason.Reason.{Reason}
 
 -- What `bgp judge --explain` says of these records under a configuration, after the verdict, each
--- with its place, but that the line of a record that was sent goes by the limit of its receiver;
--- nothing, where no capture can hold them.
-abbrev pub IsSaid : Config → Limit → (ℕ → Place) → List ShownRecord → VerdictValue → List ℕ
-    → Type 0
-IsSaid config sent places records verdict text =
+-- with its place, but in this style, and the line of a record that was sent goes by the limit of
+-- its receiver; nothing, where no capture can hold them.
+abbrev pub IsSaid : Config → Style → Limit → (ℕ → Place) → List ShownRecord → VerdictValue
+    → List ℕ → Type 0
+IsSaid config style sent places records verdict text =
     (AllByRecursion (CanBeTold config.parts.session sent) records
-    × SaysOfRecords config (session_at config.parts.session sent records verdict) places records
-    verdict text)
+    × SaysOfRecords config style (session_at config.parts.session sent records verdict) places
+    records verdict text)
     ⊎ ((¬ AllByRecursion (CanBeTold config.parts.session sent) records) × (text ≡ []))
 
--- ---- what differs from that
+-- ---- the style
 
--- the peer has to have another AS number than its OPEN says
+-- the peer has to have another AS number than its OPEN says, whichever
 abbrev pub is_of_another : PeerAs → Bool
 is_of_another Any = false
 is_of_another (Is number) = false
@@ -61,19 +61,27 @@ AreFaultsIn records (Yes ends) faults = faults ≡ None
 AreFaultsIn records (No count) faults = AreFaultsAt records count faults
 AreFaultsIn records Unfinished faults = faults ≡ None
 
+-- Each line is indented, and no longer than 200 octets; the peer's AS number may be free; and own
+-- faults are told in place of what an OPEN lacks.
+abbrev pub style_of : PeerAs → Option OwnFaults → Style
+style_of peer faults = record {
+  is_indented = true;
+  most = Some 200;
+  peer_as_is_free = is_of_another peer;
+  own_faults = faults;
+}
+
 -- ---- all of it
 
--- The configuration under which the verdict is told, what is said of it, and how that is told.
+-- The configuration under which the verdict is told, and what is said of it.
 pub record IsExplained (session : Session) (sent : Limit) (places : ℕ → Place)
     (records : List ShownRecord) (peer : PeerAs) (config : Config) (verdict : VerdictValue)
     (text : List ℕ) : Type 0 where
   pub under : IsWidestFor session records peer config
   pub holds : HasVerdict config records verdict
-  pub said : List ℕ
-  pub is_said : IsSaid config sent places records verdict said
   pub faults : Option OwnFaults
   pub are_faults : AreFaultsIn records verdict faults
-  pub told : text ≡ told_text (is_of_another peer) (option_map faults_text faults) said
+  pub is_said : IsSaid config (style_of peer faults) sent places records verdict text
 
 -- of records that have a verdict under this configuration, whatever it is
 abbrev pub IsToldAs : Session → Limit → (ℕ → Place) → List ShownRecord → PeerAs → Config
@@ -100,5 +108,4 @@ IsReasonTo session sent places records (JudgedAs number peer config verdict) tex
 
 -- the lines of one
 abbrev pub reason_text : {X : Type 0} → Reason X → List ℕ
-reason_text reason =
-    told_text reason.names_another (option_map faults_text reason.own_faults) reason.text.items
+reason_text reason = reason.text.items

@@ -1,4 +1,4 @@
-//! What `bgp judge --explain` says of records, in memory.
+//! What is said of records, in memory.
 
 ghost use Rattle.std.specs.Prelude.{◌<◌, ℕ, IfOk, IsSome, List, OnOk, map};
 ghost use Rattle.std.specs.List.{AllByRecursion};
@@ -17,16 +17,18 @@ use bgp_explain::{Details, ExplainedRecords, Places, explain_records, put_explai
 use bgp_judge::{Tracker, records_have_just_one_verdict};
 use bgp_open::Config;
 use bgp_prefix::Session;
+use bgp_reason_text::Style;
 use bgp_text::Lines;
 use bgp_wire::Limit;
 use mrt::{Failed, MemSink, Record, Sink};
 use std::alloc::{AllocError, Allocator};
 
 /// Writes what explains the verdict on records that have these places, with the details of the
-/// reason.
+/// reason, in a style.
 fn write_explained<W: Sink, A: Allocator + Copy>(
     sink: &mut W,
     config: &Config,
+    style: &Style,
     session: &Session,
     places: Places<'_>,
     explained: &ExplainedRecords<A>,
@@ -38,12 +40,14 @@ fn write_explained<W: Sink, A: Allocator + Copy>(
     requires all { IsSome details.now }
     ensures { OnOk result ((records : List ShownRecord)
         → AreExplained config.now records explained.now → (more : List ℕ)
-        × SaysOfRecords config.now session.now (places_of places.entry) records
+        × SaysOfRecords config.now style.now session.now (places_of places.entry) records
         (verdict_value explained.now.verdict) more
         × W.takes sink.old sink.new more) }
 {
     let mut lines = Lines::new(sink);
-    put_explained_records(&mut lines, config, session, places, explained, details);
+    put_explained_records(
+        &mut lines, config, style, session, places, explained, details,
+    );
     let handed_over = lines.hand_over();
     // No effect: it ends the loan of the sink.
     lines.into_sink();
@@ -56,6 +60,7 @@ fn write_explained<W: Sink, A: Allocator + Copy>(
 fn text_of<A: Allocator + Copy, T: Tracker<A>>(
     alloc: A,
     config: &Config,
+    style: &Style,
     sent: Limit,
     places: Places<'_>,
     records: &[Record<'_>],
@@ -64,7 +69,7 @@ fn text_of<A: Allocator + Copy, T: Tracker<A>>(
         (map shown_of records.now) }
     ensures { IfOk result (λ text. (verdict : VerdictValue)
         → HasVerdict config.now (map shown_of records.now) verdict
-        → SaysOfRecords config.now (session_at config.now.parts.session sent
+        → SaysOfRecords config.now style.now (session_at config.now.parts.session sent
         (map shown_of records.now) verdict) (places_of places.entry) (map shown_of records.now)
         verdict text.items) }
 {
@@ -76,29 +81,32 @@ fn text_of<A: Allocator + Copy, T: Tracker<A>>(
     }
     let session = session_at(&config.parts.session, sent, records, &explained.verdict);
     let mut sink = MemSink::new(alloc);
-    match write_explained(&mut sink, config, &session, places, &explained, &details) {
+    match write_explained(
+        &mut sink, config, style, &session, places, &explained, &details,
+    ) {
         Ok(()) => Ok(sink.into_octets()),
         Err(_) => Err(AllocError),
     }
 }
 
 /// What is said of records that have these places, after the verdict on them under a
-/// configuration, the line of a record that was sent by this limit: nothing, where no capture can
-/// hold them all.
+/// configuration, in a style, the line of a record that was sent by this limit: nothing, where no
+/// capture can hold them all.
 pub(crate) fn said_of<A: Allocator + Copy, T: Tracker<A>>(
     alloc: A,
     config: &Config,
+    style: &Style,
     sent: Limit,
     places: Places<'_>,
     records: &[Record<'_>],
 ) -> Result<Vec<u8, A>, AllocError>
     ensures { IfOk result (λ text. (verdict : VerdictValue)
         → HasVerdict config.now (map shown_of records.now) verdict
-        → IsSaid config.now sent (places_of places.entry) (map shown_of records.now) verdict
-        text.items) }
+        → IsSaid config.now style.now sent (places_of places.entry) (map shown_of records.now)
+        verdict text.items) }
 {
     if !can_be_told(&config.parts.session, sent, records) {
         return Ok(Vec::new(alloc));
     }
-    text_of::<A, T>(alloc, config, sent, places, records)
+    text_of::<A, T>(alloc, config, style, sent, places, records)
 }

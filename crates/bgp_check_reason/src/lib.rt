@@ -1,5 +1,5 @@
-//! Why a verdict of `bgp check` is a no or unfinished: the lines of `bgp judge --explain` under the
-//! configuration for which it is told, each set in by two blanks.
+//! Why a verdict of `bgp check` is a no or unfinished: the reason that `bgp judge --explain` gives
+//! under the configuration for which the verdict is told, in the style of `check`.
 //!
 //! ```text
 //! let places = Places::Shown(&entries);
@@ -10,13 +10,11 @@
 #![tactic(auto)]
 
 mod explained;
-mod marks;
 mod own_faults;
 mod reason;
 mod shown;
-mod telling;
 mod unshown;
 
-pub use own_faults::{OwnFaults, told_configuration};
+pub use own_faults::told_configuration;
 pub use reason::{Reason, put_reason, reason_of};
 pub use unshown::{put_passed_over, put_unshown};

@@ -9,28 +9,26 @@ ghost use Rattle.bgp_parts.specs.Opens.{HasOwnOpen};
 ghost use Rattle.bgp_explain.specs.Places.{places_of};
 ghost use Rattle.bgp_text.specs.Lines.{Writes};
 ghost use Rattle.bgp_check_reason.specs.Reason.{AreFaultsAt, IsReasonOf, IsReasonTo, IsToldAs};
-ghost use Rattle.bgp_check_reason.specs.Reason.{is_of_another, reason_text};
+ghost use Rattle.bgp_check_reason.specs.Reason.{is_of_another, reason_text, style_of};
 
 use crate::explained::said_of;
-use crate::own_faults::{OwnFaults, own_faults_of};
-use crate::telling::put_told;
+use crate::own_faults::own_faults_of;
 use bgp_check::{Answer, Judged, PeerAs, a_verdict_holds_under_its_configuration, own_open};
 use bgp_explain::Places;
 use bgp_judge::{Tracker, Verdict};
+use bgp_reason_text::{OwnFaults, Style};
 use bgp_text::Lines;
 use bgp_wire::Limit;
 use mrt::{Record, Sink};
 use std::alloc::{AllocError, Allocator, Global};
 
-/// Why a verdict on an end is a no or unfinished, as it is told; of a yes nothing is.
+/// How many octets of a line are put at the most.
+const MOST: u8 = 200;
+
+/// The lines on why a verdict on an end is a no or unfinished; none after a yes.
 #[derive(Drop)]
 pub struct Reason<A: Allocator = Global> {
-    /// What `bgp judge --explain` says after the verdict.
     text: Vec<u8, A>,
-    /// Its peer has to have another AS number than its OPEN says, whichever.
-    names_another: bool,
-    /// What the end's OPEN says that no configuration has, where that record is impossible.
-    own_faults: Option<OwnFaults>,
 }
 
 impl<A: Allocator> Reason<A> {
@@ -40,8 +38,6 @@ impl<A: Allocator> Reason<A> {
     {
         Reason {
             text: Vec::new(alloc),
-            names_another: false,
-            own_faults: None,
         }
     }
 }
@@ -51,6 +47,19 @@ fn is_of_another(peer: PeerAs) -> bool
     ensures { result ≡ is_of_another peer }
 {
     matches!(peer, PeerAs::OtherThan(_))
+}
+
+/// The style in which a reason is told of an end with such a peer, and with these own faults, if it
+/// has some.
+fn style_of(peer: PeerAs, own_faults: Option<OwnFaults>) -> Style
+    ensures { result ≡ style_of peer own_faults }
+{
+    Style {
+        is_indented: true,
+        most: Some(MOST),
+        peer_as_is_free: is_of_another(peer),
+        own_faults,
+    }
 }
 
 /// The own faults of the first OPEN that these records show as sent, up to the one after so many.
@@ -78,10 +87,9 @@ fn explained<A: Allocator + Copy, T: Tracker<A>>(
         (places_of places.entry) (map shown_of records.now) judged.now.peer_as judged.now.under
         own_faults (reason_text reason)) }
 {
+    let style = style_of(judged.peer_as, own_faults);
     Ok(Reason {
-        text: said_of::<A, T>(alloc, &judged.under, sent, places, records)?,
-        names_another: is_of_another(judged.peer_as),
-        own_faults,
+        text: said_of::<A, T>(alloc, &judged.under, &style, sent, places, records)?,
     })
 }
 
@@ -144,10 +152,5 @@ pub fn reason_of<A: Allocator + Copy, T: Tracker<A>>(
 pub fn put_reason<W: Sink, A: Allocator>(lines: &mut Lines<'_, W>, reason: &Reason<A>)
     ensures { Writes lines.old lines.new (reason_text reason.now) }
 {
-    put_told(
-        lines,
-        reason.names_another,
-        reason.own_faults,
-        reason.text.as_slice(),
-    );
+    lines.put(reason.text.as_slice());
 }

@@ -56,14 +56,15 @@ use Rattle.bgp_reason_text.specs.Lacks.{IsWholeOf, is_notification}
 use Rattle.bgp_reason_text.specs.Notes.{IsNotificationOf}
 use Rattle.bgp_reason_text.specs.NotWhole.{IsWhyNot, IsWhyNotSent}
 use Rattle.bgp_reason_text.specs.Possible.{item_lines}
-use Rattle.bgp_reason_text.specs.Words.{line_end}
+use Rattle.bgp_reason_text.specs.declared.style.Style.{Style}
+use Rattle.bgp_reason_text.specs.Style.{line}
 use Rattle.bgp_reason_text.specs.Refusal.{AreFieldReasons, AreReasons, IsToldOf}
 use Rattle.bgp_explain.specs.declared.places.Place.{Place}
 use Rattle.bgp_explain.specs.declared.texts.Received.{Received as LastReceived}
 use Rattle.bgp_explain.specs.Details.{AreLacksOf, IsAskedBy}
 use Rattle.bgp_explain.specs.Lacked.{Lacked, Nothing, Open, Update, Notification, RecordLacks, SentLacks, following_lines}
 use Rattle.bgp_explain.specs.Text.{IsReceivedBy, IsUnwholeOf, received_text}
-use Rattle.bgp_explain.specs.Updates.{Asking, update_line}
+use Rattle.bgp_explain.specs.Updates.{Asking, asking_said, update_line}
 use Rattle.bgp_explain.specs.Updates as updates
 use Rattle.bgp_explain.proofs.OnePossible.{same}
 
@@ -238,22 +239,25 @@ module _ (link : Link) (octets : List ℕ) where
         let all = one_piece a.applied b.applied h.applied k.applied (these true true) in
         λ i. alternatives (codes ": ") (none i ∷ v4 i ∷ v6 i ∷ all i ∷ refused_piece (refused i) ∷ [])
 
-    one_line : update_line n packet a ≡ update_line n packet b
-    unfolding update_line
-    one_line =
+    one_said : asking_said n a ≡ asking_said n b
+    unfolding asking_said
+    one_said =
         let parts = one_parts link octets a.parts b.parts h.parts k.parts in
-        λ i. codes "last received record " ++ (decimal n ++ (codes " update" ++ ((one_outcomes i ++ why_text (parts i)) ++ line_end packet)))
+        λ i. codes "last received record " ++ (decimal n ++ (codes " update" ++ (one_outcomes i ++ why_text (parts i))))
 
-pub one_asking : SubcodesAreSets → (config : Config) (told : Told) (link : Option Link) (octets : List ℕ) (r : Option LastReceived) (a b : Option Asking)
-    → IsAskedBy config told link octets a → IsAskedBy config told link octets b → received_text r a ≡ received_text r b
-one_asking sets config told link octets None a b h k = refl
-one_asking sets config told link octets (Some r) None None h k = refl
-one_asking sets config told link octets (Some r) None (Some b) h k = absurd (h k.0 k.1)
-one_asking sets config told link octets (Some r) (Some a) None h k = absurd (k h.0 h.1)
-one_asking sets config told link octets (Some r) (Some a) (Some b) h k =
+    one_line : (style : Style) → update_line style n packet a ≡ update_line style n packet b
+    one_line style = ap (λ (said : List ℕ). line style said packet) one_said
+
+pub one_asking : SubcodesAreSets → (style : Style) (config : Config) (told : Told) (link : Option Link) (octets : List ℕ) (r : Option LastReceived) (a b : Option Asking)
+    → IsAskedBy config told link octets a → IsAskedBy config told link octets b → received_text style r a ≡ received_text style r b
+one_asking sets style config told link octets None a b h k = refl
+one_asking sets style config told link octets (Some r) None None h k = refl
+one_asking sets style config told link octets (Some r) None (Some b) h k = absurd (h k.0 k.1)
+one_asking sets style config told link octets (Some r) (Some a) None h k = absurd (k h.0 h.1)
+one_asking sets style config told link octets (Some r) (Some a) (Some b) h k =
     let some : Some h.0 ≡ Some k.0 = sym h.1.is_link ∙ k.1.is_link in
     let on : h.0 ≡ k.0 = cc in
-    one_line h.0 octets sets r.place.number r.place.packet a b h.2 (subst (λ (l : Link). updates.Asks l octets b) (sym on) k.2)
+    one_line h.0 octets sets r.place.number r.place.packet a b h.2 (subst (λ (l : Link). updates.Asks l octets b) (sym on) k.2) style
 
 -- ---- whether it is whole
 
@@ -354,7 +358,7 @@ one_number octets a b h k = one_code a h.0 b k.0 h.1 k.1 (sym h.2.body ∙ k.2.b
 of_one_type : (limit : Limit) (octets : List ℕ) → IsWholeOf limit 1 octets → IsWholeOf limit 2 octets → ⊥
 of_one_type limit octets h k = let e = sym h.1 ∙ k.1 in omega (arith, e)
 
-module _ (config : Config) (link : Option Link) (p : Possible) (second : ℕ) (octets : List ℕ) where
+module _ (style : Style) (config : Config) (link : Option Link) (p : Possible) (second : ℕ) (octets : List ℕ) where
   unlike : (parts : List Part) → IsNone link ⊎ (¬ IsWholeOf (limit_on link) 2 octets)
       → IsWholeOf (limit_on link) 2 octets × IsSomeAnd link (λ l. AreUpdateParts l octets parts) → ⊥
   unlike parts (inl none) k = some_none link parts none k.1 where
@@ -367,18 +371,18 @@ module _ (config : Config) (link : Option Link) (p : Possible) (second : ℕ) (o
   one_lists None a b h k = absurd h
   one_lists (Some l) a b h k = one_parts l octets a b h k
 
-  one_sent_lacks : (a b : Lacked) → SentLacks config link p second octets a → SentLacks config link p second octets b → following_lines p a ≡ following_lines p b
+  one_sent_lacks : (a b : Lacked) → SentLacks config link p second octets a → SentLacks config link p second octets b → following_lines style p a ≡ following_lines style p b
   one_sent_lacks Nothing Nothing h k = refl
   one_sent_lacks Nothing (Open b) h k = absurd (h.0 k.0)
   one_sent_lacks Nothing (Update b) h k = absurd (unlike b h.1 k)
   one_sent_lacks Nothing (Notification c b) h k = absurd (k.2.1.like (h.2 k.2.1.code k.2.1.subcode k.2.1.detail k.2.1.is))
   one_sent_lacks (Open a) Nothing h k = absurd (k.0 h.0)
-  one_sent_lacks (Open a) (Open b) h k = ap (λ (v : opens.OwnOpenParts). following_lines p (Open v)) (one_own_parts config octets a b h.1 k.1)
+  one_sent_lacks (Open a) (Open b) h k = ap (λ (v : opens.OwnOpenParts). following_lines style p (Open v)) (one_own_parts config octets a b h.1 k.1)
   one_sent_lacks (Open a) (Update b) h k = absurd (of_one_type (limit_on link) octets h.0 k.0)
   one_sent_lacks (Open a) (Notification c b) h k = absurd (k.0 h.0)
   one_sent_lacks (Update a) Nothing h k = absurd (unlike a k.1 h)
   one_sent_lacks (Update a) (Open b) h k = absurd (of_one_type (limit_on link) octets k.0 h.0)
-  one_sent_lacks (Update a) (Update b) h k = ap (λ (v : List Part). following_lines p (Update v)) (one_lists link a b h.1 k.1)
+  one_sent_lacks (Update a) (Update b) h k = ap (λ (v : List Part). following_lines style p (Update v)) (one_lists link a b h.1 k.1)
   one_sent_lacks (Update a) (Notification c b) h k = absurd (unlike a k.1 h)
   one_sent_lacks (Notification c a) Nothing h k = absurd (h.2.1.like (k.2 h.2.1.code h.2.1.subcode h.2.1.detail h.2.1.is))
   one_sent_lacks (Notification c a) (Open b) h k = absurd (h.0 k.0)
@@ -386,15 +390,15 @@ module _ (config : Config) (link : Option Link) (p : Possible) (second : ℕ) (o
   one_sent_lacks (Notification c a) (Notification d b) h k =
       let number = one_number octets c d h.2.0 k.2.0 in
       let text = one_notification_text p second octets (codes ", but ") a b h.2.1 k.2.1 in
-      λ i. item_lines (λ item. if is_notification (number i) item then text i else []) (first_word p.message) (those_possible (all_items p))
+      λ i. item_lines style (λ item. if is_notification (number i) item then text i else []) (first_word p.message) (those_possible (all_items p))
 
-one_record_lacks : (config : Config) (link : Option Link) (p : Possible) (shown : ShownRecord) (a b : Lacked) → RecordLacks config link p shown a
-    → RecordLacks config link p shown b → following_lines p a ≡ following_lines p b
-one_record_lacks config link p (Received t octets) a b h k = ap (following_lines p) (h ∙ sym k)
-one_record_lacks config link p (Sent t octets) a b h k = one_sent_lacks config link p t octets a b h k
-one_record_lacks config link p (Changed t x y) a b h k = ap (following_lines p) (h ∙ sym k)
+one_record_lacks : (style : Style) (config : Config) (link : Option Link) (p : Possible) (shown : ShownRecord) (a b : Lacked) → RecordLacks config link p shown a
+    → RecordLacks config link p shown b → following_lines style p a ≡ following_lines style p b
+one_record_lacks style config link p (Received t octets) a b h k = ap (following_lines style p) (h ∙ sym k)
+one_record_lacks style config link p (Sent t octets) a b h k = one_sent_lacks style config link p t octets a b h k
+one_record_lacks style config link p (Changed t x y) a b h k = ap (following_lines style p) (h ∙ sym k)
 
-pub one_lack : (config : Config) (link : Option Link) (p : Possible) (next : Option (ℕ × ShownRecord)) (a b : Lacked) → AreLacksOf config link p next a
-    → AreLacksOf config link p next b → following_lines p a ≡ following_lines p b
-one_lack config link p None a b h k = ap (following_lines p) (h ∙ sym k)
-one_lack config link p (Some next) a b h k = one_record_lacks config link p next.1 a b h k
+pub one_lack : (style : Style) (config : Config) (link : Option Link) (p : Possible) (next : Option (ℕ × ShownRecord)) (a b : Lacked) → AreLacksOf config link p next a
+    → AreLacksOf config link p next b → following_lines style p a ≡ following_lines style p b
+one_lack style config link p None a b h k = ap (following_lines style p) (h ∙ sym k)
+one_lack style config link p (Some next) a b h k = one_record_lacks style config link p next.1 a b h k

@@ -35,6 +35,8 @@ use Rattle.bgp_parts.specs.declared.unjudged.Unjudged.{Unjudged}
 use Rattle.bgp_parts.specs.declared.unjudged.UnjudgedOffer.{UnjudgedOffer}
 use Rattle.bgp_parts.specs.Unjudged.{IsUnjudgedOffer, both_offer}
 use Rattle.bgp_parts.proofs.OneOwnOpen.{one_own}
+use Rattle.bgp_reason_text.specs.declared.style.Style.{Style}
+use Rattle.bgp_reason_text.specs.Style.{plain}
 use Rattle.bgp_explain.specs.Capture.{HasOneText, SaysExplained, SaysMore, TellsWhy, TellsWhyNot}
 use Rattle.bgp_explain.specs.declared.places.Place.{Place}
 use Rattle.bgp_explain.specs.Places.{counted_places}
@@ -188,38 +190,38 @@ one_unjudged records a b h k =
 -- ---- why
 
 module _ (sets : SubcodesAreSets) (config : Config) where
-  one_is_why : (places : ℕ → Place) (t : Told) (link : Option Link) (u : Unjudged) (octets : List ℕ) (p : Possible) (next : Option (ℕ × ShownRecord)) (text other : List ℕ) → IsHeaded t octets
-      → IsWhy config places t link u octets p next text → IsWhy config places t link u octets p next other → text ≡ other
-  one_is_why places t link u octets p next text other whole h k =
+  one_is_why : (style : Style) (places : ℕ → Place) (t : Told) (link : Option Link) (u : Unjudged) (octets : List ℕ) (p : Possible) (next : Option (ℕ × ShownRecord)) (text other : List ℕ) → IsHeaded t octets
+      → IsWhy config style places t link u octets p next text → IsWhy config style places t link u octets p next other → text ≡ other
+  one_is_why style places t link u octets p next text other whole h k =
       let received = one_received config octets places t t.last_received h.received k.received h.is_received k.is_received whole in
-      let line = ap (λ r. received_text r h.asking) received ∙ one_asking sets config t link octets k.received h.asking k.asking h.is_asked k.is_asked in
+      let line = ap (λ r. received_text style r h.asking) received ∙ one_asking sets style config t link octets k.received h.asking k.asking h.is_asked k.is_asked in
       let unwhole = one_unwhole link next h.unwhole k.unwhole h.is_unwhole k.is_unwhole in
-      let following = one_lack config link p next h.lacked k.lacked h.are_lacks k.are_lacks in
+      let following = one_lack style config link p next h.lacked k.lacked h.are_lacks k.are_lacks in
       let notes = one_notes config t link octets p next u h.notes k.notes h.are_notes k.are_notes in
-      h.whole ∙ (λ i. state_line t.state (teller places t) ++ (line i ++ (not_whole_line (unwhole i) ++ (following i ++ notes_text (notes i))))) ∙ sym k.whole
+      h.whole ∙ (λ i. state_line style t.state (teller places t) ++ (line i ++ (not_whole_line style (unwhole i) ++ (following i ++ notes_text style (notes i))))) ∙ sym k.whole
 
-  one_why : (places : ℕ → Place) (records : List ShownRecord) (next : Option (ℕ × ShownRecord)) (text other : List ℕ) → EachHasAHeader records → TellsWhy config places records next text
-      → TellsWhy config places records next other → text ≡ other
-  one_why places records next text other each h k =
+  one_why : (style : Style) (places : ℕ → Place) (records : List ShownRecord) (next : Option (ℕ × ShownRecord)) (text other : List ℕ) → EachHasAHeader records → TellsWhy config style places records next text
+      → TellsWhy config style places records next other → text ≡ other
+  one_why style places records next text other each h k =
       let possible = same_possible config records h.possible k.possible h.asked k.asked h.are k.are h.timely k.timely in
       let unjudged = one_unjudged records h.unjudged k.unjudged h.are_unjudged k.are_unjudged in
-      one_is_why places (told records) (sending_link config records) h.unjudged (last_message records) h.possible next text other (headed records each) h.why
-      (subst (λ (v : Unjudged). IsWhy config places (told records) (sending_link config records) v (last_message records) h.possible next other) (sym unjudged)
-      (subst (λ (v : Possible). IsWhy config places (told records) (sending_link config records) k.unjudged (last_message records) v next other) (sym possible) k.why))
+      one_is_why style places (told records) (sending_link config records) h.unjudged (last_message records) h.possible next text other (headed records each) h.why
+      (subst (λ (v : Unjudged). IsWhy config style places (told records) (sending_link config records) v (last_message records) h.possible next other) (sym unjudged)
+      (subst (λ (v : Possible). IsWhy config style places (told records) (sending_link config records) k.unjudged (last_message records) v next other) (sym possible) k.why))
 
   -- the one record behind others
   one_last : (before : List ShownRecord) (a b : ShownRecord) → before ++ a ∷ [] ≡ before ++ b ∷ [] → a ≡ b
   one_last [] a b e = cc
   one_last (r ∷ before) a b e = one_last before a b (let f : before ++ a ∷ [] ≡ before ++ b ∷ [] = cc in f)
 
-  one_why_not : (places : ℕ → Place) (before records : List ShownRecord) (text other : List ℕ) → EachHasAHeader before → TellsWhyNot config config.parts.session places before records text
-      → TellsWhyNot config config.parts.session places before records other → text ≡ other
-  one_why_not places before records text other each h k =
+  one_why_not : (style : Style) (places : ℕ → Place) (before records : List ShownRecord) (text other : List ℕ) → EachHasAHeader before → TellsWhyNot config style config.parts.session places before records text
+      → TellsWhyNot config style config.parts.session places before records other → text ≡ other
+  one_why_not style places before records text other each h k =
       let shown = one_last before h.shown k.shown (sym h.next ∙ k.next) in
       let line = one_record_text config.parts.session h.shown h.line k.line h.is_line (subst (λ (r : ShownRecord). IsRecordText config.parts.session r k.line) (sym shown) k.is_line) in
-      let rest = one_why places before (Some (length before + 1, h.shown)) h.rest k.rest each h.why
-      (subst (λ (r : ShownRecord). TellsWhy config places before (Some (length before + 1, r)) k.rest) (sym shown) k.why)
-      in h.whole ∙ (λ i. line_at (places (length before + 1)) (line i) ++ rest i) ∙ sym k.whole
+      let rest = one_why style places before (Some (length before + 1, h.shown)) h.rest k.rest each h.why
+      (subst (λ (r : ShownRecord). TellsWhy config style places before (Some (length before + 1, r)) k.rest) (sym shown) k.why)
+      in h.whole ∙ (λ i. line_at style (places (length before + 1)) (line i) ++ rest i) ∙ sym k.whole
 
   module _ (law : HasOneVerdict) (records : List ShownRecord) (skipped : Skipped) (each : EachHasAHeader records) (first other : List ℕ) (status code : ℕ) where
     one_more : (s : SaysVerdict config records first status) (t : SaysVerdict config records other code) (more also : List ℕ) → SaysMore config records skipped first status s more
@@ -234,15 +236,15 @@ module _ (sets : SubcodesAreSets) (config : Config) where
     one_more (inr (inl a)) (inr (inl b)) more also h k =
         let e : No a.count ≡ No b.count = law config records (No a.count) (No b.count) (a.within, a.before, a.behind) (b.within, b.before, b.behind) in
         let count : a.count ≡ b.count = cc in
-        one_why_not counted_places (take a.count records) (take (a.count + 1) records) more also (first_headers a.count records each) h
-        (subst (λ (n : ℕ). TellsWhyNot config config.parts.session counted_places (take n records) (take (n + 1) records) also) (sym count) k)
+        one_why_not plain counted_places (take a.count records) (take (a.count + 1) records) more also (first_headers a.count records each) h
+        (subst (λ (n : ℕ). TellsWhyNot config plain config.parts.session counted_places (take n records) (take (n + 1) records) also) (sym count) k)
     one_more (inr (inl a)) (inr (inr b)) more also h k =
         absurd (let e : No a.count ≡ Unfinished = law config records (No a.count) Unfinished (a.within, a.before, a.behind) (b.begins, b.none) in cc)
     one_more (inr (inr a)) (inl b) more also h k =
         absurd (let e : Unfinished ≡ Yes b.ends = law config records Unfinished (Yes b.ends) (a.begins, a.none) (b.some, b.lists) in cc)
     one_more (inr (inr a)) (inr (inl b)) more also h k =
         absurd (let e : Unfinished ≡ No b.count = law config records Unfinished (No b.count) (a.begins, a.none) (b.within, b.before, b.behind) in cc)
-    one_more (inr (inr a)) (inr (inr b)) more also h k = one_why counted_places records None more also each h k
+    one_more (inr (inr a)) (inr (inr b)) more also h k = one_why plain counted_places records None more also each h k
 
 pub one_text : SubcodesAreSets → EachAllowed → HasOneVerdict
     → ((config : Config) (octets : List ℕ) (records also : List ShownRecord) (text other : List ℕ) (status code : ℕ) → Spells config.parts.session octets records

@@ -24,6 +24,8 @@ use Rattle.bgp_reason.specs.declared.told.Told.{Told}
 use Rattle.bgp_open.specs.declared.link.Link.{Link}
 use Rattle.bgp_reason.specs.Sending.{sending_link}
 use Rattle.bgp_reason.specs.Told.{last_message, told}
+use Rattle.bgp_reason_text.specs.declared.style.Style.{Style}
+use Rattle.bgp_reason_text.specs.Style.{plain}
 use Rattle.bgp_text.specs.Capture.{refused_line}
 use Rattle.bgp_tool.specs.Answer.{IsWritten, answer_status, answer_text, verdict_status}
 use Rattle.bgp_tool.specs.Judging.{TellsFault}
@@ -48,17 +50,17 @@ use Rattle.bgp_explain.specs.declared.skipped.Skipped.{Skipped}
 use Rattle.bgp_explain.specs.declared.tally.Tally.{Tally}
 use Rattle.bgp_tool.specs.declared.seen.Seen.{Seen}
 
-module _ {X : Type 0} (config : Config) (session : Session) (places : ℕ → Place) where
+module _ {X : Type 0} (config : Config) (style : Style) (session : Session) (places : ℕ → Place) where
   same_why : (records : List ShownRecord) (reason : Reason X) (next : Option (ℕ × ShownRecord)) (text : List ℕ) → IsReasonAt config records reason
-      → IsWhy config places reason.told reason.link reason.unjudged reason.last_message.items reason.possible next text
-      → IsWhy config places (told records) (sending_link config records) reason.unjudged (last_message records) reason.possible next text
+      → IsWhy config style places reason.told reason.link reason.unjudged reason.last_message.items reason.possible next text
+      → IsWhy config style places (told records) (sending_link config records) reason.unjudged (last_message records) reason.possible next text
   same_why records reason next text at why =
-      subst (λ (t : Told). IsWhy config places t (sending_link config records) reason.unjudged (last_message records) reason.possible next text) at.told
-      (subst (λ (l : Option Link). IsWhy config places reason.told l reason.unjudged (last_message records) reason.possible next text) at.link
-      (subst (λ (o : List ℕ). IsWhy config places reason.told reason.link reason.unjudged o reason.possible next text) at.last_message why))
+      subst (λ (t : Told). IsWhy config style places t (sending_link config records) reason.unjudged (last_message records) reason.possible next text) at.told
+      (subst (λ (l : Option Link). IsWhy config style places reason.told l reason.unjudged (last_message records) reason.possible next text) at.link
+      (subst (λ (o : List ℕ). IsWhy config style places reason.told reason.link reason.unjudged o reason.possible next text) at.last_message why))
 
   tells_why : (records : List ShownRecord) (reason : Reason X) (next : Option (ℕ × ShownRecord)) (text : List ℕ) → IsReasonAt config records reason
-      → IsWhy config places reason.told reason.link reason.unjudged reason.last_message.items reason.possible next text → TellsWhy config places records next text
+      → IsWhy config style places reason.told reason.link reason.unjudged reason.last_message.items reason.possible next text → TellsWhy config style places records next text
   tells_why records reason next text at why = record {
     possible = reason.possible;
     are = at.possible;
@@ -70,9 +72,9 @@ module _ {X : Type 0} (config : Config) (session : Session) (places : ℕ → Pl
   }
 
   tells_not : (before records : List ShownRecord) (reason : Reason X) (o : Option (Impossible X)) (first rest : List ℕ)
-      → IsNext config before o records → IsImpossibleLine session places o first → IsReasonAt config before reason
-      → IsWhy config places reason.told reason.link reason.unjudged reason.last_message.items reason.possible (next_in o) rest
-      → TellsWhyNot config session places before records (first ++ rest)
+      → IsNext config before o records → IsImpossibleLine style session places o first → IsReasonAt config before reason
+      → IsWhy config style places reason.told reason.link reason.unjudged reason.last_message.items reason.possible (next_in o) rest
+      → TellsWhyNot config style session places before records (first ++ rest)
   tells_not before records reason None first rest next line at why = absurd next
   tells_not before records reason (Some i) first rest next line at why = record {
     shown = shown_by i.«record»;
@@ -81,36 +83,36 @@ module _ {X : Type 0} (config : Config) (session : Session) (places : ℕ → Pl
     is_line = line.1;
     rest = rest;
     why = tells_why before reason (Some (length before + 1, shown_by i.«record»)) rest at
-        (subst (λ (n : ℕ). IsWhy config places reason.told reason.link reason.unjudged reason.last_message.items reason.possible (Some (n, shown_by i.«record»)) rest) next.0.number why);
-    whole = ap (λ (f : List ℕ). f ++ rest) (line.2 ∙ ap (λ (n : ℕ). line_at (places n) line.0) next.0.number);
+        (subst (λ (n : ℕ). IsWhy config style places reason.told reason.link reason.unjudged reason.last_message.items reason.possible (Some (n, shown_by i.«record»)) rest) next.0.number why);
+    whole = ap (λ (f : List ℕ). f ++ rest) (line.2 ∙ ap (λ (n : ℕ). line_at style (places n) line.0) next.0.number);
   }
 
   -- what stands after a no that has a reason
   pub why_not : (Y : Type 0) (records : List ShownRecord) (count : ℕ) (reason : Reason X) (more : List ℕ) → HasReason {X = Y} config records (No count) (Some reason)
-      → IsReasonText config session places reason more → TellsWhyNot config session places (take count records) (take (count + 1) records) more
+      → IsReasonText config style session places reason more → TellsWhyNot config style session places (take count records) (take (count + 1) records) more
   why_not Y records count reason more has is =
-      subst (λ (t : List ℕ). TellsWhyNot config session places (take count records) (take (count + 1) records) t) (sym is.whole)
+      subst (λ (t : List ℕ). TellsWhyNot config style session places (take count records) (take (count + 1) records) t) (sym is.whole)
       (tells_not (take count records) (take (count + 1) records) reason reason.impossible is.first is.rest has.1 is.impossible has.0 is.why)
 
   -- and after an unfinished
   pub why_unfinished : (Y : Type 0) (records : List ShownRecord) (reason : Reason X) (more : List ℕ) → HasReason {X = Y} config records Unfinished (Some reason)
-      → IsReasonText config session places reason more → TellsWhy config places records None more
+      → IsReasonText config style session places reason more → TellsWhy config style places records None more
   why_unfinished Y records reason more has is =
-      let none : is.first ≡ [] = subst (λ (o : Option (Impossible X)). IsImpossibleLine session places o is.first) has.1 is.impossible in
-      let why = subst (λ (o : Option (Impossible X)). IsWhy config places reason.told reason.link reason.unjudged reason.last_message.items reason.possible (next_in o) is.rest) has.1 is.why in
+      let none : is.first ≡ [] = subst (λ (o : Option (Impossible X)). IsImpossibleLine style session places o is.first) has.1 is.impossible in
+      let why = subst (λ (o : Option (Impossible X)). IsWhy config style places reason.told reason.link reason.unjudged reason.last_message.items reason.possible (next_in o) is.rest) has.1 is.why in
       let whole = is.whole ∙ ap (λ (f : List ℕ). f ++ is.rest) none in
-      subst (λ (t : List ℕ). TellsWhy config places records None t) (sym whole) (tells_why records reason None is.rest has.0 why)
+      subst (λ (t : List ℕ). TellsWhy config style places records None t) (sym whole) (tells_why records reason None is.rest has.0 why)
 
   -- the reason, or that there was no memory for it
   more_of_no : (Y : Type 0) (records : List ShownRecord) (count : ℕ) (why : Option (Reason X)) (detailed : Bool) (more : List ℕ) → HasReason {X = Y} config records (No count) why
-      → IsMoreBy config session places why detailed more
-      → TellsWhyNot config session places (take count records) (take (count + 1) records) more ⊎ (more ≡ no_memory_line)
+      → IsMoreBy config style session places why detailed more
+      → TellsWhyNot config style session places (take count records) (take (count + 1) records) more ⊎ (more ≡ no_memory_line)
   more_of_no Y records count None detailed more has is = inr is
   more_of_no Y records count (Some reason) false more has is = inr is
   more_of_no Y records count (Some reason) true more has is = inl (why_not Y records count reason more has is)
 
   more_of_unfinished : (Y : Type 0) (records : List ShownRecord) (why : Option (Reason X)) (detailed : Bool) (more : List ℕ) → HasReason {X = Y} config records Unfinished why
-      → IsMoreBy config session places why detailed more → TellsWhy config places records None more ⊎ (more ≡ no_memory_line)
+      → IsMoreBy config style session places why detailed more → TellsWhy config style places records None more ⊎ (more ≡ no_memory_line)
   more_of_unfinished Y records None detailed more has is = inr is
   more_of_unfinished Y records (Some reason) false more has is = inr is
   more_of_unfinished Y records (Some reason) true more has is = inl (why_unfinished Y records reason more has is)
@@ -130,7 +132,7 @@ says config records skipped (Yes ends) why detailed totals more text is has sums
   whole = whole;
 }
 says {X} {Y} config records skipped (No count) why detailed totals more text is has sums skips tells whole =
-    elim (more_of_no config config.parts.session counted_places X records count why detailed more has tells) [
+    elim (more_of_no config plain config.parts.session counted_places X records count why detailed more has tells) [
       | inl why_not ↦ inl record {
         first = verdict_text {X = X} (No count);
         more = more;
@@ -146,7 +148,7 @@ says {X} {Y} config records skipped (No count) why detailed totals more text is 
       }
     ]
 says {X} {Y} config records skipped Unfinished why detailed totals more text is has sums skips tells whole =
-    elim (more_of_unfinished config config.parts.session counted_places X records why detailed more has tells) [
+    elim (more_of_unfinished config plain config.parts.session counted_places X records why detailed more has tells) [
       | inl may ↦ inl record {
         first = verdict_text {X = X} Unfinished;
         more = more;

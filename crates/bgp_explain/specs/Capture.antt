@@ -11,6 +11,8 @@ use Rattle.bgp_reason.specs.Asked.{AreAsked}
 use Rattle.bgp_reason.specs.Possible.{ArePossible}
 use Rattle.bgp_reason.specs.Sending.{sending_link}
 use Rattle.bgp_reason.specs.Told.{told, last_message}
+use Rattle.bgp_reason_text.specs.declared.style.Style.{Style}
+use Rattle.bgp_reason_text.specs.Style.{plain}
 use Rattle.bgp_text.specs.Capture.{IsRecordText}
 use Rattle.bgp_tool.specs.Answer.{IsWritten}
 use Rattle.bgp_tool.specs.Judging.{SaysVerdict, TellsFault}
@@ -26,29 +28,29 @@ use Rattle.bgp_explain.specs.Text.{IsWhy, line_at, no_memory_line}
 
 -- The lines on what records tell, and what may follow them: all of it, and nothing else, no kind
 -- without a record of it either. The records stand at these places. Where the next one is
--- impossible, it is given with its count among them.
-pub record TellsWhy (config : Config) (places : ℕ → Place) (records : List ShownRecord)
-    (next : Option (ℕ × ShownRecord)) (text : List ℕ) : Type 0 where
+-- impossible, it is given with its count among them. The lines are in this style.
+pub record TellsWhy (config : Config) (style : Style) (places : ℕ → Place)
+    (records : List ShownRecord) (next : Option (ℕ × ShownRecord)) (text : List ℕ) : Type 0 where
   pub possible : Possible
   pub are : ArePossible config records possible
   pub asked : AreAsked config records possible
   pub timely : IfSome possible.hold_timer_expired (λ from. from < 2 ^ 32)
   pub unjudged : Unjudged
   pub are_unjudged : AreUnjudged records unjudged
-  pub why : IsWhy config places (told records) (sending_link config records) unjudged
+  pub why : IsWhy config style places (told records) (sending_link config records) unjudged
       (last_message records) possible next text
 
 -- the line of the record after these, as of a capture of this session, and then the lines on those
 -- before it
-pub record TellsWhyNot (config : Config) (session : Session) (places : ℕ → Place)
-    (before records : List ShownRecord) (text : List ℕ) : Type 0 where
+pub record TellsWhyNot (config : Config) (style : Style) (session : Session)
+    (places : ℕ → Place) (before records : List ShownRecord) (text : List ℕ) : Type 0 where
   pub shown : ShownRecord
   pub next : records ≡ before ++ shown ∷ []
   pub line : List ℕ
   pub is_line : IsRecordText session shown line
   pub rest : List ℕ
-  pub why : TellsWhy config places before (Some (length before + 1, shown)) rest
-  pub whole : text ≡ line_at (places (length before + 1)) line ++ rest
+  pub why : TellsWhy config style places before (Some (length before + 1, shown)) rest
+  pub whole : text ≡ line_at style (places (length before + 1)) line ++ rest
 
 -- What is told after a verdict: of a no why the next record is impossible, of an unfinished what
 -- may follow, and after a yes what its records are, and what was skipped.
@@ -58,9 +60,9 @@ module _ (config : Config) (records : List ShownRecord) (skipped : Skipped) (fir
   SaysMore (inl says) more =
       more ≡ yes_lines (tally_of records) (Some skipped) (seen_in records).left_idle
   SaysMore (inr (inl denies)) more =
-      TellsWhyNot config config.parts.session counted_places (take denies.count records)
+      TellsWhyNot config plain config.parts.session counted_places (take denies.count records)
       (take (denies.count + 1) records) more
-  SaysMore (inr (inr unfinished)) more = TellsWhy config counted_places records None more
+  SaysMore (inr (inr unfinished)) more = TellsWhy config plain counted_places records None more
 
 -- the text of the verdict, and after it why it is so
 pub record SaysExplained (config : Config) (records : List ShownRecord) (skipped : Skipped)

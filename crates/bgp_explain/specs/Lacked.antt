@@ -12,12 +12,13 @@ use Rattle.bgp_parts.specs.NotificationParts.{AreNotificationParts, ResembleNone
 use Rattle.bgp_parts.specs.OwnOpenParts.{AreOwnOpenParts}
 use Rattle.bgp_parts.specs.UpdateParts.{Part, AreUpdateParts, shown_part}
 use Rattle.bgp_parts_text.specs.Notifications.{notification_parts_text}
-use Rattle.bgp_parts_text.specs.Opens.{open_parts_text}
 use Rattle.bgp_parts_text.specs.Updates.{update_parts_text}
 use Rattle.bgp_reason_text.specs.declared.lacks.Lacks.{Lacks}
 use Rattle.bgp_reason_text.specs.declared.lacks.Lacks.TheVariants as lacks
 use Rattle.bgp_reason_text.specs.Items.{all_items, first_word, those_possible}
 use Rattle.bgp_reason_text.specs.Lacks.{IsWholeOf, is_notification, is_open, is_update}
+use Rattle.bgp_reason_text.specs.Lacks.{open_but}
+use Rattle.bgp_reason_text.specs.declared.style.Style.{Style}
 use Rattle.bgp_reason_text.specs.Notes.{IsNotificationOf}
 use Rattle.bgp_reason_text.specs.Possible.{item_lines}
 
@@ -66,17 +67,18 @@ RecordLacks config link possible (Changed second old new) lacked = lacked ≡ No
 -- ---- the lines of what may follow
 
 -- what may follow, and of the item that the record resembles what it lacks
-abbrev pub following_lines : Possible → Lacked → List ℕ
-following_lines p Nothing =
-    item_lines (λ item. []) (first_word p.message) (those_possible (all_items p))
-following_lines p (Open parts) =
-    item_lines (λ item. if is_open item then open_parts_text (codes ", but ") parts else [])
+abbrev pub following_lines : Style → Possible → Lacked → List ℕ
+following_lines style p Nothing =
+    item_lines style (λ item. []) (first_word p.message) (those_possible (all_items p))
+following_lines style p (Open parts) =
+    item_lines style (λ item. if is_open item then open_but style.own_faults parts else [])
     (first_word p.message) (those_possible (all_items p))
-following_lines p (Update parts) =
-    item_lines (λ item. if is_update item then update_parts_text (codes ", but ") parts else [])
+following_lines style p (Update parts) =
+    item_lines style
+    (λ item. if is_update item then update_parts_text (codes ", but ") parts else [])
     (first_word p.message) (those_possible (all_items p))
-following_lines p (Notification code parts) =
-    item_lines
+following_lines style p (Notification code parts) =
+    item_lines style
     (λ item. if is_notification code item
     then notification_parts_text (codes ", but ") parts else [])
     (first_word p.message) (those_possible (all_items p))

@@ -7,6 +7,8 @@ use Rattle.mrt.specs.Written.{IsAllowed}
 use Rattle.bgp_open.specs.declared.config.Config.{Config}
 use Rattle.bgp_judge.specs.Verdict.{IsVerdict, VerdictValue, Yes, No, Unfinished}
 use Rattle.bgp_recording.specs.declared.entry.Entry.{Entry}
+use Rattle.bgp_reason_text.specs.declared.style.Style.{Style}
+use Rattle.bgp_reason_text.specs.Style.{plain}
 use Rattle.bgp_tool.specs.Seen.{seen_in}
 use Rattle.bgp_explain.specs.declared.places.Place.{Place}
 use Rattle.bgp_explain.specs.declared.records.ExplainedRecords.{ExplainedRecords}
@@ -28,23 +30,28 @@ pub record AreExplained {X : Type 0} (config : Config) (records : List ShownReco
 
 -- What is told after the verdict on records that stand there: of a no why the next record is
 -- impossible, with its line as of a capture of this session, of an unfinished what may follow, and
--- after a yes what the records are; or that memory was refused for the reason.
+-- after a yes what the records are; or that memory was refused for the reason. The lines of a
+-- reason are in this style.
+module _ (config : Config) (style : Style) (session : Session) (places : ℕ → Place)
+    (records : List ShownRecord) where
+  abbrev pub SaysOfRecords : VerdictValue → List ℕ → Type 0
+  SaysOfRecords (Yes ends) more =
+      more ≡ yes_lines (tally_of records) None (seen_in records).left_idle
+  SaysOfRecords (No count) more =
+      TellsWhyNot config style session places (take count records) (take (count + 1) records)
+      more
+  SaysOfRecords Unfinished more = TellsWhy config style places records None more
+
+  -- where the details of the reason are there, and without a reason where they aren't
+  abbrev pub SaysWhere : Bool → VerdictValue → List ℕ → Type 0
+  SaysWhere detailed (Yes ends) more = SaysOfRecords (Yes ends) more
+  SaysWhere true verdict more = SaysOfRecords verdict more
+  SaysWhere false verdict more = more ≡ no_memory_line
+
+-- with a reason or without, as `bgp judge` tells it
 module _ (config : Config) (session : Session) (places : ℕ → Place) (records : List ShownRecord)
   where
-    abbrev pub SaysOfRecords : VerdictValue → List ℕ → Type 0
-    SaysOfRecords (Yes ends) more =
-        more ≡ yes_lines (tally_of records) None (seen_in records).left_idle
-    SaysOfRecords (No count) more =
-        TellsWhyNot config session places (take count records) (take (count + 1) records) more
-    SaysOfRecords Unfinished more = TellsWhy config places records None more
-
-    -- where the details of the reason are there, and without a reason where they aren't
-    abbrev pub SaysWhere : Bool → VerdictValue → List ℕ → Type 0
-    SaysWhere detailed (Yes ends) more = SaysOfRecords (Yes ends) more
-    SaysWhere true verdict more = SaysOfRecords verdict more
-    SaysWhere false verdict more = more ≡ no_memory_line
-
-    -- with a reason or without
     abbrev pub SaysOrNot : VerdictValue → List ℕ → Type 0
-    SaysOrNot (Yes ends) more = SaysOfRecords (Yes ends) more
-    SaysOrNot verdict more = SaysOfRecords verdict more ⊎ (more ≡ no_memory_line)
+    SaysOrNot (Yes ends) more = SaysOfRecords config plain session places records (Yes ends) more
+    SaysOrNot verdict more =
+        SaysOfRecords config plain session places records verdict more ⊎ (more ≡ no_memory_line)

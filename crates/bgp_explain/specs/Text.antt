@@ -17,6 +17,8 @@ use Rattle.bgp_reason_text.specs.declared.whole.NotWhole.{NotWhole}
 use Rattle.bgp_reason_text.specs.NotWhole.{IsWhyNotSent, not_whole_line}
 use Rattle.bgp_reason_text.specs.Notes.{AreEndNotes, AreNotes, notes_text, with_offers}
 use Rattle.bgp_reason_text.specs.Record.{record_line, state_line}
+use Rattle.bgp_reason_text.specs.declared.style.Style.{Style}
+use Rattle.bgp_reason_text.specs.Style.{plain}
 use Rattle.bgp_parts.specs.declared.unjudged.Unjudged.{Unjudged}
 use Rattle.bgp_text.specs.Capture.{IsRecordText}
 use Rattle.bgp_tool.specs.Answer.{answer_text}
@@ -34,8 +36,8 @@ use Rattle.bgp_explain.specs.Tally.{yes_lines}
 use Rattle.bgp_explain.specs.Updates.{Asking, update_line}
 
 -- the line of a record that stands there
-abbrev pub line_at : Place → List ℕ → List ℕ
-line_at place line = record_line place.number place.packet line
+abbrev pub line_at : Style → Place → List ℕ → List ℕ
+line_at style place line = record_line style place.number place.packet line
 
 -- the number of the record that told the state, where one did
 abbrev pub teller : (ℕ → Place) → Told → Option ℕ
@@ -57,12 +59,12 @@ IsReceived config places told octets received =
 
 -- its line, where one was received since Idle was told: of an UPDATE in Established it has all that
 -- may become of it
-abbrev pub received_text : Option Received → Option Asking → List ℕ
-received_text None asking = []
-received_text (Some received) None =
-    last_received_line received.place.number received.place.packet received.asked
-received_text (Some received) (Some asking) =
-    update_line received.place.number received.place.packet asking
+abbrev pub received_text : Style → Option Received → Option Asking → List ℕ
+received_text style None asking = []
+received_text style (Some received) None =
+    last_received_line style received.place.number received.place.packet received.asked
+received_text style (Some received) (Some asking) =
+    update_line style received.place.number received.place.packet asking
 
 -- ---- why the next record is impossible, or what may follow where there is none
 
@@ -87,15 +89,17 @@ AreNotesOf config told link unjudged octets possible next notes =
 
 -- what the records tell; the message received last; whether the next record is whole; what may
 -- follow, and what the next record lacks of it; and the notes
-abbrev pub why_text : (ℕ → Place) → Told → Option Received → Option Asking → Option NotWhole
-    → Possible → Lacked → Notes → List ℕ
-why_text places told received asking unwhole possible lacked notes =
-    state_line told.state (teller places told) ++ (received_text received asking
-    ++ (not_whole_line unwhole ++ (following_lines possible lacked ++ notes_text notes)))
+abbrev pub why_text : Style → (ℕ → Place) → Told → Option Received → Option Asking
+    → Option NotWhole → Possible → Lacked → Notes → List ℕ
+why_text style places told received asking unwhole possible lacked notes =
+    state_line style told.state (teller places told) ++ (received_text style received asking
+    ++ (not_whole_line style unwhole ++ (following_lines style possible lacked
+    ++ notes_text style notes)))
 
--- The records stand at these places. The next one is given with its count among them.
-pub record IsWhy (config : Config) (places : ℕ → Place) (told : Told) (link : Option Link)
-    (unjudged : Unjudged) (octets : List ℕ) (possible : Possible)
+-- In this style. The records stand at these places, and the next one is given with its count
+-- among them.
+pub record IsWhy (config : Config) (style : Style) (places : ℕ → Place) (told : Told)
+    (link : Option Link) (unjudged : Unjudged) (octets : List ℕ) (possible : Possible)
     (next : Option (ℕ × ShownRecord)) (text : List ℕ) : Type 0 where
   pub received : Option Received
   pub asking : Option Asking
@@ -107,24 +111,24 @@ pub record IsWhy (config : Config) (places : ℕ → Place) (told : Told) (link 
   pub is_unwhole : IsUnwholeOf link next unwhole
   pub are_lacks : AreLacksOf config link possible next lacked
   pub are_notes : AreNotesOf config told link unjudged octets possible next notes
-  pub whole : text ≡ why_text places told received asking unwhole possible lacked notes
+  pub whole : text ≡ why_text style places told received asking unwhole possible lacked notes
 
 -- ---- of a reason
 
 -- the line of the first impossible record, where there is one, as of a capture of this session
-abbrev pub IsImpossibleLine : {X : Type 0} → Session → (ℕ → Place) → Option (Impossible X)
-    → List ℕ → Type 0
-IsImpossibleLine session places None text = text ≡ []
-IsImpossibleLine session places (Some impossible) text =
+abbrev pub IsImpossibleLine : {X : Type 0} → Style → Session → (ℕ → Place)
+    → Option (Impossible X) → List ℕ → Type 0
+IsImpossibleLine style session places None text = text ≡ []
+IsImpossibleLine style session places (Some impossible) text =
     (line : List ℕ) × IsRecordText session (shown_by impossible.«record») line
-    × (text ≡ line_at (places impossible.number) line)
+    × (text ≡ line_at style (places impossible.number) line)
 
-pub record IsReasonText {X : Type 0} (config : Config) (session : Session) (places : ℕ → Place)
-    (reason : Reason X) (text : List ℕ) : Type 0 where
+pub record IsReasonText {X : Type 0} (config : Config) (style : Style) (session : Session)
+    (places : ℕ → Place) (reason : Reason X) (text : List ℕ) : Type 0 where
   pub first : List ℕ
   pub rest : List ℕ
-  pub impossible : IsImpossibleLine session places reason.impossible first
-  pub why : IsWhy config places reason.told reason.link reason.unjudged
+  pub impossible : IsImpossibleLine style session places reason.impossible first
+  pub why : IsWhy config style places reason.told reason.link reason.unjudged
       reason.last_message.items reason.possible (next_in reason.impossible) rest
   pub whole : text ≡ first ++ rest
 
@@ -135,11 +139,11 @@ abbrev pub no_memory_line : List ℕ
 no_memory_line = codes "note no memory for the reason\n"
 
 -- the reason, where there is one and its details are there, or that memory was refused for it
-abbrev pub IsMoreBy : {X : Type 0} → Config → Session → (ℕ → Place) → Option (Reason X) → Bool
-    → List ℕ → Type 0
-IsMoreBy config session places (Some reason) true more =
-    IsReasonText config session places reason more
-IsMoreBy config session places reason detailed more = more ≡ no_memory_line
+abbrev pub IsMoreBy : {X : Type 0} → Config → Style → Session → (ℕ → Place) → Option (Reason X)
+    → Bool → List ℕ → Type 0
+IsMoreBy config style session places (Some reason) true more =
+    IsReasonText config style session places reason more
+IsMoreBy config style session places reason detailed more = more ≡ no_memory_line
 
 -- after a yes what its records are, after a fault nothing, and else the reason
 abbrev pub IsMoreOf : {X Y : Type 0} → Config → Result (Verdict X) CaptureFault → Option (Reason Y)
@@ -147,7 +151,7 @@ abbrev pub IsMoreOf : {X Y : Type 0} → Config → Result (Verdict X) CaptureFa
 IsMoreOf config (Ok (Yes ends)) reason detailed totals more =
     more ≡ yes_lines totals.tally (Some totals.skipped) totals.seen.left_idle
 IsMoreOf config (Ok verdict) reason detailed totals more =
-    IsMoreBy config config.parts.session counted_places reason detailed more
+    IsMoreBy config plain config.parts.session counted_places reason detailed more
 IsMoreOf config (Err fault) reason detailed totals more = more ≡ []
 
 -- the verdict's own text, and then what comes after it

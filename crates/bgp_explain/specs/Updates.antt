@@ -10,7 +10,8 @@ use Rattle.bgp_parts.specs.UpdateParts.{Part, AreUpdateParts, shown_part}
 use Rattle.bgp_reason_text.specs.declared.applying.Applying.{Applying}
 use Rattle.bgp_reason_text.specs.declared.applying.AskedUpdate.{AskedUpdate}
 use Rattle.bgp_reason_text.specs.Applying.{IsApplying, MayBeApplied, outcomes_text, why_text}
-use Rattle.bgp_reason_text.specs.Words.{line_end}
+use Rattle.bgp_reason_text.specs.declared.style.Style.{Style}
+use Rattle.bgp_reason_text.specs.Style.{line}
 
 -- how it may be applied, by which subcodes the session may be reset, and what keeps it from being
 -- clean
@@ -33,9 +34,12 @@ pub record Asks (link : Link) (octets : List ℕ) (asking : Asking) : Type 0 whe
   pub refused : (n : ℕ) → HasSubcode asking.refused n ↔ IsOutcome link octets (Reset n)
   pub parts : AreUpdateParts link octets asking.parts
 
--- its line, with the number of its record, and the packet
-unfoldable pub update_line : ℕ → Option ℕ → Asking → List ℕ
-update_line number packet asking =
+-- the number of its record, and what it asks for
+unfoldable pub asking_said : ℕ → Asking → List ℕ
+asking_said number asking =
     codes "last received record " ++ (decimal number ++ (codes " update"
-    ++ ((outcomes_text asking.applied asking.refused ++ why_text asking.parts)
-    ++ line_end packet)))
+    ++ (outcomes_text asking.applied asking.refused ++ why_text asking.parts)))
+
+-- its line, with the packet
+abbrev pub update_line : Style → ℕ → Option ℕ → Asking → List ℕ
+update_line style number packet asking = line style (asking_said number asking) packet

@@ -20,6 +20,7 @@ use crate::texts::put_any_reason;
 use bgp_judge::{Tracker, Verdict};
 use bgp_open::Config;
 use bgp_prefix::Session;
+use bgp_reason_text::Style;
 use bgp_text::Lines;
 use bgp_tool::Seen;
 use mrt::{Record, Sink};
@@ -91,13 +92,14 @@ impl<A: Allocator + Copy> ExplainedRecords<A> {
 /// Puts what is told after the verdict on records that stand at these places: after a yes how many
 /// there are, and else why it is so, which names the record that can't be, the one that told the
 /// state and that of the last message by where they stand; or that memory was refused for the
-/// reason, where there are no details of it.
+/// reason, where there are no details of it. The lines of a reason are in this style.
 ///
 /// The line of that record is put as of a capture of this session, which has to be able to hold it:
 /// the configuration's own, or one whose messages may be longer or have to be shorter.
 pub fn put_explained_records<W: Sink, A: Allocator + Copy>(
     lines: &mut Lines<'_, W>,
     config: &Config,
+    style: &Style,
     session: &Session,
     places: Places<'_>,
     explained: &ExplainedRecords<A>,
@@ -107,17 +109,18 @@ pub fn put_explained_records<W: Sink, A: Allocator + Copy>(
     requires details { AreDetailsOf config.now explained.now.reason details.now }
     ensures { (records : List ShownRecord) → AreExplained config.now records explained.now
         → (more : List ℕ)
-        × SaysWhere config.now session.now (places_of places.entry) records (is_some details.now)
-        (verdict_value explained.now.verdict) more
+        × SaysWhere config.now style.now session.now (places_of places.entry) records
+        (is_some details.now) (verdict_value explained.now.verdict) more
         × Writes lines.old lines.new more }
 {
+    let reason = &explained.reason;
     match &explained.verdict {
         Verdict::Yes(_) => put_yes_lines(lines, &explained.tally, None, explained.seen.left_idle),
         Verdict::No(_) => {
-            put_any_reason(lines, config, session, places, &explained.reason, details);
+            put_any_reason(lines, config, style, session, places, reason, details);
         }
         Verdict::Unfinished => {
-            put_any_reason(lines, config, session, places, &explained.reason, details);
+            put_any_reason(lines, config, style, session, places, reason, details);
         }
     }
 }

@@ -23,8 +23,8 @@ use bgp_parts::Unjudged;
 use bgp_prefix::Session;
 use bgp_reason::{Possible, Told};
 use bgp_reason_text::{
-    Asked, AskedUpdate, Lacks, NotWhole, Notes, put_last_received, put_last_update, put_not_whole,
-    put_notes, put_possible_but, put_record_line, put_state,
+    Asked, AskedUpdate, Lacks, NotWhole, Notes, Style, put_last_received, put_last_update,
+    put_not_whole, put_notes, put_possible_but, put_record_line, put_state,
 };
 use bgp_text::Lines;
 use bgp_tool::{Status, put_answer};
@@ -101,41 +101,47 @@ fn notes_of<A: Allocator + Copy>(config: &Config, reason: &Reason<A>) -> Notes
 /// The line of an UPDATE that was received last, with all that may become of it.
 fn put_update<W: Sink, A: Allocator>(
     lines: &mut Lines<'_, W>,
+    style: &Style,
     number: u64,
     packet: Option<u64>,
     update: &AskedUpdate<'_, A>,
 )
-    ensures { Writes lines.old lines.new (update_line number packet (asking_of update.now)) }
+    ensures { Writes lines.old lines.new
+        (update_line style.now number packet (asking_of update.now)) }
 {
-    put_last_update(lines, number, packet, update);
+    put_last_update(lines, style, number, packet, update);
 }
 
 /// The line of the message that was received last, if one was.
 fn put_received<W: Sink, A: Allocator>(
     lines: &mut Lines<'_, W>,
+    style: &Style,
     received: Option<Received>,
     update: &Option<AskedUpdate<'_, A>>,
 )
-    ensures { Writes lines.old lines.new (received_text received (asking_in update.now)) }
+    ensures { Writes lines.old lines.new
+        (received_text style.now received (asking_in update.now)) }
 {
     let Some(Received { place, asked }) = received else {
         return;
     };
     match update {
-        None => put_last_received(lines, place.number, place.packet, &asked),
-        Some(update) => put_update(lines, place.number, place.packet, update),
+        None => put_last_received(lines, style, place.number, place.packet, &asked),
+        Some(update) => put_update(lines, style, place.number, place.packet, update),
     }
 }
 
 /// The lines of what may follow, and what the impossible record lacks of it.
 fn put_following<W: Sink, A: Allocator>(
     lines: &mut Lines<'_, W>,
+    style: &Style,
     possible: &Possible,
     lacks: &Lacks<'_, A>,
 )
-    ensures { Writes lines.old lines.new (following_lines possible.now (lacked_of lacks.now)) }
+    ensures { Writes lines.old lines.new
+        (following_lines style.now possible.now (lacked_of lacks.now)) }
 {
-    put_possible_but(lines, possible, lacks);
+    put_possible_but(lines, style, possible, lacks);
 }
 
 /// The number of the record that told the state, where one did.
@@ -148,6 +154,7 @@ fn teller(places: Places<'_>, told: &Told) -> Option<u64>
 /// The lines on what the records tell, and what may follow them.
 fn put_why<W: Sink, A: Allocator>(
     lines: &mut Lines<'_, W>,
+    style: &Style,
     places: Places<'_>,
     reason: &Reason<A>,
     details: &Details<'_, A>,
@@ -155,15 +162,20 @@ fn put_why<W: Sink, A: Allocator>(
     unwhole: Option<NotWhole>,
     notes: &Notes,
 )
-    ensures { Writes lines.old lines.new (why_text (places_of places.entry) reason.now.told
-        received (asking_in details.now.update) unwhole reason.now.possible
+    ensures { Writes lines.old lines.new (why_text style.now (places_of places.entry)
+        reason.now.told received (asking_in details.now.update) unwhole reason.now.possible
         (lacked_of details.now.lacks) notes.now) }
 {
-    put_state(lines, reason.told.state, teller(places, &reason.told));
-    put_received(lines, received, &details.update);
-    put_not_whole(lines, unwhole);
-    put_following(lines, &reason.possible, &details.lacks);
-    put_notes(lines, notes);
+    put_state(
+        lines,
+        style,
+        reason.told.state,
+        teller(places, &reason.told),
+    );
+    put_received(lines, style, received, &details.update);
+    put_not_whole(lines, style, unwhole);
+    put_following(lines, style, &reason.possible, &details.lacks);
+    put_notes(lines, style, notes);
 }
 
 /// Puts why a verdict is a no or unfinished, with the details of the reason: the line of the first
@@ -171,11 +183,12 @@ fn put_why<W: Sink, A: Allocator>(
 /// received last; a line for each kind of record that could have stood in its place, or may follow,
 /// with what the impossible one lacks of it; and notes.
 ///
-/// The lines name the records by where they stand, and the impossible one's is put as of a capture
-/// of this session.
+/// The lines are in this style and name the records by where they stand, and the impossible one's
+/// is put as of a capture of this session.
 pub fn put_reason<W: Sink, A: Allocator + Copy>(
     lines: &mut Lines<'_, W>,
     config: &Config,
+    style: &Style,
     session: &Session,
     places: Places<'_>,
     reason: &Reason<A>,
@@ -183,19 +196,20 @@ pub fn put_reason<W: Sink, A: Allocator + Copy>(
 )
     requires can { CanBePut session.now reason.now.impossible }
     requires details { AreDetails config.now reason.now details.now }
-    ensures { (text : List ℕ)
-        × IsReasonText config.now session.now (places_of places.entry) reason.now text
-        × Writes lines.old lines.new text }
+    ensures { (text : List ℕ) × IsReasonText config.now style.now session.now
+        (places_of places.entry) reason.now text × Writes lines.old lines.new text }
 {
     if let Some(impossible) = &reason.impossible {
         let shown = impossible.record.as_record();
         let place = place_of(places, impossible.number);
-        put_record_line(lines, place.number, place.packet, session, &shown);
+        put_record_line(lines, style, place.number, place.packet, session, &shown);
     }
     let received = received_of(config, places, reason);
     let unwhole = unwhole_of(reason);
     let notes = notes_of(config, reason);
-    put_why(lines, places, reason, details, received, unwhole, &notes);
+    put_why(
+        lines, style, places, reason, details, received, unwhole, &notes,
+    );
 }
 
 /// Puts that memory was refused for a reason.
@@ -209,6 +223,7 @@ fn put_no_memory<W: Sink>(lines: &mut Lines<'_, W>)
 pub(crate) fn put_any_reason<W: Sink, A: Allocator + Copy>(
     lines: &mut Lines<'_, W>,
     config: &Config,
+    style: &Style,
     session: &Session,
     places: Places<'_>,
     reason: &Option<Reason<A>>,
@@ -217,7 +232,7 @@ pub(crate) fn put_any_reason<W: Sink, A: Allocator + Copy>(
     requires can { CanBePutOf session.now reason.now }
     requires details { AreDetailsOf config.now reason.now details.now }
     ensures { (more : List ℕ)
-        × IsMoreBy config.now session.now (places_of places.entry) reason.now
+        × IsMoreBy config.now style.now session.now (places_of places.entry) reason.now
         (is_some details.now) more
         × Writes lines.old lines.new more }
 {
@@ -225,7 +240,9 @@ pub(crate) fn put_any_reason<W: Sink, A: Allocator + Copy>(
         None => put_no_memory(lines),
         Some(reason) => match details {
             None => put_no_memory(lines),
-            Some(details) => put_reason(lines, config, session, places, reason, details),
+            Some(details) => {
+                put_reason(lines, config, style, session, places, reason, details);
+            }
         },
     }
 }
@@ -243,7 +260,8 @@ fn put_more<W: Sink, A: Allocator + Copy>(
     ensures { (more : List ℕ) × IsMoreOf config.now explained.now.answer explained.now.reason
         (is_some details.now) explained.now.totals more × Writes lines.old lines.new more }
 {
-    let (session, places) = (&config.parts.session, Places::Counted);
+    let (style, session) = (&Style::plain(), &config.parts.session);
+    let (places, reason) = (Places::Counted, &explained.reason);
     match &explained.answer {
         Ok(Verdict::Yes(_)) => {
             let Totals {
@@ -255,10 +273,10 @@ fn put_more<W: Sink, A: Allocator + Copy>(
             put_yes_lines(lines, tally, Some(*skipped), seen.left_idle);
         }
         Ok(Verdict::No(_)) => {
-            put_any_reason(lines, config, session, places, &explained.reason, details);
+            put_any_reason(lines, config, style, session, places, reason, details);
         }
         Ok(Verdict::Unfinished) => {
-            put_any_reason(lines, config, session, places, &explained.reason, details);
+            put_any_reason(lines, config, style, session, places, reason, details);
         }
         Err(_) => {}
     }

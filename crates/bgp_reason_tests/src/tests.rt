@@ -11,7 +11,7 @@ use bgp_parts::{
 };
 use bgp_prefix::{Address, RouteRefresh, Session};
 use bgp_reason::{FsmErrors, Possible, States};
-use bgp_reason_text::{NotWhole, put_possible, put_state};
+use bgp_reason_text::{NotWhole, Style, put_possible, put_state};
 use bgp_text::Lines;
 use bgp_update::{Subcodes, is_clean};
 use bgp_wire::HeaderFaults;
@@ -95,8 +95,9 @@ const TEXT: &[u8] = b"state Active by record 4294967296\n\
 fn are_put(alloc: Global) -> bool {
     let mut sink = MemSink::new(alloc);
     let mut lines = Lines::new(&mut sink);
-    put_state(&mut lines, EACH_SUBCODE.state, Some(4294967296));
-    put_possible(&mut lines, &EACH_SUBCODE);
+    let style = Style::plain();
+    put_state(&mut lines, &style, EACH_SUBCODE.state, Some(4294967296));
+    put_possible(&mut lines, &style, &EACH_SUBCODE);
     let is_whole = lines.hand_over().is_ok();
     is_whole && lines.into_sink().octets() == TEXT
 }

@@ -1,5 +1,5 @@
 -- How an UPDATE may be applied, by the outcomes that are allowed of it.
-use Rattle.std.proofs.Common.{◌≡◌, ◌↔◌, ◌++◌, ◌∷◌, [], ℕ, Bool, true, false, not, codes, length, map, IsTrue, List, Option, None, Some, is_some, MatchOption, refl, sym, subst}
+use Rattle.std.proofs.Common.{◌≡◌, ◌↔◌, ◌++◌, ◌∷◌, [], ℕ, Bool, codes, length, map, IsTrue, List, Option, None, Some, is_some, MatchOption, refl, sym, subst}
 use Rattle.std.specs.Bool.{then_some}
 use Rattle.bgp_open.specs.declared.families.Families.{Families}
 use Rattle.bgp_open.specs.declared.link.Link.{Link}

@@ -6,4 +6,6 @@ mod Announced
 mod WholeMessage
 mod Alternatives
 mod Applied
+mod FaultTexts
+mod Fronts
 pub mod ToldLines

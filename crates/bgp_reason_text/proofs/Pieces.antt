@@ -21,3 +21,9 @@ four_pieces first second third fourth =
       piece_by_piece (next_separator [] first) second (third ∷ fourth ∷ []),
       piece_by_piece (next_separator (next_separator [] first) second) third (fourth ∷ []),
     ) refl
+
+-- three pieces, each after its separator
+pub three_pieces : (before first second : List ℕ) (a b c : Option (List ℕ)) → first ≡ next_separator before a → second ≡ next_separator first b
+    → separated before (a ∷ b ∷ c ∷ []) ≡ separated before (a ∷ []) ++ (separated first (b ∷ []) ++ separated second (c ∷ []))
+three_pieces before first second a b c is1 is2 =
+    rw (is2, is1, piece_by_piece before a (b ∷ c ∷ []), piece_by_piece (next_separator before a) b (c ∷ [])) refl

@@ -1,11 +1,11 @@
 -- The lines of a reason tell all that may follow, and nothing else.
-use Rattle.std.proofs.Common.{◌≡◌, ◌∙◌, ◌⊎◌, ◌↔◌, ◌≤◌, ◌<◌, ◌^◌, ◌||◌, ◌∷◌, ℕ, zero, suc, Bool, true, false, IsTrue, IfSome, IsSomeAnd, is_some, get_or, List, [], Option, None, Some, length, refl, sym, inl, inr, arith}
+use Rattle.std.proofs.Common.{◌≡◌, ◌⊎◌, ◌≤◌, ◌<◌, ◌^◌, ◌||◌, ◌∷◌, ℕ, zero, suc, Bool, true, false, IsTrue, IfSome, IsSomeAnd, is_some, get_or, List, [], Option, None, Some, length, refl, inl, inr, arith}
 use Rattle.std.specs.Bool.{then_some}
 use Rattle.byteorder.specs.Endian.{big_bytes}
 use Rattle.bgp_prefix.specs.Shown.{ShownRecord, Received, Sent, Changed}
 use Rattle.bgp_wire.specs.declared.header.HeaderFaults.{HeaderFaults}
 use Rattle.bgp_wire.specs.Framing.{IsFrame}
-use Rattle.bgp_wire.specs.Message.{IsMessage, message_octets}
+use Rattle.bgp_wire.specs.Message.{message_octets}
 use Rattle.bgp_wire.specs.Verdict.{Names as NamesHeaderError}
 use Rattle.bgp_open.specs.declared.config.Config.{Config}
 use Rattle.bgp_open.specs.declared.link.Link.{Link}
@@ -13,13 +13,13 @@ use Rattle.bgp_open.specs.declared.subcodes.OpenSubcodes.{OpenSubcodes}
 use Rattle.bgp_open.specs.Link.{link_of}
 use Rattle.bgp_open.specs.Open.{open_of}
 use Rattle.bgp_open.specs.OpenSubcodes.{Names as NamesOpenError}
-use Rattle.bgp_open.specs.OwnOpen.{IsOwnOpen, own_fields}
+use Rattle.bgp_open.specs.OwnOpen.{own_fields}
 use Rattle.bgp_open.specs.Written.{notification_octets, open_octets}
 use Rattle.bgp_open.proofs.OwnOpens.{is_frame, octets-own_open, own_open}
 use Rattle.bgp_open.proofs.WrittenNotification.{notification_frame, written_notification}
 use Rattle.bgp_update.specs.declared.subcodes.Subcodes.{Subcodes}
 use Rattle.bgp_update.specs.Laws.{HasCleanUpdate, empty_update}
-use Rattle.bgp_update.specs.Subcodes.{HasSubcode, marks_of}
+use Rattle.bgp_update.specs.Subcodes.{HasSubcode}
 use Rattle.bgp_machine.specs.declared.fsm.Fsm.{Fsm}
 use Rattle.bgp_machine.specs.declared.fsm.Fsm.TheVariants as fsms
 use Rattle.bgp_machine.specs.Lists.{Each, Has}
@@ -27,16 +27,14 @@ use Rattle.bgp_machine.specs.State.{number_of}
 use Rattle.bgp_machine.specs.Want.{Tells, limit_on}
 use Rattle.bgp_reason.specs.declared.kinds.FsmErrors.{FsmErrors}
 use Rattle.bgp_reason.specs.declared.kinds.Possible.{Possible}
-use Rattle.bgp_reason.specs.declared.kinds.States.{States}
 use Rattle.bgp_reason.specs.Asked.{AreAsked}
-use Rattle.bgp_reason.specs.Following.{MayFollow}
 use Rattle.bgp_reason.specs.Possible.{ArePossible, HasFsmError, HasState, IsAmong, IsCapturable, IsCleanOn, IsNotified}
 use Rattle.bgp_reason.specs.Sending.{sending_link}
 use Rattle.bgp_reason.proofs.OneForAll.{alive_frame, alive_heard, alive_is_message, one_message}
 use Rattle.bgp_reason_text.specs.declared.items.Item.{Item}
 use Rattle.bgp_reason_text.specs.declared.items.Item.TheVariants as items
 use Rattle.bgp_reason_text.specs.Items.{all_items, expiry_item, has_fsm_error, has_header_error, has_open_error, has_update_error, those_possible}
-use Rattle.bgp_reason_text.specs.Lines.{IsChangeOf, IsOfItem, LinesTellAll, SaysItem, items_told}
+use Rattle.bgp_reason_text.specs.Lines.{IsOfItem, LinesTellAll, SaysItem}
 
 never : false ≡ true → ⊥
 never e = cc

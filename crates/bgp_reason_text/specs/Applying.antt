@@ -19,7 +19,8 @@ use Rattle.bgp_reason_text.specs.declared.applying.Applying.{Applying}
 use Rattle.bgp_reason_text.specs.declared.applying.AskedUpdate.{AskedUpdate}
 use Rattle.bgp_reason_text.specs.Errors.{update_errors_text}
 use Rattle.bgp_reason_text.specs.Items.{has_update_error}
-use Rattle.bgp_reason_text.specs.Words.{line_end}
+use Rattle.bgp_reason_text.specs.declared.style.Style.{Style}
+use Rattle.bgp_reason_text.specs.Style.{line}
 
 -- it may be applied, with just these families disabled then
 abbrev pub MayBeApplied : Link → List ℕ → Families → Type 0
@@ -111,8 +112,12 @@ abbrev pub asked_update_text : {X : Type 0} → AskedUpdate X → List ℕ
 asked_update_text asked =
     outcomes_text asked.applied asked.refused ++ why_text (map shown_part asked.parts.items)
 
--- the line: the record's number, and what its UPDATE asks for; and the packet
-unfoldable pub last_update_line : {X : Type 0} → ℕ → Option ℕ → AskedUpdate X → List ℕ
-last_update_line number packet asked =
+-- the record's number, and what its UPDATE asks for
+unfoldable pub update_said : {X : Type 0} → ℕ → AskedUpdate X → List ℕ
+update_said number asked =
     codes "last received record " ++ (decimal number ++ (codes " update"
-    ++ (asked_update_text asked ++ line_end packet)))
+    ++ asked_update_text asked))
+
+-- and the packet
+abbrev pub last_update_line : {X : Type 0} → Style → ℕ → Option ℕ → AskedUpdate X → List ℕ
+last_update_line style number packet asked = line style (update_said number asked) packet

@@ -17,7 +17,9 @@ use Rattle.bgp_reason_text.specs.declared.asked.Asked.{Asked}
 use Rattle.bgp_reason_text.specs.Errors.{header_errors_text, open_errors_text}
 use Rattle.bgp_reason_text.specs.Refusal.{AreReasons}
 use Rattle.bgp_reason_text.specs.Reasons.{reasons_text}
-use Rattle.bgp_reason_text.specs.Words.{line_end, state_text}
+use Rattle.bgp_reason_text.specs.declared.style.Style.{Style}
+use Rattle.bgp_reason_text.specs.Style.{line}
+use Rattle.bgp_reason_text.specs.Words.{state_text}
 
 -- the octets of a message are this, as the session machine's rows tell messages apart
 abbrev pub Asks : Config → List ℕ → Received → Type 0
@@ -70,20 +72,25 @@ abbrev pub update_text : Fsm → List ℕ
 update_text states.Established = []
 update_text state = not_for_text state
 
--- what it asks for
-abbrev pub asked_text : Fsm → Received → List ℕ
-asked_text state (FaultyHeader errors) =
+-- what it asks for, where the peer's AS number may be free
+abbrev pub asked_text : Bool → Fsm → Received → List ℕ
+asked_text is_free state (FaultyHeader errors) =
     codes ": to be refused by" ++ (header_errors_text errors ++ dropped_text state)
-asked_text state (ValidOpen link) = codes ": valid, settles " ++ link_text link
-asked_text state (InvalidOpen errors reasons) =
+asked_text is_free state (ValidOpen link) = codes ": valid, settles " ++ link_text link
+asked_text is_free state (InvalidOpen errors reasons) =
     codes ": to be refused by" ++ (open_errors_text errors ++ (dropped_text state
-    ++ (codes " (" ++ (reasons_text reasons ++ codes ")"))))
-asked_text state Update = update_text state
-asked_text state Keepalive = keepalive_text state
-asked_text state Notification = codes ": ends the session"
+    ++ (codes " (" ++ (reasons_text is_free reasons ++ codes ")"))))
+asked_text is_free state Update = update_text state
+asked_text is_free state Keepalive = keepalive_text state
+asked_text is_free state Notification = codes ": ends the session"
 
--- the line: the record's number, the message's first word, and what it asks for; and the packet
-unfoldable pub last_received_line : ℕ → Option ℕ → Asked → List ℕ
-last_received_line number packet asked =
+-- the record's number, the message's first word, and what it asks for
+unfoldable pub received_said : Bool → ℕ → Asked → List ℕ
+received_said is_free number asked =
     codes "last received record " ++ (decimal number ++ (codes " " ++ (message_word asked.message
-    ++ (asked_text asked.state asked.message ++ line_end packet))))
+    ++ asked_text is_free asked.state asked.message)))
+
+-- and the packet
+abbrev pub last_received_line : Style → ℕ → Option ℕ → Asked → List ℕ
+last_received_line style number packet asked =
+    line style (received_said style.peer_as_is_free number asked) packet

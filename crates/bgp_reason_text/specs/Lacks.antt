@@ -1,6 +1,6 @@
 -- What the impossible record lacks of an item that it resembles.
 use Rattle.std.specs.Prelude.{◌≡◌, ◌==◌, ◌⊎◌, ℕ, Bool, true, false, List, [], if◌then◌else◌}
-use Rattle.std.specs.Prelude.{Option, IsNone, IsSomeAnd, map, codes}
+use Rattle.std.specs.Prelude.{Option, None, Some, IsNone, IsSomeAnd, map, codes}
 use Rattle.bgp_prefix.specs.Shown.{ShownRecord, Received, Sent, Changed}
 use Rattle.bgp_wire.specs.declared.header.Limit.{Limit}
 use Rattle.bgp_wire.specs.Framing.{IsFrame}
@@ -9,6 +9,7 @@ use Rattle.bgp_open.specs.declared.config.Config.{Config}
 use Rattle.bgp_open.specs.declared.link.Link.{Link}
 use Rattle.bgp_machine.specs.Want.{limit_on}
 use Rattle.bgp_reason.specs.declared.kinds.Possible.{Possible}
+use Rattle.bgp_parts.specs.declared.own_open.OwnOpenParts.{OwnOpenParts}
 use Rattle.bgp_parts.specs.NotificationParts.{AreNotificationParts, ResembleNone}
 use Rattle.bgp_parts.specs.OwnOpenParts.{AreOwnOpenParts}
 use Rattle.bgp_parts.specs.UpdateParts.{AreUpdateParts, shown_part}
@@ -20,7 +21,9 @@ use Rattle.bgp_reason_text.specs.declared.items.Item.TheVariants as items
 use Rattle.bgp_reason_text.specs.declared.lacks.Lacks as declared
 use Rattle.bgp_reason_text.specs.declared.lacks.Lacks.TheVariants.{Nothing, Open, Update}
 use Rattle.bgp_reason_text.specs.declared.lacks.Lacks.TheVariants.{Notification}
+use Rattle.bgp_reason_text.specs.declared.own_faults.OwnFaults.{OwnFaults}
 use Rattle.bgp_reason_text.specs.Notes.{IsNotificationOf}
+use Rattle.bgp_reason_text.specs.OwnFaults.{own_faults_text}
 
 -- the octets are a whole message of this type, where it may be so long
 abbrev pub IsWholeOf : Limit → ℕ → List ℕ → Type 0
@@ -74,12 +77,16 @@ is_notification code (items.StateErrors errors) = code == 5
 is_notification code items.Cease = code == 6
 is_notification code item = false
 
+-- what an OPEN lacks; or in place of that its own faults, where they are given
+abbrev pub open_but : Option OwnFaults → OwnOpenParts → List ℕ
+open_but None parts = open_parts_text (codes ", but ") parts
+open_but (Some faults) parts = own_faults_text (codes ", but ") faults
+
 -- what is lacking of an item, after its text
-abbrev pub but_text : {X : Type 0} → declared.Lacks X → Item → List ℕ
-but_text Nothing item = []
-but_text (Open parts) item =
-    if is_open item then open_parts_text (codes ", but ") parts else []
-but_text (Update parts) item =
+abbrev pub but_text : {X : Type 0} → Option OwnFaults → declared.Lacks X → Item → List ℕ
+but_text faults Nothing item = []
+but_text faults (Open parts) item = if is_open item then open_but faults parts else []
+but_text faults (Update parts) item =
     if is_update item then update_parts_text (codes ", but ") (map shown_part parts.items) else []
-but_text (Notification code parts) item =
+but_text faults (Notification code parts) item =
     if is_notification code item then notification_parts_text (codes ", but ") parts else []

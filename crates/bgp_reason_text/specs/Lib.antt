@@ -1,4 +1,7 @@
 pub mod Words
+pub mod OwnFaults
+pub mod Style
+pub mod Room
 pub mod Record
 pub mod Errors
 pub mod Items
@@ -11,4 +14,5 @@ pub mod Lacks
 pub mod Possible
 pub mod Applying
 pub mod NotWhole
+pub mod Said
 pub mod Lines

@@ -2,7 +2,6 @@
 use Rattle.std.specs.Prelude.{◌≡◌, ◌≤◌, ◌<◌, ◌++◌, ℕ, List, [], Option, None, Some, is_some, length}
 use Rattle.std.specs.Prelude.{codes}
 use Rattle.bgp_prefix.specs.Shown.{ShownRecord, Received, Sent, Changed}
-use Rattle.bgp_wire.specs.declared.header.HeaderFaults.{HeaderFaults}
 use Rattle.bgp_wire.specs.declared.header.Limit.{Limit}
 use Rattle.bgp_wire.specs.Framing.{IsFaulty, IsFrame, IsShort}
 use Rattle.bgp_wire.specs.Header.{IsSound, header_of, length_of}
@@ -11,6 +10,8 @@ use Rattle.bgp_open.specs.declared.link.Link.{Link}
 use Rattle.bgp_machine.specs.Want.{limit_on}
 use Rattle.bgp_reason_text.specs.declared.whole.NotWhole.{NotWhole}
 use Rattle.bgp_reason_text.specs.declared.whole.NotWhole.TheVariants.{Faulty, Cut, Longer}
+use Rattle.bgp_reason_text.specs.declared.style.Style.{Style}
+use Rattle.bgp_reason_text.specs.Style.{line}
 use Rattle.bgp_reason_text.specs.Words.{text_if}
 
 -- a header without a fault, and more octets than its Length says
@@ -44,7 +45,10 @@ not_whole_text (Faulty errors) =
 not_whole_text Cut = codes "cut"
 not_whole_text Longer = codes "length"
 
+abbrev pub not_whole_said : NotWhole → List ℕ
+not_whole_said why = codes "no whole message: " ++ not_whole_text why
+
 -- the line, where there is one
-abbrev pub not_whole_line : Option NotWhole → List ℕ
-not_whole_line None = []
-not_whole_line (Some why) = codes "no whole message: " ++ (not_whole_text why ++ codes "\n")
+abbrev pub not_whole_line : Style → Option NotWhole → List ℕ
+not_whole_line style None = []
+not_whole_line style (Some why) = line style (not_whole_said why) None

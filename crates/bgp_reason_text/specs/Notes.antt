@@ -18,7 +18,8 @@ use Rattle.bgp_reason.specs.declared.told.Told.{Told}
 use Rattle.bgp_parts_text.specs.Names.{families_text}
 use Rattle.bgp_reason_text.specs.declared.notes.Notes.{Notes}
 use Rattle.bgp_reason_text.specs.Items.{has_sent}
-use Rattle.bgp_reason_text.specs.Words.{text_if}
+use Rattle.bgp_reason_text.specs.declared.style.Style.{Style}
+use Rattle.bgp_reason_text.specs.Style.{line}
 
 -- the first record is a change of another state than Idle, which has the number 1
 abbrev pub BeginsElsewhere : ℕ → ShownRecord → Type 0
@@ -132,30 +133,36 @@ with_offers add_path next_hops notes =
     record notes { add_path = add_path; ipv6_next_hops = next_hops }
 
 -- both OPENs offer ADD-PATH (RFC 7911) for these families
-abbrev pub add_path_text : Families → List ℕ
-add_path_text families =
-    if families.v4 || families.v6
-    then codes "note both OPENs offer ADD-PATH for "
-    ++ (families_text families ++ codes ", which is not judged\n")
-    else []
+unfoldable pub add_path_said : Families → List ℕ
+add_path_said families =
+    codes "note both OPENs offer ADD-PATH for "
+    ++ (families_text families ++ codes ", which is not judged")
+
+abbrev pub add_path_line : Style → Families → List ℕ
+add_path_line style families =
+    if families.v4 || families.v6 then line style (add_path_said families) None else []
+
+-- a note, where something is so
+abbrev pub note_line : Style → Bool → List ℕ → List ℕ
+note_line style is_so note = if is_so then line style note None else []
 
 -- the notes, a line each
-unfoldable pub notes_text : Notes → List ℕ
-notes_text notes =
-    text_if notes.begins_elsewhere
-    (codes "note a capture begins in Idle: with change 1 2 or change 1 3\n")
-    ++ (text_if notes.open_came_first
-    (codes "note an OPEN was received before one was sent: DelayOpen, or the order of packets\n")
-    ++ (add_path_text notes.add_path
-    ++ (text_if notes.ipv6_next_hops
-    (codes "note both OPENs offer IPv6 next hops for v4, which is not judged\n")
-    ++ (text_if notes.extended_parameters
-    (codes "note the OPEN received has parameters of RFC 9072, which is not judged\n")
-    ++ (text_if notes.send_hold_timer
-    (codes "note NOTIFICATION 8, Send Hold Timer Expired (RFC 9687), is not judged\n")
-    ++ (text_if notes.keepalive_without_hold
-    (codes "note with hold 0 no keepalive is sent but the one behind the OPEN\n")
-    ++ (text_if notes.may_have_ended
-    (codes "note the connection may have ended before what is owed was written\n")
-    ++ text_if notes.may_be_missing (codes
-    "note a message that was sent may be missing here, or stand later in the capture\n"))))))))
+unfoldable pub notes_text : Style → Notes → List ℕ
+notes_text style notes =
+    note_line style notes.begins_elsewhere
+    (codes "note a capture begins in Idle: with change 1 2 or change 1 3")
+    ++ (note_line style notes.open_came_first
+    (codes "note an OPEN was received before one was sent: DelayOpen, or the order of packets")
+    ++ (add_path_line style notes.add_path
+    ++ (note_line style notes.ipv6_next_hops
+    (codes "note both OPENs offer IPv6 next hops for v4, which is not judged")
+    ++ (note_line style notes.extended_parameters
+    (codes "note the OPEN received has parameters of RFC 9072, which is not judged")
+    ++ (note_line style notes.send_hold_timer
+    (codes "note NOTIFICATION 8, Send Hold Timer Expired (RFC 9687), is not judged")
+    ++ (note_line style notes.keepalive_without_hold
+    (codes "note with hold 0 no keepalive is sent but the one behind the OPEN")
+    ++ (note_line style notes.may_have_ended
+    (codes "note the connection may have ended before what is owed was written")
+    ++ note_line style notes.may_be_missing (codes
+    "note a message that was sent may be missing here, or stand later in the capture"))))))))

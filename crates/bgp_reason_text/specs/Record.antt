@@ -2,12 +2,17 @@
 use Rattle.std.specs.Prelude.{◌++◌, ℕ, List, [], Option, None, Some, codes}
 use Rattle.std.specs.Fmt.{decimal}
 use Rattle.bgp_machine.specs.declared.fsm.Fsm.{Fsm}
-use Rattle.bgp_reason_text.specs.Words.{line_end, state_text}
+use Rattle.bgp_reason_text.specs.declared.style.Style.{Style}
+use Rattle.bgp_reason_text.specs.Style.{line}
+use Rattle.bgp_reason_text.specs.Words.{state_text}
 
--- a record's number and what its line says, and the packet
-unfoldable pub record_line : ℕ → Option ℕ → List ℕ → List ℕ
-record_line number packet text =
-    codes "record " ++ (decimal number ++ (codes " " ++ (text ++ line_end packet)))
+-- a record's number and what its line of `decode --mrt` says
+unfoldable pub record_said : ℕ → List ℕ → List ℕ
+record_said number text = codes "record " ++ (decimal number ++ (codes " " ++ text))
+
+-- and the packet
+abbrev pub record_line : Style → ℕ → Option ℕ → List ℕ → List ℕ
+record_line style number packet text = line style (record_said number text) packet
 
 -- the record that told it, where one did
 abbrev pub by_text : Option ℕ → List ℕ
@@ -15,6 +20,8 @@ by_text None = []
 by_text (Some number) = codes " by record " ++ decimal number
 
 -- the state that was told last, Idle where none was, and the number of the record that told it
-unfoldable pub state_line : Fsm → Option ℕ → List ℕ
-state_line state told_by =
-    codes "state " ++ (state_text state ++ (by_text told_by ++ codes "\n"))
+unfoldable pub state_said : Fsm → Option ℕ → List ℕ
+state_said state told_by = codes "state " ++ (state_text state ++ by_text told_by)
+
+abbrev pub state_line : Style → Fsm → Option ℕ → List ℕ
+state_line style state told_by = line style (state_said state told_by) None

@@ -7,11 +7,14 @@ ghost use Rattle.bgp_reason_text.specs.Applying.{AsksUpdate, alternatives, appli
 ghost use Rattle.bgp_reason_text.specs.Applying.{disabled_text, outcomes_text};
 ghost use Rattle.bgp_reason_text.specs.Applying.{last_update_line, may_disable};
 ghost use Rattle.bgp_reason_text.specs.Applying.{may_disable_these, next_alternative};
-ghost use Rattle.bgp_reason_text.specs.Applying.{refused_piece, why_text, withdrawal_text};
+ghost use Rattle.bgp_reason_text.specs.Applying.{refused_piece, update_said, why_text};
+ghost use Rattle.bgp_reason_text.specs.Applying.{withdrawal_text};
 
 use crate::errors::put_update_errors;
 use crate::items::has_update_error;
-use crate::texts::{has_some, put_if, put_line_end};
+use crate::said::Said;
+use crate::style::{Style, put_line};
+use crate::texts::{has_some, put_if};
 use bgp_open::{Families, Link};
 use bgp_parts::{UpdatePart, is_withdrawal, update_parts};
 use bgp_parts_text::{families_text, put_update_parts};
@@ -180,16 +183,27 @@ fn put_outcomes<W: Sink>(lines: &mut Lines<'_, W>, applied: Option<Applying>, re
 /// and in a recording by which packet it came.
 pub fn put_last_update<W: Sink, A: Allocator>(
     lines: &mut Lines<'_, W>,
+    style: &Style,
     number: u64,
     packet: Option<u64>,
     asked: &AskedUpdate<'_, A>,
 )
-    ensures { Writes lines.old lines.new (last_update_line number packet asked.now) }
+    ensures { Writes lines.old lines.new (last_update_line style.now number packet asked.now) }
+{
+    put_line(lines, style, &Said::Update(number, asked), packet);
+}
+
+/// What it says.
+pub(crate) fn put_update_said<W: Sink, A: Allocator>(
+    lines: &mut Lines<'_, W>,
+    number: u64,
+    asked: &AskedUpdate<'_, A>,
+)
+    ensures { Writes lines.old lines.new (update_said number asked.now) }
 {
     lines.put(b"last received record ");
     lines.put_decimal(number);
     lines.put(b" update");
     put_outcomes(lines, asked.applied, asked.refused);
     put_why(lines, asked.parts.as_slice());
-    put_line_end(lines, packet);
 }

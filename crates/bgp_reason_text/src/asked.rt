@@ -1,23 +1,26 @@
 //! What the message that was received last asks for (RFC 4271, 6 and 8.2.2).
 
-ghost use Rattle.std.specs.Prelude.{◌≡◌, ◌≤◌, length};
+ghost use Rattle.std.specs.Prelude.{◌≡◌, ◌≤◌, Bool, length};
 ghost use Rattle.bgp_text.specs.Lines.{Writes};
 ghost use Rattle.bgp_reason_text.specs.Asked.{Asks, message_word, dropped_text, width_text};
 ghost use Rattle.bgp_reason_text.specs.Asked.{link_text, not_for_text, keepalive_text, update_text};
-ghost use Rattle.bgp_reason_text.specs.Asked.{asked_text, last_received_line};
+ghost use Rattle.bgp_reason_text.specs.Asked.{asked_text, last_received_line, received_said};
 ghost use Rattle.bgp_reason_text.specs.declared.asked.Received.TheVariants.{FaultyHeader};
 ghost use Rattle.bgp_reason_text.specs.declared.asked.Received.TheVariants.{InvalidOpen};
 
 use crate::errors::{put_header_errors, put_open_errors};
 use crate::reasons::put_reasons;
 use crate::refusal::{OpenReasons, open_reasons};
-use crate::texts::{put_line_end, state_text};
+use crate::said::Said;
+use crate::style::{Style, put_line};
+use crate::texts::state_text;
 use bgp_machine::{Fsm, Heard, hear};
 use bgp_open::{Config, Link, OpenSubcodes};
 use bgp_parts_text::families_text;
 use bgp_text::Lines;
 use bgp_wire::HeaderFaults;
 use mrt::Sink;
+use std::alloc::Global;
 
 /// A message that was received, as far as it tells what it asks for.
 #[derive(Clone, Copy)]
@@ -145,7 +148,8 @@ fn put_update<W: Sink>(lines: &mut Lines<'_, W>, state: Fsm)
 
 /// That a header is to be refused.
 fn put_faulty<W: Sink>(lines: &mut Lines<'_, W>, state: Fsm, errors: HeaderFaults)
-    ensures { Writes lines.old lines.new (asked_text state (FaultyHeader errors)) }
+    ensures { (is_free : Bool)
+        → Writes lines.old lines.new (asked_text is_free state (FaultyHeader errors)) }
 {
     lines.put(b": to be refused by");
     put_header_errors(lines, errors);
@@ -155,23 +159,25 @@ fn put_faulty<W: Sink>(lines: &mut Lines<'_, W>, state: Fsm, errors: HeaderFault
 /// That an OPEN is to be refused, and why.
 fn put_invalid<W: Sink>(
     lines: &mut Lines<'_, W>,
+    is_free: bool,
     state: Fsm,
     errors: OpenSubcodes,
     reasons: &OpenReasons,
 )
-    ensures { Writes lines.old lines.new (asked_text state (InvalidOpen errors reasons.now)) }
+    ensures { Writes lines.old lines.new
+        (asked_text is_free state (InvalidOpen errors reasons.now)) }
 {
     lines.put(b": to be refused by");
     put_open_errors(lines, errors);
     lines.put(dropped_text(state));
     lines.put(b" (");
-    put_reasons(lines, reasons);
+    put_reasons(lines, is_free, reasons);
     lines.put(b")");
 }
 
-/// What a message asks for in a state.
-fn put_asked<W: Sink>(lines: &mut Lines<'_, W>, state: Fsm, message: &Received)
-    ensures { Writes lines.old lines.new (asked_text state message.now) }
+/// What a message asks for in a state, where the peer's AS number may be free.
+fn put_asked<W: Sink>(lines: &mut Lines<'_, W>, is_free: bool, state: Fsm, message: &Received)
+    ensures { Writes lines.old lines.new (asked_text is_free state message.now) }
 {
     match message {
         Received::FaultyHeader(errors) => put_faulty(lines, state, *errors),
@@ -179,7 +185,9 @@ fn put_asked<W: Sink>(lines: &mut Lines<'_, W>, state: Fsm, message: &Received)
             lines.put(b": valid, settles ");
             put_link(lines, link);
         }
-        Received::InvalidOpen(errors, reasons) => put_invalid(lines, state, *errors, reasons),
+        Received::InvalidOpen(errors, reasons) => {
+            put_invalid(lines, is_free, state, *errors, reasons);
+        }
         Received::Update => put_update(lines, state),
         Received::Keepalive => put_keepalive(lines, state),
         Received::Notification => lines.put(b": ends the session"),
@@ -191,16 +199,29 @@ fn put_asked<W: Sink>(lines: &mut Lines<'_, W>, state: Fsm, message: &Received)
 /// came.
 pub fn put_last_received<W: Sink>(
     lines: &mut Lines<'_, W>,
+    style: &Style,
     number: u64,
     packet: Option<u64>,
     asked: &Asked,
 )
-    ensures { Writes lines.old lines.new (last_received_line number packet asked.now) }
+    ensures { Writes lines.old lines.new (last_received_line style.now number packet asked.now) }
+{
+    let said = Said::Received(number, asked);
+    put_line::<W, Global>(lines, style, &said, packet);
+}
+
+/// What it says, where the peer's AS number may be free.
+pub(crate) fn put_received_said<W: Sink>(
+    lines: &mut Lines<'_, W>,
+    is_free: bool,
+    number: u64,
+    asked: &Asked,
+)
+    ensures { Writes lines.old lines.new (received_said is_free number asked.now) }
 {
     lines.put(b"last received record ");
     lines.put_decimal(number);
     lines.put(b" ");
     lines.put(message_word(&asked.message));
-    put_asked(lines, asked.state, &asked.message);
-    put_line_end(lines, packet);
+    put_asked(lines, is_free, asked.state, &asked.message);
 }

@@ -7,9 +7,10 @@ ghost use Rattle.bgp_machine.specs.Want.{limit_on};
 ghost use Rattle.bgp_text.specs.Lines.{Writes};
 ghost use Rattle.bgp_reason_text.specs.Lacks.{IsWholeOf, AreNotificationLacks, AreSentLacks};
 ghost use Rattle.bgp_reason_text.specs.Lacks.{AreLacks, is_open, is_update, is_notification};
-ghost use Rattle.bgp_reason_text.specs.Lacks.{but_text};
+ghost use Rattle.bgp_reason_text.specs.Lacks.{but_text, open_but};
 
 use crate::items::Item;
+use crate::own_faults::{OwnFaults, put_own_faults};
 use crate::whole::sent_limit;
 use bgp_open::{Config, Link, read_notification};
 use bgp_parts::{
@@ -146,13 +147,28 @@ fn is_notification(code: u8, item: &Item) -> bool
     }
 }
 
+/// Puts what an OPEN lacks, or in place of that its own faults, if they are given.
+fn put_open_but<W: Sink>(
+    lines: &mut Lines<'_, W>,
+    own_faults: Option<OwnFaults>,
+    parts: &OwnOpenParts,
+)
+    ensures { Writes lines.old lines.new (open_but own_faults parts.now) }
+{
+    match own_faults {
+        None => put_open_parts(lines, BUT, parts),
+        Some(faults) => put_own_faults(lines, BUT, &faults),
+    }
+}
+
 /// Puts what a record lacks of an item, where it resembles this one.
 pub(crate) fn put_lacks<W: Sink, A: Allocator>(
     lines: &mut Lines<'_, W>,
+    own_faults: Option<OwnFaults>,
     item: &Item,
     lacks: &Lacks<'_, A>,
 )
-    ensures { Writes lines.old lines.new (but_text lacks.now item.now) }
+    ensures { Writes lines.old lines.new (but_text own_faults lacks.now item.now) }
 {
     match lacks {
         Lacks::Nothing => {}
@@ -160,7 +176,7 @@ pub(crate) fn put_lacks<W: Sink, A: Allocator>(
             if !is_open(item) {
                 return;
             }
-            put_open_parts(lines, BUT, parts);
+            put_open_but(lines, own_faults, parts);
         }
         Lacks::Update(parts) => {
             if !is_update(item) {

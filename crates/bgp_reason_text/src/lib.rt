@@ -1,13 +1,15 @@
-//! The text of a verdict's reason: the lines that `bgp judge --explain` prints after a verdict.
+//! The text of a verdict's reason: the lines that `bgp judge --explain` prints after a verdict, and
+//! `bgp check` in a [`Style`] of its own.
 //!
 //! What each text is, is stated in `specs/`. The lines are put into [`Lines`](bgp_text::Lines):
 //!
 //! ```text
-//! put_record_line(&mut lines, number, None, &session, &shown);
-//! put_state(&mut lines, told.state, told.told_by);
-//! put_last_received(&mut lines, received, None, &Asked::of(&config, told.state, octets));
-//! put_possible(&mut lines, &possible);
-//! put_notes(&mut lines, &notes);
+//! let style = Style::plain();
+//! put_record_line(&mut lines, &style, number, None, &session, &shown);
+//! put_state(&mut lines, &style, told.state, told.told_by);
+//! put_last_received(&mut lines, &style, received, None, &asked);
+//! put_possible(&mut lines, &style, &possible);
+//! put_notes(&mut lines, &style, &notes);
 //! ```
 #![tactic(auto)]
 
@@ -18,11 +20,15 @@ mod items;
 mod lacks;
 mod laws;
 mod notes;
+mod own_faults;
 mod parameters;
 mod possible;
 mod reasons;
 mod record;
 mod refusal;
+mod room;
+mod said;
+mod style;
 mod texts;
 mod whole;
 
@@ -31,7 +37,9 @@ pub use asked::{Asked, Received, put_last_received};
 pub use lacks::Lacks;
 pub use laws::lines_tell_all_that_may_follow;
 pub use notes::{Notes, put_notes};
+pub use own_faults::OwnFaults;
 pub use possible::{put_possible, put_possible_but};
 pub use record::{put_record_line, put_state};
 pub use refusal::{FieldReasons, OpenReasons, open_reasons};
+pub use style::Style;
 pub use whole::{NotWhole, put_not_whole};

@@ -11,11 +11,13 @@ ghost use Rattle.bgp_reason_text.specs.Notes.{IsSentKeepalive, HasExtendedParame
 ghost use Rattle.bgp_reason_text.specs.Notes.{IsNotificationOf, HoldsNotification};
 ghost use Rattle.bgp_reason_text.specs.Notes.{EndsTheSession, GoesOn, HasNoHold, IsSendOwed};
 ghost use Rattle.bgp_reason_text.specs.Notes.{CameFirst, IsExtendedOpen, since_idle};
-ghost use Rattle.bgp_reason_text.specs.Notes.{AreNotes, AreEndNotes, add_path_text, notes_text};
-ghost use Rattle.bgp_reason_text.specs.Notes.{with_offers};
+ghost use Rattle.bgp_reason_text.specs.Notes.{AreNotes, AreEndNotes, add_path_line, add_path_said};
+ghost use Rattle.bgp_reason_text.specs.Notes.{note_line, notes_text, with_offers};
 
 use crate::items::has_sent;
-use crate::texts::{has_some, put_if};
+use crate::said::Said;
+use crate::style::{Style, put_line};
+use crate::texts::has_some;
 use bgp_machine::{Fsm, received_limit};
 use bgp_open::{Config, Families, Link, read_notification};
 use bgp_parts_text::families_text;
@@ -23,6 +25,7 @@ use bgp_reason::{Possible, Told};
 use bgp_text::Lines;
 use bgp_wire::{HeaderVerdict, MessageType, check_header, header_at, message_body};
 use mrt::{Record, Sink};
+use std::alloc::Global;
 
 /// The Error code of Send Hold Timer Expired (RFC 9687, 4.2).
 const SEND_HOLD_TIMER_EXPIRED: u8 = 8;
@@ -275,60 +278,84 @@ impl Notes {
     }
 }
 
-/// That both OPENs offer ADD-PATH for families, if there is one.
-fn put_add_path<W: Sink>(lines: &mut Lines<'_, W>, families: Families)
-    ensures { Writes lines.old lines.new (add_path_text families) }
+/// That both OPENs offer ADD-PATH for these families.
+pub(crate) fn put_add_path_said<W: Sink>(lines: &mut Lines<'_, W>, families: Families)
+    ensures { Writes lines.old lines.new (add_path_said families) }
+{
+    lines.put(b"note both OPENs offer ADD-PATH for ");
+    lines.put(families_text(families).as_bytes());
+    lines.put(b", which is not judged");
+}
+
+/// The line on it, if there is such a family.
+fn put_add_path<W: Sink>(lines: &mut Lines<'_, W>, style: &Style, families: Families)
+    ensures { Writes lines.old lines.new (add_path_line style.now families) }
 {
     if has_some(families) {
-        lines.put(b"note both OPENs offer ADD-PATH for ");
-        lines.put(families_text(families).as_bytes());
-        lines.put(b", which is not judged\n");
+        put_line::<W, Global>(lines, style, &Said::AddPath(families), None);
+    }
+}
+
+/// A note, where something is so.
+fn put_note<W: Sink>(lines: &mut Lines<'_, W>, style: &Style, is_so: bool, note: &'static str)
+    ensures { Writes lines.old lines.new (note_line style.now is_so note.now) }
+{
+    if is_so {
+        put_line::<W, Global>(lines, style, &Said::Note(note), None);
     }
 }
 
 /// Puts the notes, a line each.
-pub fn put_notes<W: Sink>(lines: &mut Lines<'_, W>, notes: &Notes)
-    ensures { Writes lines.old lines.new (notes_text notes.now) }
+pub fn put_notes<W: Sink>(lines: &mut Lines<'_, W>, style: &Style, notes: &Notes)
+    ensures { Writes lines.old lines.new (notes_text style.now notes.now) }
 {
-    put_if(
+    put_note(
         lines,
+        style,
         notes.begins_elsewhere,
-        "note a capture begins in Idle: with change 1 2 or change 1 3\n",
+        "note a capture begins in Idle: with change 1 2 or change 1 3",
     );
-    put_if(
+    put_note(
         lines,
+        style,
         notes.open_came_first,
-        "note an OPEN was received before one was sent: DelayOpen, or the order of packets\n",
+        "note an OPEN was received before one was sent: DelayOpen, or the order of packets",
     );
-    put_add_path(lines, notes.add_path);
-    put_if(
+    put_add_path(lines, style, notes.add_path);
+    put_note(
         lines,
+        style,
         notes.ipv6_next_hops,
-        "note both OPENs offer IPv6 next hops for v4, which is not judged\n",
+        "note both OPENs offer IPv6 next hops for v4, which is not judged",
     );
-    put_if(
+    put_note(
         lines,
+        style,
         notes.extended_parameters,
-        "note the OPEN received has parameters of RFC 9072, which is not judged\n",
+        "note the OPEN received has parameters of RFC 9072, which is not judged",
     );
-    put_if(
+    put_note(
         lines,
+        style,
         notes.send_hold_timer,
-        "note NOTIFICATION 8, Send Hold Timer Expired (RFC 9687), is not judged\n",
+        "note NOTIFICATION 8, Send Hold Timer Expired (RFC 9687), is not judged",
     );
-    put_if(
+    put_note(
         lines,
+        style,
         notes.keepalive_without_hold,
-        "note with hold 0 no keepalive is sent but the one behind the OPEN\n",
+        "note with hold 0 no keepalive is sent but the one behind the OPEN",
     );
-    put_if(
+    put_note(
         lines,
+        style,
         notes.may_have_ended,
-        "note the connection may have ended before what is owed was written\n",
+        "note the connection may have ended before what is owed was written",
     );
-    put_if(
+    put_note(
         lines,
+        style,
         notes.may_be_missing,
-        "note a message that was sent may be missing here, or stand later in the capture\n",
+        "note a message that was sent may be missing here, or stand later in the capture",
     );
 }

@@ -3,7 +3,7 @@
 ghost use Rattle.std.specs.Prelude.{◌≡◌, ◌∷◌, [], ℕ, List, Option};
 ghost use Rattle.bgp_text.specs.Lines.{Writes};
 ghost use Rattle.bgp_parts_text.specs.Pieces.{separated, next_separator};
-ghost use Rattle.bgp_reason_text.specs.Reasons.{parameter_piece};
+ghost use Rattle.bgp_reason_text.specs.Reasons.{configured_text, parameter_piece};
 ghost use Rattle.bgp_reason_text.specs.Reasons.{as_piece, identifier_piece, hold_piece};
 ghost use Rattle.bgp_reason_text.specs.Reasons.{fields_text, reasons_text};
 
@@ -30,16 +30,28 @@ fn put_parameter<W: Sink>(
     b"; "
 }
 
+/// The number that is configured, or `another` if it is free.
+fn put_configured<W: Sink>(lines: &mut Lines<'_, W>, is_free: bool, number: u32)
+    ensures { Writes lines.old lines.new (configured_text is_free number) }
+{
+    if is_free {
+        lines.put(b"another");
+    } else {
+        lines.put_decimal(number);
+    }
+}
+
 /// The AS number that the peer says it has, and the one that is configured.
 fn put_peer_as<W: Sink>(
     lines: &mut Lines<'_, W>,
+    is_free: bool,
     before: &'static [u8],
     peer_as: Option<u32>,
     configured: u32,
 ) -> &'static [u8]
     ensures writes { Writes lines.old lines.new
-        (separated before.now (as_piece configured peer_as ∷ [])) }
-    ensures next { result.now ≡ next_separator before.now (as_piece configured peer_as) }
+        (separated before.now (as_piece is_free configured peer_as ∷ [])) }
+    ensures next { result.now ≡ next_separator before.now (as_piece is_free configured peer_as) }
 {
     let Some(number) = peer_as else {
         return before;
@@ -48,7 +60,7 @@ fn put_peer_as<W: Sink>(
     lines.put(b"as ");
     lines.put_decimal(number);
     lines.put(b", configured ");
-    lines.put_decimal(configured);
+    put_configured(lines, is_free, configured);
     b"; "
 }
 
@@ -83,18 +95,19 @@ fn put_hold<W: Sink>(lines: &mut Lines<'_, W>, before: &'static [u8], hold: Opti
 }
 
 /// The fields that are at fault.
-fn put_fields<W: Sink>(lines: &mut Lines<'_, W>, reasons: &FieldReasons)
-    ensures { Writes lines.old lines.new (fields_text reasons.now) }
+fn put_fields<W: Sink>(lines: &mut Lines<'_, W>, is_free: bool, reasons: &FieldReasons)
+    ensures { Writes lines.old lines.new (fields_text is_free reasons.now) }
 {
     let first = put_parameter(lines, b"", reasons.other_parameter);
-    let second = put_peer_as(lines, first, reasons.peer_as, reasons.configured_as);
+    let (peer_as, configured) = (reasons.peer_as, reasons.configured_as);
+    let second = put_peer_as(lines, is_free, first, peer_as, configured);
     let third = put_identifier(lines, second, reasons.identifier);
     put_hold(lines, third, reasons.hold);
 }
 
-/// Puts why an OPEN has to be refused.
-pub(crate) fn put_reasons<W: Sink>(lines: &mut Lines<'_, W>, reasons: &OpenReasons)
-    ensures { Writes lines.old lines.new (reasons_text reasons.now) }
+/// Puts why an OPEN has to be refused, where the peer's AS number may be free.
+pub(crate) fn put_reasons<W: Sink>(lines: &mut Lines<'_, W>, is_free: bool, reasons: &OpenReasons)
+    ensures { Writes lines.old lines.new (reasons_text is_free reasons.now) }
 {
     match reasons {
         OpenReasons::Version(number) => {
@@ -102,6 +115,6 @@ pub(crate) fn put_reasons<W: Sink>(lines: &mut Lines<'_, W>, reasons: &OpenReaso
             lines.put_decimal(*number);
         }
         OpenReasons::Malformed => lines.put(b"malformed"),
-        OpenReasons::Fields(reasons) => put_fields(lines, reasons),
+        OpenReasons::Fields(reasons) => put_fields(lines, is_free, reasons),
     }
 }

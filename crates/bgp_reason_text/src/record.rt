@@ -5,18 +5,23 @@ ghost use Rattle.mrt.specs.Reader.{shown_of};
 ghost use Rattle.mrt.specs.Written.{IsAllowed};
 ghost use Rattle.bgp_text.specs.Capture.{IsRecordText};
 ghost use Rattle.bgp_text.specs.Lines.{Writes};
-ghost use Rattle.bgp_reason_text.specs.Record.{record_line, state_line, by_text};
+ghost use Rattle.bgp_reason_text.specs.Record.{by_text, record_line, record_said, state_line};
+ghost use Rattle.bgp_reason_text.specs.Record.{state_said};
 
-use crate::texts::{put_line_end, state_text};
+use crate::said::Said;
+use crate::style::{Style, put_line};
+use crate::texts::state_text;
 use bgp_machine::Fsm;
 use bgp_prefix::Session;
 use bgp_text::{Lines, put_record_text};
 use mrt::{Record, Sink};
+use std::alloc::Global;
 
 /// Puts `record N LINE`: a record that a capture of the session may have, with its number and its
 /// line of `decode --mrt`; and in a recording the packet that shows it.
 pub fn put_record_line<W: Sink>(
     lines: &mut Lines<'_, W>,
+    style: &Style,
     number: u64,
     packet: Option<u64>,
     session: &Session,
@@ -24,13 +29,27 @@ pub fn put_record_line<W: Sink>(
 )
     requires { (last : Option ℕ) × IsAllowed session.now last (shown_of shown.now) }
     ensures { (text : List ℕ) × IsRecordText session.now (shown_of shown.now) text
-        × Writes lines.old lines.new (record_line number packet text) }
+        × Writes lines.old lines.new (record_line style.now number packet text) }
+{
+    let said = Said::Record(number, session, shown);
+    put_line::<W, Global>(lines, style, &said, packet);
+}
+
+/// What it says.
+pub(crate) fn put_record_said<W: Sink>(
+    lines: &mut Lines<'_, W>,
+    number: u64,
+    session: &Session,
+    shown: &Record<'_>,
+)
+    requires { (last : Option ℕ) × IsAllowed session.now last (shown_of shown.now) }
+    ensures { (text : List ℕ) × IsRecordText session.now (shown_of shown.now) text
+        × Writes lines.old lines.new (record_said number text) }
 {
     lines.put(b"record ");
     lines.put_decimal(number);
     lines.put(b" ");
     put_record_text(lines, session, shown);
-    put_line_end(lines, packet);
 }
 
 /// The record that told a state, where one did.
@@ -45,11 +64,18 @@ fn put_told_by<W: Sink>(lines: &mut Lines<'_, W>, told_by: Option<u64>)
 
 /// Puts `state STATE by record N`: the state that was told last, and the number of the record that
 /// told it; or `state Idle` where no change was told.
-pub fn put_state<W: Sink>(lines: &mut Lines<'_, W>, state: Fsm, told_by: Option<u64>)
-    ensures { Writes lines.old lines.new (state_line state told_by) }
+pub fn put_state<W: Sink>(lines: &mut Lines<'_, W>, style: &Style, state: Fsm, told_by: Option<u64>)
+    ensures { Writes lines.old lines.new (state_line style.now state told_by) }
+{
+    let said = Said::State(state, told_by);
+    put_line::<W, Global>(lines, style, &said, None);
+}
+
+/// What it says.
+pub(crate) fn put_state_said<W: Sink>(lines: &mut Lines<'_, W>, state: Fsm, told_by: Option<u64>)
+    ensures { Writes lines.old lines.new (state_said state told_by) }
 {
     lines.put(b"state ");
     lines.put(state_text(state).as_bytes());
     put_told_by(lines, told_by);
-    lines.put(b"\n");
 }

@@ -5,13 +5,16 @@ ghost use Rattle.mrt.specs.Reader.{shown_of};
 ghost use Rattle.bgp_machine.specs.Want.{limit_on};
 ghost use Rattle.bgp_text.specs.Lines.{Writes};
 ghost use Rattle.bgp_reason_text.specs.NotWhole.{IsWhyNot, IsWhyNotSent, not_whole_line};
-ghost use Rattle.bgp_reason_text.specs.NotWhole.{not_whole_text};
+ghost use Rattle.bgp_reason_text.specs.NotWhole.{not_whole_said, not_whole_text};
 
+use crate::said::Said;
+use crate::style::{Style, put_line};
 use crate::texts::put_if;
 use bgp_open::Link;
 use bgp_text::Lines;
 use bgp_wire::{HeaderFaults, HeaderVerdict, Limit, check_header, header_at};
 use mrt::{Record, Sink};
+use std::alloc::Global;
 use std::cmp::Ordering;
 
 /// Why a message that was sent is no whole one.
@@ -82,12 +85,18 @@ fn put_why<W: Sink>(lines: &mut Lines<'_, W>, why: NotWhole)
 }
 
 /// Puts `no whole message: ` and why, where there is a reason: `fault 1/2`, `cut` or `length`.
-pub fn put_not_whole<W: Sink>(lines: &mut Lines<'_, W>, why: Option<NotWhole>)
-    ensures { Writes lines.old lines.new (not_whole_line why) }
+pub fn put_not_whole<W: Sink>(lines: &mut Lines<'_, W>, style: &Style, why: Option<NotWhole>)
+    ensures { Writes lines.old lines.new (not_whole_line style.now why) }
 {
     if let Some(why) = why {
-        lines.put(b"no whole message: ");
-        put_why(lines, why);
-        lines.put(b"\n");
+        put_line::<W, Global>(lines, style, &Said::NotWhole(why), None);
     }
+}
+
+/// What it says.
+pub(crate) fn put_not_whole_said<W: Sink>(lines: &mut Lines<'_, W>, why: NotWhole)
+    ensures { Writes lines.old lines.new (not_whole_said why) }
+{
+    lines.put(b"no whole message: ");
+    put_why(lines, why);
 }

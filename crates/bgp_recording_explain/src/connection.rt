@@ -29,6 +29,7 @@ use bgp_explain::{Details, ExplainedRecords, Places, explain_records, put_explai
 use bgp_import::{Gathered, Import, Refusal, put_refusal, records_of};
 use bgp_judge::Tracker;
 use bgp_open::Config;
+use bgp_reason_text::Style;
 use bgp_recording::{Entry, Recording};
 use bgp_recording_tool::{
     Remark, add_help, add_remarks_on, refused_refresh, status_of, verdict_status,
@@ -59,7 +60,15 @@ fn put_explained<A: Allocator + Copy, W: Sink>(
 {
     let (session, places) = (&config.parts.session, Places::Shown(entries));
     put_verdict(lines, &explained.verdict);
-    put_explained_records(lines, config, session, places, explained, details);
+    put_explained_records(
+        lines,
+        config,
+        &Style::plain(),
+        session,
+        places,
+        explained,
+        details,
+    );
     verdict_status(&explained.verdict)
 }
 

@@ -22,6 +22,7 @@ pub returns-in-Ok : goal.returns-in-Ok
 returns-in-Ok g c = λ verdict holds.
     let config = c.args.config.now in
     let session = config.parts.session in
+    let style = c.args.style.now in
     let sent = c.args.sent in
     let places = places_of c.args.places in
     let records = map shown_of c.args.records.now in
@@ -29,6 +30,6 @@ returns-in-Ok g c = λ verdict holds.
     let (more, says, took) = c.in-Ok.ensures records c.in_ok-explained.ensures in
     let written : more ≡ c.into_octets.result.items = sym (c.into_octets.ensures ∙ took.behind ∙ ap (λ (s : SinkState). s.octets ++ more) c.new-sink.ensures) in
     let same = c.records_have_just_one_verdict.ensures.one config records (verdict_value explained.verdict) verdict c.in_ok-explained.ensures.verdict holds in
-    let at = subst (λ (s : Session). SaysOfRecords config s places records (verdict_value explained.verdict) more) c.session_at-session.ensures says in
-    subst (λ (text : List ℕ). SaysOfRecords config (session_at session sent records verdict) places records verdict text) written
-    (subst (λ (v : VerdictValue). SaysOfRecords config (session_at session sent records v) places records v more) same at)
+    let at = subst (λ (s : Session). SaysOfRecords config style s places records (verdict_value explained.verdict) more) c.session_at-session.ensures says in
+    subst (λ (text : List ℕ). SaysOfRecords config style (session_at session sent records verdict) places records verdict text) written
+    (subst (λ (v : VerdictValue). SaysOfRecords config style (session_at session sent records v) places records v more) same at)

@@ -5,4 +5,4 @@ use Rattle.bgp_explain.proofs.texts.put_following.Goals as goal
 
 pub returns : goal.returns
 returns g c =
-    subst (λ (t : List ℕ). Writes c.args.lines.now c.put_possible_but.new.lines t) (same_lines c.args.possible.now c.args.lacks.now) c.put_possible_but.ensures
+    subst (λ (t : List ℕ). Writes c.args.lines.now c.put_possible_but.new.lines t) (same_lines c.args.style.now c.args.possible.now c.args.lacks.now) c.put_possible_but.ensures

@@ -13,6 +13,7 @@ pub returns : goal.returns
 returns g c =
     let law : Joins g.W.Sink = record { joined = g.met.W.Sink.joined } in
     let config = c.args.config.now in
+    let style = c.args.style.now in
     let session = c.args.session.now in
     let reason = c.args.reason.now in
     let places = places_of c.args.places in
@@ -22,8 +23,8 @@ returns g c =
     let notes = c.notes_of-notes.result in
     let asking = asking_in details.update in
     let lacked = lacked_of details.lacks in
-    let rest = why_text places reason.told received asking unwhole reason.possible lacked notes in
-    let why : IsWhy config places reason.told reason.link reason.unjudged reason.last_message.items reason.possible (next_in reason.impossible) rest = record {
+    let rest = why_text style places reason.told received asking unwhole reason.possible lacked notes in
+    let why : IsWhy config style places reason.told reason.link reason.unjudged reason.last_message.items reason.possible (next_in reason.impossible) rest = record {
       received = received;
       asking = asking;
       unwhole = unwhole;
@@ -39,14 +40,14 @@ returns g c =
     elim c.match-reason.branch [
       | in-Some w ↦ (
           let (line, is_line, put) = w.put_record_line.ensures in
-          let first = line_at (places w.in-Some.impossible.number) line in
+          let first = line_at style (places w.in-Some.impossible.number) line in
           let is = subst (λ (r : ShownRecord). IsRecordText session r line) w.as_record-shown.ensures is_line in
           let put = rw w.place_of-place.ensures at put in (
             first ++ rest,
             record {
               first = first;
               rest = rest;
-              impossible = subst (λ o. IsImpossibleLine session places o first) (sym w.in-Some.is) (line, is, refl);
+              impossible = subst (λ o. IsImpossibleLine style session places o first) (sym w.in-Some.is) (line, is, refl);
               why = why;
               whole = refl;
             },
@@ -58,7 +59,7 @@ returns g c =
         record {
           first = [];
           rest = rest;
-          impossible = subst (λ o. IsImpossibleLine session places o []) (sym w.in_default.is) refl;
+          impossible = subst (λ o. IsImpossibleLine style session places o []) (sym w.in_default.is) refl;
           why = why;
           whole = refl;
         },

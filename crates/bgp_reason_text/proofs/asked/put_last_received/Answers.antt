@@ -1,10 +1,9 @@
-use Rattle.bgp_reason_text.specs.Asked.{last_received_line}
-use Rattle.bgp_text.proofs.Pieces.{Joins, and_then}
+use Rattle.std.proofs.Common.{List, ℕ, subst}
+use Rattle.bgp_text.specs.Lines.{Writes}
+use Rattle.bgp_reason_text.specs.Style.{line}
 use Rattle.bgp_reason_text.proofs.asked.put_last_received.Goals as goal
 
 pub returns : goal.returns
-unfolding last_received_line
 returns g c =
-    let law : Joins g.W.Sink = record { joined = g.met.W.Sink.joined } in
-    let word = rw c.message_word.ensures at c.put-3.ensures in
-    and_then law c.put.ensures (and_then law c.put_decimal.ensures (and_then law c.put-2.ensures (and_then law word (and_then law c.put_asked.ensures c.put_line_end.ensures))))
+    let (said, says, wrote) = c.put_line.ensures in
+    subst (λ (t : List ℕ). Writes c.args.lines.now c.put_line.new.lines (line c.args.style.now t c.args.packet)) says wrote

@@ -18,17 +18,21 @@ loop-item-preserved g c =
     let law : Joins g.W.Sink = record { joined = g.met.W.Sink.joined } in
     let so_far = c.loop-item.invariant in
     let items = c.items_of.result in
+    let style = c.args.style.now in
     let lacks = c.args.lacks.now in
+    let but = but_text style.own_faults lacks in
     let within : c.loop-item.item-index < length items = rw c.items_of.ensures c.loop-item-test.true in (
-      so_far.0 ++ item_lines (but_text lacks) c.loop-item.word.now (those_possible (get_or items c.loop-item.item-index None ∷ [])),
-      and_then law so_far.1 c.put_line-word.ensures.writes,
-      rw c.put_line-word.ensures.word
-          (one_more (but_text lacks) c.loop-item.word.now so_far.0 (possible_but_lines c.args.possible.now lacks) items c.loop-item.item-index within so_far.2),
+      so_far.0 ++ item_lines style but c.loop-item.word.now (those_possible (get_or items c.loop-item.item-index None ∷ [])),
+      and_then law so_far.1 c.put_item_line-word.ensures.writes,
+      rw c.put_item_line-word.ensures.word
+          (one_more style but c.loop-item.word.now so_far.0 (possible_but_lines style c.args.possible.now lacks) items c.loop-item.item-index within so_far.2),
     )
 
 pub returns : goal.returns
 returns g c =
     let so_far = c.loop-item.invariant in
+    let style = c.args.style.now in
     let lacks = c.args.lacks.now in
+    let but = but_text style.own_faults lacks in
     let past : length c.items_of.result ≤ c.loop-item.item-index = rw c.items_of.ensures c.loop-item-test.false in
-    rw (none_left (but_text lacks) c.loop-item.word.now so_far.0 (possible_but_lines c.args.possible.now lacks) c.items_of.result c.loop-item.item-index past so_far.2) at so_far.1
+    rw (none_left style but c.loop-item.word.now so_far.0 (possible_but_lines style c.args.possible.now lacks) c.items_of.result c.loop-item.item-index past so_far.2) at so_far.1

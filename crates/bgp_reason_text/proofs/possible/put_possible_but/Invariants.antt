@@ -9,4 +9,4 @@ use Rattle.bgp_reason_text.proofs.possible.put_possible_but.Given as goal
 abbrev pub invariant-loop-item : goal.invariant-loop-item
 invariant-loop-item g l =
     (text : List ℕ) × Writes l.fn.lines l.lines text
-    × (text ++ item_lines (but_text l.lacks) l.word (those_possible (drop l.item-index l.item-items)) ≡ possible_but_lines l.fn.possible l.fn.lacks)
+    × (text ++ item_lines l.style (but_text l.style.own_faults l.lacks) l.word (those_possible (drop l.item-index l.item-items)) ≡ possible_but_lines l.fn.style l.fn.possible l.fn.lacks)

@@ -11,5 +11,5 @@ returns g c =
     let second = rw first.next at c.put_peer_as-second.ensures.writes in
     let third = rw (c.put_peer_as-second.ensures.next, first.next) at c.put_identifier-third.ensures.writes in
     let fourth = rw (c.put_identifier-third.ensures.next, c.put_peer_as-second.ensures.next, first.next) at c.put_hold.ensures in
-    rw (four_pieces (parameter_piece reasons.other_parameter) (as_piece reasons.configured_as reasons.peer_as) (identifier_piece reasons.identifier) (hold_piece reasons.hold))
+    rw (four_pieces (parameter_piece reasons.other_parameter) (as_piece c.args.is_free reasons.configured_as reasons.peer_as) (identifier_piece reasons.identifier) (hold_piece reasons.hold))
     (and_then law first.writes (and_then law second (and_then law third fourth)))

@@ -9,4 +9,4 @@ returns-in_default-clause-writes g c =
 pub returns-clause-writes : goal.returns-clause-writes
 returns-clause-writes g c =
     let law : Joins g.W.Sink = record { joined = g.met.W.Sink.joined } in
-    rw (c.in-Some.is, append-nil) (and_then law c.put.ensures (and_then law c.put-2.ensures (and_then law c.put_decimal.ensures (and_then law c.put-3.ensures c.put_decimal-2.ensures))))
+    rw (c.in-Some.is, append-nil) (and_then law c.put.ensures (and_then law c.put-2.ensures (and_then law c.put_decimal.ensures (and_then law c.put-3.ensures c.put_configured.ensures))))

@@ -1,10 +1,9 @@
-use Rattle.bgp_reason_text.specs.Record.{state_line}
-use Rattle.bgp_text.proofs.Pieces.{Joins, and_then}
+use Rattle.std.proofs.Common.{List, None, ℕ, subst}
+use Rattle.bgp_text.specs.Lines.{Writes}
+use Rattle.bgp_reason_text.specs.Style.{line}
 use Rattle.bgp_reason_text.proofs.record.put_state.Goals as goal
 
 pub returns : goal.returns
-unfolding state_line
 returns g c =
-    let law : Joins g.W.Sink = record { joined = g.met.W.Sink.joined } in
-    let state = rw (c.as_bytes.ensures.value, c.state_text.ensures) at c.put-2.ensures in
-    and_then law c.put.ensures (and_then law state (and_then law c.put_told_by.ensures c.put-3.ensures))
+    let (said, says, wrote) = c.put_line.ensures in
+    subst (λ (t : List ℕ). Writes c.args.lines.now c.put_line.new.lines (line c.args.style.now t None)) says wrote

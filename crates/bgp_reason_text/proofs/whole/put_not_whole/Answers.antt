@@ -1,7 +1,9 @@
-use Rattle.bgp_text.proofs.Pieces.{Joins, and_then}
+use Rattle.std.proofs.Common.{List, None, ℕ, subst}
+use Rattle.bgp_text.specs.Lines.{Writes}
+use Rattle.bgp_reason_text.specs.Style.{line}
 use Rattle.bgp_reason_text.proofs.whole.put_not_whole.Goals as goal
 
 pub returns-in-Some : goal.returns-in-Some
 returns-in-Some g c =
-    let law : Joins g.W.Sink = record { joined = g.met.W.Sink.joined } in
-    rw c.in-Some.is (and_then law c.put.ensures (and_then law c.put_why.ensures c.put-in-Some.ensures))
+    let (said, says, wrote) = c.put_line.ensures in
+    rw c.in-Some.is (subst (λ (t : List ℕ). Writes c.args.lines.now c.put_line.new.lines (line c.args.style.now t None)) says wrote)

@@ -4,6 +4,7 @@ use Rattle.bgp_open.specs.declared.config.Config.{Config}
 use Rattle.bgp_judge.specs.Verdict.{VerdictValue, Yes, No, Unfinished, verdict_value}
 use Rattle.bgp_prefix.specs.Shown.{ShownRecord}
 use Rattle.bgp_recording.specs.Captured.{records_of}
+use Rattle.bgp_reason_text.specs.Style.{plain}
 use Rattle.bgp_explain.specs.Places.{shown_places}
 use Rattle.bgp_explain.specs.Records.{SaysOrNot, SaysWhere}
 use Rattle.bgp_explain.specs.declared.places.Place.{Place}
@@ -14,7 +15,7 @@ use Rattle.bgp_recording_explain.proofs.connection.put_explained.Goals as goal
 
 -- with details or without
 or_not : (config : Config) (session : Session) (places : ℕ → Place) (records : List ShownRecord) (detailed : Bool) (verdict : VerdictValue) (more : List ℕ)
-    → SaysWhere config session places records detailed verdict more → SaysOrNot config session places records verdict more
+    → SaysWhere config plain session places records detailed verdict more → SaysOrNot config session places records verdict more
 or_not config session places records detailed (Yes ends) more says = says
 or_not config session places records true (No count) more says = inl says
 or_not config session places records true Unfinished more says = inl says
@@ -27,6 +28,7 @@ returns-clause-writes g c =
     let config = c.args.config.now in
     let entries = c.args.entries.now in
     let verdict = verdict_value c.args.explained.now.verdict in
-    let (more, says, put) = c.put_explained_records.ensures (records_of entries) c.requires.explained in
+    let (more, so, put) = c.put_explained_records.ensures (records_of entries) c.requires.explained in
+    let says = rw c.plain.ensures at so in
     let first = subst (λ (t : List ℕ). Writes c.args.lines.now c.put_verdict.new.lines t) (text_same c.args.explained.now.verdict) c.put_verdict.ensures in
     (more, or_not config config.parts.session (shown_places entries) (records_of entries) (is_some c.args.details.now) verdict more says, and_then law first put)
