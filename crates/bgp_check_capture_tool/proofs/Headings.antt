@@ -4,7 +4,7 @@ use Rattle.std.specs.List.{flat_map}
 use Rattle.mrt_sessions.specs.File.{Located}
 use Rattle.mrt_sessions.specs.Sessions.{records_between}
 use Rattle.mrt_sessions.specs.declared.addresses.Addresses.{Addresses}
-use Rattle.bgp_capture_list.specs.Text.{session_line}
+use Rattle.bgp_list.specs.Sessions.{session_line}
 use Rattle.bgp_check_capture_tool.specs.Checking.{Block}
 use Rattle.bgp_check_capture_tool.specs.Headings.{ListIsWithoutEnds, heading}
 

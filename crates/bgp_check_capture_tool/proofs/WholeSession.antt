@@ -11,7 +11,7 @@ use Rattle.mrt_sessions.specs.declared.lengths.ExtendedMessages.{ExtendedMessage
 use Rattle.bgp_machine.specs.Lists.{Has}
 use Rattle.bgp_text.specs.declared.lines.Lines.{Lines}
 use Rattle.bgp_check_capture.specs.Offers.{HearsOffer, SendsOffer}
-use Rattle.bgp_capture_list.specs.Listing.{no_memory}
+use Rattle.bgp_list.specs.Capture.{no_memory}
 use Rattle.bgp_check_text.specs.declared.tally.Tally.{Tally}
 use Rattle.bgp_check_capture_tool.specs.Ends.{IsSessionTold, session_of, view_of}
 use Rattle.bgp_check_capture_tool.specs.Judging.{telling_where}

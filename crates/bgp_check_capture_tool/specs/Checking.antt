@@ -13,8 +13,8 @@ use Rattle.mrt_sessions.specs.declared.holding.Ending.{Ending}
 use Rattle.bgp_text.specs.Lines.{Writes}
 use Rattle.bgp_text.specs.declared.lines.Lines.{Lines}
 use Rattle.bgp_tool.specs.Answer.{IsWritten}
-use Rattle.bgp_capture_list.specs.Listing.{no_memory}
-use Rattle.bgp_capture_list.specs.Text.{fault_text, session_line}
+use Rattle.bgp_list.specs.Capture.{no_memory}
+use Rattle.bgp_list.specs.Sessions.{fault_text, session_line}
 use Rattle.bgp_check_text.specs.Tally.{has_verdict, is_empty, is_incomplete, no_tally, status_of}
 use Rattle.bgp_check_text.specs.Tally.{tally_line}
 use Rattle.bgp_check_text.specs.declared.tally.Tally.{Tally}

@@ -34,7 +34,7 @@ use Rattle.bgp_check_capture.specs.Passed.{Keeps, Left, nothing_left}
 use Rattle.bgp_check_capture.specs.Told.{offers_of, with_leaving}
 use Rattle.bgp_check_text.specs.Tally.{status_of, tally_line}
 use Rattle.bgp_check_text.specs.declared.tally.Tally.{Tally}
-use Rattle.bgp_capture_list.specs.Text.{fault_text}
+use Rattle.bgp_list.specs.Sessions.{fault_text}
 use Rattle.bgp_check_capture_tool.specs.Checking.{Block, IsBlock, blocks_text, nothing_text}
 use Rattle.bgp_check_capture_tool.specs.Checking.{telling_of}
 use Rattle.bgp_check_capture_tool.specs.Ends.{End, Silent, Staying, Stretch, session_of}

@@ -8,7 +8,7 @@ use Rattle.mrt_sessions.specs.File.{Located}
 use Rattle.mrt_sessions.specs.declared.addresses.Addresses.{Addresses}
 use Rattle.bgp_text.specs.Lines.{Writes}
 use Rattle.bgp_text.specs.declared.lines.Lines.{Lines}
-use Rattle.bgp_capture_list.specs.Text.{fault_text, session_line}
+use Rattle.bgp_list.specs.Sessions.{fault_text, session_line}
 use Rattle.bgp_check_text.specs.declared.tally.Tally.{Tally}
 use Rattle.bgp_check_capture_tool.specs.Counted.{with_ends, with_fault}
 use Rattle.bgp_check_capture_tool.specs.Ends.{End, IsSessionTold, TellsRecords, TellsStretches}

@@ -7,8 +7,8 @@ ghost use Rattle.bgp_check_capture_tool.specs.Firsts.{AreApart, with_first};
 
 use crate::firsts::{NUMBERS, add_first};
 use arrayvec::ArrayVec;
-use bgp_capture_list::fault_status;
 use bgp_check_text::Tally;
+use bgp_list::fault_status;
 use mrt::CaptureFault;
 
 /// The tally with a refusal more, if there is one.

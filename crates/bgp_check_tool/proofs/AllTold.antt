@@ -9,7 +9,7 @@ use Rattle.bgp_check_tool.specs.Blocks.{Block}
 use Rattle.bgp_connections.specs.Places.{HasAll}
 use Rattle.bgp_check_tool.specs.Places.{IsToldAt}
 use Rattle.bgp_connections.specs.Reading.{IsMemory}
-use Rattle.bgp_recording_list.proofs.PutSoFar.{without_keys}
+use Rattle.bgp_list.proofs.PutSoFar.{without_keys}
 
 -- the number of the last packet that was looked at
 pub as_many : (options : CheckOptions) (last many : ℕ) (packets : List Recorded) (blocks : List (ℕ × Block)) → last ≡ many

@@ -33,8 +33,8 @@ use Rattle.bgp_connections.specs.Pairs.{selection_of}
 use Rattle.bgp_connections.specs.Places.{HasAll, HasEach}
 use Rattle.bgp_check_tool.specs.Places.{IsToldAt}
 use Rattle.bgp_connections.specs.Talks.{HoldsEach}
-use Rattle.bgp_recording_list.specs.Firsts.{firsts_after, with_first}
-use Rattle.bgp_recording_list.proofs.PutSoFar.{firsts_more}
+use Rattle.bgp_list.specs.Firsts.{firsts_after, with_first}
+use Rattle.bgp_list.proofs.PutSoFar.{firsts_more}
 use Rattle.std.proofs.lemmas.List.{map-append}
 use Rattle.bgp_check_tool.specs.Counted.{with_block}
 use Rattle.bgp_connections.proofs.ListedSoFar.{among_keys}

@@ -22,7 +22,7 @@ use Rattle.bgp_check_text.specs.declared.tally.Tally.{Tally}
 use Rattle.bgp_check_tool.specs.declared.nothing.NothingJudged.{NothingJudged}
 use Rattle.bgp_check_tool.specs.declared.options.CheckOptions.{CheckOptions}
 use Rattle.bgp_connections.specs.declared.talks.Talks.{Talks}
-use Rattle.bgp_recording_list.specs.Firsts.{firsts_after, with_first}
+use Rattle.bgp_list.specs.Firsts.{firsts_after, with_first}
 use Rattle.bgp_check_tool.specs.Blocks.{Block, block_text, refusal_in}
 use Rattle.bgp_check_tool.specs.Counted.{with_block, with_refused}
 use Rattle.bgp_connections.specs.Places.{HasAll}

@@ -6,7 +6,7 @@ ghost use Rattle.bgp_text.specs.Lines.{Writes};
 ghost use Rattle.bgp_check_tool.specs.Checking.{ChecksRecording, PutsAll, PutsBlock, file_text};
 ghost use Rattle.bgp_check_tool.specs.Checking.{cut_note, nothing_by, with_file};
 ghost use Rattle.bgp_check_tool.specs.Judging.{settings_by};
-ghost use Rattle.bgp_recording_list.specs.Firsts.{AreApart, with_first};
+ghost use Rattle.bgp_list.specs.Firsts.{AreApart, with_first};
 ghost use Rattle.bgp_connections.specs.Listed.{CanBeTold, IsListed};
 ghost use Rattle.bgp_connections.specs.Talks.{HoldsSome};
 
@@ -20,7 +20,7 @@ use bgp_check_text::{Settings, Tally};
 use bgp_connections::{Listed, Talks, cut_short_at, listed_in, selection_of, take_all};
 use bgp_import::{CutShort, Refusal, put_refusal, refused};
 use bgp_judge::Tracker;
-use bgp_recording_list::NUMBERS;
+use bgp_list::NUMBERS;
 use bgp_text::Lines;
 use bgp_tool::hand_over;
 use mrt::{Sink, Source};

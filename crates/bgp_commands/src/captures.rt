@@ -2,9 +2,9 @@
 
 use crate::devices::tell_note;
 use crate::recordings::tell_unwritten;
-use bgp_capture_list::list_capture;
 use bgp_check_capture_tool::{CaptureOptions, check_capture};
 use bgp_compact::CompactTracker;
+use bgp_list::list_capture;
 use bgp_tool::Note;
 use mrt::{CaptureFault, FaultKind, FromRead, FromWrite, Sink};
 use std::alloc::Global;

@@ -9,8 +9,8 @@ use Rattle.bgp_check_text.specs.declared.tally.Tally.{Tally}
 use Rattle.bgp_check_tool.specs.Checking.{PutsAll, refusals_in, tally_from, with_file}
 use Rattle.bgp_check_tool.specs.Judging.{options_by}
 use Rattle.bgp_check_text.specs.declared.settings.Settings.{Settings}
-use Rattle.bgp_recording_list.specs.Firsts.{AreApart, firsts_after, with_first}
-use Rattle.bgp_recording_list.proofs.AllListed.{none_apart}
+use Rattle.bgp_list.specs.Firsts.{AreApart, firsts_after, with_first}
+use Rattle.bgp_list.proofs.AllListed.{none_apart}
 use Rattle.bgp_connections.specs.Reading.{IsMemory, IsReadTo, TakesAll, cut_short_at, failures_of, looked_at}
 use Rattle.bgp_connections.specs.Talks.{HoldsEach, HoldsSome}
 use Rattle.bgp_import.specs.declared.refusal.Refusal.{Refusal}

@@ -1,0 +1,6 @@
+pub mod Firsts
+pub mod Lines
+pub mod Recording
+pub mod EachListed
+pub mod Sessions
+pub mod Capture

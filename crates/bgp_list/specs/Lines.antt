@@ -1,0 +1,96 @@
+-- The lines of a list: connection by connection, and of two addresses at once where none of their
+-- connections can be told.
+use Rattle.std.specs.Prelude.{◌≡◌, ◌++◌, ℕ, List, Option, None, Some, codes, reverse}
+use Rattle.bgp_prefix.specs.Text.{address_text}
+use Rattle.bgp_prefix.specs.declared.session.Session.{Session}
+use Rattle.packets.specs.Packet.{Recorded}
+use Rattle.segments.specs.declared.fault.PacketFault.{PacketFault}
+use Rattle.segments.specs.declared.found.Addresses.{Addresses}
+use Rattle.streams.specs.Choice.{IsAnswered, IsRefused}
+use Rattle.streams.specs.Connections.{numbered}
+use Rattle.streams.specs.Passed.{Segment}
+use Rattle.streams.specs.declared.connection.Connection.{Connection}
+use Rattle.streams.specs.declared.connection.Opening.{Opening}
+use Rattle.streams.specs.declared.fault.Fault.{Fault}
+use Rattle.bgp_import.specs.ListText.{octets_text, opening_text, other_side, refused_text}
+use Rattle.bgp_import.specs.declared.refusal.Refusal.{Refusal}
+use Rattle.bgp_import.specs.declared.refusal.Refusal.TheVariants as refusals
+use Rattle.bgp_connections.specs.Octets.{octets_from}
+use Rattle.bgp_connections.specs.Pairs.{AreOrdered, session_of}
+use Rattle.bgp_connections.specs.Places.{HasConnection}
+use Rattle.bgp_connections.specs.Talks.{IsRefusedAt}
+use Rattle.bgp_list.specs.declared.line.Line.{Line}
+use Rattle.bgp_list.specs.declared.line.Line.TheVariants.{Octets, Refused, AllRefused}
+
+-- ---- the text
+
+abbrev pub line_text : Line → List ℕ
+line_text (Octets session opening first second) =
+    opening_text session opening ++ (codes " " ++ (octets_text first second ++ codes "\n"))
+line_text (Refused session opening refusal) =
+    opening_text session opening ++ (codes " " ++ (refused_text refusal ++ codes "\n"))
+line_text (AllRefused addresses refusal) =
+    codes "session " ++ (address_text addresses.from ++ (codes " "
+    ++ (address_text addresses.to ++ (codes " " ++ (refused_text refusal ++ codes "\n")))))
+
+-- the refusal in a line, if there is one
+abbrev pub refusal_in : Line → Option Refusal
+refusal_in (Octets session opening first second) = None
+refusal_in (Refused session opening refusal) = Some refusal
+refusal_in (AllRefused addresses refusal) = Some refusal
+
+-- ---- what a line tells
+
+-- The connection of these segments, told from the last one back to the first, that was opened so;
+-- in a recording whose last packet has this number.
+module _ (last_packet : ℕ) (segments : List Segment) (opening : Opening) where
+  -- it isn't refused, and whoever opened it sent so many octets, and the other so many
+  pub record TellsOctets (first second : ℕ) : Type 0 where
+    pub connection : Connection
+    pub chosen : IsAnswered (Some opening.number) last_packet (numbered segments) connection
+    pub is_first : first ≡ octets_from opening.opened_by connection
+    pub is_second : second ≡ octets_from (other_side opening.opened_by) connection
+
+  -- or its segments spell no two streams
+  pub record TellsRefusal (refusal : Refusal) : Type 0 where
+    pub fault : Fault
+    pub refused : IsRefused (Some opening.number) last_packet (numbered segments) fault
+    pub is : refusal ≡ refusals.Connection fault
+
+-- this is its line
+abbrev pub IsLineOf : ℕ → List Segment → Session → Opening → Line → Type 0
+IsLineOf last_packet segments session opening (Octets its its_opening first second) =
+    (its ≡ session) × (its_opening ≡ opening)
+    × TellsOctets last_packet segments opening first second
+IsLineOf last_packet segments session opening (Refused its its_opening refusal) =
+    (its ≡ session) × (its_opening ≡ opening)
+    × TellsRefusal last_packet segments opening refusal
+IsLineOf last_packet segments session opening (AllRefused addresses refusal) = ⊥
+
+-- ---- where it stands
+
+-- The packets of a recording, for a port; the last one has this number.
+module _ (port : ℕ) (packets : List Recorded) (last_packet : ℕ) where
+  -- that of a connection at its first packet
+  pub record IsLineOfOne (place : ℕ) (session : Session) (opening : Opening) (line : Line) : Type 0
+    where
+      pub addresses : Addresses
+      pub segments : List Segment
+      pub has : HasConnection port packets addresses segments opening
+      pub is_session : session ≡ session_of addresses
+      pub is_place : place ≡ opening.packet
+      pub is_line : IsLineOf last_packet (reverse segments) session opening line
+
+  -- that of two addresses at the first packet that is refused for them
+  pub record IsLineOfAll (place : ℕ) (addresses : Addresses) (refusal : Refusal) : Type 0 where
+    pub ordered : AreOrdered addresses
+    pub fault : PacketFault
+    pub refused : IsRefusedAt port packets addresses fault place
+    pub is : refusal ≡ refusals.Packet fault place
+
+  abbrev pub IsLineAt : ℕ → Line → Type 0
+  IsLineAt place (Octets session opening first second) =
+      IsLineOfOne place session opening (Octets session opening first second)
+  IsLineAt place (Refused session opening refusal) =
+      IsLineOfOne place session opening (Refused session opening refusal)
+  IsLineAt place (AllRefused addresses refusal) = IsLineOfAll place addresses refusal

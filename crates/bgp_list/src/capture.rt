@@ -1,0 +1,150 @@
+//! `bgp list` of a capture.
+
+ghost use Rattle.std.specs.Prelude.{◌≡◌, ◌<◌, List, ℕ};
+ghost use Rattle.bgp_text.specs.Lines.{Writes};
+ghost use Rattle.bgp_tool.specs.CaptureDecoding.{status_by};
+ghost use Rattle.bgp_tool.specs.Status.{code_of};
+ghost use Rattle.mrt_sessions.specs.File.{Located};
+ghost use Rattle.mrt_sessions.specs.Sessions.{HoldsSessions, held_records};
+ghost use Rattle.bgp_list.specs.Capture.{Lists, ListsCapture, status_of};
+ghost use Rattle.bgp_list.specs.Sessions.{fault_text, session_line, sessions_text};
+
+use crate::session::put_session;
+use bgp_text::{Lines, put_refused};
+use bgp_tool::{Status, hand_over};
+use mrt::{CaptureFault, FaultKind, Sink, Source};
+use mrt_sessions::{Addresses, Ending, Sessions, hold, records_in};
+use std::alloc::Allocator;
+
+/// How listing a capture ended.
+#[derive(Clone, Copy, Debug)]
+pub struct ListedCapture {
+    /// The exit status.
+    pub status: u8,
+    /// Why the file isn't read to its end, if it isn't.
+    pub fault: Option<CaptureFault>,
+}
+
+/// That there is no memory for a list of the records.
+const NO_MEMORY: CaptureFault = CaptureFault {
+    kind: FaultKind::Memory,
+    offset: 0,
+};
+
+/// The line of one of the sessions.
+fn put_held<W: Sink, A: Allocator + Copy>(
+    lines: &mut Lines<'_, W>,
+    sessions: &Sessions<'_, A>,
+    addresses: Addresses,
+)
+    ensures { Writes lines.old lines.new
+        (session_line addresses (held_records sessions.now addresses)) }
+{
+    match sessions.records(addresses) {
+        Some(records) => put_session(lines, addresses, records),
+        None => put_session(lines, addresses, &[]),
+    }
+}
+
+/// The lines of all sessions, in the order of their first records.
+fn put_sessions<W: Sink, A: Allocator + Copy>(lines: &mut Lines<'_, W>, sessions: &Sessions<'_, A>)
+    ensures { (named : List Located) → HoldsSessions named sessions.now
+        → Writes lines.old lines.new (sessions_text named) }
+{
+    for addresses in sessions.in_order() {
+        put_held(lines, sessions, *addresses);
+    }
+}
+
+/// Puts the lines of all sessions whose records these octets have, and answers why the file isn't
+/// read to its end, if it isn't.
+fn put_listed<W: Sink, A: Allocator + Copy>(
+    alloc: A,
+    octets: &[u8],
+    ending: Ending,
+    lines: &mut Lines<'_, W>,
+) -> Option<CaptureFault>
+    ensures { (text : List ℕ) × Writes lines.old lines.new text
+        × Lists octets.now ending text result }
+{
+    let Ok(file) = records_in(alloc, octets) else {
+        lines.put(b"");
+        return Some(NO_MEMORY);
+    };
+    let Ok(sessions) = Sessions::of(alloc, file.records.as_slice()) else {
+        lines.put(b"");
+        return Some(NO_MEMORY);
+    };
+    put_sessions(lines, &sessions);
+    file.fault(ending)
+}
+
+/// Puts why a file isn't read to its end, if it isn't.
+pub fn put_fault<W: Sink>(lines: &mut Lines<'_, W>, fault: Option<CaptureFault>)
+    ensures { Writes lines.old lines.new (fault_text fault) }
+{
+    match fault {
+        Some(fault) => put_refused(lines, fault),
+        None => lines.put(b""),
+    }
+}
+
+/// The exit status of a file that isn't read on for this.
+pub fn fault_status(kind: FaultKind) -> Status
+    ensures { code_of result ≡ status_by kind }
+{
+    match kind {
+        FaultKind::Device => Status::Device,
+        FaultKind::Memory => Status::Memory,
+        FaultKind::Truncated
+        | FaultKind::TooLong
+        | FaultKind::Body
+        | FaultKind::BadState
+        | FaultKind::NotAMessage
+        | FaultKind::TimeBack
+        | FaultKind::RouteRefresh
+        | FaultKind::AddPath => Status::Refused,
+    }
+}
+
+fn status_of(fault: Option<CaptureFault>) -> Status
+    ensures { code_of result ≡ status_of fault }
+{
+    match fault {
+        Some(fault) => fault_status(fault.kind),
+        None => Status::Done,
+    }
+}
+
+/// Writes a line for each session in a capture, in the order of their first records, and last,
+/// where the file can't be read to its end, why: `capture refused: NUMBER NAME at OFFSET`. It
+/// answers the exit status:
+///
+/// * 0: the file was read to its end.
+/// * 3: it is refused.
+/// * 4: memory was refused.
+/// * 5: a device failed.
+///
+/// The file is held whole.
+pub fn list_capture<A: Allocator + Copy, R: Source, W: Sink>(
+    alloc: A,
+    source: &mut R,
+    sink: &mut W,
+) -> ListedCapture
+    requires source { R.failures source.old < u64.MAX }
+    requires sink { W.failures sink.old < u64.MAX }
+    ensures { ListsCapture R.gives R.has_ended W.takes R.failures W.failures
+        source.old source.new sink.old sink.new result.status result.fault }
+{
+    let held = hold(alloc, source);
+    let mut lines = Lines::new(sink);
+    let fault = put_listed(alloc, held.octets.as_slice(), held.ending, &mut lines);
+    put_fault(&mut lines, fault);
+    let status = hand_over(&mut lines, status_of(fault));
+    // No effect: it ends the loan of the sink.
+    lines.into_sink();
+    ListedCapture {
+        status: status.code(),
+        fault,
+    }
+}

@@ -1,0 +1,26 @@
+//! What a file holds, line by line: `bgp list` of a recording of packets, and of a capture of MRT
+//! records.
+//!
+//! ```text
+//! let listed = list_recording(alloc, 179, &mut source, &mut sink);
+//! for refusal in listed.refusals.iter().flatten() {
+//!     help_against(refusal);
+//! }
+//! std::process::exit(listed.status);
+//! ```
+#![tactic(auto)]
+
+mod capture;
+mod firsts;
+mod laws;
+mod line;
+mod listed;
+mod recording;
+mod session;
+
+pub use capture::{ListedCapture, fault_status, list_capture, put_fault};
+pub use firsts::{NUMBERS, add_first};
+pub use laws::each_of_them_is_listed;
+pub use listed::{ListedRecording, NothingListed};
+pub use recording::list_recording;
+pub use session::put_session;

@@ -1,4 +1,0 @@
-pub mod Apart
-pub mod PutSoFar
-pub mod AllListed
-pub mod Each
