@@ -1,6 +1,7 @@
 //! Files and standard streams as readers and writers of `bgp_tool`'s calls.
 
 use bgp_compact::CompactTracker;
+use bgp_explain::Report;
 use bgp_import::CutShort;
 use bgp_open::Config;
 use bgp_options::RecordingOptions;
@@ -47,13 +48,14 @@ pub fn decode_capture<R: Files + Input + Print + Eprint + AllocGlobal>(
 pub fn judge<R: Files + Input + Print + Eprint + AllocGlobal>(
     rt: &R,
     config: &Config,
+    report: Report,
     recording: &RecordingOptions,
     file: &str,
 ) -> u8 {
     if file == "-" {
-        judge_from(rt, config, recording, file, Ok(rt.reader()))
+        judge_from(rt, config, report, recording, file, Ok(rt.reader()))
     } else {
-        judge_from(rt, config, recording, file, open(rt, file))
+        judge_from(rt, config, report, recording, file, open(rt, file))
     }
 }
 
@@ -91,6 +93,7 @@ fn decode_capture_from<R: Print + Eprint + AllocGlobal, F: Read + Drop>(
 fn judge_from<R: Print + Eprint + AllocGlobal, F: Read + Drop>(
     rt: &R,
     config: &Config,
+    report: Report,
     recording: &RecordingOptions,
     file: &str,
     opened: io::Result<F>,
@@ -100,6 +103,7 @@ fn judge_from<R: Print + Eprint + AllocGlobal, F: Read + Drop>(
     let outcome = judge_file::<Global, CompactTracker<Global>, _, _>(
         rt.alloc(),
         config,
+        report,
         recording,
         file,
         reader,
@@ -140,6 +144,9 @@ pub fn tell<R: Eprint>(rt: &R, outcome: &Outcome<'_>) -> u8 {
 pub fn tell_all<R: Eprint>(rt: &R, outcome: &FileOutcome<'_, Global>) -> u8 {
     tell_cut_short(rt, outcome.cut_short);
     tell_passed_over(rt, outcome.skipped);
+    if outcome.confederation {
+        tell_note(rt, &Note::Confederation);
+    }
     for remark in &outcome.remarks {
         let _ = eprintln!(rt; "bgp: {remark}");
     }

@@ -8,7 +8,6 @@
 
 mod captures;
 mod devices;
-mod explaining;
 mod made_file;
 mod recordings;
 mod running;

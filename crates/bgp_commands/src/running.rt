@@ -1,8 +1,9 @@
 //! A command line, from its words to the exit status.
 
 use crate::words::words_status;
-use crate::{devices, explaining, recordings, speaker};
+use crate::{devices, recordings, speaker};
 use bgp_check_tool::{CheckOptions, Settings};
+use bgp_explain::Report;
 use bgp_tool::Status;
 use bgp_wire::Limit;
 use bgp_words::{Command, command_line};
@@ -38,11 +39,12 @@ pub fn run_words<R: Files + Net + Clock + Input + Print + Eprint + AllocGlobal, 
                 file,
             },
         ) => {
-            if explain {
-                explaining::explain(rt, &config, &recording, file)
+            let report = if explain {
+                Report::WithReason
             } else {
-                devices::judge(rt, &config, &recording, file)
-            }
+                Report::VerdictAlone
+            };
+            devices::judge(rt, &config, report, &recording, file)
         }
         Ok(
             Command::Import {

@@ -7,7 +7,9 @@ pub mod Standing
 pub mod LastReceived
 pub mod NextRecord
 pub mod Saying
+mod Confederations
 pub mod Telling
+pub mod Reported
 pub mod LackedText
 pub mod Naming
 pub mod OnePossible

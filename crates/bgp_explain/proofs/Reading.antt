@@ -1,6 +1,7 @@
 -- How a capture is read to its end, and what its records are.
-use Rattle.std.proofs.Common.{◌≡◌, ◌∙◌, ◌+◌, ◌++◌, ℕ, Bool, List, [], Option, None, Some, Result, Ok, Err, refl, sym, ap, subst, inl, inr, append-nil, length, length-append}
+use Rattle.std.proofs.Common.{◌↔◌, ◌≡◌, ◌∙◌, ◌+◌, ◌++◌, ℕ, Bool, IsTrue, List, [], Option, None, Some, Result, Ok, Err, refl, sym, ap, subst, inl, inr, append-nil, length, length-append}
 use Rattle.bgp_prefix.specs.Shown.{ShownRecord}
+use Rattle.bgp_confederations.specs.Confederations.{SomeShowConfederations}
 use Rattle.bgp_open.specs.declared.config.Config.{Config}
 use Rattle.mrt.specs.declared.fault.CaptureFault.{CaptureFault}
 use Rattle.mrt.specs.declared.fault.FaultKind.TheVariants as kinds
@@ -93,9 +94,10 @@ module _ {S : Type 0} (gives : S → S → List ℕ → Type 0) (has_ended : S �
     -- or all is explained
     pub explained : {X Y : Type 0} (answer : Verdict X) (why : Option (Reason Y)) (totals : Totals) → IsVerdict config (records_of reads.pieces) answer
         → HasReason config (records_of reads.pieces) answer why → AreSummed (records_of reads.pieces) answer totals.tally totals.seen → totals.octets ≡ reader.place
-        → totals.skipped ≡ record { counts = reader.skipped; first_other = reader.other }
+        → totals.skipped ≡ record { counts = reader.skipped; first_other = reader.other } → (IsTrue totals.confederation ↔ SomeShowConfederations (records_of reads.pieces))
         → IsExplained gives has_ended config source new may_lack answer why totals
-    explained answer why totals is has sums place skips = record {
+    explained answer why totals is has sums place skips confederation = record {
+      confederation = confederation;
       skips = skips ∙ ap (λ (k : SkippedRecords). let s : Skipped = record { counts = k; first_other = reader.other } in s) reads.knows.2
           ∙ ap (λ (o : Option Endpoints). let s : Skipped = record { counts = skipped_in reads.pieces; first_other = o } in s) reads.knows.1;
       count = place ∙ reads.place;

@@ -1,10 +1,14 @@
 -- What is explained, told by its text.
-use Rattle.std.proofs.Common.{◌≡◌, ◌∙◌, ◌⊎◌, ◌+◌, ◌++◌, ◌==◌, ℕ, zero, suc, List, [], Bool, true, arith, refl, sym, ap, subst, inl, inr, map, take, length, append-nil, false, Option, None, Some, Result, Ok, Err}
+use Rattle.std.proofs.Common.{◌↔◌, ◌≡◌, ◌<◌, ◌∙◌, ◌⊎◌, ◌+◌, ◌++◌, ◌==◌, ℕ, zero, suc, List, [], Bool, true, IsTrue, arith, refl, sym, ap, subst, inl, inr, map, take, length, append-nil, false, Option, None, Some, Result, Ok, Err}
 use Rattle.std.specs.List.{AllByRecursion}
 use Rattle.bgp_prefix.specs.Shown.{ShownRecord}
 use Rattle.bgp_prefix.specs.declared.session.Session.{Session}
 use Rattle.bgp_open.specs.declared.config.Config.{Config}
+use Rattle.bgp_confederations.specs.Confederations.{SomeShowConfederations}
 use Rattle.mrt.specs.declared.fault.CaptureFault.{CaptureFault}
+use Rattle.mrt.specs.declared.fault.FaultKind.{FaultKind}
+use Rattle.mrt.specs.declared.fault.FaultKind.TheVariants as kinds
+use Rattle.bgp_tool.specs.CaptureDecoding.{status_by}
 use Rattle.mrt.specs.Capture.{ArePieces, Piece, Spells, joined, records_of}
 use Rattle.mrt.proofs.OneReading.{one_spelling}
 use Rattle.bgp_judge.proofs.CaptureSoFar.{spelled}
@@ -38,7 +42,7 @@ use Rattle.bgp_explain.specs.Capture.{ExplainsCapture, SaysExplained, SaysUnexpl
 use Rattle.bgp_explain.specs.Details.{next_in}
 use Rattle.bgp_explain.specs.Explaining.{Explains, ExplainsBy, IsExplained}
 use Rattle.bgp_explain.specs.Kept.{shown_by}
-use Rattle.bgp_explain.specs.Opened.{fault_told}
+use Rattle.bgp_explain.specs.Opened.{IsOfConfederation, confederation_in, fault_told}
 use Rattle.bgp_explain.specs.Reason.{AreSummed, HasReason, IsNext, IsReasonAt}
 use Rattle.bgp_explain.specs.Text.{CanBePutOf, IsExplainedText, IsImpossibleLine, IsMoreBy, IsMoreOf, IsReasonText, IsWhy, line_at, no_memory_line}
 use Rattle.bgp_explain.specs.declared.places.Place.{Place}
@@ -274,11 +278,12 @@ module _ {F R : Type 0} (view : F → R) (has_ended : R → Bool) (config : Conf
     place = is.place;
   })
 
-  viewed : {X Y : Type 0} (answer : Result (Verdict X) CaptureFault) (why : Option (Reason Y)) (totals : Totals)
+  pub viewed : {X Y : Type 0} (answer : Result (Verdict X) CaptureFault) (why : Option (Reason Y)) (totals : Totals)
       → ExplainsBy (λ from to some. some ≡ octets) (λ state. has_ended (view state)) config source source' may_lack answer why totals
       → ExplainsBy (λ from to some. some ≡ octets) has_ended config (view source) (view source') may_lack answer why totals
   viewed (Ok verdict) why totals is = record {
     count = is.count;
+    confederation = is.confederation;
     summed = is.summed;
     skips = is.skips;
     octets = is.octets;
@@ -291,8 +296,26 @@ module _ {F R : Type 0} (view : F → R) (has_ended : R → Bool) (config : Conf
   }
   viewed (Err fault) why totals is = (refusal_viewed fault is.0, is.1)
 
+-- the status of a verdict is one of three, and that of a fault none of them
+verdict_below : {X : Type 0} (verdict : Verdict X) → verdict_status verdict < 3
+verdict_below (Yes ends) = omega arith
+verdict_below (No count) = omega arith
+verdict_below Unfinished = omega arith
+
+fault_above : (kind : FaultKind) → status_by kind < 3 → ⊥
+fault_above kinds.Truncated less = omega (arith, less)
+fault_above kinds.TooLong less = omega (arith, less)
+fault_above kinds.Body less = omega (arith, less)
+fault_above kinds.BadState less = omega (arith, less)
+fault_above kinds.NotAMessage less = omega (arith, less)
+fault_above kinds.TimeBack less = omega (arith, less)
+fault_above kinds.RouteRefresh less = omega (arith, less)
+fault_above kinds.AddPath less = omega (arith, less)
+fault_above kinds.Device less = omega (arith, less)
+fault_above kinds.Memory less = omega (arith, less)
+
 -- what is lacking in records of which all is seen
-same_lacking : (code : ℕ) (seen : Seen) (records : List ShownRecord) → (code ≡ 0 → seen ≡ seen_in records)
+pub same_lacking : (code : ℕ) (seen : Seen) (records : List ShownRecord) → (code ≡ 0 → seen ≡ seen_in records)
     → lacking_by (code == 0) seen ≡ lacking_in code records
 same_lacking zero seen records shows = ap (λ (s : Seen). lacking_by true s) (shows refl)
 same_lacking (suc code) seen records shows =
@@ -302,13 +325,14 @@ same_lacking (suc code) seen records shows =
 module _ {R W : Type 0} (takes : W → W → List ℕ → Type 0) (failures : W → ℕ) (gives : R → R → List ℕ → Type 0)
     (has_ended : R → Bool) (counts : R → ℕ) (config : Config) (source source' : R)
     (may_lack : Config → List ShownRecord → ShownRecord → Type 0) (sink sink' : W) where
-  pub record ToldOf (reader : ReaderState) (status : ℕ) (first : List ℕ) (refused : Option CaptureFault) (seen : Seen) : Type 0 where
+  pub record ToldOf (reader : ReaderState) (status : ℕ) (first : List ℕ) (refused : Option CaptureFault) (seen : Seen) (confederation : Bool) : Type 0 where
     pub read : ReadBy gives config.parts.session source source' reader
         (λ given. ExplainsCapture given has_ended takes counts failures config source source' may_lack sink sink' status)
     pub ends : EndsBy read.pieces read.rest (fault_told read.holds.answer)
     pub front : first ≡ kept (joined read.pieces ++ read.rest)
     pub fault : refused ≡ fault_told read.holds.answer
     pub lacking : lacking_by (read.holds.code == 0) seen ≡ lacking_in read.holds.code (records_of read.pieces)
+    pub is_of_one : IsTrue confederation ↔ IsOfConfederation read.holds.code (records_of read.pieces)
 
 -- And it is told of just the octets of which a reader of captures knows all pieces.
 module _ {F R W : Type 0} (view : F → R) (takes : W → W → List ℕ → Type 0) (failures : W → ℕ) (gives : R → R → List ℕ → Type 0)
@@ -333,7 +357,7 @@ module _ {F R W : Type 0} (view : F → R) (takes : W → W → List ℕ → Typ
       told_in given explained.answer explained.reason detailed explained.totals said.more text is counted said.is_more said.whole
 
   -- what the records show is known where the verdict is yes
-  shows : {X : Type 0} (explained : Explained X) (pieces : List Piece) (rest : List ℕ)
+  pub shows : {X : Type 0} (explained : Explained X) (pieces : List Piece) (rest : List ℕ)
       → ExplainsBy (λ from to some. some ≡ joined pieces ++ rest) has_ended config (view source) (view source') may_lack explained.answer explained.reason explained.totals
       → ArePieces config.parts.session None pieces → EndsBy pieces rest (fault_in explained.answer) → answer_status explained.answer ≡ 0
       → explained.totals.seen ≡ seen_in (records_of pieces)
@@ -350,6 +374,26 @@ module _ {F R W : Type 0} (view : F → R) (takes : W → W → List ℕ → Typ
         go (Ok Unfinished) why totals is none naught = absurd (let e : 2 ≡ 0 = naught in omega (arith, e))
         go (Err fault) why totals is none naught = fault_is_no_yes fault (totals.seen ≡ seen_in (records_of pieces)) naught
 
+  -- whether they are of a confederation is known where there is a verdict
+  pub is_of_one : {X : Type 0} (explained : Explained X) (pieces : List Piece) (rest : List ℕ)
+      → ExplainsBy (λ from to some. some ≡ joined pieces ++ rest) has_ended config (view source) (view source') may_lack explained.answer explained.reason explained.totals
+      → ArePieces config.parts.session None pieces → EndsBy pieces rest (fault_in explained.answer)
+      → IsTrue (confederation_in explained.answer explained.totals) ↔ IsOfConfederation (answer_status explained.answer) (records_of pieces)
+  is_of_one explained pieces rest is each ends =
+      go explained.answer explained.reason explained.totals is ends where
+        go : {X Y : Type 0} (answer : Result (Verdict X) CaptureFault) (why : Option (Reason Y)) (totals : Totals)
+            → ExplainsBy (λ from to some. some ≡ joined pieces ++ rest) has_ended config (view source) (view source') may_lack answer why totals
+            → EndsBy pieces rest (fault_in answer) → IsTrue (confederation_in answer totals) ↔ IsOfConfederation (answer_status answer) (records_of pieces)
+        go (Ok verdict) why totals is none =
+            let octets : is.octets ≡ joined pieces = is.gave ∙ ap (λ (o : List ℕ). joined pieces ++ o) none ∙ append-nil (joined pieces) in
+            let same : is.records ≡ records_of pieces =
+            one_spelling config.parts.session (joined pieces) is.records (records_of pieces)
+            (subst (λ (o : List ℕ). Spells config.parts.session o is.records) octets is.spells) (spelled config pieces each) in (
+              λ flag. (verdict_below verdict, subst SomeShowConfederations same (is.confederation.0 flag)),
+              λ one. is.confederation.1 (subst SomeShowConfederations (sym same) one.1),
+            )
+        go (Err fault) why totals is none = (λ flag. absurd (let k : ⊥ = cc in k), λ one. absurd (fault_above fault.kind one.0))
+
   -- and the source keeps its front
   pub explains_read : {X : Type 0} (front_of : F → List ℕ) (reader : ReaderState) (explained : Explained X) (status : ℕ) (refused : Option CaptureFault)
       → front_of source ≡ []
@@ -359,7 +403,7 @@ module _ {F R W : Type 0} (view : F → R) (takes : W → W → List ℕ → Typ
       → (text : List ℕ) × (detailed : Bool) × IsExplainedText config explained detailed text × IsWritten takes failures text (answer_status explained.answer) sink sink' status
       → refused ≡ fault_in explained.answer
       → ToldOf takes failures gives has_ended counts config (view source) (view source') may_lack sink sink' reader status (front_of source') refused
-      explained.totals.seen
+      explained.totals.seen (confederation_in explained.answer explained.totals)
   explains_read front_of reader explained status refused nothing (by, ends) counted (text, detailed, said, wrote) is =
       let code = answer_status explained.answer in
       let octets = joined by.pieces ++ by.rest in
@@ -383,6 +427,7 @@ module _ {F R W : Type 0} (view : F → R) (takes : W → W → List ℕ → Typ
         front = by.gave.1 ∙ ap (λ (o : List ℕ). kept (o ++ octets)) nothing;
         fault = is ∙ told;
         lacking = same_lacking code explained.totals.seen (records_of by.pieces) (shows explained by.pieces by.rest seen by.each ends);
+        is_of_one = is_of_one explained by.pieces by.rest seen by.each ends;
       }
 
 -- what is explained of octets that were given is explained of what was given
@@ -419,6 +464,7 @@ module _ {S : Type 0} (has_ended : S → Bool) (config : Config) (source new : S
       → ExplainsBy gives has_ended config source new may_lack answer why totals
   explains_given (Ok verdict) why totals is = record {
     count = is.count;
+    confederation = is.confederation;
     summed = is.summed;
     skips = is.skips;
     octets = is.octets;

@@ -1,8 +1,9 @@
 -- What explaining a capture reads and answers: the verdict on the session's records with its
 -- reason, or why there is none.
-use Rattle.std.specs.Prelude.{◌≡◌, ℕ, Bool, List, length, IsTrue, Option, None}
+use Rattle.std.specs.Prelude.{◌↔◌, ◌≡◌, ℕ, Bool, List, length, IsTrue, Option, None}
 use Rattle.std.specs.Prelude.{Result, Ok, Err}
 use Rattle.bgp_prefix.specs.Shown.{ShownRecord}
+use Rattle.bgp_confederations.specs.Confederations.{SomeShowConfederations}
 use Rattle.bgp_open.specs.declared.config.Config.{Config}
 use Rattle.mrt.specs.Capture.{Piece, ArePieces, Spells, joined, records_of}
 use Rattle.mrt.specs.Reader.{ReaderState}
@@ -33,6 +34,7 @@ module _ {S : Type 0} (gives : S → S → List ℕ → Type 0) (has_ended : S �
     pub reason : HasReason config records answer why
     pub count : totals.octets ≡ length octets
     pub summed : AreSummed records answer totals.tally totals.seen
+    pub confederation : IsTrue totals.confederation ↔ SomeShowConfederations records
     pub skips : totals.skipped ≡ skipped_of spells.pieces
 
   abbrev pub ExplainsBy : {X Y : Type 0} → Result (Verdict X) CaptureFault → Option (Reason Y)
@@ -54,7 +56,7 @@ module _ {S : Type 0} (gives : S → S → List ℕ → Type 0) (has_ended : S �
     pub knows : Knows reader pieces
     pub holds : Holds (records_of pieces)
 
-  abbrev pub Follows : {X : Type 0} → (List ShownRecord → Type 0) → ReaderState
+  abbrev pub Follows : {X : Type 0} → (X → List ShownRecord → Type 0) → ReaderState
       → Result X CaptureFault → Type 0
-  Follows Holds reader (Ok done) = ReadsAll Holds reader
+  Follows Holds reader (Ok x) = ReadsAll (Holds x) reader
   Follows Holds reader (Err fault) = IsRefusal gives has_ended config old new may_lack fault

@@ -16,4 +16,5 @@ pub mod Details
 pub mod Text
 pub mod Capture
 pub mod Records
+pub mod Written
 pub mod Opened

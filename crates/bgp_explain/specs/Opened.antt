@@ -1,9 +1,11 @@
--- What explaining a capture that a reader gives leaves in a writer, as far as both tell their
--- octets, and what is told of its end on standard error.
-use Rattle.std.specs.Prelude.{◌≡◌, ◌⊎◌, ◌++◌, ℕ, Bool, List, Option, None, Some}
+-- What judging a capture that a reader gives leaves in a writer, with its reason or without, as far
+-- as both tell their octets, and what is told of its end on standard error.
+use Rattle.std.specs.Prelude.{◌↔◌, ◌≡◌, ◌<◌, ◌⊎◌, ◌++◌, ℕ, Bool, false, List}
+use Rattle.std.specs.Prelude.{Option, None, Some, IsTrue, Result, Ok, Err}
 use Rattle.std.proofs.Common.{inl, inr}
 use Rattle.std.specs.Borrow.{Bor}
 use Rattle.bgp_prefix.specs.Shown.{ShownRecord}
+use Rattle.bgp_confederations.specs.Confederations.{SomeShowConfederations}
 use Rattle.bgp_open.specs.declared.config.Config.{Config}
 use Rattle.mrt.specs.Capture.{joined, records_of}
 use Rattle.mrt.specs.FromRead.{ReaderState, fresh_reader, Gives}
@@ -14,10 +16,37 @@ use Rattle.mrt.specs.declared.fault.CaptureFault.{CaptureFault}
 use Rattle.bgp_judge.specs.Judging.{EndsBy}
 use Rattle.bgp_tool.specs.declared.note.CaptureCommand.TheVariants.{Judge}
 use Rattle.bgp_tool.specs.declared.opened.Outcome.{Outcome}
-use Rattle.bgp_tool.specs.Judging.{TellsFault}
+use Rattle.bgp_tool.specs.Judging.{JudgesCapture, TellsFault, fault_answered}
 use Rattle.bgp_tool.specs.OpenedCapture.{TellsCapture}
 use Rattle.bgp_tool.specs.Seen.{lacking_in}
+use Rattle.bgp_judge.specs.declared.verdict.Verdict.{Verdict}
+use Rattle.bgp_explain.specs.declared.explained.Totals.{Totals}
+use Rattle.bgp_explain.specs.declared.opened.JudgedCapture.{JudgedCapture}
+use Rattle.bgp_explain.specs.declared.report.Report.{Report}
+use Rattle.bgp_explain.specs.declared.report.Report.TheVariants.{VerdictAlone, WithReason}
 use Rattle.bgp_explain.specs.Capture.{ExplainsCapture, TellsExplained, TellsVerdict}
+
+-- From one state of a writer to another a reader's octets were judged, from a source that had given
+-- nothing, and it is told how that ended.
+pub record JudgesOpened {R W : Type 0} (remaining : R → Option (List ℕ))
+    (contents : W → Option (List ℕ)) (config : Config)
+    (may_lack : Config → List ShownRecord → ShownRecord → Type 0) (file : Bor (List ℕ)) (reader : R)
+    (old new : WriterState W) (outcome : Outcome) : Type 0 where
+  pub source : ReaderState R
+  pub found : records.ReaderState
+  -- what was found is that in all of the octets that were judged
+  pub judged : ReadBy (Gives remaining) config.parts.session (fresh_reader reader) source found
+      (λ gives. JudgesCapture gives (λ state. state.has_ended) (Takes contents)
+      (λ state. state.failures) (λ state. state.failures) config (fresh_reader reader) source
+      may_lack old new outcome.status)
+  pub ends : EndsBy judged.pieces judged.rest (fault_answered judged.holds.answer)
+  -- also where a yes says nothing of the local system
+  pub told : TellsCapture Judge file source (joined judged.pieces ++ judged.rest) found
+      (fault_answered judged.holds.answer) (lacking_in judged.holds.code (records_of judged.pieces))
+      old new outcome.status outcome.note
+  pub skipped : outcome.skipped ≡ Some found.skipped
+
+-- ---- with the reason
 
 -- the fault that is told before the end, if one is
 abbrev pub fault_told : {R : Type 0} {gives : R → R → List ℕ → Type 0} {has_ended : R → Bool}
@@ -51,3 +80,35 @@ pub record ExplainsOpened {R W : Type 0} (remaining : R → Option (List ℕ))
       (lacking_in explained.holds.code (records_of explained.pieces))
       old new outcome.status outcome.note
   pub skipped : outcome.skipped ≡ Some found.skipped
+
+-- ---- one of both
+
+-- There is a verdict, whose status is one of three, and an UPDATE of a confederation is shown by
+-- the records.
+abbrev pub IsOfConfederation : ℕ → List ShownRecord → Type 0
+IsOfConfederation code records = (code < 3) × SomeShowConfederations records
+
+-- by what was found, if there is a verdict
+abbrev pub confederation_in : {X : Type 0} → Result (Verdict X) CaptureFault → Totals → Bool
+confederation_in (Ok verdict) totals = totals.confederation
+confederation_in (Err fault) totals = false
+
+-- The reader's octets were judged, and explained if a reason is wanted; and it is told whether they
+-- are of a confederation.
+module _ {R W : Type 0} (remaining : R → Option (List ℕ)) (contents : W → Option (List ℕ))
+    (config : Config) (may_lack : Config → List ShownRecord → ShownRecord → Type 0)
+    (file : Bor (List ℕ)) (reader : R) (old new : WriterState W) (judged : JudgedCapture) where
+  pub record ReportsVerdict : Type 0 where
+    pub opened : JudgesOpened remaining contents config may_lack file reader old new judged.outcome
+    pub confederation : IsTrue judged.confederation
+        ↔ IsOfConfederation opened.judged.holds.code (records_of opened.judged.pieces)
+
+  pub record ReportsReason : Type 0 where
+    pub opened : ExplainsOpened remaining contents config may_lack file reader old new
+        judged.outcome
+    pub confederation : IsTrue judged.confederation
+        ↔ IsOfConfederation opened.explained.holds.code (records_of opened.explained.pieces)
+
+  abbrev pub ReportsOpened : Report → Type 0
+  ReportsOpened VerdictAlone = ReportsVerdict
+  ReportsOpened WithReason = ReportsReason

@@ -1,9 +1,11 @@
 //! The verdict on one session of a capture (RFC 6396) with its reason, read in one pass.
 
-ghost use Rattle.std.specs.Prelude.{◌≡◌, ◌<◌, ◌+◌, []};
+ghost use Rattle.std.specs.Prelude.{◌↔◌, ◌≡◌, ◌<◌, ◌+◌, ◌++◌, ◌∷◌, [], List, IsTrue};
+ghost use Rattle.bgp_prefix.specs.Shown.{ShownRecord};
+ghost use Rattle.bgp_confederations.specs.Confederations.{SomeShowConfederations};
 ghost use Rattle.mrt.specs.declared.fault.FaultKind.TheVariants.{Memory};
 ghost use Rattle.mrt.specs.Progress.{failures_of};
-ghost use Rattle.mrt.specs.Reader.{fresh_reader};
+ghost use Rattle.mrt.specs.Reader.{fresh_reader, shown_of};
 ghost use Rattle.bgp_judge.specs.Judging.{Judges, ReadsWith, fault_in};
 ghost use Rattle.bgp_explain.specs.Explaining.{Explains, Follows};
 ghost use Rattle.bgp_explain.specs.Progress.{IsAt};
@@ -12,10 +14,11 @@ use crate::explained::{Explained, Totals};
 use crate::skipped::Skipped;
 use crate::so_far::Progress;
 use crate::tally::Tally;
+use bgp_confederations::shows_confederation;
 use bgp_judge::Tracker;
 use bgp_open::Config;
 use bgp_tool::Seen;
-use mrt::{CaptureFault, FaultKind, Reader, Source};
+use mrt::{CaptureFault, FaultKind, Reader, Record, Source};
 use std::alloc::Allocator;
 
 /// No memory at this octet.
@@ -40,13 +43,23 @@ pub(crate) fn refused<A: Allocator>(fault: CaptureFault) -> Explained<A>
             octets: 0,
             tally: Tally::nothing(),
             seen: Seen::nothing(),
+            confederation: false,
             skipped: Skipped::nothing(),
         },
     }
 }
 
+/// Checks whether an UPDATE of a confederation is shown by records, with one record more.
+fn with_confederation(so_far: bool, shown: &Record<'_>) -> bool
+    ensures { (records : List ShownRecord) → (IsTrue so_far ↔ SomeShowConfederations records)
+        → (IsTrue result ↔ SomeShowConfederations (records ++ shown_of shown.now ∷ [])) }
+{
+    so_far || shows_confederation(shown)
+}
+
 /// Reads the records of the session, to the end of the capture or to its first fault, and lets the
-/// tracker take them, to the first impossible one. What is told of them is kept.
+/// tracker take them, to the first impossible one. What they tell is kept. Returns whether they
+/// show an UPDATE of a confederation.
 fn follow<A: Allocator + Copy, T: Tracker<A>, S: Source>(
     progress: &mut Progress<A>,
     alloc: A,
@@ -54,7 +67,7 @@ fn follow<A: Allocator + Copy, T: Tracker<A>, S: Source>(
     reader: &mut Reader<A>,
     config: &Config,
     source: &mut S,
-) -> Result<(), CaptureFault>
+) -> Result<bool, CaptureFault>
     requires at { IsAt (T.stands_for tracker.old) config.now [] progress.old }
     requires count { progress.old.count ≡ 0 }
     requires fresh { reader.old ≡ fresh_reader }
@@ -63,14 +76,19 @@ fn follow<A: Allocator + Copy, T: Tracker<A>, S: Source>(
         (fault_in result)
         (λ gives. Follows gives S.has_ended config.now source.old source.new
         T.may_lack
-        (λ records. IsAt (T.stands_for tracker.new) config.now records progress.new)
+        (λ shows records. IsAt (T.stands_for tracker.new) config.now records progress.new
+        × (IsTrue shows ↔ SomeShowConfederations records))
         reader.new result) }
     ensures failures { S.failures source.new ≡ S.failures source.old + failures_of result }
 {
+    let mut confederation = false;
     loop {
         let advanced = match reader.next_record(source, &config.parts.session) {
-            Ok(Some(shown)) => progress.advance(alloc, tracker, config, &shown),
-            Ok(None) => return Ok(()),
+            Ok(Some(shown)) => {
+                confederation = with_confederation(confederation, &shown);
+                progress.advance(alloc, tracker, config, &shown)
+            }
+            Ok(None) => return Ok(confederation),
             Err(fault) => return Err(fault),
         };
         match advanced {
@@ -111,14 +129,16 @@ pub fn explain_with<A: Allocator + Copy, T: Tracker<A>, S: Source>(
         return refused(out_of_memory(0));
     };
     let mut progress = Progress::new(alloc);
-    match follow(&mut progress, alloc, &mut tracker, reader, config, source) {
-        Ok(()) => {}
+    let followed = follow(&mut progress, alloc, &mut tracker, reader, config, source);
+    let confederation = match followed {
+        Ok(confederation) => confederation,
         Err(fault) => return refused(fault),
-    }
+    };
     let totals = Totals {
         octets: reader.place(),
         tally: progress.tally,
         seen: progress.seen,
+        confederation,
         skipped: Skipped::by(reader),
     };
     match progress.conclude(alloc, &tracker, config) {

@@ -49,6 +49,8 @@ pub struct Totals {
     pub tally: Tally,
     /// What these show of what the local system did.
     pub seen: Seen,
+    /// Whether these show an UPDATE of a confederation, also after the first impossible one.
+    pub confederation: bool,
     /// What it holds beside the records of the session.
     pub skipped: Skipped,
 }

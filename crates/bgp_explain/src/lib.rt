@@ -21,6 +21,7 @@ mod opened;
 mod places;
 mod progress;
 mod records;
+mod report;
 mod sending;
 mod skipped;
 mod so_far;
@@ -36,9 +37,10 @@ pub use laws::{
     a_no_at_a_message_tells_what_is_owed, a_no_names_what_lacks,
     each_verdict_is_explained_in_one_way, the_last_message_is_told, what_could_have_stood_is_told,
 };
-pub use opened::explain_opened;
+pub use opened::{JudgedCapture, judge_opened};
 pub use places::{Place, Places};
 pub use records::{ExplainedRecords, explain_records, put_explained_records};
+pub use report::Report;
 pub use skipped::Skipped;
 pub use tally::Tally;
 pub use texts::{put_explained, put_reason};

@@ -1,60 +1,84 @@
-//! A capture over any reader and any writer, explained: what stands between a file and the verdict.
+//! A capture over any reader and any writer, judged: what stands between a file and the verdict.
 
-ghost use Rattle.std.specs.Prelude.{◌≡◌, ◌≤◌, ◌<◌, ◌^◌, IfOk, IfErr};
+ghost use Rattle.std.specs.Prelude.{◌≡◌, ◌≤◌, ◌<◌, ◌^◌, false, IfOk, IfErr};
 ghost use Rattle.std.specs.IoError.{error_kind};
 ghost use Rattle.mrt.specs.FromWrite.{writer_state};
 ghost use Rattle.bgp_judge.specs.Judging.{fault_in};
 ghost use Rattle.bgp_tool.specs.Opened.{IsUnopened};
-ghost use Rattle.bgp_explain.specs.Opened.{ExplainsOpened};
+ghost use Rattle.bgp_explain.specs.Opened.{ReportsOpened, confederation_in};
+ghost use Rattle.bgp_explain.specs.Text.{CanBePutOf};
+ghost use Rattle.bgp_explain.specs.Written.{WritesReport};
 
 use crate::capture::explain_with;
+use crate::explained::Explained;
 use crate::headline::write_explained;
+use crate::report::Report;
 use bgp_judge::Tracker;
 use bgp_open::Config;
-use bgp_tool::{CaptureCommand, Outcome, WithFront, note_of, unopened, unwritten};
+use bgp_tool::{CaptureCommand, Outcome, WithFront, note_of, unopened, unwritten, write_answer};
 use mrt::{CaptureFault, FromRead, FromWrite, Reader, Sink};
 use std::alloc::Allocator;
 use std::io;
 use std::io::{Read, Write};
 
-/// Explains a capture that a reader gives, if it could be opened, as
-/// [`explain_capture`](crate::explain_capture) does, and says what went wrong, if anything did, as
-/// [`judge_opened`](bgp_tool::judge_opened) does (`specs/Opened.antt`).
+/// How judging a capture ended.
+#[derive(Clone, Copy, Debug, PartialEq, Eq)]
+pub struct JudgedCapture<'a> {
+    /// The exit status, what was skipped, and what went wrong, if anything did.
+    pub outcome: Outcome<'a>,
+    /// Whether there is a verdict, and an UPDATE of a confederation (RFC 5065) among the records,
+    /// which isn't judged.
+    pub confederation: bool,
+}
+
+/// Judges a capture that a reader gives, if it could be opened: writes the verdict, as
+/// [`judge_capture`](bgp_tool::judge_capture) does, or the verdict with its reason, as
+/// [`explain_capture`](crate::explain_capture) does. Says what went wrong, if anything did: why the
+/// capture is refused; that no record was the session's, or what the file is, where it is no
+/// capture; that a capture which is judged yes shows nothing that the local system did
+/// (`specs/Opened.antt`). A closed pipe is status 5 and not told; where the reader failed, too, the
+/// writer's failure is told.
 ///
 /// The reader is asked for few octets at a time: put a buffer before a file.
-pub fn explain_opened<'a, A: Allocator + Copy, T: Tracker<A>, R: Read + Drop, W: Write>(
+pub fn judge_opened<'a, A: Allocator + Copy, T: Tracker<A>, R: Read + Drop, W: Write>(
     alloc: A,
     config: &Config,
+    report: Report,
     file: &'a str,
     opened: io::Result<R>,
     sink: &mut FromWrite<W>,
-) -> Outcome<'a>
+) -> JudgedCapture<'a>
     requires { (writer_state sink.old).failures < 2 ^ 63 }
-    ensures explained { IfOk opened (λ reader. ExplainsOpened R.remaining W.contents config.now
+    ensures reported { IfOk opened (λ reader. ReportsOpened R.remaining W.contents config.now
         T.may_lack file.entry reader (writer_state sink.old) (writer_state sink.new)
-        result) }
-    ensures unopened { IfErr opened (λ error. IsUnopened file.entry (error_kind error) result
+        result report) }
+    ensures unopened { IfErr opened (λ error. IsUnopened file.entry (error_kind error)
+        result.outcome × (result.confederation ≡ false)
         × (writer_state sink.new ≡ writer_state sink.old)) }
-    ensures statuses { result.status ≤ 5 }
+    ensures statuses { result.outcome.status ≤ 5 }
 {
     match opened {
-        Ok(reader) => explain_reader::<A, T, R, W>(alloc, config, file, reader, sink),
-        Err(error) => unopened(file, error.kind()),
+        Ok(reader) => judge_reader::<A, T, R, W>(alloc, config, report, file, reader, sink),
+        Err(error) => JudgedCapture {
+            outcome: unopened(file, error.kind()),
+            confederation: false,
+        },
     }
 }
 
-/// Explains what a reader gives.
-fn explain_reader<'a, A: Allocator + Copy, T: Tracker<A>, R: Read + Drop, W: Write>(
+/// Judges what a reader gives.
+fn judge_reader<'a, A: Allocator + Copy, T: Tracker<A>, R: Read + Drop, W: Write>(
     alloc: A,
     config: &Config,
+    report: Report,
     file: &'a str,
     reader: R,
     sink: &mut FromWrite<W>,
-) -> Outcome<'a>
+) -> JudgedCapture<'a>
     requires { (writer_state sink.old).failures < 2 ^ 63 }
-    ensures explained { ExplainsOpened R.remaining W.contents config.now T.may_lack
-        file.entry reader (writer_state sink.old) (writer_state sink.new) result }
-    ensures statuses { result.status ≤ 5 }
+    ensures reported { ReportsOpened R.remaining W.contents config.now T.may_lack file.entry reader
+        (writer_state sink.old) (writer_state sink.new) result report }
+    ensures statuses { result.outcome.status ≤ 5 }
 {
     let mut source = WithFront::new(FromRead::new(reader));
     let mut records = Reader::new(alloc);
@@ -66,7 +90,8 @@ fn explain_reader<'a, A: Allocator + Copy, T: Tracker<A>, R: Read + Drop, W: Wri
         &mut source,
     );
     let refused = refused_by(&explained.answer);
-    let status = write_explained(sink, alloc, config, &explained);
+    let confederation = is_of_confederation(&explained);
+    let status = write_report(sink, alloc, config, report, &explained);
     let skipped = records.skipped();
     let note = if sink.failures() > failures {
         unwritten(sink)
@@ -75,11 +100,41 @@ fn explain_reader<'a, A: Allocator + Copy, T: Tracker<A>, R: Read + Drop, W: Wri
         let lacking = explained.totals.seen.lacking(status);
         note_of(command, status, file, &source, &records, refused, lacking)
     };
-    Outcome {
-        status,
-        skipped: Some(skipped),
-        note,
+    JudgedCapture {
+        outcome: Outcome {
+            status,
+            skipped: Some(skipped),
+            note,
+        },
+        confederation,
     }
+}
+
+/// Writes the text of the verdict, and that of its reason if it is wanted.
+fn write_report<W: Sink, A: Allocator + Copy>(
+    sink: &mut W,
+    alloc: A,
+    config: &Config,
+    report: Report,
+    explained: &Explained<A>,
+) -> u8
+    requires failures { W.failures sink.old < 2 ^ 63 }
+    requires can { CanBePutOf config.now.parts.session explained.now.reason }
+    ensures writes { WritesReport W.takes W.failures config.now explained.now sink.old sink.new
+        result report }
+    ensures statuses { result ≤ 5 }
+{
+    match report {
+        Report::VerdictAlone => write_answer(sink, &explained.answer),
+        Report::WithReason => write_explained(sink, alloc, config, explained),
+    }
+}
+
+/// Whether there is a verdict, and the records show an UPDATE of a confederation.
+fn is_of_confederation<A: Allocator>(explained: &Explained<A>) -> bool
+    ensures { result ≡ confederation_in explained.now.answer explained.now.totals }
+{
+    explained.answer.is_ok() && explained.totals.confederation
 }
 
 /// Why a capture is refused, if it is.

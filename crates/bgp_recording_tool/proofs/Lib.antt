@@ -7,6 +7,8 @@ pub mod Puttings
 mod SomeRemarks
 pub mod Statuses
 pub mod Texts
+pub mod Tellings
 mod ToldAlike
+mod SameVerdict
 mod YesShown
 mod EntryLines

@@ -1,8 +1,9 @@
 -- Outcomes with the same status, the same counts of what was skipped and the same note.
-use Rattle.std.proofs.Common.{◌≡◌, ◌∙◌, ℕ, Option, sym, ap}
+use Rattle.std.proofs.Common.{◌≡◌, ◌∙◌, ℕ, Bool, Option, sym, ap}
 use Rattle.mrt.specs.declared.skipped.SkippedRecords.{SkippedRecords}
 use Rattle.bgp_tool.specs.declared.note.Note.{Note}
 use Rattle.bgp_tool.specs.declared.opened.Outcome.{Outcome}
+use Rattle.bgp_explain.specs.declared.opened.JudgedCapture.{JudgedCapture}
 
 -- an outcome by its parts
 abbrev pub outcome_of : ℕ → Option SkippedRecords → Option Note → Outcome
@@ -14,3 +15,14 @@ same_outcome outcome status skipped note same_status same_skipped same_note =
     ap (λ (n : Option Note). outcome_of outcome.status outcome.skipped n) (sym same_note)
     ∙ ap (λ (s : Option SkippedRecords). outcome_of outcome.status s note) (sym same_skipped)
     ∙ ap (λ (s : ℕ). outcome_of s skipped note) (sym same_status)
+
+-- and so are those of a capture that is judged, which find a confederation or none
+abbrev judged_of : Outcome → Bool → JudgedCapture
+judged_of outcome confederation = record { outcome = outcome; confederation = confederation }
+
+pub same_judged : (judged : JudgedCapture) (status : ℕ) (skipped : Option SkippedRecords) (note : Option Note) (confederation : Bool) → status ≡ judged.outcome.status
+    → skipped ≡ judged.outcome.skipped → note ≡ judged.outcome.note → confederation ≡ judged.confederation
+    → judged ≡ judged_of (outcome_of status skipped note) confederation
+same_judged judged status skipped note confederation same_status same_skipped same_note same =
+    ap (λ (o : Outcome). judged_of o judged.confederation) (same_outcome judged.outcome status skipped note same_status same_skipped same_note)
+    ∙ ap (λ (b : Bool). judged_of (outcome_of status skipped note) b) (sym same)

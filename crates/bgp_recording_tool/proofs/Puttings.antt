@@ -1,5 +1,5 @@
 -- What is put of connections one after another, and of a recording.
-use Rattle.std.proofs.Common.{◌≡◌, ◌∙◌, ◌++◌, ◌+◌, ℕ, suc, List, [], Option, None, Some, Bool, length, refl, sym, ap, subst, inl, inr, append-nil, append_assoc, ◌∷◌, codes, arith}
+use Rattle.std.proofs.Common.{◌≡◌, ◌∙◌, ◌++◌, ◌+◌, ℕ, suc, List, [], ◌∷◌, Option, None, Some, length, Bool, refl, sym, ap, subst, inl, inr, append-nil, append_assoc, codes, arith}
 use Rattle.packets.specs.Packet.{Recorded}
 use Rattle.streams.specs.Passed.{Segment}
 use Rattle.streams.specs.declared.connection.Opening.{Opening}
@@ -9,19 +9,20 @@ use Rattle.bgp_text.specs.Lines.{Writes}
 use Rattle.bgp_text.specs.declared.lines.Lines.{Lines}
 use Rattle.bgp_text.proofs.Pieces.{Joins, and_then, nothing_yet}
 use Rattle.bgp_import.specs.Gathers.{HasReadAll, IsStopped, cut_short_by, failures_by}
+use Rattle.bgp_import.specs.declared.cut_short.CutShort.{CutShort}
 use Rattle.bgp_import.specs.ListText.{opening_text}
 use Rattle.bgp_import.specs.Refusals.{refusal_line}
-use Rattle.bgp_import.specs.declared.cut_short.CutShort.{CutShort}
 use Rattle.bgp_import.specs.declared.importing.Import.{Import}
 use Rattle.bgp_import.specs.declared.refusal.Refusal.{Refusal}
 use Rattle.bgp_recording_tool.specs.declared.remark.Remark.{Remark}
-use Rattle.bgp_recording_tool.specs.Connections.{IsTold, IsOpening, AreTold, HasSeveral, AllAreTold}
-use Rattle.bgp_recording_tool.specs.Judging.{Puts, TellsRecording}
 use Rattle.bgp_recording_tool.specs.Remarks.{AddsTold, IsHelp}
-use Rattle.bgp_recording_tool.specs.Told.{Told, told_text, told_status, refused_status, status_over}
+use Rattle.bgp_recording_tool.specs.Told.{refused_status, status_over, told_status}
 use Rattle.bgp_recording_tool.proofs.Statuses.{over_more}
+use Rattle.bgp_recording_tool.specs.Connections.{AllAreTold, AreTold, IsOpening, IsToldAs}
+use Rattle.bgp_explain.specs.declared.report.Report.{Report}
+use Rattle.bgp_recording_tool.specs.Judging.{Puts, TellsRecording}
 
-module _ {T : Type 0} {sink : sinks.Ghosts T} (law : Joins sink) (a b c : Lines T sink) (r s t : List Remark) where
+module _ {T : Type 0} {sink : sinks.Ghosts T} (a b : Lines T sink) (r s : List Remark) where
   -- what was put tells another thing, too
   pub put_as : {P Q : List ℕ → ℕ → List Remark → Type 0} (status : ℕ)
       → ((text : List ℕ) (own : List Remark) → P text status own → Q text status own) → Puts a b r s status P → Puts a b r s status Q
@@ -33,73 +34,64 @@ module _ {T : Type 0} {sink : sinks.Ghosts T} (law : Joins sink) (a b c : Lines 
     holds = so puts.text puts.own puts.holds;
   }
 
-  module _ (config : Config) (wanted : Import) (packets : List Recorded) (segments : List Segment) where
-    -- one connection more
-    pub one_more : (n before status : ℕ) (opening : Opening) (told : Told) → Puts a b r s before (AreTold config wanted packets segments n)
-        → IsOpening config wanted packets segments (suc n) opening
-        → AddsTold s t (IsTold config wanted packets segments (Some (suc n)) (Some (suc n)) told)
-        → Writes b c (opening_text config.parts.session opening ++ (codes "\n" ++ told_text told))
-        → status ≡ status_over (before ∷ told_status told ∷ [])
-        → Puts a c r t status (AreTold config wanted packets segments (suc n))
-    one_more n before status opening told so_far opens adds wrote is = record {
-      text = so_far.text ++ (opening_text config.parts.session opening ++ (codes "\n" ++ told_text told));
-      own = so_far.own ++ adds.own;
-      wrote = and_then law so_far.wrote wrote;
-      added = adds.added ∙ ap (λ (x : List Remark). x ++ adds.own) so_far.added ∙ append_assoc r so_far.own adds.own;
-      holds = record {
-        statuses = told_status told ∷ so_far.holds.statuses;
-        each = record {
-          earlier = so_far.text;
-          before_it = so_far.holds.statuses;
-          others = so_far.own;
-          before = so_far.holds.each;
-          opening = opening;
-          opens = opens;
-          told = told;
-          own = adds.own;
-          is_told = adds.is_told;
-          prints = refl;
-          tells = refl;
-          remarked = refl;
+module _ {T : Type 0} {sink : sinks.Ghosts T} (law : Joins sink) (a b c d : Lines T sink) (r s t : List Remark)
+    (config : Config) (report : Report) (wanted : Import) (packets : List Recorded) (segments : List Segment) where
+  -- one connection more
+  one_more : (n before code status : ℕ) (opening : Opening) → Puts a b r s before (AreTold config report wanted packets segments n)
+      → IsOpening config wanted packets segments (suc n) opening
+      → Writes b c (opening_text config.parts.session opening ++ codes "\n")
+      → Puts c d s t code (IsToldAs config report wanted packets segments (Some (suc n)) (Some (suc n)))
+      → status ≡ status_over (before ∷ code ∷ [])
+      → Puts a d r t status (AreTold config report wanted packets segments (suc n))
+  one_more n before code status opening so_far opens wrote told is =
+      let line = opening_text config.parts.session opening in record {
+        text = so_far.text ++ ((line ++ codes "\n") ++ told.text);
+        own = so_far.own ++ told.own;
+        wrote = and_then law so_far.wrote (and_then law wrote told.wrote);
+        added = told.added ∙ ap (λ (x : List Remark). x ++ told.own) so_far.added ∙ append_assoc r so_far.own told.own;
+        holds = record {
+          statuses = told_status told.holds.told ∷ so_far.holds.statuses;
+          each = record {
+            earlier = so_far.text;
+            before_it = so_far.holds.statuses;
+            others = so_far.own;
+            before = so_far.holds.each;
+            opening = opening;
+            opens = opens;
+            told = told.holds.told;
+            own = told.own;
+            is_told = told.holds.is_told;
+            prints = ap (λ (x : List ℕ). so_far.text ++ x) (append_assoc line (codes "\n") told.text ∙ ap (λ (x : List ℕ). line ++ (codes "\n" ++ x)) told.holds.prints);
+            tells = refl;
+            remarked = refl;
+          };
+          tells = is ∙ ap (λ (k : ℕ). status_over (k ∷ code ∷ [])) so_far.holds.tells
+              ∙ ap (λ (k : ℕ). status_over (status_over so_far.holds.statuses ∷ k ∷ [])) told.holds.tells
+              ∙ sym (over_more (told_status told.holds.told) so_far.holds.statuses);
         };
-        tells = is ∙ ap (λ (n : ℕ). status_over (n ∷ told_status told ∷ [])) so_far.holds.tells ∙ sym (over_more (told_status told) so_far.holds.statuses);
-      };
-    }
+      }
 
-    pub one_more_at : (n number before status : ℕ) (opening : Opening) (told : Told) → number ≡ suc n
-        → Puts a b r s before (AreTold config wanted packets segments n)
-        → IsOpening config wanted packets segments number opening
-        → AddsTold s t (IsTold config wanted packets segments (Some number) (Some number) told)
-        → Writes b c (opening_text config.parts.session opening ++ (codes "\n" ++ told_text told))
-        → status ≡ status_over (before ∷ told_status told ∷ [])
-        → Puts a c r t status (AreTold config wanted packets segments number)
-    one_more_at n number before status opening told next so_far opens adds wrote is =
-        (subst
-        (λ (k : ℕ). IsOpening config wanted packets segments k opening
-        → AddsTold s t (IsTold config wanted packets segments (Some k) (Some k) told)
-        → Puts a c r t status (AreTold config wanted packets segments k))
-        (sym next)
-        (λ o adds'. one_more n before status opening told so_far o adds' wrote is))
-        opens adds
-
-    -- the one that is meant
-    pub one_meant : (status : ℕ) (told : Told) → ¬ HasSeveral config wanted packets segments
-        → AddsTold r s (IsTold config wanted packets segments wanted.connection None told) → Writes a b (told_text told)
-        → status ≡ told_status told
-        → Puts a b r s status (AllAreTold config wanted packets segments)
-    one_meant status told alone adds wrote is = record {
-      text = told_text told;
-      own = adds.own;
-      wrote = wrote;
-      added = adds.added;
-      holds = inr (alone, record { told = told; is_told = adds.is_told; prints = refl; tells = is });
-    }
+  pub one_more_at : (n number before code status : ℕ) (opening : Opening) → number ≡ suc n
+      → Puts a b r s before (AreTold config report wanted packets segments n)
+      → IsOpening config wanted packets segments number opening
+      → Writes b c (opening_text config.parts.session opening ++ codes "\n")
+      → Puts c d s t code (IsToldAs config report wanted packets segments (Some number) (Some number))
+      → status ≡ status_over (before ∷ code ∷ [])
+      → Puts a d r t status (AreTold config report wanted packets segments number)
+  one_more_at n number before code status opening next so_far opens wrote told is =
+      (subst
+      (λ (k : ℕ). IsOpening config wanted packets segments k opening
+      → Puts c d s t code (IsToldAs config report wanted packets segments (Some k) (Some k))
+      → Puts a d r t status (AreTold config report wanted packets segments k))
+      (sym next)
+      (λ o told'. one_more n before code status opening so_far o wrote told' is))
+      opens told
 
 -- before the first connection nothing is put
 pub none_put : {T : Type 0} (sink : sinks.Ghosts T) → ((x : T) → sink.takes x x []) → (a : Lines T sink) (r : List Remark)
-    (config : Config) (wanted : Import) (packets : List Recorded) (segments : List Segment)
-    → Puts a a r r 0 (AreTold config wanted packets segments 0)
-none_put sink nothing a r config wanted packets segments = record {
+    (config : Config) (report : Report) (wanted : Import) (packets : List Recorded) (segments : List Segment)
+    → Puts a a r r 0 (AreTold config report wanted packets segments 0)
+none_put sink nothing a r config report wanted packets segments = record {
   text = [];
   own = [];
   wrote = nothing_yet sink nothing a.outlet a.held.items;
@@ -113,13 +105,13 @@ same_count : (old new : ℕ) → new ≡ old + 0 → new ≡ old
 same_count old new is = omega (arith, is)
 
 module _ {S T : Type 0} {sink : sinks.Ghosts T} (gives : S → S → List ℕ → Type 0) (has_ended : S → Bool) (failures : S → ℕ)
-    (config : Config) (wanted : Import) (old new : S) (a b : Lines T sink) (r s : List Remark) (status : ℕ) (cut_short : Option CutShort) where
+    (config : Config) (report : Report) (wanted : Import) (old new : S) (a b : Lines T sink) (r s : List Remark) (status : ℕ) (cut_short : Option CutShort) where
   -- it was read to its end
   pub was_read : (octets : List ℕ) (packets : List Recorded) (segments : List Segment) (cut : Bool)
       → HasReadAll gives has_ended wanted.selection old new octets packets segments cut → cut_short ≡ cut_short_by cut (length packets)
       → failures new ≡ failures old + 0
-      → Puts a b r s status (AllAreTold config wanted packets segments)
-      → Puts a b r s status (TellsRecording gives has_ended failures config wanted old new cut_short)
+      → Puts a b r s status (AllAreTold config report wanted packets segments)
+      → Puts a b r s status (TellsRecording gives has_ended failures config report wanted old new cut_short)
   was_read octets packets segments cut all is_cut counted puts = record {
     text = puts.text;
     own = puts.own;
@@ -140,7 +132,7 @@ module _ {S T : Type 0} {sink : sinks.Ghosts T} (gives : S → S → List ℕ �
   -- it is refused
   pub was_refused : (refusal : Refusal) → IsStopped gives has_ended wanted.selection old new refusal
       → failures new ≡ failures old + failures_by refusal → Writes a b (refusal_line refusal) → status ≡ refused_status refusal → AddsTold r s (IsHelp None refusal) → cut_short ≡ None
-      → Puts a b r s status (TellsRecording gives has_ended failures config wanted old new cut_short)
+      → Puts a b r s status (TellsRecording gives has_ended failures config report wanted old new cut_short)
   was_refused refusal stopped counted wrote is adds uncut = record {
     text = refusal_line refusal;
     own = adds.own;

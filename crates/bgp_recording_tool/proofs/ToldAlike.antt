@@ -98,13 +98,13 @@ not_unchosen number count segments connection refusal answered not = not_both nu
 -- ---- what is told
 
 pub tells_as : ImportAndJudgeAgree → JudgeTellsTheCapture
-tells_as agree config imports judges number packets segments connection entries notes octets named (Judged verdict) remarks can session mean taken also answered made capture told =
+tells_as agree config report imports judges number packets segments connection entries notes octets named (Judged verdict more) remarks can session mean taken also answered made capture told =
     let theirs : IsMadeOfPackets imports number packets entries notes = record { segments = segments; connection = connection; taken = taken; answered = answered; made = made } in
-    let own : IsMadeOfPackets judges number packets told.entries told.notes =
-    record { segments = segments; connection = told.connection; taken = also; answered = told.chosen; made = told.made } in
-    let agrees = (agree config imports judges number packets entries told.entries notes told.notes octets can session mean theirs capture own).2 in
-    (records_of told.entries, agrees.reads (λ refuses. told.without (subst (λ (s : Session). s.refresh ≡ refreshes.Refused) (sym session) refuses)), told.is)
-tells_as agree config imports judges number packets segments connection entries notes octets named (Refused refusal) remarks can session mean taken also answered made capture told =
+    let own : IsMadeOfPackets judges number packets told.judged.entries told.judged.notes =
+    record { segments = segments; connection = told.judged.connection; taken = also; answered = told.judged.chosen; made = told.judged.made } in
+    let agrees = (agree config imports judges number packets entries told.judged.entries notes told.judged.notes octets can session mean theirs capture own).2 in
+    (records_of told.judged.entries, agrees.reads (λ refuses. told.judged.without (subst (λ (s : Session). s.refresh ≡ refreshes.Refused) (sym session) refuses)), told.judged.is)
+tells_as agree config report imports judges number packets segments connection entries notes octets named (Refused refusal) remarks can session mean taken also answered made capture told =
     elim told.why [
       | inl (inl not) ↦ absurd (not_unchosen number (length packets) (reverse segments) connection refusal answered not)
       | inl (inr memory) ↦ inr (ap refusal_number memory)

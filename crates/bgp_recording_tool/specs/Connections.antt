@@ -1,6 +1,6 @@
 -- What judging tells of the connections of a session, in a recording that was read to its end.
-use Rattle.std.specs.Prelude.{◌≡◌, ◌<◌, ◌⊎◌, ◌++◌, ℕ, zero, suc, List, [], Option, None, Some}
-use Rattle.std.specs.Prelude.{length, reverse, codes, ◌∷◌}
+use Rattle.std.specs.Prelude.{◌↔◌, ◌≡◌, ◌<◌, ◌⊎◌, ◌++◌, ℕ, zero, suc, Bool, List, [], ◌∷◌}
+use Rattle.std.specs.Prelude.{IsTrue, Option, None, Some, length, reverse, codes}
 use Rattle.std.specs.List.{AllByRecursion}
 use Rattle.packets.specs.Packet.{Recorded}
 use Rattle.streams.specs.Choice.{IsAnswered, OpensAs, numbered_one}
@@ -9,6 +9,7 @@ use Rattle.streams.specs.Passed.{Segment}
 use Rattle.streams.specs.declared.connection.Connection.{Connection}
 use Rattle.streams.specs.declared.connection.Opening.{Opening}
 use Rattle.bgp_prefix.specs.declared.session.RouteRefresh.TheVariants as refreshes
+use Rattle.bgp_confederations.specs.Confederations.{SomeShowConfederations}
 use Rattle.bgp_open.specs.declared.config.Config.{Config}
 use Rattle.bgp_judge.specs.Verdict.{VerdictValue, HasVerdict}
 use Rattle.bgp_recording.specs.Captured.{IsNoRefresh, records_of}
@@ -20,6 +21,10 @@ use Rattle.bgp_import.specs.Refreshes.{IsRefreshIn}
 use Rattle.bgp_import.specs.declared.importing.Import.{Import}
 use Rattle.bgp_import.specs.declared.note.Notes.{Notes}
 use Rattle.bgp_import.specs.declared.refusal.Refusal.{Refusal}
+use Rattle.bgp_explain.specs.Places.{shown_places}
+use Rattle.bgp_explain.specs.Records.{SaysOrNot}
+use Rattle.bgp_explain.specs.declared.report.Report.{Report}
+use Rattle.bgp_explain.specs.declared.report.Report.TheVariants.{VerdictAlone, WithReason}
 use Rattle.bgp_recording_tool.specs.declared.remark.Remark.{Remark}
 use Rattle.bgp_recording_tool.specs.Remarks.{IsHelp, remarks_on}
 use Rattle.bgp_recording_tool.specs.Told.{Told, Judged, Refused, told_text, told_status}
@@ -49,7 +54,7 @@ module _ (config : Config) (wanted : Import) (packets : List Recorded) (segments
   where
     -- These entries are made of the connection with this number, or of the only one, and this is
     -- the verdict on their records. None of them is a ROUTE-REFRESH, where the session refuses
-    -- one.
+    -- one. It is remarked if one shows an UPDATE of a confederation.
     pub record IsJudged (number named : Option ℕ) (verdict : VerdictValue)
         (remarks : List Remark) : Type 0 where
       pub connection : Connection
@@ -60,7 +65,9 @@ module _ (config : Config) (wanted : Import) (packets : List Recorded) (segments
       pub without : wanted.selection.session.refresh ≡ refreshes.Refused
           → AllByRecursion IsNoRefresh (records_of entries)
       pub is : HasVerdict config (records_of entries) verdict
-      pub remarked : remarks ≡ remarks_on named entries notes verdict
+      pub confederation : Bool
+      pub shows : IsTrue confederation ↔ SomeShowConfederations (records_of entries)
+      pub remarked : remarks ≡ remarks_on named wanted.within entries notes confederation verdict
 
     -- the session refuses a ROUTE-REFRESH, and there is one
     pub record HasRefresh (number : Option ℕ) (refusal : Refusal) : Type 0 where
@@ -78,47 +85,67 @@ module _ (config : Config) (wanted : Import) (packets : List Recorded) (segments
       pub why : IsTurnedDown number packets segments refusal ⊎ HasRefresh number refusal
       pub helps : IsHelp named refusal remarks
 
-    -- What is told of the connection with this number, or of the only one. What is remarked names
-    -- it where several are told of.
-    abbrev pub IsTold : Option ℕ → Option ℕ → Told → List Remark → Type 0
-    IsTold number named (Judged verdict) remarks = IsJudged number named verdict remarks
-    IsTold number named (Refused refusal) remarks = IsNotJudged number named refusal remarks
-
-    -- it alone is told of, with this text and this status
-    pub record IsToldAs (number : Option ℕ) (text : List ℕ) (status : ℕ) (remarks : List Remark)
-        : Type 0 where
-      pub told : Told
-      pub is_told : IsTold number None told remarks
-      pub prints : text ≡ told_text told
-      pub tells : status ≡ told_status told
-
     -- how the connection with this number was opened
     abbrev pub IsOpening : ℕ → Opening → Type 0
     IsOpening number opening =
         (opening.number ≡ number)
         × OpensAs (numbered_one (numbered (reverse segments)) number) opening
 
-    -- the first so many connections are told of, each from Idle on, with these statuses
-    abbrev pub AreEachTold : ℕ → List ℕ → List ℕ → List Remark → Type 0
-    AreEachTold zero text statuses remarks = (text ≡ []) × (statuses ≡ []) × (remarks ≡ [])
-    AreEachTold (suc count) text statuses remarks =
-        HasOneMore (AreEachTold count) (IsOpening (suc count))
-        (IsTold (Some (suc count)) (Some (suc count)))
-        (opening_text config.parts.session) text statuses remarks
-
-    -- and this is the status over them
-    pub record AreTold (count : ℕ) (text : List ℕ) (status : ℕ) (remarks : List Remark) : Type 0
-      where
-        pub statuses : List ℕ
-        pub each : AreEachTold count text statuses remarks
-        pub tells : status ≡ status_over statuses
-
     -- none is named, and several hold octets
     abbrev pub HasSeveral : Type 0
     HasSeveral = (wanted.connection ≡ None) × (1 < length (numbered (reverse segments)))
 
-    -- then each is told of, and else the one that is meant
-    abbrev pub AllAreTold : List ℕ → ℕ → List Remark → Type 0
-    AllAreTold text status remarks =
-        (HasSeveral × AreTold (length (numbered (reverse segments))) text status remarks)
-        ⊎ ((¬ HasSeveral) × IsToldAs wanted.connection text status remarks)
+-- What stands after the verdict on the records of these entries: nothing; or what explains it, or
+-- that memory was refused for the reason.
+abbrev pub IsMore : Report → Config → List Entry → VerdictValue → List ℕ → Type 0
+IsMore VerdictAlone config entries verdict more = more ≡ []
+IsMore WithReason config entries verdict more =
+    SaysOrNot config config.parts.session (shown_places entries) (records_of entries) verdict more
+
+-- And this is reported of the session's connections.
+module _ (config : Config) (report : Report) (wanted : Import) (packets : List Recorded)
+    (segments : List Segment) where
+  -- It is judged, and this stands after the verdict.
+  pub record IsReported (number named : Option ℕ) (verdict : VerdictValue) (more : List ℕ)
+      (remarks : List Remark) : Type 0 where
+    pub judged : IsJudged config wanted packets segments number named verdict remarks
+    pub is_more : IsMore report config judged.entries verdict more
+
+  -- What is told of the connection with this number, or of the only one. What is remarked names it
+  -- where several are told of.
+  abbrev pub IsTold : Option ℕ → Option ℕ → Told → List Remark → Type 0
+  IsTold number named (Judged verdict more) remarks =
+      IsReported number named verdict more remarks
+  IsTold number named (Refused refusal) remarks =
+      IsNotJudged config wanted packets segments number named refusal remarks
+
+  -- it is told of with this text and this status
+  pub record IsToldAs (number named : Option ℕ) (text : List ℕ) (status : ℕ)
+      (remarks : List Remark) : Type 0 where
+    pub told : Told
+    pub is_told : IsTold number named told remarks
+    pub prints : text ≡ told_text told
+    pub tells : status ≡ told_status told
+
+  -- the first so many connections are told of, each from Idle on, with these statuses
+  abbrev pub AreEachTold : ℕ → List ℕ → List ℕ → List Remark → Type 0
+  AreEachTold zero text statuses remarks = (text ≡ []) × (statuses ≡ []) × (remarks ≡ [])
+  AreEachTold (suc count) text statuses remarks =
+      HasOneMore (AreEachTold count) (IsOpening config wanted packets segments (suc count))
+      (IsTold (Some (suc count)) (Some (suc count))) (opening_text config.parts.session)
+      text statuses remarks
+
+  -- and this is the status over them
+  pub record AreTold (count : ℕ) (text : List ℕ) (status : ℕ) (remarks : List Remark) : Type 0
+    where
+      pub statuses : List ℕ
+      pub each : AreEachTold count text statuses remarks
+      pub tells : status ≡ status_over statuses
+
+  -- where none is named and several hold octets each is told of, and else the one that is meant
+  abbrev pub AllAreTold : List ℕ → ℕ → List Remark → Type 0
+  AllAreTold text status remarks =
+      (HasSeveral config wanted packets segments
+      × AreTold (length (numbered (reverse segments))) text status remarks)
+      ⊎ ((¬ HasSeveral config wanted packets segments)
+      × IsToldAs wanted.connection None text status remarks)

@@ -14,9 +14,10 @@ use Rattle.mrt.specs.declared.sink.FromWrite.{FromWrite}
 use Rattle.bgp_tool.specs.Front.{is_pcap, is_pcapng}
 use Rattle.bgp_tool.specs.Opened.{TellsWriter}
 use Rattle.bgp_tool.specs.OpenedCapture.{DecodesOpened}
-use Rattle.bgp_tool.specs.OpenedJudging.{JudgesOpened}
 use Rattle.bgp_tool.specs.declared.note.Note.{Note}
 use Rattle.bgp_tool.specs.declared.note.Note.TheVariants.{Unread, OutOfMemory}
+use Rattle.bgp_explain.specs.Opened.{ReportsOpened}
+use Rattle.bgp_explain.specs.declared.report.Report.{Report}
 use Rattle.bgp_recording_tool.specs.declared.files.FileOutcome.{FileOutcome}
 use Rattle.bgp_recording_tool.specs.declared.judging.Judged.{Judged}
 use Rattle.bgp_options.specs.declared.recording.RecordingOptions.{RecordingOptions}
@@ -78,7 +79,7 @@ pub record ReadsFile {R W X : Type 0} (remaining : R → Option (List ℕ)) (fil
   pub is_peeked : IsPeeked remaining reader peeked
   pub is : (IsTrue (is_recording peeked.front.items)
       × ReadsRecording file peeked old new outcome.status outcome.note IsRecording
-      × (outcome.skipped ≡ None))
+      × (outcome.skipped ≡ None) × IsFalse outcome.confederation)
       ⊎ (IsFalse (is_recording peeked.front.items) × IsCapture peeked
       × (outcome.cut_short ≡ None) × (outcome.remarks.items ≡ []))
 
@@ -92,15 +93,22 @@ module _ {R W X : Type 0} (remaining : R → Option (List ℕ)) (contents : W �
   abbrev pub TakesWritten : FromWrite W → FromWrite W → List ℕ → Type 0
   TakesWritten from to octets = Takes contents (writer_state from) (writer_state to) octets
 
-  abbrev pub JudgesFile : Config → (Config → List ShownRecord → ShownRecord → Type 0) → Type 0
-  JudgesFile config may_lack = ReadsFile remaining file reader old new outcome
+  abbrev pub JudgesFile : Config → Report → (Config → List ShownRecord → ShownRecord → Type 0)
+      → Type 0
+  JudgesFile config report may_lack = ReadsFile remaining file reader old new outcome
       (λ from to. JudgesRecording GivesRead (λ source. (reader_state source).has_ended)
       TakesWritten (λ source. (reader_state source).failures)
-      (λ sink. (writer_state sink).failures) config options from to old new
+      (λ sink. (writer_state sink).failures) config report options from to old new
       (judged_by outcome))
-      (λ peeked. JudgesOpened (peeked_remaining remaining) contents config may_lack file peeked
-      (writer_state old) (writer_state new)
-      (record { status = outcome.status; skipped = outcome.skipped; note = outcome.note }))
+      (λ peeked. ReportsOpened (peeked_remaining remaining) contents config may_lack file peeked
+      (writer_state old) (writer_state new) (record {
+        outcome = record {
+          status = outcome.status;
+          skipped = outcome.skipped;
+          note = outcome.note;
+        };
+        confederation = outcome.confederation;
+      }) report)
 
   abbrev pub DecodesFile : Session → Type 0
   DecodesFile session = ReadsFile remaining file reader old new outcome
@@ -110,4 +118,5 @@ module _ {R W X : Type 0} (remaining : R → Option (List ℕ)) (contents : W �
       (judged_by outcome))
       (λ peeked. DecodesOpened (peeked_remaining remaining) contents session file peeked
       (writer_state old) (writer_state new)
-      (record { status = outcome.status; skipped = outcome.skipped; note = outcome.note }))
+      (record { status = outcome.status; skipped = outcome.skipped; note = outcome.note })
+      × IsFalse outcome.confederation)

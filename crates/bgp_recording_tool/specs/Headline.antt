@@ -21,6 +21,7 @@ use Rattle.bgp_recording.specs.Captured.{CanBeNamed, IsNoRefresh, records_of}
 use Rattle.bgp_recording.specs.Pieces.{framings_of}
 use Rattle.bgp_recording.specs.Recorded.{IsRecorded}
 use Rattle.bgp_recording.specs.declared.entry.Entry.{Entry}
+use Rattle.bgp_explain.specs.declared.report.Report.{Report}
 use Rattle.bgp_import.specs.Captures.{IsCapture}
 use Rattle.bgp_import.specs.Importing.{IsMadeOf}
 use Rattle.bgp_import.specs.Once.{IsMadeOfPackets, MeanTheSame}
@@ -102,7 +103,7 @@ ImportAndJudgeAgree =
 -- that have it; 18 RouteRefresh, where a reader refuses them by 7 RouteRefresh; or memory was
 -- refused.
 abbrev pub TellsAs : Config → List ℕ → Told → Type 0
-TellsAs config octets (Judged verdict) =
+TellsAs config octets (Judged verdict more) =
     (records : List ShownRecord) × Spells config.parts.session octets records
     × HasVerdict config records verdict
 TellsAs config octets (Refused refusal) =
@@ -114,8 +115,8 @@ TellsAs config octets (Refused refusal) =
 -- what the capture reads as.
 abbrev pub JudgeTellsTheCapture : Type 0
 JudgeTellsTheCapture =
-    (config : Config) (imports judges : Import) (number : Option ℕ) (packets : List Recorded)
-    (segments : List Segment) (connection : Connection) (entries : List Entry) (notes : Notes)
+    (config : Config) (report : Report) (imports judges : Import) (number : Option ℕ)
+    (packets : List Recorded) (segments : List Segment) (connection : Connection) (entries : List Entry) (notes : Notes)
     (octets : List ℕ) (named : Option ℕ) (told : Told) (remarks : List Remark)
     → CanBeNamed config.parts.session
     → judges.selection.session ≡ config.parts.session
@@ -125,5 +126,5 @@ JudgeTellsTheCapture =
     → IsAnswered number (length packets) (numbered (reverse segments)) connection
     → IsMadeOf imports connection entries notes
     → IsCapture imports.selection.session entries octets
-    → IsTold config judges packets segments number named told remarks
+    → IsTold config report judges packets segments number named told remarks
     → TellsAs config octets told

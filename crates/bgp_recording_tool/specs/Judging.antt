@@ -8,6 +8,7 @@ use Rattle.mrt.specs.declared.sink.Sink as sinks
 use Rattle.bgp_text.specs.Lines.{Writes}
 use Rattle.bgp_text.specs.declared.lines.Lines.{Lines}
 use Rattle.bgp_tool.specs.Answer.{IsWritten}
+use Rattle.bgp_explain.specs.declared.report.Report.{Report}
 use Rattle.bgp_import.specs.Gathers.{HasReadAll, IsStopped, cut_short_by, failures_by}
 use Rattle.bgp_import.specs.Refusals.{refusal_line}
 use Rattle.bgp_import.specs.declared.cut_short.CutShort.{CutShort}
@@ -34,7 +35,8 @@ pub record Puts {T : Type 0} {sink : sinks.Ghosts T} (lines lines' : Lines T sin
 
 -- The source goes from `old` to `new`. The members are the source's.
 module _ {S : Type 0} (gives : S → S → List ℕ → Type 0) (has_ended : S → Bool) (failures : S → ℕ)
-    (config : Config) (wanted : Import) (old new : S) (cut_short : Option CutShort) where
+    (config : Config) (report : Report) (wanted : Import) (old new : S)
+    (cut_short : Option CutShort) where
   -- it was read to its end, or to where it was cut short, and this is told of the session's
   -- connections
   pub record TellsConnections (text : List ℕ) (status : ℕ) (remarks : List Remark) : Type 0 where
@@ -44,7 +46,7 @@ module _ {S : Type 0} (gives : S → S → List ℕ → Type 0) (has_ended : S �
     pub cut : Bool
     pub all : HasReadAll gives has_ended wanted.selection old new octets packets segments cut
     pub is_cut : cut_short ≡ cut_short_by cut (length packets)
-    pub told : AllAreTold config wanted packets segments text status remarks
+    pub told : AllAreTold config report wanted packets segments text status remarks
     pub counted : failures new ≡ failures old
 
   -- or it is refused
@@ -66,12 +68,12 @@ module _ {S : Type 0} (gives : S → S → List ℕ → Type 0) (has_ended : S �
 -- status is its own; and else a beginning, and the status is 5.
 pub record JudgesMeant {S T : Type 0} (gives : S → S → List ℕ → Type 0) (has_ended : S → Bool)
     (takes : T → T → List ℕ → Type 0) (source_failures : S → ℕ) (failures : T → ℕ)
-    (config : Config) (wanted : Import) (source source' : S) (sink sink' : T) (status : ℕ)
-    (cut_short : Option CutShort) (remarks : List Remark) : Type 0 where
+    (config : Config) (report : Report) (wanted : Import) (source source' : S) (sink sink' : T)
+    (status : ℕ) (cut_short : Option CutShort) (remarks : List Remark) : Type 0 where
   pub text : List ℕ
   pub code : ℕ
-  pub told : TellsRecording gives has_ended source_failures config wanted source source' cut_short
-      text code remarks
+  pub told : TellsRecording gives has_ended source_failures config report wanted source source'
+      cut_short text code remarks
   pub written : IsWritten takes failures text code sink sink' status
 
 -- No recording can be meant: nothing is read and nothing written, and it is told why, if there is
@@ -86,12 +88,12 @@ pub record IsUnmeant {S T : Type 0} (wanted : Import) (source source' : S) (sink
   pub tells : ((status ≡ 64) × (remarks ≡ remark ∷ [])) ⊎ ((status ≡ 4) × (remarks ≡ []))
 
 abbrev pub JudgesRecording : {S T X : Type 0} → (S → S → List ℕ → Type 0) → (S → Bool)
-    → (T → T → List ℕ → Type 0) → (S → ℕ) → (T → ℕ) → Config → RecordingOptions → S → S → T → T
-    → Judged X → Type 0
-JudgesRecording gives has_ended takes source_failures failures config options source source'
-    sink sink' judged =
+    → (T → T → List ℕ → Type 0) → (S → ℕ) → (T → ℕ) → Config → Report → RecordingOptions → S → S
+    → T → T → Judged X → Type 0
+JudgesRecording gives has_ended takes source_failures failures config report options
+    source source' sink sink' judged =
     let wanted = import_of config.parts.session options in
     IsUnmeant wanted source source' sink sink' judged.status judged.cut_short judged.remarks.items
     ⊎ (IsMisfit wanted None
-    × JudgesMeant gives has_ended takes source_failures failures config wanted source source'
-    sink sink' judged.status judged.cut_short judged.remarks.items)
+    × JudgesMeant gives has_ended takes source_failures failures config report wanted
+    source source' sink sink' judged.status judged.cut_short judged.remarks.items)

@@ -4,6 +4,8 @@ pub mod Remarks
 pub mod Options
 pub mod Connections
 pub mod Judging
+pub mod Putting
 pub mod Decoding
 pub mod Files
 pub mod Headline
+pub mod Laws

@@ -34,7 +34,8 @@ IsOneSystem wanted =
 abbrev pub IsMisfitFor : Import → RemarkKind → Type 0
 IsMisfitFor wanted (kinds.Made note) = ⊥
 IsMisfitFor wanted kinds.NothingSent = ⊥
-IsMisfitFor wanted (kinds.No before packet) = ⊥
+IsMisfitFor wanted kinds.Confederation = ⊥
+IsMisfitFor wanted (kinds.No before packet within) = ⊥
 IsMisfitFor wanted (kinds.Refused help) = ⊥
 IsMisfitFor wanted kinds.TwoFamilies = ¬ IsOneFamily wanted.selection.session
 IsMisfitFor wanted kinds.OneAddress =

@@ -1,5 +1,6 @@
 -- What is told of a recording and its connections besides what is answered, sentence by sentence.
-use Rattle.std.specs.Prelude.{◌≡◌, ◌⊎◌, ℕ, Bool, List, [], ◌∷◌, ◌++◌, Option, None, Some, map}
+use Rattle.std.specs.Prelude.{◌≡◌, ◌⊎◌, ℕ, Bool, true, false, List, [], ◌∷◌, ◌++◌, map}
+use Rattle.std.specs.Prelude.{Option, None, Some}
 use Rattle.std.specs.Prelude.{if◌then◌else◌}
 use Rattle.std.specs.List.{list_any, slice_get}
 use Rattle.mrt.specs.Reader.{shown_of}
@@ -56,19 +57,26 @@ packet_after entries count = packet_of (slice_get entries count)
 abbrev pub has_sent : List Entry → Bool
 has_sent entries = list_any (λ entry. is_sent (shown_of entry.record)) entries
 
--- Of a yes, that nothing was sent, where that is so; of a no, how many records come before the
--- first impossible one, and the packet that shows that.
-abbrev pub verdict_remark : Option ℕ → List Entry → VerdictValue → Option Remark
-verdict_remark connection entries (Yes ends) =
-    if has_sent entries then None else Some (remark_on connection kinds.NothingSent)
-verdict_remark connection entries (No count) =
-    Some (remark_on connection (kinds.No count (packet_after entries count)))
-verdict_remark connection entries Unfinished = None
+-- that an UPDATE of a confederation is among the records, where one is
+abbrev pub confederation_remark : Option ℕ → Bool → Option Remark
+confederation_remark connection true = Some (remark_on connection kinds.Confederation)
+confederation_remark connection false = None
 
--- all that is told of a connection of which these entries are made
-abbrev pub remarks_on : Option ℕ → List Entry → Notes → VerdictValue → List Remark
-remarks_on connection entries notes verdict =
-    some_of (making_remarks connection notes ++ verdict_remark connection entries verdict ∷ [])
+-- Of a yes, that nothing was sent, where that is so; of a no, how many records come before the
+-- first impossible one, the packet that shows that, and how long a message may have waited.
+abbrev pub verdict_remark : Option ℕ → ℕ → List Entry → VerdictValue → Option Remark
+verdict_remark connection within entries (Yes ends) =
+    if has_sent entries then None else Some (remark_on connection kinds.NothingSent)
+verdict_remark connection within entries (No count) =
+    Some (remark_on connection (kinds.No count (packet_after entries count) within))
+verdict_remark connection within entries Unfinished = None
+
+-- All that is told of a connection of which these entries are made: with this patience, and with
+-- an UPDATE of a confederation or without.
+abbrev pub remarks_on : Option ℕ → ℕ → List Entry → Notes → Bool → VerdictValue → List Remark
+remarks_on connection within entries notes confederation verdict =
+    some_of (making_remarks connection notes ++ confederation_remark connection confederation
+    ∷ verdict_remark connection within entries verdict ∷ [])
 
 -- what helps against a refusal, if anything does
 abbrev pub help_by : Cause → Option ℕ → Refusal → Option Remark

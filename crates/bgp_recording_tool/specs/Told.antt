@@ -1,8 +1,6 @@
 -- What is answered of a connection in a recording, its text and its exit status.
-use Rattle.std.specs.Prelude.{ℕ, ◌≡◌, ◌||◌, List, [], ◌∷◌, Bool, true, false, cond, nat_eq}
-use Rattle.std.specs.Prelude.{Result, Ok, Err}
-use Rattle.bgp_judge.specs.Verdict.{VerdictValue, Yes, No, Unfinished, verdict_value}
-use Rattle.bgp_judge.specs.declared.verdict.Verdict.{Verdict}
+use Rattle.std.specs.Prelude.{ℕ, ◌≡◌, ◌||◌, ◌++◌, List, [], ◌∷◌, Bool, true, false, cond, nat_eq}
+use Rattle.bgp_judge.specs.Verdict.{VerdictValue, Yes, No, Unfinished}
 use Rattle.bgp_tool.specs.VerdictText.{yes_text, no_line, unfinished_line}
 use Rattle.bgp_import.specs.Refusals.{refusal_line, cause_of}
 use Rattle.bgp_import.specs.declared.refusal.Cause.{Cause}
@@ -10,8 +8,8 @@ use Rattle.bgp_import.specs.declared.refusal.Cause.TheVariants as causes
 use Rattle.bgp_import.specs.declared.refusal.Refusal.{Refusal}
 
 pub data Told : Type 0 where
-  -- the verdict on the records that are made of it
-  Judged : VerdictValue → Told
+  -- the verdict on the records that are made of it, and what stands after it
+  Judged : VerdictValue → List ℕ → Told
   -- why none are made or judged
   Refused : Refusal → Told
 
@@ -23,7 +21,7 @@ value_text (No count) = no_line count
 value_text Unfinished = unfinished_line
 
 abbrev pub told_text : Told → List ℕ
-told_text (Judged verdict) = value_text verdict
+told_text (Judged verdict more) = value_text verdict ++ more
 told_text (Refused refusal) = refusal_line refusal
 
 -- ---- its exit status
@@ -43,7 +41,7 @@ abbrev pub refused_status : Refusal → ℕ
 refused_status refusal = cause_status (cause_of refusal)
 
 abbrev pub told_status : Told → ℕ
-told_status (Judged verdict) = value_status verdict
+told_status (Judged verdict more) = value_status verdict
 told_status (Refused refusal) = refused_status refusal
 
 -- ---- the exit status over several connections
@@ -75,9 +73,3 @@ abbrev pub NoIsTold : Type 0
 NoIsTold = (statuses : List ℕ) →
     ((status_over statuses ≡ 1) → IsNoAmong statuses)
     × (IsNoAmong statuses → status_over statuses ≡ 1)
-
--- ---- what is told by an answer
-
-abbrev pub told_by : {X : Type 0} → Result (Verdict X) Refusal → Told
-told_by (Ok verdict) = Judged (verdict_value verdict)
-told_by (Err refusal) = Refused refusal

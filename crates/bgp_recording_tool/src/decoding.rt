@@ -17,10 +17,10 @@ ghost use Rattle.bgp_recording_tool.specs.Options.{IsOneFamily};
 ghost use Rattle.bgp_recording_tool.specs.Remarks.{IsHelp, making_remarks, notes_of, some_of};
 ghost use Rattle.bgp_recording_tool.specs.Told.{refused_status};
 
-use crate::answering::making_remarks;
 use crate::judging::{Judged, misfit, status_of};
 use crate::options::{import_of, misfit_of};
 use crate::remark::{Remark, add_help, add_remarks};
+use crate::remarking::making_remarks;
 use bgp_import::{CutShort, Gathered, Import, Refusal, gather, put_refusal, records_of};
 use bgp_options::RecordingOptions;
 use bgp_prefix::{RouteRefresh, Session};

@@ -1,6 +1,7 @@
 //! Files that are recordings or captures: what stands between a file and the commands.
 
-ghost use Rattle.std.specs.Prelude.{◌≡◌, ◌<◌, ◌≤◌, ◌+◌, ◌^◌, ◌⊎◌, [], None, Some, IfOk, IfErr};
+ghost use Rattle.std.specs.Prelude.{◌≡◌, ◌<◌, ◌+◌, ◌^◌, ◌⊎◌, [], None, Some, IfOk, IfErr};
+ghost use Rattle.std.specs.Prelude.{IsFalse};
 ghost use Rattle.std.specs.IoError.{error_kind};
 ghost use Rattle.mrt.specs.FromRead.{reader_state};
 ghost use Rattle.mrt.specs.FromWrite.{writer_state};
@@ -12,12 +13,13 @@ use crate::decoding::decode_recording;
 use crate::headline::judge_recording;
 use crate::peeked::Peeked;
 use crate::remark::Remark;
+use bgp_explain::{JudgedCapture, Report, judge_opened};
 use bgp_import::CutShort;
 use bgp_judge::Tracker;
 use bgp_open::Config;
 use bgp_options::RecordingOptions;
 use bgp_prefix::Session;
-use bgp_tool::{Note, Outcome, decode_opened_capture, judge_opened, unopened, unwritten};
+use bgp_tool::{Note, Outcome, decode_opened_capture, unopened, unwritten};
 use mrt::{FromRead, FromWrite, Sink, SkippedRecords};
 use std::alloc::Allocator;
 use std::io;
@@ -33,6 +35,9 @@ pub struct FileOutcome<'a, A: Allocator> {
     /// How many records of a capture were skipped, by why, as far as it was read; `None` of a
     /// recording, and where the file couldn't be opened.
     pub skipped: Option<SkippedRecords>,
+    /// Whether an UPDATE of a confederation is among the records of a capture that was judged: to
+    /// be told then, by [`Note::Confederation`]. Of a recording a remark tells it.
+    pub confederation: bool,
     /// What there is to tell of a recording's connections, in their order: to be told then.
     pub remarks: Vec<Remark, A>,
     /// What went wrong, if anything did.
@@ -40,10 +45,15 @@ pub struct FileOutcome<'a, A: Allocator> {
 }
 
 /// An outcome with nothing to tell of connections.
-fn without_remarks<'a, A: Allocator + Copy>(alloc: A, outcome: Outcome<'a>) -> FileOutcome<'a, A>
+fn without_remarks<'a, A: Allocator + Copy>(
+    alloc: A,
+    outcome: Outcome<'a>,
+    confederation: bool,
+) -> FileOutcome<'a, A>
     ensures status { result.status ≡ outcome.entry.status }
     ensures skipped { result.skipped ≡ outcome.entry.skipped }
     ensures note { result.note ≡ outcome.entry.note }
+    ensures confederation { result.confederation ≡ confederation }
     ensures remarks { result.remarks.items ≡ [] }
     ensures uncut { result.cut_short ≡ None }
 {
@@ -51,6 +61,7 @@ fn without_remarks<'a, A: Allocator + Copy>(alloc: A, outcome: Outcome<'a>) -> F
         status: outcome.status,
         cut_short: None,
         skipped: outcome.skipped,
+        confederation,
         remarks: Vec::new(alloc),
         note: outcome.note,
     }
@@ -79,7 +90,7 @@ fn note_of<'a, R: Read>(status: u8, file: &'a str, source: &FromRead<R>) -> Opti
 
 /// What to tell of a recording that was read from a source, with this status, into a sink which had
 /// failed so often before.
-pub fn recording_note<'a, R: Read, W: Write>(
+fn recording_note<'a, R: Read, W: Write>(
     status: u8,
     file: &'a str,
     source: &FromRead<R>,
@@ -104,41 +115,48 @@ pub fn recording_note<'a, R: Read, W: Write>(
 
 /// Judges a file that a reader gives, if it could be opened: a recording, as
 /// [`judge_recording`](crate::judge_recording) does, or else a capture, as
-/// [`judge_opened`](bgp_tool::judge_opened) does. Its first four octets tell which it is. A closed
-/// pipe is status 5 and not told.
+/// [`judge_opened`](bgp_explain::judge_opened) does, with the reason or without. Its first four
+/// octets tell which it is. A closed pipe is status 5 and not told.
 ///
 /// The reader is asked for few octets at a time: put a buffer before a file.
 pub fn judge_file<'a, A: Allocator + Copy, T: Tracker<A>, R: Read + Drop, W: Write>(
     alloc: A,
     config: &Config,
+    report: Report,
     options: &RecordingOptions,
     file: &'a str,
     opened: io::Result<R>,
     sink: &mut FromWrite<W>,
 ) -> FileOutcome<'a, A>
     requires { (writer_state sink.old).failures < 2 ^ 63 }
-    ensures judged { IfOk opened (λ reader. JudgesFile R.remaining W.contents options.now
-        file.entry reader sink.old sink.new result config.now T.may_lack) }
+    ensures reported { IfOk opened (λ reader. JudgesFile R.remaining W.contents options.now
+        file.entry reader sink.old sink.new result config.now report T.may_lack) }
     ensures unopened { IfErr opened (λ error. IsUnopened file.entry (error_kind error)
         (record { status = result.status; skipped = result.skipped; note = result.note })
-        × (result.cut_short ≡ None) × (result.remarks.items ≡ []) × (sink.new ≡ sink.old)) }
+        × (result.cut_short ≡ None) × IsFalse result.confederation × (result.remarks.items ≡ [])
+        × (sink.new ≡ sink.old)) }
 {
     let peeked = match opened {
         Ok(reader) => Peeked::new(reader),
-        Err(error) => return without_remarks(alloc, unopened(file, error.kind())),
+        Err(error) => return without_remarks(alloc, unopened(file, error.kind()), false),
     };
     if !peeked.is_recording() {
-        let outcome = judge_opened::<A, T, _, W>(alloc, config, file, Ok(peeked), sink);
-        return without_remarks(alloc, outcome);
+        let judged = judge_opened::<A, T, _, W>(alloc, config, report, file, Ok(peeked), sink);
+        let JudgedCapture {
+            outcome,
+            confederation,
+        } = judged;
+        return without_remarks(alloc, outcome, confederation);
     }
     let mut source = FromRead::new(peeked);
     let failures = sink.failures();
-    let judged = judge_recording::<A, T, _, _>(alloc, config, options, &mut source, sink);
+    let judged = judge_recording::<A, T, _, _>(alloc, config, report, options, &mut source, sink);
     let note = recording_note(judged.status, file, &source, sink, failures);
     FileOutcome {
         status: judged.status,
         cut_short: judged.cut_short,
         skipped: None,
+        confederation: false,
         remarks: judged.remarks,
         note,
     }
@@ -163,15 +181,16 @@ pub fn decode_file<'a, A: Allocator + Copy, R: Read + Drop, W: Write>(
         file.entry reader sink.old sink.new result session.now) }
     ensures unopened { IfErr opened (λ error. IsUnopened file.entry (error_kind error)
         (record { status = result.status; skipped = result.skipped; note = result.note })
-        × (result.cut_short ≡ None) × (result.remarks.items ≡ []) × (sink.new ≡ sink.old)) }
+        × (result.cut_short ≡ None) × IsFalse result.confederation × (result.remarks.items ≡ [])
+        × (sink.new ≡ sink.old)) }
 {
     let peeked = match opened {
         Ok(reader) => Peeked::new(reader),
-        Err(error) => return without_remarks(alloc, unopened(file, error.kind())),
+        Err(error) => return without_remarks(alloc, unopened(file, error.kind()), false),
     };
     if !peeked.is_recording() {
         let outcome = decode_opened_capture(alloc, session, file, Ok(peeked), sink);
-        return without_remarks(alloc, outcome);
+        return without_remarks(alloc, outcome, false);
     }
     let mut source = FromRead::new(peeked);
     let failures = sink.failures();
@@ -181,6 +200,7 @@ pub fn decode_file<'a, A: Allocator + Copy, R: Read + Drop, W: Write>(
         status: judged.status,
         cut_short: judged.cut_short,
         skipped: None,
+        confederation: false,
         remarks: judged.remarks,
         note,
     }

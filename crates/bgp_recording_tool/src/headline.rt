@@ -8,6 +8,7 @@ ghost use Rattle.bgp_recording_tool.specs.Judging.{JudgesRecording};
 
 use crate::judging::{Judged, judge_source, misfit};
 use crate::options::{import_of, misfit_of};
+use bgp_explain::Report;
 use bgp_import::recordings_are_made_once;
 use bgp_judge::{Tracker, records_have_just_one_verdict};
 use bgp_open::Config;
@@ -41,13 +42,35 @@ use std::alloc::Allocator;
 /// * 64: no recording can be meant, as a remark tells: the session's addresses are of two families,
 ///   or one, and the local system's port isn't named. Nothing is read or written then.
 ///
-/// A recording that was cut short is judged by what it has, and it is told that it was.
+/// If the reason is wanted, it writes after the verdict on each connection:
+///
+/// * after a no the line of the first impossible of the made records, with the packet that shows
+///   it, which of a change is that of the record beside it; the state that the records before it
+///   tell; the message received last, what it asks for, and the packet by which it was whole; each
+///   kind of record that could have stood in its place, and no other, with what the record lacks of
+///   it; and each note whose condition holds, as
+///   [`explain_capture`](bgp_explain::explain_capture) has them.
+/// * after an unfinished the same, of what may follow all records.
+/// * after a yes how many records there are, and of which kinds.
+///
+/// After a refusal it writes nothing more. Where memory is refused for the reason of a connection,
+/// `note no memory for the reason` stands in its place, and the verdict is told all the same. By
+/// [`made_records_could_have_stood`](crate::made_records_could_have_stood) each line after a no can
+/// be put to the test, and by
+/// [`recordings_are_explained_as_judged`](crate::recordings_are_explained_as_judged) the verdict is
+/// the one that is told without a reason.
+///
+/// A recording that was cut short is judged by what it has, and it is told that it was. A remark
+/// says of each connection whether its records show an UPDATE of a confederation (RFC 5065), which
+/// isn't judged.
 ///
 /// A recording holds its packets one at a time; of the session it holds each connection's streams,
-/// and of one connection its messages and records besides, which point into these.
+/// and of one connection its messages and records besides, which point into these. It rests on the
+/// contract of [`Tracker`] alone, and so holds with every tracker.
 pub fn judge_recording<A: Allocator + Copy, T: Tracker<A>, R: Source, W: Sink>(
     alloc: A,
     config: &Config,
+    report: Report,
     options: &RecordingOptions,
     source: &mut R,
     sink: &mut W,
@@ -55,7 +78,7 @@ pub fn judge_recording<A: Allocator + Copy, T: Tracker<A>, R: Source, W: Sink>(
     requires source { R.failures source.old < 2 ^ 63 }
     requires sink { W.failures sink.old < 2 ^ 63 }
     ensures { JudgesRecording R.gives R.has_ended W.takes R.failures W.failures config.now
-        options.now source.old source.new sink.old sink.new result }
+        report options.now source.old source.new sink.old sink.new result }
 {
     let import = import_of(&config.parts.session, options);
     if let Some(remark) = misfit_of(&import) {
@@ -66,6 +89,7 @@ pub fn judge_recording<A: Allocator + Copy, T: Tracker<A>, R: Source, W: Sink>(
     let (status, cut_short) = judge_source::<A, T, R, W>(
         alloc,
         config,
+        report,
         &import,
         source,
         &mut lines,

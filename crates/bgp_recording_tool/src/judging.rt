@@ -4,7 +4,6 @@ ghost use Rattle.std.specs.Prelude.{◌≡◌, ◌<◌, ◌⊎◌, ◌∷◌, []
 ghost use Rattle.packets.specs.Packet.{Recorded};
 ghost use Rattle.streams.specs.Connections.{numbered};
 ghost use Rattle.streams.specs.Passed.{Segment};
-ghost use Rattle.bgp_text.specs.Lines.{Writes};
 ghost use Rattle.bgp_tool.specs.Status.{code_of};
 ghost use Rattle.bgp_import.specs.Gathers.{HoldsSession};
 ghost use Rattle.bgp_import.specs.Making.{HoldsTaken};
@@ -13,16 +12,16 @@ ghost use Rattle.bgp_recording_tool.specs.Connections.{AreTold, AllAreTold};
 ghost use Rattle.bgp_recording_tool.specs.Judging.{TellsRecording, Puts};
 ghost use Rattle.bgp_recording_tool.specs.Options.{IsOneFamily};
 ghost use Rattle.bgp_judge.specs.Verdict.{verdict_value};
-ghost use Rattle.bgp_recording_tool.specs.Told.{refused_status, told_by, told_status, told_text};
-ghost use Rattle.bgp_recording_tool.specs.Told.{status_over, value_status};
+ghost use Rattle.bgp_recording_tool.specs.Told.{refused_status, status_over, value_status};
 
-use crate::answering::answer_to;
-use crate::remark::{Remark, add_help, add_remarks};
-use bgp_import::{Cause, CutShort, Gathered, Import, Refusal, gather, put_opening, put_refusal};
+use crate::connection::{put_refused, report_connection};
+use crate::remark::{Remark, add_remarks};
+use bgp_explain::Report;
+use bgp_import::{Cause, CutShort, Gathered, Import, Refusal, gather, put_opening};
 use bgp_judge::{Tracker, Verdict};
 use bgp_open::Config;
 use bgp_text::Lines;
-use bgp_tool::{Status, put_verdict};
+use bgp_tool::Status;
 use mrt::{Sink, Source};
 use std::alloc::Allocator;
 
@@ -50,7 +49,7 @@ pub fn status_of(refusal: Refusal) -> Status
 
 /// The exit status over two connections: where a device or memory failed, not all was judged; then
 /// a no, which nothing told of the other hides.
-pub fn status_over(status: Status, other: Status) -> Status
+pub(crate) fn status_over(status: Status, other: Status) -> Status
     ensures { code_of result ≡ status_over (code_of status ∷ code_of other ∷ []) }
 {
     match (status, other) {
@@ -64,7 +63,7 @@ pub fn status_over(status: Status, other: Status) -> Status
 }
 
 /// The exit status of a verdict.
-pub fn verdict_status<A: Allocator>(verdict: &Verdict<A>) -> Status
+pub(crate) fn verdict_status<A: Allocator>(verdict: &Verdict<A>) -> Status
     ensures { code_of result ≡ value_status (verdict_value verdict.now) }
 {
     match verdict {
@@ -74,44 +73,25 @@ pub fn verdict_status<A: Allocator>(verdict: &Verdict<A>) -> Status
     }
 }
 
-/// Puts what is answered of a connection, and answers its exit status.
-#[tactic(auto, using(crate::proofs::Texts::text_same))]
-fn put_told<A: Allocator, W: Sink>(
-    lines: &mut Lines<'_, W>,
-    answer: &Result<Verdict<A>, Refusal>,
-) -> Status
-    ensures writes { Writes lines.old lines.new (told_text (told_by answer.now)) }
-    ensures status { code_of result ≡ told_status (told_by answer.now) }
-{
-    match answer {
-        Ok(verdict) => {
-            put_verdict(lines, verdict);
-            verdict_status(verdict)
-        }
-        Err(refusal) => {
-            put_refusal(lines, *refusal);
-            status_of(*refusal)
-        }
-    }
-}
-
 /// Judges each connection that holds octets, under a line that names it, and answers the exit
 /// status over them.
 fn judge_each<A: Allocator + Copy, T: Tracker<A>, W: Sink>(
     alloc: A,
     config: &Config,
+    report: Report,
     import: &Import,
     gathered: &Gathered<A>,
     lines: &mut Lines<'_, W>,
     remarks: &mut Vec<Remark, A>,
 ) -> Status
+    requires session { import.now.selection.session ≡ config.now.parts.session }
     requires family { IsOneFamily import.now.selection.session }
     requires holds { HoldsTaken import.now.selection gathered.now }
     ensures { (packets : List Recorded) (segments : List Segment)
         → AreTaken import.now.selection 0 packets segments
         → HoldsSession (reverse segments) (length packets) gathered.now
         → Puts lines.old lines.new remarks.old.items remarks.new.items (code_of result)
-        (AreTold config.now import.now packets segments
+        (AreTold config.now report import.now packets segments
         (length (numbered (reverse segments)))) }
 {
     let mut status = Status::Done;
@@ -122,9 +102,18 @@ fn judge_each<A: Allocator + Copy, T: Tracker<A>, W: Sink>(
         };
         put_opening(lines, &config.parts.session, opening);
         lines.put(b"\n");
-        let named = Some(number);
-        let answer = answer_to::<A, T>(alloc, config, import, gathered, named, named, remarks);
-        status = status_over(status, put_told(lines, &answer));
+        let told = report_connection::<A, T, W>(
+            alloc,
+            config,
+            report,
+            import,
+            gathered,
+            Some(number),
+            Some(number),
+            lines,
+            remarks,
+        );
+        status = status_over(status, told);
     }
     status
 }
@@ -133,25 +122,28 @@ fn judge_each<A: Allocator + Copy, T: Tracker<A>, W: Sink>(
 fn judge_gathered<A: Allocator + Copy, T: Tracker<A>, W: Sink>(
     alloc: A,
     config: &Config,
+    report: Report,
     import: &Import,
     gathered: &Gathered<A>,
     lines: &mut Lines<'_, W>,
     remarks: &mut Vec<Remark, A>,
 ) -> Status
+    requires session { import.now.selection.session ≡ config.now.parts.session }
     requires family { IsOneFamily import.now.selection.session }
     requires holds { HoldsTaken import.now.selection gathered.now }
     ensures { (packets : List Recorded) (segments : List Segment)
         → AreTaken import.now.selection 0 packets segments
         → HoldsSession (reverse segments) (length packets) gathered.now
         → Puts lines.old lines.new remarks.old.items remarks.new.items (code_of result)
-        (AllAreTold config.now import.now packets segments) }
+        (AllAreTold config.now report import.now packets segments) }
 {
     if import.connection.is_none() && gathered.count() > 1 {
-        return judge_each::<A, T, W>(alloc, config, import, gathered, lines, remarks);
+        return judge_each::<A, T, W>(alloc, config, report, import, gathered, lines, remarks);
     }
     let number = import.connection;
-    let answer = answer_to::<A, T>(alloc, config, import, gathered, number, None, remarks);
-    put_told(lines, &answer)
+    report_connection::<A, T, W>(
+        alloc, config, report, import, gathered, number, None, lines, remarks,
+    )
 }
 
 /// Judges what is read of a recording, and answers the exit status; and that the recording was cut
@@ -159,34 +151,32 @@ fn judge_gathered<A: Allocator + Copy, T: Tracker<A>, W: Sink>(
 pub(crate) fn judge_source<A: Allocator + Copy, T: Tracker<A>, R: Source, W: Sink>(
     alloc: A,
     config: &Config,
+    report: Report,
     import: &Import,
     source: &mut R,
     lines: &mut Lines<'_, W>,
     remarks: &mut Vec<Remark, A>,
 ) -> (Status, Option<CutShort>)
+    requires session { import.now.selection.session ≡ config.now.parts.session }
     requires family { IsOneFamily import.now.selection.session }
     requires failures { R.failures source.old < u64.MAX }
     ensures { Puts lines.old lines.new remarks.old.items remarks.new.items (code_of result.0)
-        (TellsRecording R.gives R.has_ended R.failures config.now import.now
+        (TellsRecording R.gives R.has_ended R.failures config.now report import.now
         source.old source.new result.1) }
 {
     match gather(alloc, &import.selection, source) {
         Ok(gathered) => {
             let status = judge_gathered::<A, T, W>(
-                alloc, config, import, &gathered, lines, remarks,
+                alloc, config, report, import, &gathered, lines, remarks,
             );
             (status, gathered.cut_short())
         }
-        Err(refusal) => {
-            put_refusal(lines, refusal);
-            add_help(remarks, None, refusal);
-            (status_of(refusal), None)
-        }
+        Err(refusal) => (put_refused(lines, remarks, None, refusal), None),
     }
 }
 
 /// How a command over a recording ends where none can be meant, and why.
-pub fn misfit<A: Allocator + Copy>(alloc: A, remark: Remark) -> Judged<A>
+pub(crate) fn misfit<A: Allocator + Copy>(alloc: A, remark: Remark) -> Judged<A>
     ensures told { ((result.status ≡ 64) × (result.remarks.items ≡ remark ∷ []))
         ⊎ ((result.status ≡ 4) × (result.remarks.items ≡ [])) }
     ensures uncut { result.cut_short ≡ None }

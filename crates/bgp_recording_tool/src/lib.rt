@@ -2,31 +2,37 @@
 //! and sinks, or over a file that is a recording or a capture.
 //!
 //! A recording is a file of packets; a capture is the MRT records of one session (RFC 6396). What
-//! is judged or decoded of a recording are the records that `bgp_import` makes of a connection:
+//! is judged or decoded of a recording are the records that `bgp_import` makes of a connection. The
+//! reason of a verdict is that of `bgp_explain`, and says besides which packet shows the record
+//! that can't be, and by which packet the last message came:
 //!
 //! ```text
-//! let judged =
-//!     judge_recording::<_, CompactTracker<_>, _, _>(alloc, &config, &options, source, sink);
+//! let report = Report::WithReason;
+//! let judged = judge_recording::<_, CompactTracker<_>, _, _>(
+//!     alloc, &config, report, &options, source, sink,
+//! );
 //! for remark in judged.remarks.iter() {
 //!     eprintln!(rt; "bgp: {remark}")?;
 //! }
 //! ```
 #![tactic(auto)]
 
-mod answering;
+mod connection;
 mod decoding;
 mod files;
 mod headline;
 mod judging;
+mod laws;
 mod options;
 mod peeked;
 mod remark;
+mod remarking;
 
-pub use answering::{add_remarks_on, refused_refresh};
 pub use decoding::decode_recording;
-pub use files::{FileOutcome, decode_file, judge_file, recording_note};
+pub use files::{FileOutcome, decode_file, judge_file};
 pub use headline::{a_no_is_told, each_end_is_shown, import_and_judge_agree, judge_recording};
-pub use judging::{Judged, misfit, status_of, status_over, verdict_status};
-pub use options::{import_of, misfit_of};
+pub use judging::{Judged, status_of};
+pub use laws::{made_records_could_have_stood, recordings_are_explained_as_judged};
+pub use options::import_of;
 pub use peeked::Peeked;
-pub use remark::{Remark, RemarkKind, add_help};
+pub use remark::{Remark, RemarkKind};

@@ -36,7 +36,7 @@ fn misfit(kind: RemarkKind) -> Remark
 
 /// Why no recording can be read so, if none can: packets don't go between addresses of two
 /// families, and both systems of one address are told apart by the local system's port alone.
-pub fn misfit_of(import: &Import) -> Option<Remark>
+pub(crate) fn misfit_of(import: &Import) -> Option<Remark>
     ensures { IsMisfit import.now result }
 {
     let session = &import.selection.session;

@@ -4,6 +4,7 @@ ghost use Rattle.std.specs.Prelude.{◌≡◌, ◌++◌, OnOk, OnErr};
 ghost use Rattle.bgp_recording_tool.specs.Remarks.{AddsTold, IsHelp, refused_remark, some_of};
 
 use bgp_import::{Help, Note, Refusal};
+use bgp_tool::Note as ToolNote;
 use std::alloc::{AllocError, Allocator};
 use std::fmt;
 
@@ -24,12 +25,16 @@ pub enum RemarkKind {
     Made(Note),
     /// A connection is answered yes, and the local system sent nothing.
     NothingSent,
+    /// An UPDATE of a confederation (RFC 5065) is among the records that were judged.
+    Confederation,
     /// A connection is answered no, in one order of its messages that the packets allow.
     No {
         /// How many records come before the first impossible one.
         before: u64,
         /// The number of the packet that shows that one, counted from 1.
         packet: u64,
+        /// How many seconds after it came a received message is handled at the latest.
+        within: u16,
     },
     /// The recording or a connection is refused: what helps.
     Refused(Help),
@@ -55,10 +60,15 @@ impl fmt::Display for RemarkKind {
             RemarkKind::NothingSent => {
                 f.write_str("no message was sent: nothing of the local system was judged")
             }
-            RemarkKind::No { before, packet } => write!(
+            RemarkKind::Confederation => write!(f, "{}", ToolNote::Confederation),
+            RemarkKind::No {
+                before,
+                packet,
+                within,
+            } => write!(
                 f,
                 "no at record {}: packet {packet} shows it; this is about one order of the \
-                 messages that these packets allow",
+                 messages that these packets allow if each is handled within {within} s (--within)",
                 u128::from(before) + 1
             ),
             RemarkKind::Refused(help) => write!(f, "{help}"),
@@ -85,7 +95,7 @@ pub(crate) fn refused_remark(connection: Option<usize>, refusal: Refusal) -> Opt
 }
 
 /// Adds what helps, if anything does and there is memory for it.
-pub fn add_help<A: Allocator + Copy>(
+pub(crate) fn add_help<A: Allocator + Copy>(
     remarks: &mut Vec<Remark, A>,
     connection: Option<usize>,
     refusal: Refusal,

@@ -3,7 +3,7 @@
 
 use crate::two_connections::SESSION;
 use bgp_compact::CompactTracker;
-use bgp_explain::{explain_capture, explain_opened};
+use bgp_explain::{JudgedCapture, Report, explain_capture, judge_opened};
 use bgp_open::{Config, ConfigParts, Families};
 use bgp_tool::Note;
 use linked_list_allocator::LocalHeap;
@@ -12,7 +12,7 @@ use std::alloc::Global;
 use std::io::{self, ErrorKind};
 
 /// AS 65001 with AS 65002, where this Hold Time is configured.
-fn config_with(hold: u16) -> Option<Config> {
+pub(crate) fn config_with(hold: u16) -> Option<Config> {
     Config::new(ConfigParts {
         local_as: 65001,
         peer_as: 65002,
@@ -27,7 +27,7 @@ fn config_with(hold: u16) -> Option<Config> {
 }
 
 /// A session in which an OPEN is sent, at second 100 (RFC 6396, 4.4, of 4-octet AS numbers).
-static OPENED: [u8; 153] = [
+pub(crate) static OPENED: [u8; 153] = [
     0x00, 0x00, 0x00, 0x64, 0x00, 0x10, 0x00, 0x05, 0x00, 0x00, 0x00, 0x18, // a change of state
     0x00, 0x00, 0xfd, 0xea, 0x00, 0x00, 0xfd, 0xe9, 0x00, 0x00, 0x00, 0x01, // AS numbers, AFI
     0xc0, 0x00, 0x02, 0x02, 0xc0, 0x00, 0x02, 0x01, 0x00, 0x01, 0x00, 0x02, // Idle to Connect
@@ -147,10 +147,19 @@ fn is_told(
 ) -> Option<bool> {
     let config = config_with(90)?;
     let mut sink = FromWrite::new(Vec::new(alloc));
-    let outcome = explain_opened::<Global, CompactTracker, _, _>(
-        alloc, &config, "a.mrt", opened, &mut sink,
+    let judged = judge_opened::<Global, CompactTracker, _, _>(
+        alloc,
+        &config,
+        Report::WithReason,
+        "a.mrt",
+        opened,
+        &mut sink,
     );
-    Some(outcome.note == note && outcome.status == status)
+    let JudgedCapture {
+        outcome,
+        confederation,
+    } = judged;
+    Some(outcome.note == note && outcome.status == status && !confederation)
 }
 
 /// An empty capture is told to have no record of the session, and a file that couldn't be opened;

@@ -12,6 +12,8 @@ mod explain;
 #[cfg(test)]
 mod import;
 #[cfg(test)]
+mod memory;
+#[cfg(test)]
 mod recording;
 #[cfg(test)]
 mod tool;

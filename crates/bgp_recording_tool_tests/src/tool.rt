@@ -5,6 +5,7 @@ mod files;
 mod remarks;
 
 use crate::two_connections::{JUDGED, SESSION, recording};
+use bgp_explain::Report;
 use bgp_judge::PlainTracker;
 use bgp_open::{Config, ConfigParts, Families};
 use bgp_options::RecordingOptions;
@@ -68,6 +69,7 @@ fn judged<A: Allocator + Copy>(memory: A, alloc: Global, call: u64) -> Option<Ou
     let judged = judge_recording::<A, PlainTracker<A>, _, _>(
         memory,
         &config,
+        Report::VerdictAlone,
         &OPTIONS,
         &mut source,
         &mut sink,

@@ -62,8 +62,8 @@ fn write_answers<W: Sink, A: Allocator>(sink: &mut W, left: &Answer<A>, right: &
 }
 
 /// Judges the captures of both ends of a connection, each under its own configuration, as
-/// [`judge_capture`](bgp_tool::judge_capture) does: it writes `left ` and the text of the left one's
-/// verdict, `right ` and that of the right one's, and answers the greater exit status.
+/// [`judge_capture`](bgp_tool::judge_capture) does. Writes `left ` and the text of the left one's
+/// verdict, then `right ` and that of the right one's. Returns the greater exit status.
 ///
 /// A capture that is refused has the text and the status that it has there. Where the sink failed,
 /// a beginning of the text is written, and the status is 5.

@@ -1,6 +1,7 @@
 -- What judging a capture reads, writes and answers.
 use Rattle.std.specs.Prelude.{◌≡◌, ◌≢◌, ◌<◌, ◌+◌, ◌++◌, ◌⊎◌, ℕ, Bool, List, [], length, take}
-use Rattle.std.specs.Prelude.{IsTrue}
+use Rattle.std.specs.Prelude.{IsTrue, Option, None, Some}
+use Rattle.std.proofs.Common.{inl, inr}
 use Rattle.bgp_prefix.specs.Shown.{ShownRecord}
 use Rattle.bgp_open.specs.declared.config.Config.{Config}
 use Rattle.bgp_machine.specs.Run.{End, Begins, IsComplete}
@@ -67,6 +68,16 @@ module _ {R : Type 0} (gives : R → R → List ℕ → Type 0) (has_ended : R �
     pub tells : status ≡ status_by fault.kind
     -- one failure more, where that is the fault
     pub counted : failures source' ≡ failures source + device_count fault.kind
+
+-- the fault that is told, if it isn't a verdict
+abbrev pub fault_answered : {R : Type 0} {gives : R → R → List ℕ → Type 0} {has_ended : R → Bool}
+    {failures : R → ℕ} {config : Config} {source source' : R}
+    {may_lack : Config → List ShownRecord → ShownRecord → Type 0} {text : List ℕ} {status : ℕ}
+    → TellsVerdict gives has_ended failures config source source' text status
+    ⊎ TellsFault gives has_ended failures config source source' may_lack text status
+    → Option CaptureFault
+fault_answered (inl tells) = None
+fault_answered (inr tells) = Some tells.fault
 
 -- The verdict or the fault is told; all of its text was written, if the sink didn't fail, and then
 -- the status is its own; and else a beginning, and the status is 5.

@@ -10,4 +10,3 @@ pub mod Seen
 pub mod OpenedCapture
 pub mod Answer
 pub mod Judging
-pub mod OpenedJudging

@@ -47,7 +47,7 @@ pub fn put_answer<W: Sink, A: Allocator>(
 
 /// Writes the text of what is answered of a capture, and answers its exit status, or that of a
 /// device where the sink failed.
-pub(crate) fn write_answer<W: Sink, A: Allocator>(
+pub fn write_answer<W: Sink, A: Allocator>(
     sink: &mut W,
     answer: &Result<Verdict<A>, CaptureFault>,
 ) -> u8

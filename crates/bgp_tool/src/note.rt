@@ -108,6 +108,8 @@ pub enum Note<'a> {
         /// How many, which isn't 0.
         count: u64,
     },
+    /// An UPDATE of a confederation is among the records that were judged.
+    Confederation,
     /// A pair of ends gave up.
     Pair {
         /// The name of the left end's capture.
@@ -171,6 +173,9 @@ impl fmt::Display for Note<'_> {
             Note::SentPassedOver { count } => {
                 write!(f, "sent ROUTE-REFRESH messages passed over: {count}")
             }
+            Note::Confederation => f.write_str(
+                "an AS_PATH has confederation segments (RFC 5065), which are not judged",
+            ),
             Note::Pair { file, fault } => put_pair(f, file, fault),
         }
     }

@@ -1,9 +1,9 @@
 //! The examples of `bgp judge`, from the words of the command line to the text and the status.
 
 use bgp_compact::CompactTracker;
+use bgp_explain::{Report, judge_opened};
 use bgp_judge::{PlainTracker, Tracker};
 use bgp_open::Config;
-use bgp_tool::judge_opened;
 use bgp_words::{Command, command_line};
 use mrt::FromWrite;
 use std::alloc::{AllocError, Global};
@@ -42,17 +42,19 @@ struct Example<'a> {
 /// to say on standard error just where the capture is refused.
 fn is_answered<T: Tracker<Global>>(alloc: Global, example: &Example<'_>) -> bool {
     let mut sink = FromWrite::new(Vec::new(alloc));
-    let outcome = judge_opened::<Global, T, &[u8], Vec<u8>>(
+    let judged = judge_opened::<Global, T, &[u8], Vec<u8>>(
         alloc,
         &example.config,
+        Report::VerdictAlone,
         example.file,
         Ok(example.octets),
         &mut sink,
     );
     let written = sink.into_inner();
     written.as_slice() == example.text.as_bytes()
-        && outcome.status == example.status
-        && outcome.note.is_some() == (example.status == 3)
+        && judged.outcome.status == example.status
+        && judged.outcome.note.is_some() == (example.status == 3)
+        && !judged.confederation
 }
 
 /// Whether both trackers answer an example so.

@@ -37,10 +37,10 @@ mod lines;
 mod messages;
 mod moves;
 mod opens;
+mod raw_streams;
 mod recordings;
 mod runs;
 mod sessions;
-mod streams;
 mod table;
 mod told;
 mod updates;
@@ -50,11 +50,11 @@ use addresses::compare_addresses;
 use chance::judge_sessions;
 use examples::compare_examples;
 use judged::compare_altered;
+use raw_streams::print_streams;
 use recordings::print_captures;
 use std::io;
 use std::process::ExitCode;
 use std::rt::Files;
-use streams::print_streams;
 use table::compare_tables;
 
 fn main(rt: HostRuntime) -> ExitCode {

@@ -12,8 +12,9 @@
 use crate::case::{malformed, octets_of};
 use crate::devices::{Given, Paper};
 use bgp_compact::CompactTracker;
+use bgp_explain::{JudgedCapture, Report, judge_opened};
 use bgp_judge::{PlainTracker, Tracker};
-use bgp_tool::{Outcome, decode_opened, decode_opened_capture, judge_opened, passed_over};
+use bgp_tool::{Note, decode_opened, decode_opened_capture, passed_over};
 use bgp_wire::Limit;
 use bgp_words::{Command, command_line};
 use mrt::{FromWrite, SkippedRecords};
@@ -79,8 +80,8 @@ fn is_done_in_pieces<T: Tracker<Global>>(
     let opened = opened_of(block, octets, most);
     let paper = Paper::new(alloc, room_of(block));
     match ended::<T>(alloc, command, file_of(block), opened, paper) {
-        Some((outcome, written)) => {
-            Ok(is_outcome(alloc, block, &outcome)? && is_text(alloc, block, written.as_slice())?)
+        Some((judged, written)) => {
+            Ok(is_outcome(alloc, block, &judged)? && is_text(alloc, block, written.as_slice())?)
         }
         None => Ok(false),
     }
@@ -93,31 +94,56 @@ fn ended<'a, T: Tracker<Global>>(
     file: &'a str,
     opened: io::Result<Given<'_>>,
     paper: Paper,
-) -> Option<(Outcome<'a>, Vec<u8>)> {
+) -> Option<(JudgedCapture<'a>, Vec<u8>)> {
     let mut sink = FromWrite::new(paper);
-    let outcome = match command {
+    let confederation = false;
+    let judged = match command {
         Command::Decode { extended, .. } => {
             let limit = Limit::with_extended(*extended);
-            decode_opened(limit, alloc, file, opened, &mut sink)
+            let outcome = decode_opened(limit, alloc, file, opened, &mut sink);
+            JudgedCapture {
+                outcome,
+                confederation,
+            }
         }
         Command::Capture { session, .. } => {
-            decode_opened_capture(alloc, session, file, opened, &mut sink)
+            let outcome = decode_opened_capture(alloc, session, file, opened, &mut sink);
+            JudgedCapture {
+                outcome,
+                confederation,
+            }
         }
-        Command::Judge { config, .. } => {
-            judge_opened::<Global, T, _, _>(alloc, config, file, opened, &mut sink)
+        Command::Judge {
+            config,
+            explain,
+            ..
+        } => {
+            let report = if *explain {
+                Report::WithReason
+            } else {
+                Report::VerdictAlone
+            };
+            judge_opened::<Global, T, _, _>(alloc, config, report, file, opened, &mut sink)
         }
         _ => return None,
     };
-    Some((outcome, sink.into_inner().written))
+    Some((judged, sink.into_inner().written))
 }
 
 /// Whether a command ends with the status, the skipped records and the sentences of its block.
-fn is_outcome(alloc: Global, block: &str, outcome: &Outcome<'_>) -> Result<bool, AllocError> {
+fn is_outcome(alloc: Global, block: &str, judged: &JudgedCapture<'_>) -> Result<bool, AllocError> {
+    let JudgedCapture {
+        outcome,
+        confederation,
+    } = judged;
     let mut told = String::new(alloc);
     if let Some(skipped) = outcome.skipped {
         let (received, sent) = passed_over(&skipped);
         told.push_str(told_of(alloc, received)?.as_str())?;
         told.push_str(told_of(alloc, sent)?.as_str())?;
+    }
+    if *confederation {
+        told.push_str(told_of(alloc, Some(Note::Confederation))?.as_str())?;
     }
     told.push_str(told_of(alloc, outcome.note)?.as_str())?;
     let status = line_of(block, "status ").and_then(|status| status.parse::<u8>().ok());

@@ -7,14 +7,13 @@ use crate::words::{command_of, import_of, words_of};
 use bgp_check_capture_tool::{CaptureOptions, check_capture};
 use bgp_check_tool::{CheckOptions, Settings, check_recording};
 use bgp_compact::CompactTracker;
-use bgp_explain::explain_capture;
+use bgp_explain::{Report, explain_capture};
 use bgp_import::{Imported, Stopped, import_recording};
 use bgp_judge::{PlainTracker, Tracker};
 use bgp_list::{ListedRecording, list_recording};
 use bgp_open::Config;
 use bgp_options::RecordingOptions;
 use bgp_prefix::Session;
-use bgp_recording_explain::explain_recording;
 use bgp_recording_tool::{Judged, decode_recording, judge_recording};
 use bgp_words::Command;
 use mrt::{MemSink, MemSource};
@@ -75,7 +74,7 @@ pub(crate) fn answer_by<T: Tracker<Global>>(
             recording,
             explain: false,
             ..
-        } => judge::<T>(alloc, config, recording, file),
+        } => judge::<T>(alloc, config, Report::VerdictAlone, recording, file),
         Command::Judge {
             config,
             recording,
@@ -140,6 +139,7 @@ fn decode(
 fn judge<T: Tracker<Global>>(
     alloc: Global,
     config: &Config,
+    report: Report,
     options: &RecordingOptions,
     file: &File<'_>,
 ) -> io::Result<String> {
@@ -148,6 +148,7 @@ fn judge<T: Tracker<Global>>(
     let answer = judge_recording::<Global, T, MemSource, MemSink>(
         alloc,
         config,
+        report,
         options,
         &mut source,
         &mut sink,
@@ -162,18 +163,11 @@ fn explain<T: Tracker<Global>>(
     options: &RecordingOptions,
     file: &File<'_>,
 ) -> io::Result<String> {
+    if file.is_recording() {
+        return judge::<T>(alloc, config, Report::WithReason, options, file);
+    }
     let mut source = file.source(alloc)?;
     let mut sink = MemSink::new(alloc);
-    if file.is_recording() {
-        let answer = explain_recording::<Global, T, MemSource, MemSink>(
-            alloc,
-            config,
-            options,
-            &mut source,
-            &mut sink,
-        );
-        return judged(alloc, &answer, sink);
-    }
     let status = explain_capture::<Global, T, MemSource, MemSink>(
         alloc,
         config,

@@ -38,6 +38,7 @@ fn is_judged(
     let outcome = judge_file::<Global, PlainTracker<Global>, _, _>(
         alloc,
         &config,
+        Report::VerdictAlone,
         &OPTIONS,
         "a.pcap",
         Ok(given),

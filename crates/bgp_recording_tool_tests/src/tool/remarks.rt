@@ -13,9 +13,11 @@ static REMARKS: [(Option<usize>, RemarkKind, &str); 3] = [
         RemarkKind::No {
             before: u64::MAX,
             packet: u64::MAX,
+            within: 1,
         },
         "connection 2: no at record 18446744073709551616: packet 18446744073709551615 shows it; \
-         this is about one order of the messages that these packets allow",
+         this is about one order of the messages that these packets allow if each is handled \
+         within 1 s (--within)",
     ),
     (
         Some(2),

@@ -16,12 +16,15 @@ returns-then-not-is_recording-clause-decoded g c =
       is_peeked = c.new-peeked.ensures;
       is = inr (
         sym c.if-not-is_recording.ensures,
-        subst
-            (λ (o : Outcome). DecodesOpened (peeked_remaining g.R.Read.remaining) g.W.Write.contents c.args.session.now c.args.file c.new-peeked.result
-            (writer_state c.args.sink.now) (writer_state c.decode_opened_capture-outcome.new.sink) o)
-            (same_outcome c.decode_opened_capture-outcome.result outcome.result.status outcome.result.skipped outcome.result.note
-            outcome.ensures.status outcome.ensures.skipped outcome.ensures.note)
-            c.decode_opened_capture-outcome.ensures.decoded,
+        (
+          subst
+              (λ (o : Outcome). DecodesOpened (peeked_remaining g.R.Read.remaining) g.W.Write.contents c.args.session.now c.args.file c.new-peeked.result
+              (writer_state c.args.sink.now) (writer_state c.decode_opened_capture-outcome.new.sink) o)
+              (same_outcome c.decode_opened_capture-outcome.result outcome.result.status outcome.result.skipped outcome.result.note
+              outcome.ensures.status outcome.ensures.skipped outcome.ensures.note)
+              c.decode_opened_capture-outcome.ensures.decoded,
+          outcome.ensures.confederation,
+        ),
         outcome.ensures.uncut,
         outcome.ensures.remarks,
       );
@@ -50,6 +53,7 @@ returns-clause-decoded g c =
             reader = λ same status. note.reader (same ∙ sym before) status;
           };
         },
+        refl,
         refl,
       );
     })

@@ -1,14 +1,14 @@
 use Rattle.std.proofs.Common.{◌∙◌, ◌+◌, ℕ, refl, sym, ap, subst, inl, inr}
 use Rattle.mrt.specs.FromWrite.{writer_state}
-use Rattle.bgp_tool.specs.declared.opened.Outcome.{Outcome}
-use Rattle.bgp_tool.specs.OpenedJudging.{JudgesOpened}
+use Rattle.bgp_explain.specs.Opened.{ReportsOpened}
+use Rattle.bgp_explain.specs.declared.opened.JudgedCapture.{JudgedCapture}
 use Rattle.bgp_recording_tool.specs.Files.{peeked_remaining}
-use Rattle.bgp_recording_tool.proofs.Outcomes.{same_outcome}
+use Rattle.bgp_recording_tool.proofs.Outcomes.{same_judged}
 use Rattle.bgp_recording_tool.proofs.files.judge_file.Goals as goal
 
 -- a capture
-pub returns-then-not-is_recording-clause-judged : goal.returns-then-not-is_recording-clause-judged
-returns-then-not-is_recording-clause-judged g c =
+pub returns-then-not-is_recording-clause-reported : goal.returns-then-not-is_recording-clause-reported
+returns-then-not-is_recording-clause-reported g c =
     let outcome = c.without_remarks-then-not-is_recording in
     rw c.in-Ok.is
     (record {
@@ -17,19 +17,19 @@ returns-then-not-is_recording-clause-judged g c =
       is = inr (
         sym c.if-not-is_recording.ensures,
         subst
-            (λ (o : Outcome). JudgesOpened (peeked_remaining g.R.Read.remaining) g.W.Write.contents c.args.config.now g.T.Tracker.may_lack c.args.file c.new-peeked.result
-            (writer_state c.args.sink.now) (writer_state c.judge_opened-outcome.new.sink) o)
-            (same_outcome c.judge_opened-outcome.result outcome.result.status outcome.result.skipped outcome.result.note
-            outcome.ensures.status outcome.ensures.skipped outcome.ensures.note)
-            c.judge_opened-outcome.ensures.judged,
+            (λ (o : JudgedCapture). ReportsOpened (peeked_remaining g.R.Read.remaining) g.W.Write.contents c.args.config.now g.T.Tracker.may_lack c.args.file c.new-peeked.result
+            (writer_state c.args.sink.now) (writer_state c.judge_opened-judged.new.sink) o c.args.report)
+            (same_judged c.judge_opened-judged.result outcome.result.status outcome.result.skipped outcome.result.note outcome.result.confederation
+            outcome.ensures.status outcome.ensures.skipped outcome.ensures.note outcome.ensures.confederation)
+            c.judge_opened-judged.ensures.reported,
         outcome.ensures.uncut,
         outcome.ensures.remarks,
       );
     })
 
 -- a recording
-pub returns-clause-judged : goal.returns-clause-judged
-returns-clause-judged g c =
+pub returns-clause-reported : goal.returns-clause-reported
+returns-clause-reported g c =
     let note = c.recording_note-note.ensures in
     let before = c.failures-failures.ensures in
     rw c.in-Ok.is
@@ -50,6 +50,7 @@ returns-clause-judged g c =
             reader = λ same status. note.reader (same ∙ sym before) status;
           };
         },
+        refl,
         refl,
       );
     })

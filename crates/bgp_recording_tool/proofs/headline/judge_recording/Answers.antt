@@ -26,11 +26,11 @@ returns g c =
         text = puts.text;
         code = code_of c.judge_source-status.result.0;
         told = subst
-            (λ (w : Import). TellsRecording g.R.Source.gives g.R.Source.has_ended g.R.Source.failures c.args.config.now w c.args.source.now
+            (λ (w : Import). TellsRecording g.R.Source.gives g.R.Source.has_ended g.R.Source.failures c.args.config.now c.args.report w c.args.source.now
             c.judge_source-status.new.source c.judge_source-status.result.1 puts.text (code_of c.judge_source-status.result.0) c.judge_source-status.new.remarks.items)
             meant
             (subst
-            (λ (o : List Remark). TellsRecording g.R.Source.gives g.R.Source.has_ended g.R.Source.failures c.args.config.now c.import_of-import.result
+            (λ (o : List Remark). TellsRecording g.R.Source.gives g.R.Source.has_ended g.R.Source.failures c.args.config.now c.args.report c.import_of-import.result
             c.args.source.now c.judge_source-status.new.source c.judge_source-status.result.1 puts.text (code_of c.judge_source-status.result.0) o)
             own puts.holds);
         written = rw c.code.ensures

@@ -1,26 +1,24 @@
-use Rattle.std.proofs.Common.{◌≡◌, ◌∙◌, ◌+◌, ℕ, length, reverse, [], ◌∷◌, ap, subst, add-one, arith}
+use Rattle.std.proofs.Common.{◌≡◌, ◌+◌, ℕ, length, reverse, subst, add-one, arith}
 use Rattle.streams.specs.Connections.{numbered}
 use Rattle.bgp_tool.specs.Status.{code_of}
 use Rattle.bgp_text.proofs.Pieces.{Joins, and_then}
-use Rattle.bgp_recording_tool.specs.Connections.{AreTold}
 use Rattle.bgp_recording_tool.specs.Judging.{Puts}
-use Rattle.bgp_recording_tool.specs.Told.{told_by, status_over}
+use Rattle.bgp_recording_tool.specs.Connections.{AreTold}
 use Rattle.bgp_recording_tool.proofs.Puttings.{one_more_at}
 use Rattle.bgp_recording_tool.proofs.judging.judge_each.Goals as goal
 
 pub loop-index-preserved : goal.loop-index-preserved
 loop-index-preserved g c = λ packets segments taken holds.
     let law : Joins g.W.Sink = record { joined = g.met.W.Sink.joined } in
-    one_more_at law c.args.lines.now c.loop-index.lines c.put_told.new.lines c.args.remarks.now.items c.loop-index.remarks.items c.answer_to-answer.new.remarks.items
-    c.args.config.now c.args.import.now packets segments c.loop-index.index (c.loop-index.index + 1) (code_of c.loop-index.status) (code_of c.status_over-status.result)
-    c.in-Some.opening (told_by c.answer_to-answer.result) (add-one c.loop-index.index) (c.loop-index.invariant packets segments taken holds)
-    (c.in-Some.ensures (reverse segments) (length packets) holds) (c.answer_to-answer.ensures packets segments taken holds)
-    (and_then law c.put_opening.ensures (and_then law c.put.ensures c.put_told.ensures.writes))
-    (c.status_over-status.ensures ∙ ap (λ (n : ℕ). status_over (code_of c.loop-index.status ∷ n ∷ [])) c.put_told.ensures.status)
+    one_more_at law c.args.lines.now c.loop-index.lines c.put.new.self c.report_connection-told.new.lines c.args.remarks.now.items c.loop-index.remarks.items
+    c.report_connection-told.new.remarks.items c.args.config.now c.args.report c.args.import.now packets segments c.loop-index.index (c.loop-index.index + 1) (code_of c.loop-index.status)
+    (code_of c.report_connection-told.result) (code_of c.status_over-status.result) c.in-Some.opening (add-one c.loop-index.index)
+    (c.loop-index.invariant packets segments taken holds) (c.in-Some.ensures (reverse segments) (length packets) holds)
+    (and_then law c.put_opening.ensures c.put.ensures) (c.report_connection-told.ensures packets segments taken holds) c.status_over-status.ensures
 
 pub returns : goal.returns
 returns g c = λ packets segments taken holds.
     let all : c.loop-index.index ≡ length (numbered (reverse segments)) =
     omega (arith, c.loop-index-test.false, c.loop-index.auto.index-end, c.count-index-end.ensures (reverse segments) (length packets) holds) in
     subst (λ (n : ℕ). Puts c.args.lines.now c.loop-index.lines c.args.remarks.now.items c.loop-index.remarks.items (code_of c.loop-index.status)
-    (AreTold c.args.config.now c.args.import.now packets segments n)) all (c.loop-index.invariant packets segments taken holds)
+    (AreTold c.args.config.now c.args.report c.args.import.now packets segments n)) all (c.loop-index.invariant packets segments taken holds)

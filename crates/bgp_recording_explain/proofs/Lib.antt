@@ -1,3 +1,0 @@
-pub mod Tellings
-pub mod Puttings
-pub mod SameVerdict

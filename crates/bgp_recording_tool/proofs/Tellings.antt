@@ -1,0 +1,99 @@
+-- What is told of one connection, by what was made of it and what was put of that.
+use Rattle.std.proofs.Common.{◌≡◌, ℕ, List, Option, Some, refl, inl, inr}
+use Rattle.std.specs.List.{AllByRecursion}
+use Rattle.packets.specs.Packet.{Recorded}
+use Rattle.streams.specs.Passed.{Segment}
+use Rattle.mrt.specs.declared.sink.Sink as sinks
+use Rattle.bgp_prefix.specs.declared.session.RouteRefresh.TheVariants as refreshes
+use Rattle.bgp_open.specs.declared.config.Config.{Config}
+use Rattle.bgp_text.specs.Lines.{Writes}
+use Rattle.bgp_text.specs.declared.lines.Lines.{Lines}
+use Rattle.bgp_recording.specs.Captured.{IsNoRefresh, records_of}
+use Rattle.bgp_recording.specs.declared.making.Recording.{Recording}
+use Rattle.bgp_import.specs.Making.{TellsOne, IsTurnedDown}
+use Rattle.bgp_import.specs.Refreshes.{IsRefreshIn}
+use Rattle.bgp_import.specs.Refusals.{refusal_line}
+use Rattle.bgp_import.specs.declared.importing.Import.{Import}
+use Rattle.bgp_import.specs.declared.refusal.Refusal.{Refusal}
+use Rattle.bgp_recording_tool.specs.declared.remark.Remark.{Remark}
+use Rattle.bgp_recording_tool.specs.Judging.{Puts}
+use Rattle.bgp_recording_tool.specs.Remarks.{AddsTold, IsHelp, notes_of, remarks_on}
+use Rattle.bgp_explain.specs.declared.report.Report.{Report}
+use Rattle.bgp_recording_tool.specs.Told.{Judged, Refused, refused_status}
+use Rattle.bgp_recording_tool.proofs.Judgings.{is_made}
+use Rattle.bgp_recording_tool.specs.Connections.{IsToldAs}
+use Rattle.bgp_recording_tool.specs.Putting.{PutsReport}
+
+module _ {T : Type 0} {sink : sinks.Ghosts T} (config : Config) (report : Report) (wanted : Import) (packets : List Recorded) (segments : List Segment) (number named : Option ℕ)
+    (a b : Lines T sink) (old new : List Remark) (status : ℕ) where
+  -- it was judged
+  pub was_judged : {Z : Type 0} (made : Recording Z) → TellsOne wanted number packets segments made
+      → (wanted.selection.session.refresh ≡ refreshes.Refused → AllByRecursion IsNoRefresh (records_of made.entries.items))
+      → PutsReport config report named wanted.within made.entries.items (notes_of made) a b old new status
+      → Puts a b old new status (IsToldAs config report wanted packets segments number named)
+  was_judged made tells without puts = record {
+    text = _;
+    own = remarks_on named wanted.within made.entries.items (notes_of made) puts.confederation puts.verdict;
+    wrote = puts.wrote;
+    added = puts.added;
+    holds = record {
+      told = Judged puts.verdict puts.more;
+      is_told = record {
+        judged = record {
+          connection = tells.connection;
+          entries = made.entries.items;
+          notes = notes_of made;
+          chosen = tells.answered;
+          made = is_made wanted number packets segments made tells;
+          without = without;
+          is = puts.is;
+          confederation = puts.confederation;
+          shows = puts.shows;
+          remarked = refl;
+        };
+        is_more = puts.is_more;
+      };
+      prints = refl;
+      tells = puts.tells;
+    };
+  }
+
+  -- or it is refused, and what helps was added
+  pub was_turned_down : (refusal : Refusal) → IsTurnedDown number packets segments refusal → Writes a b (refusal_line refusal) → status ≡ refused_status refusal
+      → AddsTold old new (IsHelp named refusal) → Puts a b old new status (IsToldAs config report wanted packets segments number named)
+  was_turned_down refusal down wrote tells adds = record {
+    text = refusal_line refusal;
+    own = adds.own;
+    wrote = wrote;
+    added = adds.added;
+    holds = record { told = Refused refusal; is_told = record { why = inl down; helps = adds.is_told }; prints = refl; tells = tells };
+  }
+
+  -- or it has a ROUTE-REFRESH
+  pub was_refreshed : {Z : Type 0} (refusal : Refusal) (made : Recording Z) → TellsOne wanted number packets segments made
+      → wanted.selection.session.refresh ≡ refreshes.Refused → IsRefreshIn made.entries.items made.received.rest made.sent.rest (Some refusal)
+      → Writes a b (refusal_line refusal) → status ≡ refused_status refusal → AddsTold old new (IsHelp named refusal)
+      → Puts a b old new status (IsToldAs config report wanted packets segments number named)
+  was_refreshed refusal made tells refuses is wrote told adds = record {
+    text = refusal_line refusal;
+    own = adds.own;
+    wrote = wrote;
+    added = adds.added;
+    holds = record {
+      told = Refused refusal;
+      is_told = record {
+        why = inr (record {
+          connection = tells.connection;
+          entries = made.entries.items;
+          notes = notes_of made;
+          chosen = tells.answered;
+          made = is_made wanted number packets segments made tells;
+          refuses = refuses;
+          is = is;
+        });
+        helps = adds.is_told;
+      };
+      prints = refl;
+      tells = told;
+    };
+  }

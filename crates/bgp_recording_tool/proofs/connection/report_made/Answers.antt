@@ -1,0 +1,48 @@
+use Rattle.std.proofs.Common.{◌↔◌, IsTrue, ◌≡◌, ◌∙◌, List, ap, map, subst, sym}
+use Rattle.std.specs.List.{AllByRecursion}
+use Rattle.bgp_prefix.specs.Shown.{ShownRecord}
+use Rattle.mrt.specs.Reader.{shown_of}
+use Rattle.bgp_judge.specs.Verdict.{HasVerdict, verdict_value}
+use Rattle.bgp_recording.specs.Captured.{records_of}
+use Rattle.bgp_recording.specs.declared.entry.Entry.{Entry}
+use Rattle.bgp_confederations.specs.Confederations.{SomeShowConfederations}
+use Rattle.bgp_explain.specs.Records.{AreExplained, CanBeShown}
+use Rattle.bgp_explain.proofs.NextRecord.{can_of, entries_can}
+use Rattle.bgp_recording_tool.specs.Connections.{IsMore}
+use Rattle.bgp_recording_tool.proofs.connection.report_made.Goals as goal
+
+pub put_report-requires-clause-explained : goal.put_report-requires-clause-explained
+put_report-requires-clause-explained g c =
+    subst (λ (rs : List ShownRecord). AreExplained c.args.config.now rs c.in_ok-explained.explained)
+    (ap (map shown_of) c.deref.ensures.value ∙ c.requires.records ∙ ap records_of (sym c.as_slice-entries.ensures.value)) c.in_ok-explained.ensures
+
+pub put_report-requires-clause-can : goal.put_report-requires-clause-can
+put_report-requires-clause-can g c =
+    let config = c.args.config.now in
+    let session = config.parts.session in
+    let entries = c.as_slice-entries.result.now in
+    let explained = c.in_ok-explained.explained in
+    let are : AreExplained config (records_of entries) explained = put_report-requires-clause-explained g c in
+    can_of session config (records_of entries) explained.verdict explained.reason
+    (entries_can session entries (subst (λ (es : List Entry). AllByRecursion (CanBeShown session) es) (sym c.as_slice-entries.ensures.value) c.requires.can))
+    are.reason
+
+pub returns : goal.returns
+returns g c =
+    let config = c.args.config.now in
+    let same = c.as_slice-entries.ensures.value in
+    let verdict = verdict_value c.in_ok-explained.explained.verdict in
+    let (more, is_more, wrote) = c.put_report.ensures.writes in
+    let records = c.requires.records in
+    record {
+      verdict = verdict;
+      more = more;
+      is = subst (λ (rs : List ShownRecord). HasVerdict config rs verdict) (ap (map shown_of) c.deref.ensures.value ∙ records) c.in_ok-explained.ensures.verdict;
+      is_more = subst (λ (es : List Entry). IsMore c.args.report config es verdict more) same is_more;
+      wrote = wrote;
+      confederation = c.some_show_confederations-confederation.result;
+      shows = subst (λ (rs : List ShownRecord). IsTrue c.some_show_confederations-confederation.result ↔ SomeShowConfederations rs) (ap (map shown_of) c.deref-2.ensures.value ∙ records)
+          c.some_show_confederations-confederation.ensures;
+      added = c.in_ok-add_remarks_on.ensures.ok;
+      tells = c.put_report.ensures.status;
+    }

@@ -1,0 +1,217 @@
+//! What is reported on one of a recording's connections: the verdict on its records, and why it is
+//! so.
+
+ghost use Rattle.std.specs.Prelude.{◌≡◌, ◌++◌, ℕ, List, Some, length, map, reverse};
+ghost use Rattle.std.specs.Prelude.{IfNone, IfSome, MatchResult};
+ghost use Rattle.mrt.specs.Reader.{shown_of};
+ghost use Rattle.std.specs.List.{AllByRecursion};
+ghost use Rattle.packets.specs.Packet.{Recorded};
+ghost use Rattle.streams.specs.Passed.{Segment};
+ghost use Rattle.bgp_prefix.specs.declared.session.RouteRefresh.TheVariants.{Refused};
+ghost use Rattle.bgp_text.specs.Lines.{Writes};
+ghost use Rattle.bgp_judge.specs.Verdict.{verdict_value};
+ghost use Rattle.bgp_tool.specs.Status.{code_of};
+ghost use Rattle.bgp_import.specs.Gathers.{HoldsSession};
+ghost use Rattle.bgp_import.specs.Making.{HoldsTaken};
+ghost use Rattle.bgp_import.specs.Refreshes.{IsRefreshIn};
+ghost use Rattle.bgp_import.specs.Refusals.{refusal_line};
+ghost use Rattle.bgp_import.specs.Selecting.{AreTaken};
+ghost use Rattle.bgp_recording.specs.Captured as captured;
+ghost use Rattle.bgp_recording.specs.Captured.{IsNoRefresh};
+ghost use Rattle.bgp_explain.specs.Places.{shown_places};
+ghost use Rattle.bgp_explain.specs.Records.{AreExplained, CanBeShown, SaysOrNot};
+ghost use Rattle.bgp_explain.specs.Text.{CanBePutOf};
+ghost use Rattle.bgp_recording_tool.specs.Connections.{IsMore, IsToldAs};
+ghost use Rattle.bgp_recording_tool.specs.Judging.{Puts};
+ghost use Rattle.bgp_recording_tool.specs.Options.{IsOneFamily};
+ghost use Rattle.bgp_recording_tool.specs.Putting.{PutsNothing, PutsReport};
+ghost use Rattle.bgp_recording_tool.specs.Remarks.{AddsTold, IsHelp, notes_of};
+ghost use Rattle.bgp_recording_tool.specs.Told.{refused_status, value_status, value_text};
+
+use crate::judging::{status_of, verdict_status};
+use crate::remark::{Remark, add_help};
+use crate::remarking::add_remarks_on;
+use bgp_confederations::some_show_confederations;
+use bgp_explain::{ExplainedRecords, Places, Report, explain_records, put_explained_records};
+use bgp_import::{Gathered, Import, Refusal, put_refusal, records_of, refresh_in};
+use bgp_judge::Tracker;
+use bgp_open::Config;
+use bgp_prefix::{RouteRefresh, Session};
+use bgp_reason_text::Style;
+use bgp_recording::{Entry, Recording};
+use bgp_text::Lines;
+use bgp_tool::{Status, put_verdict};
+use mrt::Sink;
+use std::alloc::{AllocError, Allocator};
+
+/// Why the records of a connection aren't judged, if they aren't: its session may have a
+/// ROUTE-REFRESH, which the machine doesn't know, nothing says that such are to be passed over, and
+/// there is one.
+fn refused_refresh<A: Allocator>(session: &Session, made: &Recording<'_, A>) -> Option<Refusal>
+    ensures some { IfSome result (λ refusal. (session.now.refresh ≡ Refused)
+        × IsRefreshIn made.now.entries.items made.now.received.rest made.now.sent.rest
+        (Some refusal)) }
+    ensures none { IfNone result (session.now.refresh ≡ Refused
+        → AllByRecursion IsNoRefresh (captured.records_of made.now.entries.items)) }
+{
+    if session.refresh == RouteRefresh::Refused {
+        refresh_in(made)
+    } else {
+        None
+    }
+}
+
+/// Puts what explains the verdict on the records of these entries, or that memory was refused for
+/// the reason.
+fn put_reason<A: Allocator + Copy, W: Sink>(
+    lines: &mut Lines<'_, W>,
+    alloc: A,
+    config: &Config,
+    entries: &[Entry<'_>],
+    explained: &ExplainedRecords<A>,
+)
+    requires explained { AreExplained config.now (captured.records_of entries.now) explained.now }
+    requires can { CanBePutOf config.now.parts.session explained.now.reason }
+    ensures { (more : List ℕ)
+        × SaysOrNot config.now config.now.parts.session (shown_places entries.now)
+        (captured.records_of entries.now) (verdict_value explained.now.verdict) more
+        × Writes lines.old lines.new more }
+{
+    let (session, places) = (&config.parts.session, Places::Shown(entries));
+    let details = explained.details(alloc, config);
+    let style = Style::plain();
+    put_explained_records(lines, config, &style, session, places, explained, &details);
+}
+
+/// Puts what stands after the verdict on the records of these entries.
+fn put_more<A: Allocator + Copy, W: Sink>(
+    lines: &mut Lines<'_, W>,
+    alloc: A,
+    config: &Config,
+    report: Report,
+    entries: &[Entry<'_>],
+    explained: &ExplainedRecords<A>,
+)
+    requires explained { AreExplained config.now (captured.records_of entries.now) explained.now }
+    requires can { CanBePutOf config.now.parts.session explained.now.reason }
+    ensures { (more : List ℕ)
+        × IsMore report config.now entries.now (verdict_value explained.now.verdict) more
+        × Writes lines.old lines.new more }
+{
+    match report {
+        Report::VerdictAlone => {}
+        Report::WithReason => put_reason(lines, alloc, config, entries, explained),
+    }
+}
+
+/// Puts the verdict on the records of these entries, and what stands after it, and answers its exit
+/// status.
+fn put_report<A: Allocator + Copy, W: Sink>(
+    lines: &mut Lines<'_, W>,
+    alloc: A,
+    config: &Config,
+    report: Report,
+    entries: &[Entry<'_>],
+    explained: &ExplainedRecords<A>,
+) -> Status
+    requires explained { AreExplained config.now (captured.records_of entries.now) explained.now }
+    requires can { CanBePutOf config.now.parts.session explained.now.reason }
+    ensures writes { (more : List ℕ)
+        × IsMore report config.now entries.now (verdict_value explained.now.verdict) more
+        × Writes lines.old lines.new
+        (value_text (verdict_value explained.now.verdict) ++ more) }
+    ensures status { code_of result ≡ value_status (verdict_value explained.now.verdict) }
+{
+    put_verdict(lines, &explained.verdict);
+    put_more(lines, alloc, config, report, entries, explained);
+    verdict_status(&explained.verdict)
+}
+
+/// Judges the records of a connection, puts what is reported on them, adds what there is to tell of
+/// it, with this number where several are told of, and answers the exit status. Where memory is
+/// refused for the verdict nothing is put or added.
+fn report_made<A: Allocator + Copy, T: Tracker<A>, W: Sink>(
+    alloc: A,
+    config: &Config,
+    report: Report,
+    within: u16,
+    named: Option<usize>,
+    made: &Recording<'_, A>,
+    lines: &mut Lines<'_, W>,
+    remarks: &mut Vec<Remark, A>,
+) -> Result<Status, AllocError>
+    requires records { map shown_of made.now.records.items
+        ≡ captured.records_of made.now.entries.items }
+    requires can { AllByRecursion (CanBeShown config.now.parts.session)
+        made.now.entries.items }
+    ensures { MatchResult result
+        (λ status. PutsReport config.now report named within made.now.entries.items
+        (notes_of made.now) lines.old lines.new remarks.old.items remarks.new.items
+        (code_of status))
+        (λ error. PutsNothing lines.old lines.new remarks.old.items remarks.new.items) }
+{
+    let entries = made.entries.as_slice();
+    let explained = explain_records::<A, T>(alloc, config, &made.records)?;
+    let confederation = some_show_confederations(&made.records);
+    add_remarks_on(
+        remarks,
+        named,
+        within,
+        made,
+        confederation,
+        &explained.verdict,
+    )?;
+    Ok(put_report(lines, alloc, config, report, entries, &explained))
+}
+
+/// Puts the line of a refusal, adds what helps, and answers its exit status.
+pub(crate) fn put_refused<A: Allocator + Copy, W: Sink>(
+    lines: &mut Lines<'_, W>,
+    remarks: &mut Vec<Remark, A>,
+    named: Option<usize>,
+    refusal: Refusal,
+) -> Status
+    ensures writes { Writes lines.old lines.new (refusal_line refusal) }
+    ensures helps { AddsTold remarks.old.items remarks.new.items (IsHelp named refusal) }
+    ensures status { code_of result ≡ refused_status refusal }
+{
+    put_refusal(lines, refusal);
+    add_help(remarks, named, refusal);
+    status_of(refusal)
+}
+
+/// Judges the connection of this number, or the only one, puts what is reported on it, adds what
+/// there is to tell besides, with a number where several are told of, and answers the exit status.
+pub(crate) fn report_connection<A: Allocator + Copy, T: Tracker<A>, W: Sink>(
+    alloc: A,
+    config: &Config,
+    report: Report,
+    import: &Import,
+    gathered: &Gathered<A>,
+    number: Option<usize>,
+    named: Option<usize>,
+    lines: &mut Lines<'_, W>,
+    remarks: &mut Vec<Remark, A>,
+) -> Status
+    requires session { import.now.selection.session ≡ config.now.parts.session }
+    requires family { IsOneFamily import.now.selection.session }
+    requires holds { HoldsTaken import.now.selection gathered.now }
+    ensures { (packets : List Recorded) (segments : List Segment)
+        → AreTaken import.now.selection 0 packets segments
+        → HoldsSession (reverse segments) (length packets) gathered.now
+        → Puts lines.old lines.new remarks.old.items remarks.new.items (code_of result)
+        (IsToldAs config.now report import.now packets segments number named) }
+{
+    let made = match records_of(alloc, import, gathered, number) {
+        Ok(made) => made,
+        Err(refusal) => return put_refused(lines, remarks, named, refusal),
+    };
+    if let Some(refusal) = refused_refresh(&import.selection.session, &made) {
+        return put_refused(lines, remarks, named, refusal);
+    }
+    let within = import.within;
+    match report_made::<A, T, W>(alloc, config, report, within, named, &made, lines, remarks) {
+        Ok(status) => status,
+        Err(AllocError) => put_refused(lines, remarks, named, gathered.no_memory()),
+    }
+}

@@ -1,0 +1,25 @@
+//! Laws of the reason of a verdict on a recording, each on a function that does nothing.
+
+ghost use Rattle.bgp_recording_tool.specs.Laws.{MadeCouldHaveStood};
+ghost use Rattle.bgp_recording_tool.specs.Laws.{RecordingsAreExplainedAsJudged};
+
+use bgp_explain::what_could_have_stood_is_told;
+use bgp_import::recordings_are_made_once;
+use bgp_judge::records_have_just_one_verdict;
+
+/// Of a connection that is explained as a no it is told which records could have stood in the place
+/// of the first impossible of its made records: each of those that are told, and no other.
+pub fn made_records_could_have_stood()
+    ensures { MadeCouldHaveStood }
+{
+    what_could_have_stood_is_told();
+}
+
+/// The verdict that is explained of a connection is the one that
+/// [`judge_recording`](crate::judge_recording) tells of it without a reason.
+pub fn recordings_are_explained_as_judged()
+    ensures { RecordingsAreExplainedAsJudged }
+{
+    recordings_are_made_once();
+    records_have_just_one_verdict();
+}

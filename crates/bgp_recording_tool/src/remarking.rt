@@ -1,0 +1,152 @@
+//! What is remarked on one of a recording's connections.
+
+ghost use Rattle.std.specs.Prelude.{◌≡◌, ◌++◌, OnErr, OnOk};
+ghost use Rattle.bgp_judge.specs.Verdict.{verdict_value};
+ghost use Rattle.bgp_recording_tool.specs.Remarks.{making_remark, making_remarks, verdict_remark};
+ghost use Rattle.bgp_recording_tool.specs.Remarks.{confederation_remark, has_sent, notes_of};
+ghost use Rattle.bgp_recording_tool.specs.Remarks.{packet_after, remarks_on};
+ghost use Rattle.bgp_tool.specs.Seen.{is_sent};
+ghost use Rattle.mrt.specs.Reader.{shown_of};
+
+use crate::remark::{Remark, RemarkKind, add_remarks};
+use bgp_import::{Note, notes_on};
+use bgp_judge::Verdict;
+use bgp_recording::{Entry, Recording};
+use mrt::Record;
+use std::alloc::{AllocError, Allocator};
+
+/// A note as a remark on the connection of this number, where several are told of.
+fn made_remark(connection: Option<usize>, note: Option<Note>) -> Option<Remark>
+    ensures { result ≡ making_remark connection note }
+{
+    match note {
+        Some(note) => Some(Remark {
+            connection,
+            kind: RemarkKind::Made(note),
+        }),
+        None => None,
+    }
+}
+
+/// What there is to tell of how the capture of a connection was made.
+pub(crate) fn making_remarks<A: Allocator>(
+    connection: Option<usize>,
+    made: &Recording<'_, A>,
+) -> [Option<Remark>; 5]
+    ensures { result ≡ making_remarks connection (notes_of made.now) }
+{
+    let [
+        received_passed,
+        sent_passed,
+        received_left,
+        sent_left,
+        put_off,
+    ] = notes_on(made).in_order();
+    [
+        made_remark(connection, received_passed),
+        made_remark(connection, sent_passed),
+        made_remark(connection, received_left),
+        made_remark(connection, sent_left),
+        made_remark(connection, put_off),
+    ]
+}
+
+/// The packet that shows the entry after so many: 0 where there are no more.
+fn packet_after(entries: &[Entry<'_>], count: u64) -> u64
+    ensures { result ≡ packet_after entries.now count }
+{
+    match entries.get(count as usize) {
+        Some(entry) => entry.packet,
+        None => 0,
+    }
+}
+
+/// Whether the local system sent a message.
+fn has_sent(entries: &[Entry<'_>]) -> bool
+    ensures { result ≡ has_sent entries.now }
+{
+    entries.iter().any(|entry| is_sent(entry))
+}
+
+/// Whether an entry is a message that the local system sent.
+fn is_sent(entry: &Entry<'_>) -> bool
+    ensures { result ≡ is_sent (shown_of entry.now.record) }
+{
+    matches!(entry.record, Record::Out(_, _))
+}
+
+/// That an UPDATE of a confederation is among the records, where one is.
+fn confederation_remark(connection: Option<usize>, confederation: bool) -> Option<Remark>
+    ensures { result ≡ confederation_remark connection confederation }
+{
+    if !confederation {
+        return None;
+    }
+    Some(Remark {
+        connection,
+        kind: RemarkKind::Confederation,
+    })
+}
+
+/// What there is to tell of a verdict: of a yes, that nothing was sent, where that is so; of a no,
+/// at which record and packet, and how long a message may have waited.
+fn verdict_remark<A: Allocator>(
+    connection: Option<usize>,
+    within: u16,
+    entries: &[Entry<'_>],
+    verdict: &Verdict<A>,
+) -> Option<Remark>
+    ensures { result ≡ verdict_remark connection within entries.now (verdict_value verdict.now) }
+{
+    let kind = match verdict {
+        Verdict::Yes(_) if has_sent(entries) => return None,
+        Verdict::Yes(_) => RemarkKind::NothingSent,
+        Verdict::No(count) => RemarkKind::No {
+            before: *count,
+            packet: packet_after(entries, *count),
+            within,
+        },
+        Verdict::Unfinished => return None,
+    };
+    Some(Remark { connection, kind })
+}
+
+/// Adds what there is to tell of a connection: how its records were made; whether they show an
+/// UPDATE of a confederation, as the caller found; of a no at which of them, and in which packet;
+/// of a yes that nothing was sent. It is told with this number, where several connections are.
+/// None of it where a growth is refused.
+pub(crate) fn add_remarks_on<A: Allocator + Copy>(
+    remarks: &mut Vec<Remark, A>,
+    named: Option<usize>,
+    within: u16,
+    made: &Recording<'_, A>,
+    confederation: bool,
+    verdict: &Verdict<A>,
+) -> Result<(), AllocError>
+    ensures ok { OnOk result (remarks.new.items ≡ remarks.old.items
+        ++ remarks_on named within made.now.entries.items (notes_of made.now) confederation
+        (verdict_value verdict.now)) }
+    ensures err { OnErr result (remarks.new.items ≡ remarks.old.items) }
+{
+    let [
+        received_passed,
+        sent_passed,
+        received_left,
+        sent_left,
+        put_off,
+    ] = making_remarks(named, made);
+    let shown = confederation_remark(named, confederation);
+    let judged = verdict_remark(named, within, made.entries.as_slice(), verdict);
+    add_remarks(
+        remarks,
+        &[
+            received_passed,
+            sent_passed,
+            received_left,
+            sent_left,
+            put_off,
+            shown,
+            judged,
+        ],
+    )
+}
