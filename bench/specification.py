@@ -186,7 +186,7 @@ def contract_at(lines, at):
     """The head of a function with its clauses, without its body."""
     taken = []
     for line in lines[at:]:
-        if line.strip() == '{':
+        if line.strip() in ('{', '{}'):
             break
         taken.append(line)
         has_clause = any(re.match(r'\s*(requires|ensures)', it) for it in taken)
