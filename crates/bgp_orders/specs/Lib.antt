@@ -1,0 +1,4 @@
+pub mod Walks
+pub mod Ways
+pub mod Explained
+pub mod Nodes
