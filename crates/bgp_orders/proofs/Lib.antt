@@ -4,3 +4,6 @@ pub mod Ways
 pub mod Fronts
 pub mod Reached
 pub mod Over
+pub mod Steps
+pub mod Rows
+pub mod Counts

@@ -2,3 +2,4 @@ pub mod Walks
 pub mod Ways
 pub mod Explained
 pub mod Nodes
+pub mod Rows

@@ -12,10 +12,25 @@
 //! messages of each direction are behind it, and a [member](bgp_judge::PlainMember) of the judge,
 //! whose routes decide nothing. There are few nodes, and whatever a way explains, a node is reached
 //! for it.
+//!
+//! ```text
+//! match explained_count(alloc, &config, &exchange, 10)? {
+//!     Explained::Only(count) => print(exchange.sent[count].packet), // no order explains it
+//!     Explained::All { is_whole } => print(is_whole),
+//!     Explained::TooMany => print("too many nodes"),
+//! }
+//! ```
 #![tactic(auto)]
 
+mod counting;
+mod explained;
 mod laws;
+mod leading;
+mod node;
+mod search;
 
+pub use counting::{MOST_NODES, explained_count};
+pub use explained::Explained;
 pub use laws::{
     explained_messages_are_reached, one_verdict_over_all_ways, orders_are_walks,
     patience_keeps_verdicts, ways_begin_with_their_fronts, whole_ways_are_reached,

@@ -1,0 +1,7 @@
+use Rattle.bgp_orders.proofs.Counts.{firsts_just}
+use Rattle.bgp_orders.proofs.counting.first_nodes.Goals as goal
+
+pub returns : goal.returns
+returns g c =
+    let s = c.args.search.now in
+    firsts_just s.config s.exchange c.new-nodes.result.items c.add_start.new.nodes.items c.add_start-2.new.nodes.items c.new-nodes.ensures.items c.in_ok-add_start.ensures c.in_ok-add_start-2.ensures
