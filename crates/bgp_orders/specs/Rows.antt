@@ -1,6 +1,7 @@
--- Rows: the nodes that are reached with so many sent messages, and lists of them as the search keeps
--- them.
-use Rattle.std.specs.Prelude.{◌≡◌, ◌≢◌, ◌⊎◌, ◌↔◌, ◌++◌, ℕ, zero, suc, Bool, true, false, List, [], ◌∷◌}
+-- Rows: the nodes that are reached with so many sent messages, and lists of them as the search
+-- keeps them.
+use Rattle.std.specs.Prelude.{◌≡◌, ◌≢◌, ◌⊎◌, ◌↔◌, ◌++◌, ℕ, zero, suc}
+use Rattle.std.specs.Prelude.{Bool, true, false, List, [], ◌∷◌}
 use Rattle.std.specs.Prelude.{Option, None, Some, IsSomeAnd, IfSome, drop, slice_get}
 use Rattle.bgp_prefix.specs.Shown as shown
 use Rattle.bgp_prefix.specs.Shown.{ShownRecord}
@@ -87,7 +88,8 @@ node_at exchange spot m = record {
 
 -- the node is one of those that the search keeps in one
 abbrev pub IsOf : {X : Type 0} → Exchange → CodeNode X → Node → Type 0
-IsOf exchange node n = (m : Member) × Among node.members.items m × (n ≡ node_at exchange node.spot m)
+IsOf exchange node n =
+    (m : Member) × Among node.members.items m × (n ≡ node_at exchange node.spot m)
 
 -- it is one of the list
 abbrev pub IsIn : {X : Type 0} → Exchange → List (CodeNode X) → Node → Type 0

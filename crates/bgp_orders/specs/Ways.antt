@@ -96,7 +96,7 @@ records_of_way second start events = records_of_front second start events []
 
 -- ---- the laws
 
--- Records that tell a session are those of a way: of one that begins in the state of the made order.
+-- Records that tell a session are those of a way, which begins in the state of the made order.
 abbrev pub MadeIsAWay : Type 0
 MadeIsAWay =
     (within : ℕ) (exchange : Exchange) (numbered : List Numbered)

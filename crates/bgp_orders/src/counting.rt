@@ -1,11 +1,12 @@
 //! How much of an exchange some way explains.
 
-ghost use Rattle.std.specs.Prelude.{◌≡◌, ◌⊎◌, ◌↔◌, ◌+◌, ◌<◌, ℕ, IfOk, IfSome, IsFalse, IsTrue, OnOk, length};
+ghost use Rattle.std.specs.Prelude.{◌≡◌, ◌⊎◌, ◌↔◌, ◌+◌, ◌<◌, ℕ, length};
+ghost use Rattle.std.specs.Prelude.{IfOk, IfSome, IsFalse, IsTrue, OnOk};
 ghost use Rattle.bgp_recording.specs.Told.{IsTold};
 ghost use Rattle.bgp_recording.specs.declared.state.State.TheVariants.{Active, Connect};
 ghost use Rattle.bgp_orders.specs.Nodes.{IsFirstNode, Node as TheNode};
-ghost use Rattle.bgp_orders.specs.Rows.{GainsNodes, HasLast, HasSome, IsAnswer, IsIn, IsRow, StartsIn};
-ghost use Rattle.bgp_orders.specs.Rows.{count_of};
+ghost use Rattle.bgp_orders.specs.Rows.{GainsNodes, HasLast, HasSome, IsAnswer, IsIn};
+ghost use Rattle.bgp_orders.specs.Rows.{IsRow, StartsIn, count_of};
 ghost use Rattle.bgp_orders.specs.Ways.{MayStart};
 
 use crate::explained::Explained;
@@ -129,7 +130,7 @@ fn is_empty_row<A: Allocator>(count: usize, sent: usize, next: &[Node<A>]) -> bo
     !has_some(next)
 }
 
-/// Returns how many rows there are behind the first: one for each sent message, and one for the end.
+/// Returns how many rows there are behind the first: one for each sent message and one for the end.
 fn row_count(exchange: &Exchange<'_, '_>) -> usize
     ensures { result ≡ length exchange.now.sent.now + count_of exchange.now.end }
 {

@@ -2,7 +2,8 @@
 
 ghost use Rattle.std.specs.Prelude.{◌≡◌, ◌↔◌, Some, IsTrue, option_copied};
 ghost use Rattle.bgp_recording.specs.Changes.{answers_before_open, error_code};
-ghost use Rattle.bgp_recording.specs.Changes.{led_by_end, led_by_left, led_by_received, led_by_sent};
+ghost use Rattle.bgp_recording.specs.Changes.{led_by_end, led_by_left};
+ghost use Rattle.bgp_recording.specs.Changes.{led_by_received, led_by_sent};
 ghost use Rattle.bgp_recording.specs.Changes.{just_received, just_sent, opened_state, rejects};
 
 use bgp_recording::{Before, Message, State};

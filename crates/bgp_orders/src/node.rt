@@ -27,8 +27,8 @@ pub(crate) struct Spot {
     pub(crate) before: Before,
 }
 
-/// A spot with members of the judge. Each is an explanation of the records of a walk up to the spot;
-/// its routes aren't looked at.
+/// A spot with members of the judge. Each is an explanation of the records of a walk up to the
+/// spot; its routes aren't looked at.
 #[derive(Drop)]
 pub(crate) struct Node<A: Allocator> {
     pub(crate) spot: Spot,
@@ -61,8 +61,8 @@ fn has_member<A: Allocator>(members: &[PlainMember<A>], member: &PlainMember<A>)
     false
 }
 
-/// Checks whether the last nodes, which have as many received messages as the spot behind them, have
-/// one of this spot and member.
+/// Checks whether the last nodes, which have as many received messages as the spot behind them,
+/// have one of this spot and member.
 fn has<A: Allocator>(nodes: &[Node<A>], spot: Spot, member: &PlainMember<A>) -> bool
     ensures { IsTrue result → (exchange : TheExchange)
         → IsIn exchange nodes.now (node_at exchange spot (member_value member.now)) }
@@ -111,7 +111,7 @@ fn add<A: Allocator + Copy>(
     Ok(())
 }
 
-/// Appends a node for each member of this one, its routes forgotten, if the list doesn't have it yet.
+/// Appends a node for each member of this one, its routes forgotten, unless the list has it.
 pub(crate) fn add_each<A: Allocator + Copy>(
     alloc: A,
     nodes: &mut Vec<Node<A>, A>,

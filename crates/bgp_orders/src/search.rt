@@ -10,8 +10,8 @@ ghost use Rattle.bgp_recording.specs.First.{IsFirst};
 ghost use Rattle.bgp_recording.specs.Leads.{MayEndNext, MayReceiveNext, MaySendNext};
 ghost use Rattle.bgp_judge.specs.Plain.{member_value};
 ghost use Rattle.bgp_orders.specs.Nodes.{Ends, Hears, Node as TheNode, Says};
-ghost use Rattle.bgp_orders.specs.Rows.{GainsNodes, InNextRow, IsIn, IsMade, IsOf, IsOfPlace, LeadTo};
-ghost use Rattle.bgp_orders.specs.Rows.{Passes, pending_at};
+ghost use Rattle.bgp_orders.specs.Rows.{GainsNodes, InNextRow, IsIn, IsMade, IsOf};
+ghost use Rattle.bgp_orders.specs.Rows.{IsOfPlace, LeadTo, Passes, pending_at};
 ghost use Rattle.bgp_orders.specs.Ways.{changed_to, end_records};
 
 use crate::leading::{
@@ -128,8 +128,8 @@ fn copies_of<A: Allocator + Copy>(
     Ok(copies)
 }
 
-/// Returns what the changes to which the end leads make of members, where received messages are left
-/// or not.
+/// Returns what the changes to which the end leads make of members, where received messages are
+/// left or not.
 fn after_end<A: Allocator + Copy>(
     alloc: A,
     config: &Config,
@@ -149,8 +149,8 @@ fn after_end<A: Allocator + Copy>(
     after_change(alloc, config, changed, second, ended, left)
 }
 
-/// What is searched: what packets show of a session, under a configuration, if each received message
-/// is handled within so many seconds.
+/// What is searched: what packets show of a session, under a configuration, if each received
+/// message is handled within so many seconds.
 #[derive(Clone, Copy)]
 pub(crate) struct Search<'l, 'a> {
     pub(crate) config: Config,
