@@ -1,0 +1,444 @@
+//! Exchanges of router A with router B, whose answers were worked out by hand. Messages have the
+//! names of `bgp_wire::vectors`.
+
+use bgp_open::{Config, ConfigParts, Families};
+use bgp_orders::{Explained, explained_count};
+use bgp_prefix::{Address, RouteRefresh, Session};
+use bgp_recording::{Exchange, Message};
+use bgp_wire::MessageType;
+use bgp_wire::vectors::{
+    ANNOUNCES_10, HOLD_TIMER_EXPIRED, KEEPALIVE, KEEPALIVE_OF_18, MP_UNREACH_TWICE, OPEN_A, OPEN_B,
+};
+use std::alloc::Global;
+use streams::{End, Side};
+
+/// A NOTIFICATION: Malformed Attribute List (RFC 4271, 6.3).
+const MALFORMED_LIST: [u8; 21] = [
+    255, 255, 255, 255, 255, 255, 255, 255, 255, 255, 255, 255, 255, 255, 255, 255, 0, 21, 3, 3, 1,
+];
+
+/// A NOTIFICATION: Connection Rejected (RFC 4486).
+const REJECTED: [u8; 21] = [
+    255, 255, 255, 255, 255, 255, 255, 255, 255, 255, 255, 255, 255, 255, 255, 255, 0, 21, 3, 6, 5,
+];
+
+/// The OPENs and KEEPALIVEs by which the session comes up.
+const OPEN_CAME: Message<'static> = Message {
+    octets: &OPEN_B,
+    kind: Some(MessageType::Open),
+    packet: 4,
+    second: 100,
+};
+
+const OPEN_SENT: Message<'static> = Message {
+    octets: &OPEN_A,
+    kind: Some(MessageType::Open),
+    packet: 5,
+    second: 100,
+};
+
+const KEEPALIVE_SENT: Message<'static> = Message {
+    octets: &KEEPALIVE,
+    kind: Some(MessageType::Keepalive),
+    packet: 6,
+    second: 100,
+};
+
+const KEEPALIVE_CAME: Message<'static> = Message {
+    octets: &KEEPALIVE,
+    kind: Some(MessageType::Keepalive),
+    packet: 7,
+    second: 101,
+};
+
+/// What comes behind them.
+const ROUTE_CAME: Message<'static> = Message {
+    octets: &ANNOUNCES_10,
+    kind: Some(MessageType::Update),
+    packet: 8,
+    second: 102,
+};
+
+const FAULT_CAME: Message<'static> = Message {
+    octets: &MP_UNREACH_TWICE,
+    kind: Some(MessageType::Update),
+    packet: 8,
+    second: 102,
+};
+
+const BAD_HEADER_CAME: Message<'static> = Message {
+    octets: &KEEPALIVE_OF_18,
+    kind: None,
+    packet: 8,
+    second: 102,
+};
+
+const ROUTE_CAME_LATER: Message<'static> = Message {
+    octets: &ANNOUNCES_10,
+    kind: Some(MessageType::Update),
+    packet: 9,
+    second: 102,
+};
+
+const OPEN_AGAIN: Message<'static> = Message {
+    octets: &OPEN_A,
+    kind: Some(MessageType::Open),
+    packet: 8,
+    second: 102,
+};
+
+const OPEN_LATE: Message<'static> = Message {
+    octets: &OPEN_A,
+    kind: Some(MessageType::Open),
+    packet: 5,
+    second: 115,
+};
+
+/// An exchange over a connection that B opens, and how much of it is explained.
+struct Row {
+    received: &'static [Message<'static>],
+    sent: &'static [Message<'static>],
+    end: Option<End>,
+    delays: bool,
+    within: u16,
+    explained: Explained,
+}
+
+/// All, and some run shows just the records of a way.
+const WHOLE: Explained = Explained::All { is_whole: true };
+
+/// All, and none does.
+const OWES: Explained = Explained::All { is_whole: false };
+
+/// KEEPALIVEs and NOTIFICATIONs by these packets, at these seconds.
+const KEEPALIVE_9_AT_110: Message<'static> = Message {
+    octets: &KEEPALIVE,
+    kind: Some(MessageType::Keepalive),
+    packet: 9,
+    second: 110,
+};
+
+const KEEPALIVE_10_AT_120: Message<'static> = Message {
+    octets: &KEEPALIVE,
+    kind: Some(MessageType::Keepalive),
+    packet: 10,
+    second: 120,
+};
+
+const KEEPALIVE_9_AT_112: Message<'static> = Message {
+    octets: &KEEPALIVE,
+    kind: Some(MessageType::Keepalive),
+    packet: 9,
+    second: 112,
+};
+
+const KEEPALIVE_9_AT_113: Message<'static> = Message {
+    octets: &KEEPALIVE,
+    kind: Some(MessageType::Keepalive),
+    packet: 9,
+    second: 113,
+};
+
+const KEEPALIVE_10_AT_183: Message<'static> = Message {
+    octets: &KEEPALIVE,
+    kind: Some(MessageType::Keepalive),
+    packet: 10,
+    second: 183,
+};
+
+const KEEPALIVE_10_AT_181: Message<'static> = Message {
+    octets: &KEEPALIVE,
+    kind: Some(MessageType::Keepalive),
+    packet: 10,
+    second: 181,
+};
+
+const KEEPALIVE_8_AT_102: Message<'static> = Message {
+    octets: &KEEPALIVE,
+    kind: Some(MessageType::Keepalive),
+    packet: 8,
+    second: 102,
+};
+
+const KEEPALIVE_6_AT_116: Message<'static> = Message {
+    octets: &KEEPALIVE,
+    kind: Some(MessageType::Keepalive),
+    packet: 6,
+    second: 116,
+};
+
+const KEEPALIVE_5_AT_115: Message<'static> = Message {
+    octets: &KEEPALIVE,
+    kind: Some(MessageType::Keepalive),
+    packet: 5,
+    second: 115,
+};
+
+const MALFORMED_LIST_AT_103: Message<'static> = Message {
+    octets: &MALFORMED_LIST,
+    kind: Some(MessageType::Notification),
+    packet: 10,
+    second: 103,
+};
+
+const MALFORMED_LIST_AT_113: Message<'static> = Message {
+    octets: &MALFORMED_LIST,
+    kind: Some(MessageType::Notification),
+    packet: 10,
+    second: 113,
+};
+
+const HOLD_TIMER_EXPIRED_AT_104: Message<'static> = Message {
+    octets: &HOLD_TIMER_EXPIRED,
+    kind: Some(MessageType::Notification),
+    packet: 9,
+    second: 104,
+};
+
+const HOLD_TIMER_EXPIRED_AT_192: Message<'static> = Message {
+    octets: &HOLD_TIMER_EXPIRED,
+    kind: Some(MessageType::Notification),
+    packet: 11,
+    second: 192,
+};
+
+const REJECTED_AT_101: Message<'static> = Message {
+    octets: &REJECTED,
+    kind: Some(MessageType::Notification),
+    packet: 4,
+    second: 101,
+};
+
+/// The rows.
+static ROWS: [Row; 18] = [
+    // The session comes up, and B announces a route.
+    Row {
+        received: &[OPEN_CAME, KEEPALIVE_CAME, ROUTE_CAME],
+        sent: &[OPEN_SENT, KEEPALIVE_SENT],
+        end: None,
+        delays: false,
+        within: 10,
+        explained: WHOLE,
+    },
+    // A header with a bad length, and 18 seconds later a KEEPALIVE in place of the answer.
+    Row {
+        received: &[OPEN_CAME, KEEPALIVE_CAME, BAD_HEADER_CAME],
+        sent: &[
+            OPEN_SENT,
+            KEEPALIVE_SENT,
+            KEEPALIVE_9_AT_110,
+            KEEPALIVE_10_AT_120,
+        ],
+        end: None,
+        delays: false,
+        within: 10,
+        explained: Explained::Only(3),
+    },
+    // The same without the last KEEPALIVE: the answer is owed.
+    Row {
+        received: &[OPEN_CAME, KEEPALIVE_CAME, BAD_HEADER_CAME],
+        sent: &[OPEN_SENT, KEEPALIVE_SENT, KEEPALIVE_9_AT_110],
+        end: None,
+        delays: false,
+        within: 10,
+        explained: OWES,
+    },
+    // An UPDATE at fault, and a KEEPALIVE 10 seconds later.
+    Row {
+        received: &[OPEN_CAME, KEEPALIVE_CAME, FAULT_CAME],
+        sent: &[OPEN_SENT, KEEPALIVE_SENT, KEEPALIVE_9_AT_112],
+        end: None,
+        delays: false,
+        within: 10,
+        explained: OWES,
+    },
+    // The same 11 seconds later.
+    Row {
+        received: &[OPEN_CAME, KEEPALIVE_CAME, FAULT_CAME],
+        sent: &[OPEN_SENT, KEEPALIVE_SENT, KEEPALIVE_9_AT_113],
+        end: None,
+        delays: false,
+        within: 10,
+        explained: Explained::Only(2),
+    },
+    // With a patience of 11 seconds.
+    Row {
+        received: &[OPEN_CAME, KEEPALIVE_CAME, FAULT_CAME],
+        sent: &[OPEN_SENT, KEEPALIVE_SENT, KEEPALIVE_9_AT_113],
+        end: None,
+        delays: false,
+        within: 11,
+        explained: OWES,
+    },
+    // The UPDATE that follows it was never read.
+    Row {
+        received: &[OPEN_CAME, KEEPALIVE_CAME, FAULT_CAME, ROUTE_CAME_LATER],
+        sent: &[OPEN_SENT, KEEPALIVE_SENT, MALFORMED_LIST_AT_103],
+        end: Some(End {
+            packet: 11,
+            second: 103,
+            side: Side::Local,
+        }),
+        delays: false,
+        within: 10,
+        explained: WHOLE,
+    },
+    // It is overdue, and can't be heard while the first isn't answered.
+    Row {
+        received: &[OPEN_CAME, KEEPALIVE_CAME, FAULT_CAME, ROUTE_CAME_LATER],
+        sent: &[OPEN_SENT, KEEPALIVE_SENT, MALFORMED_LIST_AT_113],
+        end: Some(End {
+            packet: 11,
+            second: 113,
+            side: Side::Local,
+        }),
+        delays: false,
+        within: 10,
+        explained: Explained::Only(2),
+    },
+    // A HoldTimer that expires two seconds after an UPDATE.
+    Row {
+        received: &[OPEN_CAME, KEEPALIVE_CAME, FAULT_CAME],
+        sent: &[OPEN_SENT, KEEPALIVE_SENT, HOLD_TIMER_EXPIRED_AT_104],
+        end: None,
+        delays: false,
+        within: 10,
+        explained: Explained::Only(2),
+    },
+    // The HoldTimer expires 90 seconds after an UPDATE, and what came then was never read.
+    Row {
+        received: &[OPEN_CAME, KEEPALIVE_CAME, ROUTE_CAME, KEEPALIVE_10_AT_183],
+        sent: &[OPEN_SENT, KEEPALIVE_SENT, HOLD_TIMER_EXPIRED_AT_192],
+        end: None,
+        delays: false,
+        within: 10,
+        explained: WHOLE,
+    },
+    // The KEEPALIVE is overdue, and sets the timer again.
+    Row {
+        received: &[OPEN_CAME, KEEPALIVE_CAME, ROUTE_CAME, KEEPALIVE_10_AT_181],
+        sent: &[OPEN_SENT, KEEPALIVE_SENT, HOLD_TIMER_EXPIRED_AT_192],
+        end: None,
+        delays: false,
+        within: 10,
+        explained: Explained::Only(2),
+    },
+    // The local system ends the connection without an answer: it never read the UPDATE.
+    Row {
+        received: &[OPEN_CAME, KEEPALIVE_CAME, FAULT_CAME],
+        sent: &[OPEN_SENT, KEEPALIVE_SENT],
+        end: Some(End {
+            packet: 9,
+            second: 104,
+            side: Side::Local,
+        }),
+        delays: false,
+        within: 10,
+        explained: WHOLE,
+    },
+    // It is overdue then.
+    Row {
+        received: &[OPEN_CAME, KEEPALIVE_CAME, FAULT_CAME],
+        sent: &[OPEN_SENT, KEEPALIVE_SENT],
+        end: Some(End {
+            packet: 9,
+            second: 114,
+            side: Side::Local,
+        }),
+        delays: false,
+        within: 10,
+        explained: OWES,
+    },
+    // A second OPEN.
+    Row {
+        received: &[OPEN_CAME, KEEPALIVE_CAME],
+        sent: &[OPEN_SENT, KEEPALIVE_SENT, KEEPALIVE_8_AT_102, OPEN_AGAIN],
+        end: None,
+        delays: false,
+        within: 10,
+        explained: Explained::Only(3),
+    },
+    // The OPEN is delayed.
+    Row {
+        received: &[OPEN_CAME, KEEPALIVE_6_AT_116],
+        sent: &[OPEN_LATE, KEEPALIVE_5_AT_115],
+        end: None,
+        delays: true,
+        within: 10,
+        explained: WHOLE,
+    },
+    // It may not be.
+    Row {
+        received: &[OPEN_CAME, KEEPALIVE_6_AT_116],
+        sent: &[OPEN_LATE, KEEPALIVE_5_AT_115],
+        end: None,
+        delays: false,
+        within: 10,
+        explained: Explained::Only(0),
+    },
+    // An OPEN that isn't answered.
+    Row {
+        received: &[OPEN_CAME],
+        sent: &[],
+        end: None,
+        delays: false,
+        within: 10,
+        explained: WHOLE,
+    },
+    // A NOTIFICATION before the OPEN: in Active alone it may come first.
+    Row {
+        received: &[],
+        sent: &[REJECTED_AT_101],
+        end: Some(End {
+            packet: 5,
+            second: 101,
+            side: Side::Local,
+        }),
+        delays: true,
+        within: 10,
+        explained: WHOLE,
+    },
+];
+
+/// What router A is configured to do.
+fn router_a(delays: bool) -> Option<Config> {
+    Config::new(ConfigParts {
+        local_as: 65001,
+        peer_as: 65002,
+        local_id: 0xc000_0201,
+        hold: 90,
+        families: Families { v4: true, v6: true },
+        as4: true,
+        delay_open: delays,
+        large_hold: 240,
+        session: Session {
+            peer: Address::V4(0xc000_0202),
+            local: Address::V4(0xc000_0201),
+            refresh: RouteRefresh::Refused,
+            extended: false,
+        },
+    })
+}
+
+/// Whether so much of a row's exchange is explained, over a connection that this side opened.
+fn is_explained(alloc: Global, row: &Row, opened_by: Side) -> Option<bool> {
+    let config = router_a(row.delays)?;
+    let exchange = Exchange {
+        opened_by,
+        packet: 1,
+        second: 100,
+        received: row.received,
+        sent: row.sent,
+        end: row.end,
+    };
+    let explained = explained_count(alloc, &config, &exchange, row.within).ok()?;
+    Some(explained == row.explained)
+}
+
+#[test]
+fn exchanges_are_explained(rt: HostRuntime) {
+    for row in &ROWS {
+        assert!(rt; is_explained(rt.alloc(), row, Side::Peer) == Some(true));
+        assert!(rt; is_explained(rt.alloc(), row, Side::Local) == Some(true));
+    }
+}

@@ -1,0 +1,7 @@
+//! Tests of `bgp_orders`: how much of small exchanges some way explains, worked out by hand.
+//!
+//! They stand in a crate of their own, since a crate with tests is proved twice.
+#![tactic(auto)]
+
+#[cfg(test)]
+mod explained;
