@@ -9,8 +9,8 @@ use Rattle.bgp_check.specs.Answered.{AnswerValue, HasItsVerdict, IsAnswerTo, IsJ
 use Rattle.bgp_check.specs.declared.peer_as.PeerAs.{PeerAs}
 use Rattle.bgp_check_capture.specs.Told.{IsStretchTold, ToldValue, answer_by, with_leaving}
 use Rattle.bgp_check_text.specs.Settings.{are_told}
-use Rattle.bgp_judge_line.specs.OfCapture.{IsReadAlike, session_of}
-use Rattle.bgp_judge_line.specs.declared.options.JudgeOptions.{JudgeOptions}
+use Rattle.bgp_check_text.specs.OfCapture.{IsReadAlike, session_of}
+use Rattle.bgp_check_text.specs.declared.judge_options.JudgeOptions.{JudgeOptions}
 use Rattle.bgp_check_capture_tool.specs.Judging.{AreOptionsFor, AreOptionsOf, AreOptionsTo}
 use Rattle.bgp_check_capture_tool.specs.Stretches.{first_of}
 use Rattle.bgp_check_capture_tool.specs.Repeated.{LineGivesTheVerdict}

@@ -8,11 +8,11 @@ use Rattle.mrt_sessions.specs.File.{Located}
 use Rattle.bgp_open.specs.declared.config.Config.{Config}
 use Rattle.bgp_check.specs.Answered.{AnswerValue, JudgedAs, Unjudged}
 use Rattle.bgp_check_capture.specs.Told.{IsStretchTold, ToldValue}
-use Rattle.bgp_check_reason.specs.OwnFaults.{IsToldConfiguration}
+use Rattle.bgp_check_text.specs.OwnFaults.{IsToldConfiguration}
 use Rattle.bgp_check_text.specs.Settings.{are_told, where_refused}
-use Rattle.bgp_judge_line.specs.Line.{judge_line}
-use Rattle.bgp_judge_line.specs.OfCapture.{AreCaptureOptions}
-use Rattle.bgp_judge_line.specs.declared.options.JudgeOptions.{JudgeOptions}
+use Rattle.bgp_check_text.specs.JudgeLine.{judge_line}
+use Rattle.bgp_check_text.specs.OfCapture.{AreCaptureOptions}
+use Rattle.bgp_check_text.specs.declared.judge_options.JudgeOptions.{JudgeOptions}
 use Rattle.bgp_check_capture_tool.specs.declared.telling.Telling.{Telling}
 
 -- the line, where they are told

@@ -8,7 +8,7 @@ use Rattle.bgp_judge.specs.Verdict.{No, Unfinished, VerdictValue, Yes}
 use Rattle.bgp_check.specs.Answered.{AnswerValue, JudgedAs, Unjudged}
 use Rattle.bgp_check.specs.declared.not_judged.NotJudged.TheVariants.{NothingSent}
 use Rattle.bgp_check.specs.declared.peer_as.PeerAs.{PeerAs}
-use Rattle.bgp_check_reason.specs.Unshown.{passed_notes}
+use Rattle.bgp_check_text.specs.Unshown.{passed_notes}
 use Rattle.bgp_check_text.specs.Text.{as_text, ending_text, peer_text, why_text}
 use Rattle.bgp_check_capture_tool.specs.Ends.{End, Silent, Staying, Stretch}
 use Rattle.bgp_check_capture_tool.specs.StretchEnd.{StretchEnd}

@@ -1,1 +1,11 @@
 pub mod OneHigher
+mod SameAt
+mod FramedAlike
+mod Refreshes
+mod SameOptions
+pub mod Reasons
+pub mod EachShown
+pub mod Written
+pub mod Held
+pub mod RestTexts
+pub mod AtRecord

@@ -2,3 +2,12 @@ pub mod Highest
 pub mod Text
 pub mod Tally
 pub mod Settings
+pub mod JudgeLine
+pub mod Asked
+pub mod FramedAlike
+pub mod ReadAlike
+pub mod OfCapture
+pub mod OwnFaults
+pub mod Shown
+pub mod Reason
+pub mod Unshown

@@ -1,13 +1,59 @@
-//! The lines of `bgp check`: what is told of an end, whatever shows its records, and how many ends
-//! there are of each verdict.
+//! What `bgp check` prints about an end, whether packets or MRT records show it: the verdict, why
+//! that is a no or unfinished, and the `bgp judge` command that reproduces it; and how many ends
+//! have each verdict.
+//!
+//! The reason is the one that `bgp judge --explain` gives under the configuration for which the
+//! verdict holds, in the style of `check`.
+//!
+//! ```text
+//! put_no(&mut lines, count, packet);
+//! put_as(&mut lines, number);
+//! put_peer(&mut lines, peer);
+//!
+//! let places = Places::Shown(&entries);
+//! let reason =
+//!     reason_of::<A, CompactTracker<A>>(alloc, sent, places, &records, &answer)?;
+//! put_reason(&mut lines, &reason);
+//!
+//! let asked = asked_of(179, 10, &session, &connections, opening, side);
+//! let made = make_records(alloc, &connection, framings, 10)?;
+//! if let Some(options) = judge_options(alloc, config, asked, &connection, 10, &made, framings)? {
+//!     put_judge_line(&mut lines, &options);
+//! }
+//! if let Some(options) = capture_options(config, file.is_plain, named, &records, skips_refresh) {
+//!     put_judge_line(&mut lines, &options);
+//! }
+//! ```
 #![tactic(auto)]
 
+mod asking;
+mod explained;
+mod framed_alike;
 mod highest;
+mod judge_line;
+mod judge_options;
+mod laws;
 mod lines;
+mod of_capture;
+mod own_faults;
+mod read_alike;
+mod reason;
 mod settings;
+mod shown;
 mod tally;
+mod unshown;
 
+pub use asking::asked_of;
+pub use framed_alike::are_framed_alike;
 pub use highest::highest_state;
+pub use judge_line::put_judge_line;
+pub use judge_options::{Asked, JudgeOptions};
+pub use laws::{a_capture_is_read_alike, records_are_framed_alike};
 pub use lines::{put_as, put_endings, put_no, put_peer, put_why};
+pub use of_capture::capture_options;
+pub use own_faults::told_configuration;
+pub use read_alike::judge_options;
+pub use reason::{Reason, put_reason, reason_of};
 pub use settings::{Settings, is_no_yes};
 pub use tally::Tally;
+pub use unshown::{put_passed_over, put_unshown};

@@ -17,8 +17,8 @@ use Rattle.bgp_import.specs.ListText.{end_of, octets_text, opening_text, other_s
 use Rattle.bgp_import.specs.declared.refusal.Refusal.{Refusal}
 use Rattle.bgp_import.specs.declared.refusal.Refusal.TheVariants as refusals
 use Rattle.bgp_connections.specs.Octets.{octets_from}
-use Rattle.bgp_judge_line.specs.Asked.{asked_of}
-use Rattle.bgp_judge_line.specs.declared.options.Asked.{Asked}
+use Rattle.bgp_check_text.specs.Asked.{asked_of}
+use Rattle.bgp_check_text.specs.declared.judge_options.Asked.{Asked}
 use Rattle.bgp_check_tool.specs.declared.connection.EndsTold.{EndsTold}
 use Rattle.bgp_check_tool.specs.declared.connection.EndsTold.TheVariants as ends
 use Rattle.bgp_check_tool.specs.declared.options.CheckOptions.{CheckOptions}

@@ -7,11 +7,11 @@ use Rattle.bgp_recording.specs.declared.entry.Entry.{Entry}
 use Rattle.bgp_recording.specs.declared.framing.Unshown.{Unshown}
 use Rattle.bgp_import.specs.declared.refusal.Refusal.{Refusal}
 use Rattle.bgp_check.specs.Answered.{AnswerValue, JudgedAs, Unjudged}
-use Rattle.bgp_check_reason.specs.OwnFaults.{IsToldConfiguration}
-use Rattle.bgp_judge_line.specs.Line.{judge_line}
-use Rattle.bgp_judge_line.specs.ReadAlike.{AreJudgeOptions}
-use Rattle.bgp_judge_line.specs.declared.options.Asked.{Asked}
-use Rattle.bgp_judge_line.specs.declared.options.JudgeOptions.{JudgeOptions}
+use Rattle.bgp_check_text.specs.OwnFaults.{IsToldConfiguration}
+use Rattle.bgp_check_text.specs.JudgeLine.{judge_line}
+use Rattle.bgp_check_text.specs.ReadAlike.{AreJudgeOptions}
+use Rattle.bgp_check_text.specs.declared.judge_options.Asked.{Asked}
+use Rattle.bgp_check_text.specs.declared.judge_options.JudgeOptions.{JudgeOptions}
 use Rattle.bgp_check_tool.specs.declared.options.CheckOptions.{CheckOptions}
 use Rattle.bgp_check_text.specs.Settings.{are_told}
 use Rattle.bgp_check_text.specs.declared.settings.Settings.{Settings}

@@ -8,7 +8,7 @@ use Rattle.bgp_import.specs.ListText.{end_text}
 use Rattle.bgp_check.specs.declared.not_judged.NotJudged.{NotJudged}
 use Rattle.bgp_check.specs.declared.peer_as.PeerAs.{PeerAs}
 use Rattle.bgp_check.specs.Answered.{AnswerValue, JudgedAs, Unjudged}
-use Rattle.bgp_check_reason.specs.Unshown.{unshown_notes}
+use Rattle.bgp_check_text.specs.Unshown.{unshown_notes}
 use Rattle.bgp_check_text.specs.Text.{as_text, ending_text, no_text, peer_text, why_text}
 use Rattle.bgp_check_tool.specs.Judging.{judge_text}
 use Rattle.bgp_check_tool.specs.Late.{late_text}

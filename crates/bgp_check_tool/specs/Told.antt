@@ -14,12 +14,12 @@ use Rattle.bgp_recording.specs.declared.framing.Unshown.{Unshown}
 use Rattle.bgp_import.specs.Captures.{put_off}
 use Rattle.bgp_import.specs.ListText.{end_of}
 use Rattle.bgp_check.specs.Answered.{AnswerValue, IsAnswerTo, JudgedAs, Unjudged, answer_value}
-use Rattle.bgp_check_reason.specs.Reason.{IsReasonTo, reason_text}
+use Rattle.bgp_check_text.specs.Reason.{IsReasonTo, reason_text}
 use Rattle.bgp_explain.specs.Places.{shown_places}
 use Rattle.bgp_check_text.specs.Highest.{highest_state}
 use Rattle.bgp_check_tool.specs.declared.ending.Told.{Told}
-use Rattle.bgp_judge_line.specs.declared.options.Asked.{Asked}
-use Rattle.bgp_judge_line.specs.declared.options.JudgeOptions.{JudgeOptions}
+use Rattle.bgp_check_text.specs.declared.judge_options.Asked.{Asked}
+use Rattle.bgp_check_text.specs.declared.judge_options.JudgeOptions.{JudgeOptions}
 use Rattle.bgp_check_tool.specs.declared.options.CheckOptions.{CheckOptions}
 use Rattle.bgp_check_tool.specs.Judging.{AreOptionsTo}
 use Rattle.bgp_check_tool.specs.Late.{IsLate}

@@ -14,8 +14,7 @@ ghost use Rattle.bgp_check_tool.specs.Judging.{AreOptionsFor, AreOptionsTo, judg
 use crate::ending::Viewed;
 use crate::making::Made;
 use bgp_check::{Answer, Judged};
-use bgp_check_reason::told_configuration;
-use bgp_judge_line::{JudgeOptions, judge_options, put_judge_line};
+use bgp_check_text::{JudgeOptions, judge_options, put_judge_line, told_configuration};
 use bgp_text::Lines;
 use mrt::Sink;
 use std::alloc::{AllocError, Allocator};

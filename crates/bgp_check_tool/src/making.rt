@@ -9,7 +9,7 @@ ghost use Rattle.bgp_check_tool.specs.Made.{AreOffered, IsMade, framing_by, fram
 ghost use Rattle.bgp_check_tool.specs.Made.{with_both_offers};
 
 use bgp_check::{heard_open, offer_of, own_open};
-use bgp_judge_line::are_framed_alike;
+use bgp_check_text::are_framed_alike;
 use bgp_open::{Open, read_open};
 use bgp_recording::{Framing, Framings, Recording, make_records};
 use bgp_wire::Limit;

@@ -4,7 +4,7 @@ use Rattle.streams.specs.declared.connection.Connection.{Connection}
 use Rattle.bgp_recording.specs.Captured.{records_of}
 use Rattle.bgp_recording.specs.Gathered.{IsClocked}
 use Rattle.bgp_check.specs.Answered.{IsAnswerTo, answer_value}
-use Rattle.bgp_check_reason.specs.Reason.{IsReasonTo, reason_text}
+use Rattle.bgp_check_text.specs.Reason.{IsReasonTo, reason_text}
 use Rattle.bgp_explain.specs.Places.{shown_places}
 use Rattle.bgp_check_tool.specs.Judging.{AreOptionsTo}
 use Rattle.bgp_check_tool.specs.Late.{IsLate}

@@ -7,10 +7,10 @@ use Rattle.bgp_judge.specs.Verdict.{verdict_value}
 use Rattle.bgp_recording.specs.Captured.{records_of}
 use Rattle.bgp_recording.specs.Gathered.{IsClocked}
 use Rattle.bgp_recording.specs.Recorded.{IsRecordedInOrder}
-use Rattle.bgp_check_reason.specs.OwnFaults.{IsToldConfiguration}
+use Rattle.bgp_check_text.specs.OwnFaults.{IsToldConfiguration}
 use Rattle.bgp_check_text.specs.Settings.{are_told}
-use Rattle.bgp_judge_line.specs.ReadAlike.{AreJudgeOptions}
-use Rattle.bgp_judge_line.specs.declared.options.JudgeOptions.{JudgeOptions}
+use Rattle.bgp_check_text.specs.ReadAlike.{AreJudgeOptions}
+use Rattle.bgp_check_text.specs.declared.judge_options.JudgeOptions.{JudgeOptions}
 use Rattle.bgp_check_tool.specs.Judging.{AreOptionsFor}
 use Rattle.bgp_check_tool.proofs.judging.options_for.Goals as goal
 

@@ -1,6 +1,0 @@
-pub mod Reasons
-pub mod EachShown
-pub mod Written
-pub mod Held
-pub mod RestTexts
-pub mod AtRecord

@@ -1,4 +1,0 @@
-pub mod OwnFaults
-pub mod Shown
-pub mod Reason
-pub mod Unshown

@@ -1,4 +1,0 @@
-mod SameAt
-mod FramedAlike
-mod Refreshes
-mod SameOptions

@@ -1,8 +1,0 @@
-use Rattle.std.proofs.Common.{map, take}
-use Rattle.mrt.specs.Reader.{shown_of}
-use Rattle.bgp_judge_line.specs.FramedAlike.{ArePlain}
-use Rattle.bgp_judge_line.proofs.framed_alike.are_plain.Given as goal
-
--- those so far are
-abbrev pub invariant-loop-one : goal.invariant-loop-one
-invariant-loop-one l = ArePlain (map shown_of (take l.one-index l.records))

@@ -1,5 +1,0 @@
-use Rattle.bgp_judge_line.proofs.FramedAlike.{framed_alike}
-use Rattle.bgp_judge_line.proofs.laws.records_are_framed_alike.Goals as goal
-
-pub returns : goal.returns
-returns c = framed_alike

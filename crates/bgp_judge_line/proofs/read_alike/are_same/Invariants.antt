@@ -1,7 +1,0 @@
-use Rattle.std.proofs.Common.{◌≡◌, map, take}
-use Rattle.bgp_recording.specs.Tells.{numbered_of}
-use Rattle.bgp_judge_line.proofs.read_alike.are_same.Given as goal
-
--- those so far are the same
-abbrev pub invariant-loop-index : goal.invariant-loop-index
-invariant-loop-index l = map numbered_of (take l.index l.one) ≡ map numbered_of (take l.index l.other)
