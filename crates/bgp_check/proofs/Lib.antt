@@ -28,3 +28,9 @@ pub mod WidestMade
 pub mod Told
 pub mod Answered
 pub mod Under
+pub mod Lists
+pub mod Taken
+pub mod Stretched
+pub mod Places
+pub mod Left
+pub mod Named

@@ -17,3 +17,10 @@ pub mod Ends
 pub mod Over
 pub mod Checked
 pub mod Answered
+pub mod SessionOffers
+pub mod BeforeLeaving
+pub mod Passed
+pub mod StretchTold
+pub mod StretchLaws
+pub mod Left
+pub mod Named

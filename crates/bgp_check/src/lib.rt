@@ -4,22 +4,43 @@
 //!
 //! Laws say why two are enough. They speak of a stretch of a session: its records from one that
 //! leaves Idle to the next one that does.
+//!
+//! Packets show one stretch: `check_end` judges it. A session in a capture is cut into its
+//! stretches, and each is judged by itself, without ROUTE-REFRESH messages that are passed over:
+//!
+//! ```text
+//! let extended = extended_messages(named);
+//! let read = read_session(alloc, addresses, extended, named)?;
+//! let mut rest = read.records.as_slice().split_at(before_leaving(&read.records)).1;
+//! while let Some((leaving, later)) = rest.split_first() {
+//!     let (stretch, behind) = rest.split_at(1 + before_leaving(later));
+//!     let told = check_stretch::<A, T>(alloc, &session, stretch, behind.first().copied())?;
+//!     rest = behind;
+//! }
+//! ```
 #![tactic(auto)]
 
 mod answering;
 mod checking;
+mod cutting;
 mod dynamic;
 mod laws;
+mod leaving;
 mod not_judged;
 mod offer;
 mod opens;
 mod own_fault;
+mod passing;
 mod peer_as;
+mod session_offers;
 mod settings;
+mod stretch;
+mod stretch_laws;
 mod widest;
 
 pub use answering::{Answer, Judged, check_end};
 pub use checking::{Checked, check_records};
+pub use cutting::{before_leaving, leaves_idle};
 pub use laws::{
     a_session_is_cut_without_loss, a_verdict_holds_under_its_configuration,
     a_wider_configuration_has_its_runs, an_own_fault_is_a_no, another_peer_is_refused_alike,
@@ -32,6 +53,13 @@ pub use not_judged::{NotJudged, sends_some};
 pub use offer::{Offer, offer_of};
 pub use opens::{heard_open, own_open, peers_open};
 pub use own_fault::OwnFault;
+pub use passing::{Kept, RefreshOffers};
 pub use peer_as::PeerAs;
+pub use session_offers::extended_messages;
 pub use settings::has_own_fault;
+pub use stretch::{StretchTold, check_stretch};
+pub use stretch_laws::{
+    a_left_stretch_is_judged_over_all, a_no_names_its_record, no_configuration_has_a_run,
+    what_is_judged_is_a_stretch,
+};
 pub use widest::{Widest, widest_of};

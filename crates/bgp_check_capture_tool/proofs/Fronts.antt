@@ -9,7 +9,7 @@ use Rattle.mrt.specs.declared.record.Record.{Record}
 use Rattle.bgp_machine.specs.Lists.{Each}
 use Rattle.bgp_check.specs.Stretch.{LeavesIdle}
 use Rattle.bgp_check.specs.declared.not_judged.NotJudged.TheVariants.{NothingSent}
-use Rattle.bgp_check_capture.specs.Cut.{IsAtLeaving, IsBeforeLeaving}
+use Rattle.bgp_check.specs.BeforeLeaving.{IsAtLeaving, IsBeforeLeaving}
 use Rattle.bgp_check_text.specs.Text.{why_text}
 use Rattle.bgp_check_text.specs.Tally.{with_unjudged}
 use Rattle.bgp_check_text.specs.declared.tally.Tally.{Tally}

@@ -21,11 +21,11 @@ use Rattle.bgp_check.specs.Cut.{IsWholeStretch}
 use Rattle.bgp_check.specs.Over.{HasVerdictOver}
 use Rattle.bgp_check.specs.WidestMade.{IsFaultless}
 use Rattle.bgp_check.specs.declared.peer_as.PeerAs.{PeerAs}
-use Rattle.bgp_check_capture.specs.Left.{LeftVerdictIsOverAll}
-use Rattle.bgp_check_capture.specs.Named.{NoNamesItsRecord}
-use Rattle.bgp_check_capture.specs.StretchLaws.{IsLeftSo, JudgedAreStretches}
-use Rattle.bgp_check_capture.specs.Told.{IsStretchTold, ToldValue, with_leaving}
-use Rattle.bgp_check_capture.proofs.Stretched.{no_by}
+use Rattle.bgp_check.specs.Left.{LeftVerdictIsOverAll}
+use Rattle.bgp_check.specs.Named.{NoNamesItsRecord}
+use Rattle.bgp_check.specs.StretchLaws.{IsLeftSo, JudgedAreStretches}
+use Rattle.bgp_check.specs.StretchTold.{IsStretchTold, ToldValue, with_leaving}
+use Rattle.bgp_check.proofs.Stretched.{no_by}
 use Rattle.bgp_check_text.specs.Text.{as_text, peer_text}
 use Rattle.bgp_check_capture_tool.specs.Checking.{Block, IsBlock}
 use Rattle.bgp_check_capture_tool.specs.Ends.{End, IsSessionTold, Silent, Staying, Stretch, session_of}

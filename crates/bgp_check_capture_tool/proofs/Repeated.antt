@@ -7,7 +7,7 @@ use Rattle.bgp_open.specs.declared.config.Config.{Config}
 use Rattle.bgp_judge.specs.Verdict.{HasVerdict, VerdictValue}
 use Rattle.bgp_check.specs.Answered.{AnswerValue, HasItsVerdict, IsAnswerTo, IsJudged, JudgedAs}
 use Rattle.bgp_check.specs.declared.peer_as.PeerAs.{PeerAs}
-use Rattle.bgp_check_capture.specs.Told.{IsStretchTold, ToldValue, answer_by, with_leaving}
+use Rattle.bgp_check.specs.StretchTold.{IsStretchTold, ToldValue, answer_by, with_leaving}
 use Rattle.bgp_check_text.specs.Settings.{are_told}
 use Rattle.bgp_check_text.specs.OfCapture.{IsReadAlike, session_of}
 use Rattle.bgp_check_text.specs.declared.judge_options.JudgeOptions.{JudgeOptions}

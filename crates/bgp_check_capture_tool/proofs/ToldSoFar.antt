@@ -11,7 +11,7 @@ use Rattle.bgp_text.specs.declared.lines.Lines.{Lines}
 use Rattle.bgp_text.proofs.Pieces.{Joins, and_then}
 use Rattle.bgp_check.specs.Cut.{IsWholeStretch, joined}
 use Rattle.bgp_check.specs.Stretch.{LeavesIdle}
-use Rattle.bgp_check_capture.specs.Cut.{IsAtLeaving, IsBeforeLeaving}
+use Rattle.bgp_check.specs.BeforeLeaving.{IsAtLeaving, IsBeforeLeaving}
 use Rattle.bgp_check_text.specs.declared.tally.Tally.{Tally}
 use Rattle.bgp_check_capture_tool.specs.Counted.{with_ends, with_one}
 use Rattle.bgp_check_capture_tool.specs.Ends.{AreTold, End, IsToldOf, front_ends}

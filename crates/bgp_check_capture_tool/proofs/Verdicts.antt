@@ -18,10 +18,10 @@ use Rattle.bgp_check.specs.NotJudged.{IsWhyNot, SendsSome, why_not}
 use Rattle.bgp_parts.specs.Opens.{HasOwnOpen}
 use Rattle.bgp_check.specs.Stretch.{IsStretch}
 use Rattle.bgp_check.specs.declared.peer_as.PeerAs.{PeerAs}
-use Rattle.bgp_check_capture.specs.Cut.{IsAtLeaving}
-use Rattle.bgp_check_capture.specs.StretchLaws as stretch
-use Rattle.bgp_check_capture.specs.StretchLaws.{IsLeftSo, JudgedAreStretches}
-use Rattle.bgp_check_capture.specs.Told.{answer_by, left_answer, with_leaving}
+use Rattle.bgp_check.specs.BeforeLeaving.{IsAtLeaving}
+use Rattle.bgp_check.specs.StretchLaws as stretch
+use Rattle.bgp_check.specs.StretchLaws.{IsLeftSo, JudgedAreStretches}
+use Rattle.bgp_check.specs.StretchTold.{answer_by, left_answer, with_leaving}
 use Rattle.bgp_check_capture_tool.specs.Ends.{AreTold, End, IsSessionTold, Silent, Staying, Stretch, TellsRecords, TellsStretches, front_ends, session_of, silent_ends, view_of}
 use Rattle.bgp_check_capture_tool.specs.Headline.{IsToldAmong, NoConfigurationHasARun, NothingIsVacuous}
 use Rattle.bgp_check_capture_tool.specs.Printed.{AreReadOf}

@@ -10,7 +10,7 @@ use Rattle.mrt_sessions.specs.declared.addresses.Addresses.{Addresses}
 use Rattle.mrt_sessions.specs.declared.lengths.ExtendedMessages.{ExtendedMessages}
 use Rattle.bgp_machine.specs.Lists.{Has}
 use Rattle.bgp_text.specs.declared.lines.Lines.{Lines}
-use Rattle.bgp_check_capture.specs.Offers.{HearsOffer, SendsOffer}
+use Rattle.bgp_check.specs.SessionOffers.{HearsOffer, SendsOffer}
 use Rattle.bgp_list.specs.Capture.{no_memory}
 use Rattle.bgp_check_text.specs.declared.tally.Tally.{Tally}
 use Rattle.bgp_check_capture_tool.specs.Ends.{IsSessionTold, session_of, view_of}

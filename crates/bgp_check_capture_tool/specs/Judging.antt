@@ -7,7 +7,7 @@ use Rattle.mrt.specs.declared.fault.CaptureFault.{CaptureFault}
 use Rattle.mrt_sessions.specs.File.{Located}
 use Rattle.bgp_open.specs.declared.config.Config.{Config}
 use Rattle.bgp_check.specs.Answered.{AnswerValue, JudgedAs, Unjudged}
-use Rattle.bgp_check_capture.specs.Told.{IsStretchTold, ToldValue}
+use Rattle.bgp_check.specs.StretchTold.{IsStretchTold, ToldValue}
 use Rattle.bgp_check_text.specs.OwnFaults.{IsToldConfiguration}
 use Rattle.bgp_check_text.specs.Settings.{are_told, where_refused}
 use Rattle.bgp_check_text.specs.JudgeLine.{judge_line}

@@ -27,11 +27,11 @@ use Rattle.bgp_check.specs.Over.{HasVerdictOver}
 use Rattle.bgp_check.specs.WidestMade.{IsFaultless}
 use Rattle.bgp_check.specs.declared.own_fault.OwnFault.{OwnFault}
 use Rattle.bgp_check.specs.declared.peer_as.PeerAs.{PeerAs}
-use Rattle.bgp_check_capture.specs.Cut.{IsAtLeaving}
-use Rattle.bgp_check_capture.specs.Left.{HasVerdictWhereLeft}
-use Rattle.bgp_check_capture.specs.Offers.{HearsOffer, SendsOffer}
-use Rattle.bgp_check_capture.specs.Passed.{Keeps, Left, nothing_left}
-use Rattle.bgp_check_capture.specs.Told.{offers_of, with_leaving}
+use Rattle.bgp_check.specs.BeforeLeaving.{IsAtLeaving}
+use Rattle.bgp_check.specs.Left.{HasVerdictWhereLeft}
+use Rattle.bgp_check.specs.SessionOffers.{HearsOffer, SendsOffer}
+use Rattle.bgp_check.specs.Passed.{Keeps, Left, nothing_left}
+use Rattle.bgp_check.specs.StretchTold.{offers_of, with_leaving}
 use Rattle.bgp_check_text.specs.Tally.{status_of, tally_line}
 use Rattle.bgp_check_text.specs.declared.tally.Tally.{Tally}
 use Rattle.bgp_list.specs.Sessions.{fault_text}

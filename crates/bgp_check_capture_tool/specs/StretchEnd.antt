@@ -5,7 +5,7 @@ use Rattle.bgp_prefix.specs.declared.session.Session.{Session}
 use Rattle.mrt_sessions.specs.File.{Located}
 use Rattle.mrt_sessions.specs.Located.{located}
 use Rattle.bgp_wire.specs.Header.{limit_with}
-use Rattle.bgp_check_capture.specs.Told.{IsStretchTold, ToldValue, told_value}
+use Rattle.bgp_check.specs.StretchTold.{IsStretchTold, ToldValue, told_value}
 use Rattle.bgp_check_text.specs.Reason.{IsReasonTo, reason_text}
 use Rattle.bgp_check_text.specs.declared.reason.Reason.{Reason}
 use Rattle.bgp_check_text.specs.Highest.{highest_state}

@@ -4,7 +4,7 @@ use Rattle.bgp_prefix.specs.Shown.{ShownRecord}
 use Rattle.bgp_machine.specs.Lists.{Each}
 use Rattle.bgp_check.specs.Cut.{IsWholeStretch, joined}
 use Rattle.bgp_check.specs.Stretch.{LeavesIdle}
-use Rattle.bgp_check_capture.specs.Cut.{IsAtLeaving}
+use Rattle.bgp_check.specs.BeforeLeaving.{IsAtLeaving}
 
 -- They are those before the first that leaves Idle, then these stretches, and what is left, which
 -- begins where a record leaves Idle.

@@ -2,10 +2,10 @@
 
 ghost use Rattle.std.specs.Prelude.{◌≡◌, ◌<◌, length, map, option_map};
 ghost use Rattle.mrt.specs.Reader.{shown_of};
-ghost use Rattle.bgp_check_capture.specs.Cut.{IsAtLeaving};
+ghost use Rattle.bgp_check.specs.BeforeLeaving.{IsAtLeaving};
 ghost use Rattle.bgp_check_capture_tool.specs.Stretches.{IsFirst, first_of};
 
-use bgp_check_capture::before_leaving;
+use bgp_check::before_leaving;
 use mrt::Record;
 
 /// The first stretch of these records, whose first one leaves Idle, and what follows it.

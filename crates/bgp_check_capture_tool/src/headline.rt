@@ -6,9 +6,9 @@ ghost use Rattle.bgp_check_capture_tool.specs.Printed.{PrintsTrueNoes, ToldVerdi
 
 use crate::checking::{self, CheckedCapture};
 use crate::options::CaptureOptions;
-use bgp_check::no_configuration_explains_a_no;
-use bgp_check_capture::{
-    a_left_stretch_is_judged_over_all, a_no_names_its_record, what_is_judged_is_a_stretch,
+use bgp_check::{
+    a_left_stretch_is_judged_over_all, a_no_names_its_record, no_configuration_explains_a_no,
+    what_is_judged_is_a_stretch,
 };
 use bgp_judge::Tracker;
 use mrt::{Sink, Source};

@@ -5,8 +5,8 @@ ghost use Rattle.bgp_check_capture_tool.specs.Headings.{ListIsWithoutEnds};
 ghost use Rattle.bgp_check_capture_tool.specs.Headline.{NoConfigurationHasARun, NothingIsVacuous};
 ghost use Rattle.bgp_check_capture_tool.specs.Repeated.{LineGivesTheVerdict};
 
-use bgp_check::a_verdict_holds_under_its_configuration;
-use bgp_check_capture::{
+use bgp_check::{
+    a_verdict_holds_under_its_configuration,
     no_configuration_has_a_run as no_configuration_explains_a_stretch, what_is_judged_is_a_stretch,
 };
 

@@ -5,7 +5,7 @@ ghost use Rattle.std.specs.List.{AllByRecursion};
 ghost use Rattle.mrt.specs.Reader.{shown_of};
 ghost use Rattle.mrt_sessions.specs.Located.{located};
 ghost use Rattle.bgp_check.specs.Answered.{IsAnswerTo, answer_value};
-ghost use Rattle.bgp_check_capture.specs.Told.{told_value};
+ghost use Rattle.bgp_check.specs.StretchTold.{told_value};
 ghost use Rattle.bgp_check_text.specs.Reason.{reason_text};
 ghost use Rattle.bgp_check_capture_tool.specs.Judging.{IsToldOfSome};
 ghost use Rattle.bgp_check_capture_tool.specs.StretchEnd.{IsReasonFor, IsStretchEnd, stretch_value};
@@ -14,8 +14,7 @@ ghost use Rattle.bgp_check_capture_tool.specs.StretchEnd.{numbers_of, text_in, v
 use crate::judging::options_of;
 use crate::part::Part;
 use crate::telling::Telling;
-use bgp_check::Answer;
-use bgp_check_capture::{StretchTold, check_stretch};
+use bgp_check::{Answer, StretchTold, check_stretch};
 use bgp_check_text::{JudgeOptions, Reason, highest_state, is_no_yes, reason_of};
 use bgp_explain::Places;
 use bgp_judge::Tracker;

@@ -1,7 +1,7 @@
 use Rattle.std.proofs.Common.{◌+◌, List, drop, map, subst, sym}
 use Rattle.mrt.specs.Reader.{shown_of}
 use Rattle.mrt.specs.declared.record.Record.{Record}
-use Rattle.bgp_check_capture.specs.Cut.{IsBeforeLeaving}
+use Rattle.bgp_check.specs.BeforeLeaving.{IsBeforeLeaving}
 use Rattle.bgp_check_capture_tool.specs.Stretches.{IsFirst}
 use Rattle.bgp_check_capture_tool.proofs.Fronts.{first_cut}
 use Rattle.bgp_check_capture_tool.proofs.cutting.first_stretch.Goals as goal

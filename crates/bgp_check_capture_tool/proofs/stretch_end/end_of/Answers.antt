@@ -3,8 +3,8 @@ use Rattle.std.specs.Prelude.{option_map}
 use Rattle.std.proofs.lemmas.List.{length-map}
 use Rattle.std.below.core.specs.declared.int.usize.TheConstants.{MAX}
 use Rattle.mrt.specs.Reader.{shown_of}
-use Rattle.bgp_check_capture.specs.Told.{IsStretchTold, told_value}
-use Rattle.bgp_check_capture.proofs.Places.{few_places}
+use Rattle.bgp_check.specs.StretchTold.{IsStretchTold, told_value}
+use Rattle.bgp_check.proofs.Places.{few_places}
 use Rattle.bgp_check_capture_tool.proofs.stretch_end.end_of.Goals as goal
 
 pub reason_for-requires-clause-places : goal.reason_for-requires-clause-places

@@ -1,5 +1,0 @@
-use Rattle.bgp_check_capture.proofs.Stretched.{judged_are_stretches}
-use Rattle.bgp_check_capture.proofs.laws.what_is_judged_is_a_stretch.Goals as goal
-
-pub returns : goal.returns
-returns c = judged_are_stretches
