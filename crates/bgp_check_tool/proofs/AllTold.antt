@@ -6,9 +6,9 @@ use Rattle.packets.specs.Packet.{Recorded}
 use Rattle.bgp_import.specs.declared.refusal.Refusal.{Refusal}
 use Rattle.bgp_check_tool.specs.declared.options.CheckOptions.{CheckOptions}
 use Rattle.bgp_check_tool.specs.Blocks.{Block}
-use Rattle.bgp_connections.specs.Places.{HasAll}
+use Rattle.bgp_import.specs.Places.{HasAll}
 use Rattle.bgp_check_tool.specs.Places.{IsToldAt}
-use Rattle.bgp_connections.specs.Reading.{IsMemory}
+use Rattle.bgp_import.specs.Reading.{IsMemory}
 use Rattle.bgp_list.proofs.PutSoFar.{without_keys}
 
 -- the number of the last packet that was looked at

@@ -12,12 +12,12 @@ use Rattle.bgp_prefix.specs.declared.session.Session.{Session}
 use Rattle.bgp_import.specs.Selecting.{AreTaken}
 use Rattle.bgp_import.specs.declared.refusal.Refusal.{Refusal}
 use Rattle.bgp_import.specs.declared.refusal.Refusal.TheVariants as refusals
-use Rattle.bgp_connections.specs.Pairs.{AreOrdered, selection_of, session_of}
-use Rattle.bgp_connections.specs.Places.{IsNumber, connection_in}
-use Rattle.bgp_connections.specs.Reading.{AreKnown}
-use Rattle.bgp_connections.specs.Talks.{IsRefusedAt}
-use Rattle.bgp_connections.proofs.Alone.{alone, apart, none_at_refusal, one_place, refused_alone, same_taken, taken_not_refused}
-use Rattle.bgp_connections.proofs.ListedSoFar.{place_of}
+use Rattle.bgp_import.specs.Pairs.{AreOrdered, selection_of, session_of}
+use Rattle.bgp_import.specs.Places.{IsNumber, connection_in}
+use Rattle.bgp_import.specs.Reading.{AreKnown}
+use Rattle.bgp_import.specs.Talks.{IsRefusedAt}
+use Rattle.bgp_import.proofs.Alone.{alone, apart, none_at_refusal, one_place, refused_alone, same_taken, taken_not_refused}
+use Rattle.bgp_import.proofs.ListedSoFar.{place_of}
 use Rattle.bgp_check_tool.specs.Alone.{EachConnectionIsTold, EachRefusalIsTold, HasBlockOf}
 use Rattle.bgp_check_tool.specs.declared.options.CheckOptions.{CheckOptions}
 use Rattle.bgp_check_tool.specs.Blocks.{AllRefused, Block, BothEnds, OneEnd, Refused}

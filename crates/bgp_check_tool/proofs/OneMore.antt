@@ -23,21 +23,21 @@ use Rattle.bgp_import.specs.declared.refusal.Refusal.TheVariants as refusals
 use Rattle.bgp_import.proofs.InOrder.{in_order}
 use Rattle.bgp_check_tool.specs.declared.connection.EndsTold.{EndsTold}
 use Rattle.bgp_check_tool.specs.declared.connection.EndsTold.TheVariants.{Both, One}
-use Rattle.bgp_connections.specs.declared.listed.Listed.{Listed}
-use Rattle.bgp_connections.specs.declared.talk.Talk.{Talk}
+use Rattle.bgp_import.specs.declared.listed.Listed.{Listed}
+use Rattle.bgp_import.specs.declared.talk.Talk.{Talk}
 use Rattle.bgp_check_tool.specs.Blocks.{Block, IsBlock, block_of, block_text, refusal_in}
-use Rattle.bgp_connections.specs.declared.talks.Talks.{Talks}
+use Rattle.bgp_import.specs.declared.talks.Talks.{Talks}
 use Rattle.bgp_check_tool.specs.Checking.{PutsAll, PutsBlock, blocks_text, refusals_in, tally_from}
-use Rattle.bgp_connections.specs.Listed.{AreListed, IsListed, IsPlaceOf, ListsOne}
-use Rattle.bgp_connections.specs.Pairs.{selection_of}
-use Rattle.bgp_connections.specs.Places.{HasAll, HasEach}
+use Rattle.bgp_import.specs.Listed.{AreListed, IsListed, IsPlaceOf, ListsOne}
+use Rattle.bgp_import.specs.Pairs.{selection_of}
+use Rattle.bgp_import.specs.Places.{HasAll, HasEach}
 use Rattle.bgp_check_tool.specs.Places.{IsToldAt}
-use Rattle.bgp_connections.specs.Talks.{HoldsEach}
+use Rattle.bgp_import.specs.Talks.{HoldsEach}
 use Rattle.bgp_list.specs.Firsts.{firsts_after, with_first}
 use Rattle.bgp_list.proofs.PutSoFar.{firsts_more}
 use Rattle.std.proofs.lemmas.List.{map-append}
 use Rattle.bgp_check_tool.specs.Counted.{with_block}
-use Rattle.bgp_connections.proofs.ListedSoFar.{among_keys}
+use Rattle.bgp_import.proofs.ListedSoFar.{among_keys}
 
 text_of : (f : ℕ × Block → List ℕ) (blocks : List (ℕ × Block)) (one : ℕ × Block) → flat_map f blocks ++ f one ≡ flat_map f (blocks ++ one ∷ [])
 text_of f [] one = sym (append-nil (f one))

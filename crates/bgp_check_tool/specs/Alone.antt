@@ -15,10 +15,10 @@ use Rattle.bgp_import.specs.declared.refusal.Refusal.TheVariants as refusals
 use Rattle.bgp_check_tool.specs.declared.options.CheckOptions.{CheckOptions}
 use Rattle.bgp_check_tool.specs.Blocks.{AllRefused, Block, BothEnds, OneEnd, Refused}
 use Rattle.bgp_check_tool.specs.Places.{IsToldAt}
-use Rattle.bgp_connections.specs.Pairs.{AreOrdered, selection_of, session_of}
-use Rattle.bgp_connections.specs.Places.{HasAll, IsNumber, connection_in}
-use Rattle.bgp_connections.specs.Reading.{AreKnown}
-use Rattle.bgp_connections.specs.Talks.{IsRefusedAt}
+use Rattle.bgp_import.specs.Pairs.{AreOrdered, selection_of, session_of}
+use Rattle.bgp_import.specs.Places.{HasAll, IsNumber, connection_in}
+use Rattle.bgp_import.specs.Reading.{AreKnown}
+use Rattle.bgp_import.specs.Talks.{IsRefusedAt}
 
 -- the block is told of the connection that was opened so
 abbrev pub IsOfConnection : Block → Session → Opening → Type 0

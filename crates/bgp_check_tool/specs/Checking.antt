@@ -21,15 +21,15 @@ use Rattle.bgp_check_text.specs.Tally.{tally_line}
 use Rattle.bgp_check_text.specs.declared.tally.Tally.{Tally}
 use Rattle.bgp_check_tool.specs.declared.nothing.NothingJudged.{NothingJudged}
 use Rattle.bgp_check_tool.specs.declared.options.CheckOptions.{CheckOptions}
-use Rattle.bgp_connections.specs.declared.talks.Talks.{Talks}
+use Rattle.bgp_import.specs.declared.talks.Talks.{Talks}
 use Rattle.bgp_list.specs.Firsts.{firsts_after, with_first}
 use Rattle.bgp_check_tool.specs.Blocks.{Block, block_text, refusal_in}
 use Rattle.bgp_check_tool.specs.Counted.{with_block, with_refused}
-use Rattle.bgp_connections.specs.Places.{HasAll}
+use Rattle.bgp_import.specs.Places.{HasAll}
 use Rattle.bgp_check_tool.specs.Judging.{options_by}
 use Rattle.bgp_check_tool.specs.Places.{IsToldAt}
-use Rattle.bgp_connections.specs.Reading.{IsMemory, IsReadTo, cut_short_at, failures_of, looked_at}
-use Rattle.bgp_connections.specs.Talks.{HoldsEach}
+use Rattle.bgp_import.specs.Reading.{IsMemory, IsReadTo, cut_short_at, failures_of, looked_at}
+use Rattle.bgp_import.specs.Talks.{HoldsEach}
 
 -- ---- the blocks, each with the packet at which it stands
 

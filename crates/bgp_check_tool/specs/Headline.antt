@@ -29,8 +29,8 @@ use Rattle.bgp_check_text.specs.declared.judge_options.Asked.{Asked}
 use Rattle.bgp_check_tool.specs.declared.options.CheckOptions.{CheckOptions}
 use Rattle.bgp_check_tool.specs.Blocks.{BothEnds}
 use Rattle.bgp_check_tool.specs.Made.{IsMade}
-use Rattle.bgp_connections.specs.Pairs.{session_of}
-use Rattle.bgp_connections.specs.Places.{HasConnection}
+use Rattle.bgp_import.specs.Pairs.{session_of}
+use Rattle.bgp_import.specs.Places.{HasConnection}
 use Rattle.bgp_check_tool.specs.Places.{IsToldAt}
 use Rattle.bgp_check_tool.specs.Seen.{seen_from, session_from}
 use Rattle.bgp_check_tool.specs.Told.{EndTold, IsEndTold}

@@ -9,9 +9,9 @@ use Rattle.streams.specs.declared.connection.Opening.{Opening}
 use Rattle.bgp_prefix.specs.declared.session.Session.{Session}
 use Rattle.bgp_import.specs.declared.refusal.Refusal.{Refusal}
 use Rattle.bgp_import.specs.declared.refusal.Refusal.TheVariants as refusals
-use Rattle.bgp_connections.specs.Pairs.{AreOrdered, session_of}
-use Rattle.bgp_connections.specs.Places.{HasConnection}
-use Rattle.bgp_connections.specs.Talks.{IsRefusedAt}
+use Rattle.bgp_import.specs.Pairs.{AreOrdered, session_of}
+use Rattle.bgp_import.specs.Places.{HasConnection}
+use Rattle.bgp_import.specs.Talks.{IsRefusedAt}
 use Rattle.bgp_check_tool.specs.declared.options.CheckOptions.{CheckOptions}
 use Rattle.bgp_check_tool.specs.Blocks.{Block, BothEnds, IsBlock, OneEnd, Refused, AllRefused}
 

@@ -32,9 +32,9 @@ use Rattle.bgp_check.specs.declared.peer_as.PeerAs.{PeerAs}
 use Rattle.bgp_check_text.specs.Tally.{status_of, tally_line}
 use Rattle.bgp_check_text.specs.Text.{no_text}
 use Rattle.bgp_check_text.specs.declared.tally.Tally.{Tally}
-use Rattle.bgp_connections.specs.Pairs.{session_of}
-use Rattle.bgp_connections.specs.Places.{HasConnection}
-use Rattle.bgp_connections.specs.Reading.{IsReadTo, looked_at}
+use Rattle.bgp_import.specs.Pairs.{session_of}
+use Rattle.bgp_import.specs.Places.{HasConnection}
+use Rattle.bgp_import.specs.Reading.{IsReadTo, looked_at}
 use Rattle.bgp_check_tool.specs.declared.options.CheckOptions.{CheckOptions}
 use Rattle.bgp_check_tool.specs.Blocks.{AllRefused, Block, BothEnds, OneEnd, Refused}
 use Rattle.bgp_check_tool.specs.Checking.{blocks_text, cut_note, file_text, nothing_text}

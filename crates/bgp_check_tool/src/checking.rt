@@ -7,8 +7,8 @@ ghost use Rattle.bgp_check_tool.specs.Checking.{ChecksRecording, PutsAll, PutsBl
 ghost use Rattle.bgp_check_tool.specs.Checking.{cut_note, nothing_by, with_file};
 ghost use Rattle.bgp_check_tool.specs.Judging.{settings_by};
 ghost use Rattle.bgp_list.specs.Firsts.{AreApart, with_first};
-ghost use Rattle.bgp_connections.specs.Listed.{CanBeTold, IsListed};
-ghost use Rattle.bgp_connections.specs.Talks.{HoldsSome};
+ghost use Rattle.bgp_import.specs.Listed.{CanBeTold, IsListed};
+ghost use Rattle.bgp_import.specs.Talks.{HoldsSome};
 
 use crate::blocks::{put_connection, put_session};
 use crate::connection::{Between, check_connection};
@@ -17,8 +17,10 @@ use crate::nothing::{NothingJudged, put_nothing};
 use crate::options::CheckOptions;
 use arrayvec::ArrayVec;
 use bgp_check_text::{Settings, Tally};
-use bgp_connections::{Listed, Talks, cut_short_at, listed_in, selection_of, take_all};
-use bgp_import::{CutShort, Refusal, put_refusal, refused};
+use bgp_import::{
+    CutShort, Listed, Refusal, Talks, cut_short_at, listed_in, put_refusal, refused, selection_of,
+    take_all,
+};
 use bgp_judge::Tracker;
 use bgp_list::NUMBERS;
 use bgp_text::Lines;

@@ -7,3 +7,12 @@ pub mod Taken
 pub mod Telling
 pub mod Once
 pub mod OneAnswer
+pub mod Counted
+pub mod AddressOrder
+pub mod Changed
+pub mod TakenSoFar
+pub mod ReadSoFar
+pub mod ListedSoFar
+pub mod Rising
+pub mod Alone
+pub mod SomeListed

@@ -13,3 +13,11 @@ pub mod Gathers
 pub mod Taking
 pub mod Imports
 pub mod Making
+pub mod Wrapped
+pub mod Pairs
+pub mod Talks
+pub mod Reading
+pub mod Places
+pub mod Listed
+pub mod Octets
+pub mod Alone

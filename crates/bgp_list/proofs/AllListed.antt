@@ -3,8 +3,8 @@ use Rattle.std.proofs.Common.{◌≡◌, ℕ, List, [], Option, None, subst}
 use Rattle.std.specs.List.{AllByRecursion, Contains, IsDistinct}
 use Rattle.packets.specs.Packet.{Recorded}
 use Rattle.bgp_import.specs.declared.refusal.Refusal.{Refusal}
-use Rattle.bgp_connections.specs.Places.{HasAll}
-use Rattle.bgp_connections.specs.Reading.{IsMemory}
+use Rattle.bgp_import.specs.Places.{HasAll}
+use Rattle.bgp_import.specs.Reading.{IsMemory}
 use Rattle.bgp_list.specs.Firsts.{AreApart}
 use Rattle.bgp_list.specs.Lines.{IsLineAt}
 use Rattle.bgp_list.specs.declared.line.Line.{Line}

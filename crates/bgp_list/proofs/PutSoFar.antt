@@ -13,12 +13,12 @@ use Rattle.bgp_text.specs.declared.lines.Lines.{Lines}
 use Rattle.bgp_text.proofs.Pieces.{Joins, and_then}
 use Rattle.bgp_import.specs.declared.refusal.Refusal.{Refusal}
 use Rattle.bgp_import.specs.declared.refusal.Refusal.TheVariants as refusals
-use Rattle.bgp_connections.specs.Listed.{AreListed, IsListed, IsPlaceOf}
-use Rattle.bgp_connections.specs.Places.{HasAll}
-use Rattle.bgp_connections.specs.Talks.{HoldsEach}
-use Rattle.bgp_connections.specs.declared.listed.Listed.{Listed}
-use Rattle.bgp_connections.specs.declared.talks.Talks.{Talks}
-use Rattle.bgp_connections.proofs.ListedSoFar.{among_keys}
+use Rattle.bgp_import.specs.Listed.{AreListed, IsListed, IsPlaceOf}
+use Rattle.bgp_import.specs.Places.{HasAll}
+use Rattle.bgp_import.specs.Talks.{HoldsEach}
+use Rattle.bgp_import.specs.declared.listed.Listed.{Listed}
+use Rattle.bgp_import.specs.declared.talks.Talks.{Talks}
+use Rattle.bgp_import.proofs.ListedSoFar.{among_keys}
 use Rattle.bgp_list.specs.Firsts.{firsts_after, with_first}
 use Rattle.bgp_list.specs.Lines.{IsLineAt, line_text, refusal_in}
 use Rattle.bgp_list.specs.Recording.{PutsAll, lines_text, refusals_in}

@@ -12,10 +12,10 @@ use Rattle.streams.specs.declared.connection.Opening.{Opening}
 use Rattle.bgp_prefix.specs.declared.session.Session.{Session}
 use Rattle.bgp_import.specs.Selecting.{AreTaken}
 use Rattle.bgp_import.specs.declared.refusal.Refusal.TheVariants as refusals
-use Rattle.bgp_connections.specs.Pairs.{AreOrdered, selection_of, session_of}
-use Rattle.bgp_connections.specs.Places.{HasAll, IsNumber, connection_in}
-use Rattle.bgp_connections.specs.Reading.{AreKnown}
-use Rattle.bgp_connections.specs.Talks.{IsRefusedAt}
+use Rattle.bgp_import.specs.Pairs.{AreOrdered, selection_of, session_of}
+use Rattle.bgp_import.specs.Places.{HasAll, IsNumber, connection_in}
+use Rattle.bgp_import.specs.Reading.{AreKnown}
+use Rattle.bgp_import.specs.Talks.{IsRefusedAt}
 use Rattle.bgp_list.specs.Lines.{IsLineAt}
 use Rattle.bgp_list.specs.declared.line.Line.{Line}
 use Rattle.bgp_list.specs.declared.line.Line.TheVariants.{Octets, Refused, AllRefused}

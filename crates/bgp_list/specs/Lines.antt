@@ -15,10 +15,10 @@ use Rattle.streams.specs.declared.fault.Fault.{Fault}
 use Rattle.bgp_import.specs.ListText.{octets_text, opening_text, other_side, refused_text}
 use Rattle.bgp_import.specs.declared.refusal.Refusal.{Refusal}
 use Rattle.bgp_import.specs.declared.refusal.Refusal.TheVariants as refusals
-use Rattle.bgp_connections.specs.Octets.{octets_from}
-use Rattle.bgp_connections.specs.Pairs.{AreOrdered, session_of}
-use Rattle.bgp_connections.specs.Places.{HasConnection}
-use Rattle.bgp_connections.specs.Talks.{IsRefusedAt}
+use Rattle.bgp_import.specs.Octets.{octets_from}
+use Rattle.bgp_import.specs.Pairs.{AreOrdered, session_of}
+use Rattle.bgp_import.specs.Places.{HasConnection}
+use Rattle.bgp_import.specs.Talks.{IsRefusedAt}
 use Rattle.bgp_list.specs.declared.line.Line.{Line}
 use Rattle.bgp_list.specs.declared.line.Line.TheVariants.{Octets, Refused, AllRefused}
 

@@ -17,11 +17,11 @@ use Rattle.bgp_import.specs.declared.refusal.Cause.{Cause}
 use Rattle.bgp_import.specs.declared.refusal.Cause.TheVariants as causes
 use Rattle.bgp_import.specs.declared.refusal.Refusal.{Refusal}
 use Rattle.bgp_import.specs.declared.refusal.Refusal.TheVariants as refusals
-use Rattle.bgp_connections.specs.Places.{HasAll}
-use Rattle.bgp_connections.specs.Reading.{IsMemory, IsReadTo, cut_short_at, failures_of, looked_at}
-use Rattle.bgp_connections.specs.Talks.{HoldsEach}
-use Rattle.bgp_connections.specs.Wrapped.{AreCounted}
-use Rattle.bgp_connections.specs.declared.talks.Talks.{Talks}
+use Rattle.bgp_import.specs.Places.{HasAll}
+use Rattle.bgp_import.specs.Reading.{IsMemory, IsReadTo, cut_short_at, failures_of, looked_at}
+use Rattle.bgp_import.specs.Talks.{HoldsEach}
+use Rattle.bgp_import.specs.Wrapped.{AreCounted}
+use Rattle.bgp_import.specs.declared.talks.Talks.{Talks}
 use Rattle.bgp_list.specs.Firsts.{firsts_after, with_first}
 use Rattle.bgp_list.specs.Lines.{IsLineAt, line_text, refusal_in}
 use Rattle.bgp_list.specs.declared.line.Line.{Line}

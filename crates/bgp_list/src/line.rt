@@ -4,11 +4,13 @@ ghost use Rattle.std.specs.Prelude.{◌≡◌, List};
 ghost use Rattle.packets.specs.Packet.{Recorded};
 ghost use Rattle.streams.specs.Held.{HoldsConnections};
 ghost use Rattle.streams.specs.Passed.{Segment};
-ghost use Rattle.bgp_connections.specs.Listed.{IsListed};
+ghost use Rattle.bgp_import.specs.Listed.{IsListed};
 ghost use Rattle.bgp_text.specs.Lines.{Writes};
 
-use bgp_connections::{Listed, octets_from, selection_of};
-use bgp_import::{Refusal, other_side, put_counts, put_opening, put_refused, refused};
+use bgp_import::{
+    Listed, Refusal, octets_from, other_side, put_counts, put_opening, put_refused, refused,
+    selection_of,
+};
 use bgp_prefix::Session;
 use bgp_text::{Lines, put_address};
 use mrt::Sink;

@@ -4,8 +4,7 @@ ghost use Rattle.std.specs.Prelude.{◌≡◌, ◌<◌, ◌⊎◌, None, IfSome,
 
 use crate::firsts::NUMBERS;
 use arrayvec::ArrayVec;
-use bgp_connections::Wrapped;
-use bgp_import::{CutShort, Refusal};
+use bgp_import::{CutShort, Refusal, Wrapped};
 use std::fmt;
 
 /// What was listed of a recording.

@@ -2,7 +2,7 @@
 
 ghost use Rattle.std.specs.Prelude.{◌≡◌, ◌<◌, List};
 ghost use Rattle.packets.specs.Packet.{Recorded};
-ghost use Rattle.bgp_connections.specs.Talks.{HoldsSome};
+ghost use Rattle.bgp_import.specs.Talks.{HoldsSome};
 ghost use Rattle.bgp_text.specs.Lines.{Writes};
 ghost use Rattle.bgp_tool.specs.Status.{code_of};
 ghost use Rattle.bgp_list.specs.Firsts.{AreApart};
@@ -13,8 +13,7 @@ use crate::firsts::{NUMBERS, add_first};
 use crate::line::Line;
 use crate::listed::ListedRecording;
 use arrayvec::ArrayVec;
-use bgp_connections::{Talks, cut_short_at, listed_in, take_all};
-use bgp_import::{Cause, Refusal, put_refusal};
+use bgp_import::{Cause, Refusal, Talks, cut_short_at, listed_in, put_refusal, take_all};
 use bgp_text::Lines;
 use bgp_tool::{Status, hand_over};
 use mrt::{Sink, Source};

@@ -11,8 +11,8 @@ use Rattle.bgp_check_tool.specs.Judging.{options_by}
 use Rattle.bgp_check_text.specs.declared.settings.Settings.{Settings}
 use Rattle.bgp_list.specs.Firsts.{AreApart, firsts_after, with_first}
 use Rattle.bgp_list.proofs.AllListed.{none_apart}
-use Rattle.bgp_connections.specs.Reading.{IsMemory, IsReadTo, TakesAll, cut_short_at, failures_of, looked_at}
-use Rattle.bgp_connections.specs.Talks.{HoldsEach, HoldsSome}
+use Rattle.bgp_import.specs.Reading.{IsMemory, IsReadTo, TakesAll, cut_short_at, failures_of, looked_at}
+use Rattle.bgp_import.specs.Talks.{HoldsEach, HoldsSome}
 use Rattle.bgp_import.specs.declared.refusal.Refusal.{Refusal}
 use Rattle.bgp_import.specs.declared.refusal.Refusal.TheVariants as refusals
 use Rattle.bgp_check_tool.proofs.Texts.{coded_as, told_as}

@@ -1,6 +1,6 @@
 use Rattle.std.proofs.Common.{refl, rules}
 use Rattle.bgp_text.proofs.Pieces.{Joins, nothing_yet}
-use Rattle.bgp_connections.proofs.ListedSoFar.{can_be_told}
+use Rattle.bgp_import.proofs.ListedSoFar.{can_be_told}
 use Rattle.bgp_check_tool.proofs.OneMore.{all_put, none_put, one_listed, one_more, start_put}
 use Rattle.bgp_check_tool.proofs.checking.put_all.Goals as goal
 

@@ -1,6 +1,6 @@
 use Rattle.std.proofs.Common.{◌≡◌, ◌∙◌, true, false, Some, ap, inr, refl, subst, sym}
 use Rattle.streams.specs.declared.passed.Side.{Side}
-use Rattle.bgp_connections.specs.Octets.{octets_from}
+use Rattle.bgp_import.specs.Octets.{octets_from}
 use Rattle.bgp_import.specs.ListText.{other_side}
 use Rattle.bgp_check_text.specs.declared.judge_options.Asked.{Asked}
 use Rattle.bgp_check_tool.specs.Told.{IsEndTold, told_value}

@@ -1,5 +1,5 @@
 use Rattle.bgp_check_tool.specs.Judging.{options_by}
-use Rattle.bgp_connections.specs.Reading.{looked_at}
+use Rattle.bgp_import.specs.Reading.{looked_at}
 use Rattle.bgp_check_tool.proofs.Printed.{all_as, all_true}
 use Rattle.bgp_check_tool.proofs.headline.check_recording.Goals as goal
 

@@ -5,8 +5,8 @@ use Rattle.std.specs.Ordering.{nat_cmp}
 use Rattle.bgp_tool.proofs.CaptureJudged.{is_written}
 use Rattle.bgp_text.proofs.Fresh.{IsFresh}
 use Rattle.bgp_text.proofs.Pieces.{Joins, and_nothing, and_then}
-use Rattle.bgp_connections.specs.Reading.{IsMemory, IsReadTo, TakesAll, cut_short_at, failures_of, looked_at}
-use Rattle.bgp_connections.specs.Talks.{HoldsEach}
+use Rattle.bgp_import.specs.Reading.{IsMemory, IsReadTo, TakesAll, cut_short_at, failures_of, looked_at}
+use Rattle.bgp_import.specs.Talks.{HoldsEach}
 use Rattle.bgp_import.specs.declared.refusal.Refusal.{Refusal}
 use Rattle.bgp_import.specs.declared.refusal.Refusal.TheVariants as refusals
 use Rattle.bgp_list.specs.Firsts.{AreApart, firsts_after, with_first}

@@ -1,6 +1,6 @@
 use Rattle.std.proofs.Common.{List}
 use Rattle.packets.specs.Packet.{Recorded}
-use Rattle.bgp_connections.specs.Talks.{HoldsSome}
+use Rattle.bgp_import.specs.Talks.{HoldsSome}
 use Rattle.bgp_list.specs.Firsts.{AreApart}
 use Rattle.bgp_list.proofs.PutSoFar.{PutsFront}
 use Rattle.bgp_list.proofs.recording.put_all.Given as goal
