@@ -2,9 +2,8 @@
 
 use bgp_compact::CompactTracker;
 use bgp_explain::Report;
-use bgp_import::CutShort;
+use bgp_import::{CutShort, RecordingOptions};
 use bgp_open::Config;
-use bgp_options::RecordingOptions;
 use bgp_prefix::Session;
 use bgp_recording_tool::{FileOutcome, decode_file, judge_file};
 use bgp_tool::{ErrorWords, Note, Outcome, decode_opened, passed_over};

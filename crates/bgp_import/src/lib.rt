@@ -3,7 +3,7 @@
 //!
 //! A recording is a file of packets; a capture is the MRT records of one session, in the order in
 //! which its local system may have handled the messages. `import_recording` makes the one of the
-//! other.
+//! other. What a command line says of a recording, besides its session, are `RecordingOptions`.
 //!
 //! ```text
 //! match import_recording(alloc, &import, &mut source, &mut sink).ended {
@@ -40,6 +40,7 @@ mod listed;
 mod listing;
 mod note;
 mod octets;
+mod options;
 mod pairs;
 mod refresh;
 mod refusal;
@@ -60,6 +61,7 @@ pub use listed::{Listed, listed_in};
 pub use listing::{end_of, other_side, put_counts, put_end, put_opening, put_refusal, put_refused};
 pub use note::{Note, Notes};
 pub use octets::octets_from;
+pub use options::RecordingOptions;
 pub use pairs::selection_of;
 pub use refresh::refresh_in;
 pub use refusal::{Cause, Refusal};

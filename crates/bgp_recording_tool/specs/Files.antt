@@ -20,7 +20,7 @@ use Rattle.bgp_explain.specs.Opened.{ReportsOpened}
 use Rattle.bgp_explain.specs.declared.report.Report.{Report}
 use Rattle.bgp_recording_tool.specs.declared.files.FileOutcome.{FileOutcome}
 use Rattle.bgp_recording_tool.specs.declared.judging.Judged.{Judged}
-use Rattle.bgp_options.specs.declared.recording.RecordingOptions.{RecordingOptions}
+use Rattle.bgp_import.specs.declared.options.RecordingOptions.{RecordingOptions}
 use Rattle.bgp_recording_tool.specs.declared.peeked.Peeked.{Peeked}
 use Rattle.bgp_recording_tool.specs.Decoding.{DecodesRecording}
 use Rattle.bgp_recording_tool.specs.Judging.{JudgesRecording}

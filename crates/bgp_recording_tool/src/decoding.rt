@@ -21,8 +21,9 @@ use crate::judging::{Judged, misfit, status_of};
 use crate::options::{import_of, misfit_of};
 use crate::remark::{Remark, add_help, add_remarks};
 use crate::remarking::making_remarks;
-use bgp_import::{CutShort, Gathered, Import, Refusal, gather, put_refusal, records_of};
-use bgp_options::RecordingOptions;
+use bgp_import::{
+    CutShort, Gathered, Import, RecordingOptions, Refusal, gather, put_refusal, records_of,
+};
 use bgp_prefix::{RouteRefresh, Session};
 use bgp_recording::{Entry, Recording};
 use bgp_text::{Lines, put_record};

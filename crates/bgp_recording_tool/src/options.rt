@@ -5,8 +5,7 @@ ghost use Rattle.bgp_recording_tool.specs.Options.{IsMisfit, import_of};
 ghost use Rattle.bgp_recording_tool.specs.Remarks.{remark_on};
 
 use crate::remark::{Remark, RemarkKind};
-use bgp_import::{Import, Selection};
-use bgp_options::RecordingOptions;
+use bgp_import::{Import, RecordingOptions, Selection};
 use bgp_prefix::Session;
 
 /// What is imported of a recording that is read so, for this session.

@@ -6,9 +6,9 @@ mod remarks;
 
 use crate::two_connections::{JUDGED, SESSION, recording};
 use bgp_explain::Report;
+use bgp_import::RecordingOptions;
 use bgp_judge::PlainTracker;
 use bgp_open::{Config, ConfigParts, Families};
-use bgp_options::RecordingOptions;
 use bgp_recording_tool::judge_recording;
 use linked_list_allocator::LocalHeap;
 use mrt::{MemSink, MemSource, SourceUpset};

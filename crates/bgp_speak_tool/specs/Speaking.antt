@@ -13,9 +13,9 @@ use Rattle.bgp_talk.specs.Account.{Telling}
 use Rattle.bgp_talk.specs.Talk.{GaveUp, Spoken}
 use Rattle.bgp_talk.specs.declared.fault.SpeakFault.{SpeakFault}
 use Rattle.bgp_talk.specs.declared.fault.SpeakFault.TheVariants.{Capture, Memory}
-use Rattle.bgp_options.specs.declared.speaking.Speaking.{Speaking}
-use Rattle.bgp_options.specs.declared.speaking.Start.{Start}
-use Rattle.bgp_options.specs.declared.speaking.Start.TheVariants.{Connect, Listen}
+use Rattle.bgp_talk.specs.declared.options.Speaking.{Speaking}
+use Rattle.bgp_talk.specs.declared.options.Start.{Start}
+use Rattle.bgp_talk.specs.declared.options.Start.TheVariants.{Connect, Listen}
 use Rattle.bgp_tool.specs.Answer.{IsWritten}
 use Rattle.bgp_speak_tool.specs.declared.announcing.AnnounceNote.{AnnounceNote}
 use Rattle.bgp_speak_tool.specs.declared.announcing.AnnounceNote.TheVariants.{Cleared, NotConfigured}

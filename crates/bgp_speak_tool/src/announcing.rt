@@ -4,8 +4,8 @@ ghost use Rattle.std.specs.Prelude.{◌≡◌};
 ghost use Rattle.bgp_speak_tool.specs.Speaking.{announce_note, note_of_prefix};
 
 use bgp_open::Families;
-use bgp_options::Speaking;
 use bgp_prefix::Prefix;
+use bgp_talk::Speaking;
 use std::fmt;
 
 /// What there is to say of the prefix that `bgp speak` is to announce, before it speaks.

@@ -11,9 +11,8 @@ ghost use Rattle.bgp_tool.specs.Answer.{IsWritten};
 ghost use Rattle.bgp_speak_tool.specs.Speaking.{Speaks, fault_status, listens, report_text};
 
 use bgp_open::Config;
-use bgp_options::{Speaking, Start};
 use bgp_prefix::Prefix;
-use bgp_talk::{Report, SpeakFault, Wire, speak};
+use bgp_talk::{Report, SpeakFault, Speaking, Start, Wire, speak};
 use bgp_text::Lines;
 use bgp_tool::{Status, hand_over, put_routes};
 use mrt::Sink;

@@ -4,12 +4,14 @@
 //! time, and writes what the core does to a capture. Its contract speaks of what the wire told, one
 //! call after another, and of the inputs that this makes. [`MemWire`] is a wire in memory, which
 //! can be told to fail; it tells all. [`SocketWire`] is a wire over TCP, and tells nothing,
-//! since nobody knows what its peer will send.
+//! since nobody knows what its peer will send. [`Speaking`] is what a command line says of all
+//! that, besides the configuration.
 #![tactic(auto)]
 
 mod fault;
 mod laws;
 mod mem_wire;
+mod options;
 mod socket;
 mod speaking;
 mod talking;
@@ -22,6 +24,7 @@ pub use laws::{
     each_record_is_short,
 };
 pub use mem_wire::{MemRead, MemWire, WireUpset};
+pub use options::{Speaking, Start};
 pub use socket::SocketWire;
 pub use speaking::{Report, speak};
 pub use talking::{again, write_records};

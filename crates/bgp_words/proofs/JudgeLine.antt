@@ -8,7 +8,7 @@ use Rattle.bgp_open.specs.declared.config.ConfigParts.{ConfigParts}
 use Rattle.bgp_open.specs.declared.families.Families.{Families}
 use Rattle.bgp_words.specs.Judge.{IsJudge, IsJudgeLine, IsJudgeOf}
 use Rattle.bgp_words.specs.Recording.{AreRecordingOptions, usual_recording}
-use Rattle.bgp_options.specs.declared.recording.RecordingOptions.{RecordingOptions}
+use Rattle.bgp_import.specs.declared.options.RecordingOptions.{RecordingOptions}
 use Rattle.bgp_words.specs.Spelled.{IsUsed, Names, NamesBy, NamesJudge}
 use Rattle.bgp_words.specs.Values.{IsFamiliesText, IsHoldText, IsPortText, IsPositiveText, IsSecondsText, is_given}
 use Rattle.bgp_words.specs.Words.{program_words}

@@ -8,8 +8,8 @@ use Rattle.bgp_words.specs.Judge.{IsJudge}
 use Rattle.bgp_words.specs.Values.{IsTurnsText}
 use Rattle.bgp_words.specs.Import.{CanImport, IsChecking, IsImport, IsListing}
 use Rattle.bgp_words.specs.Speak.{CanSpeak, IsSpeak}
-use Rattle.bgp_options.specs.declared.recording.RecordingOptions.{RecordingOptions}
-use Rattle.bgp_options.specs.declared.speaking.Speaking.{Speaking}
+use Rattle.bgp_import.specs.declared.options.RecordingOptions.{RecordingOptions}
+use Rattle.bgp_talk.specs.declared.options.Speaking.{Speaking}
 use Rattle.bgp_prefix.specs.declared.session.Session.{Session}
 use Rattle.bgp_open.specs.declared.config.Config.{Config}
 use Rattle.bgp_words.specs.Spelled.{Names, NamesBy, NamesDecode}

@@ -10,8 +10,8 @@ use Rattle.bgp_open.specs.Config.{IsConfig}
 use Rattle.bgp_open.specs.declared.config.Config.{Config}
 use Rattle.bgp_open.specs.declared.config.ConfigParts.{ConfigParts}
 use Rattle.bgp_words.specs.Settings.{AreParts}
-use Rattle.bgp_options.specs.declared.recording.RecordingOptions.{RecordingOptions}
-use Rattle.bgp_options.specs.declared.speaking.Speaking.{Speaking}
+use Rattle.bgp_import.specs.declared.options.RecordingOptions.{RecordingOptions}
+use Rattle.bgp_talk.specs.declared.options.Speaking.{Speaking}
 
 pub same_parts : (p q : ConfigParts) → p.local_as ≡ q.local_as → p.peer_as ≡ q.peer_as → p.local_id ≡ q.local_id
     → p.hold ≡ q.hold → p.families ≡ q.families → p.as4 ≡ q.as4 → p.delay_open ≡ q.delay_open

@@ -14,7 +14,7 @@ use Rattle.bgp_words.specs.Words.{program_words}
 use Rattle.bgp_words.specs.Values.{IsFamiliesText, IsHoldText, IsIdentifierText, IsPortText, IsPositiveText, IsSecondsText, is_given}
 use Rattle.bgp_words.specs.Settings.{AreParts}
 use Rattle.bgp_words.specs.Recording.{AreRecordingOptions, refresh_told, usual_recording}
-use Rattle.bgp_options.specs.declared.recording.RecordingOptions.{RecordingOptions}
+use Rattle.bgp_import.specs.declared.options.RecordingOptions.{RecordingOptions}
 use Rattle.bgp_words.proofs.SameParts.{same_recording}
 use Rattle.bgp_words.proofs.PlainWords.{IsPlainWord, Passes, met_plain, none_wrong, pass, pass_none}
 

@@ -14,10 +14,10 @@ use Rattle.bgp_words.specs.Speak.{AreOptions, IsStart}
 use Rattle.bgp_words.specs.Values.{IsPortText, IsPositiveText, IsValue}
 use Rattle.bgp_words.specs.Words.{program_words}
 use Rattle.bgp_words.specs.Spelled.{IsFault, Names, connect, import_with, listen, next_hop4, next_hop6, speak_with, value_rows}
-use Rattle.bgp_options.specs.declared.recording.RecordingOptions.{RecordingOptions}
-use Rattle.bgp_options.specs.declared.speaking.Speaking.{Speaking}
-use Rattle.bgp_options.specs.declared.speaking.Start.{Start}
-use Rattle.bgp_options.specs.declared.speaking.Start.TheVariants.{Connect, Listen}
+use Rattle.bgp_import.specs.declared.options.RecordingOptions.{RecordingOptions}
+use Rattle.bgp_talk.specs.declared.options.Speaking.{Speaking}
+use Rattle.bgp_talk.specs.declared.options.Start.{Start}
+use Rattle.bgp_talk.specs.declared.options.Start.TheVariants.{Connect, Listen}
 use Rattle.bgp_words.specs.declared.words.Command.{Command}
 use Rattle.bgp_words.proofs.NamedCommand.{none_imported, none_listed, none_spoken}
 

@@ -9,7 +9,7 @@ use Rattle.bgp_open.specs.declared.config.ConfigParts.{ConfigParts}
 use Rattle.bgp_words.specs.Values.{IsPositiveText, IsIdentifierText, IsNoFlag, is_given}
 use Rattle.bgp_words.specs.Settings.{AreParts}
 use Rattle.bgp_words.specs.Recording.{AreRecordingOptions, refresh_told, usual_recording}
-use Rattle.bgp_options.specs.declared.recording.RecordingOptions.{RecordingOptions}
+use Rattle.bgp_import.specs.declared.options.RecordingOptions.{RecordingOptions}
 use Rattle.bgp_words.specs.declared.words.Command.{Command}
 use Rattle.bgp_words.specs.declared.words.Command.TheVariants.{Decode, Capture, Judge}
 use Rattle.bgp_words.specs.declared.words.Command.TheVariants.{Check, Import, List as Listing}

@@ -7,7 +7,7 @@ use Rattle.bgp_prefix.specs.declared.session.RouteRefresh.{RouteRefresh}
 use Rattle.bgp_prefix.specs.declared.session.RouteRefresh.TheVariants.{PassedOver}
 use Rattle.bgp_words.specs.Values.{IsOptional, IsPortText, IsPositiveText, IsSecondsText, IsValue}
 use Rattle.bgp_words.specs.Values.{is_given}
-use Rattle.bgp_options.specs.declared.recording.RecordingOptions.{RecordingOptions}
+use Rattle.bgp_import.specs.declared.options.RecordingOptions.{RecordingOptions}
 
 -- the options that are for recordings alone
 pub record AreRecordingOptions (recording : RecordingOptions) (rows : List Row) : Type 0 where

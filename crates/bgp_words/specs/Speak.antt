@@ -8,9 +8,9 @@ use Rattle.bgp_open.specs.declared.config.Config.{Config}
 use Rattle.bgp_words.specs.Values.{IsNextHop4Text, IsNextHop6Text, IsOptional, IsPortText}
 use Rattle.bgp_words.specs.Values.{IsTurnsText, IsValue, is_given, HasBitsAfter}
 use Rattle.bgp_words.specs.Settings.{AreParts, IsOfOneFamily}
-use Rattle.bgp_options.specs.declared.speaking.Speaking.{Speaking}
-use Rattle.bgp_options.specs.declared.speaking.Start.{Start}
-use Rattle.bgp_options.specs.declared.speaking.Start.TheVariants.{Connect, Listen}
+use Rattle.bgp_talk.specs.declared.options.Speaking.{Speaking}
+use Rattle.bgp_talk.specs.declared.options.Start.{Start}
+use Rattle.bgp_talk.specs.declared.options.Start.TheVariants.{Connect, Listen}
 use Rattle.bgp_words.specs.declared.words.Command.{Command}
 use Rattle.bgp_words.specs.declared.words.Command.TheVariants.{Decode, Capture, Judge}
 use Rattle.bgp_words.specs.declared.words.Command.TheVariants.{Check, Import, List as Listing}

@@ -17,7 +17,7 @@ use Rattle.bgp_words.specs.Import.{IsChecking, IsImport, IsListing}
 use Rattle.bgp_words.specs.Speak.{IsSpeak}
 use Rattle.bgp_words.specs.Pair.{IsPair}
 use Rattle.bgp_words.specs.Words.{program_words}
-use Rattle.bgp_options.specs.declared.recording.RecordingOptions.{RecordingOptions}
+use Rattle.bgp_import.specs.declared.options.RecordingOptions.{RecordingOptions}
 use Rattle.bgp_words.specs.declared.words.Command.{Command}
 use Rattle.bgp_words.specs.declared.words.Command.TheVariants.{Decode, Capture, Judge}
 use Rattle.bgp_words.specs.declared.words.Command.TheVariants.{Check, Import, List as Listing}

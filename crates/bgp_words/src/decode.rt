@@ -6,7 +6,7 @@ ghost use Rattle.clap.specs.declared.builder.command.Command.TheViews.{out-Comma
 ghost use Rattle.bgp_words.specs.Words.{decode_words};
 ghost use Rattle.bgp_words.specs.Decode.{IsStream, IsCapture};
 ghost use Rattle.bgp_words.specs.Spelled.{NamesBy};
-ghost use Rattle.bgp_options.specs.declared.recording.RecordingOptions.{RecordingOptions as Told};
+ghost use Rattle.bgp_import.specs.declared.options.RecordingOptions.{RecordingOptions as Told};
 
 use crate::misfit::Misfit;
 use crate::options::{READ, Word, with_words};

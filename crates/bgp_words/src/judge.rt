@@ -7,7 +7,7 @@ ghost use Rattle.bgp_open.specs.declared.config.Config.{Config as Configured};
 ghost use Rattle.bgp_words.specs.Words.{judge_words};
 ghost use Rattle.bgp_words.specs.Judge.{IsJudge};
 ghost use Rattle.bgp_words.specs.Spelled.{NamesBy};
-ghost use Rattle.bgp_options.specs.declared.recording.RecordingOptions.{RecordingOptions as Told};
+ghost use Rattle.bgp_import.specs.declared.options.RecordingOptions.{RecordingOptions as Told};
 
 use crate::misfit::Misfit;
 use crate::options::{READ, Word, with_word};

@@ -5,12 +5,12 @@ ghost use Rattle.clap.specs.Words.{app_of, found_of, rows_of};
 ghost use Rattle.clap.specs.declared.builder.command.Command.TheViews.{out-Command as fields_of};
 ghost use Rattle.bgp_words.specs.Words.{with_recording};
 ghost use Rattle.bgp_words.specs.Recording.{AreRecordingOptions, refresh_told};
-ghost use Rattle.bgp_options.specs.declared.recording.RecordingOptions.{RecordingOptions as Told};
+ghost use Rattle.bgp_import.specs.declared.options.RecordingOptions.{RecordingOptions as Told};
 
 use crate::misfit::Misfit;
 use crate::options::{Word, with_words};
 use crate::values::{connection_of, has_flag, optional_port_of, port_of, seconds_of};
-use bgp_options::RecordingOptions;
+use bgp_import::RecordingOptions;
 use bgp_prefix::RouteRefresh;
 use clap::ArgMatches;
 use std::alloc::{AllocError, Global};

@@ -7,8 +7,8 @@ ghost use Rattle.bgp_open.specs.declared.config.Config.{Config as Configured};
 ghost use Rattle.bgp_words.specs.Words.{speak_words, with_speaking};
 ghost use Rattle.bgp_words.specs.Speak.{AreOptions, IsSpeak, IsStart};
 ghost use Rattle.bgp_words.specs.Spelled.{NamesBy};
-ghost use Rattle.bgp_options.specs.declared.speaking.Speaking.{Speaking as Spoken};
-ghost use Rattle.bgp_options.specs.declared.speaking.Start.{Start as Started};
+ghost use Rattle.bgp_talk.specs.declared.options.Speaking.{Speaking as Spoken};
+ghost use Rattle.bgp_talk.specs.declared.options.Start.{Start as Started};
 
 use crate::misfit::Misfit;
 use crate::options::{Word, with_word, with_words};
@@ -18,8 +18,8 @@ use crate::values::{
     value_of,
 };
 use crate::words::Command;
-use bgp_options::{Speaking, Start};
 use bgp_prefix::RouteRefresh;
+use bgp_talk::{Speaking, Start};
 use clap::ArgMatches;
 use std::alloc::{AllocError, Global};
 

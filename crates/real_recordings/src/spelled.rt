@@ -1,9 +1,10 @@
 //! What the words of a command line spell: a command, or a status and what is told.
 
 use bgp_commands::words_status;
+use bgp_import::RecordingOptions;
 use bgp_open::{ConfigParts, Families};
-use bgp_options::{RecordingOptions, Speaking, Start};
 use bgp_prefix::{Address, RouteRefresh, Session};
+use bgp_talk::{Speaking, Start};
 use bgp_words::{Command, command_line};
 use std::alloc::{AllocError, Global};
 use std::fmt::{Display, Write};

@@ -4,8 +4,7 @@ ghost use Rattle.std.specs.Prelude.{◌≡◌, IfSome};
 ghost use Rattle.bgp_prefix.specs.Address.{family_of};
 
 use crate::case::malformed;
-use bgp_import::Import;
-use bgp_options::RecordingOptions;
+use bgp_import::{Import, RecordingOptions};
 use bgp_prefix::Session;
 use bgp_words::{Command, command_line};
 use std::alloc::Global;

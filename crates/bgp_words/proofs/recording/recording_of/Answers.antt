@@ -1,7 +1,7 @@
 use Rattle.std.proofs.Common.{refl, subst}
 use Rattle.clap.specs.Words.{found_of, rows_of}
 use Rattle.bgp_words.specs.Recording.{AreRecordingOptions}
-use Rattle.bgp_options.specs.declared.recording.RecordingOptions.{RecordingOptions}
+use Rattle.bgp_import.specs.declared.options.RecordingOptions.{RecordingOptions}
 use Rattle.bgp_words.proofs.SameParts.{same_recording}
 use Rattle.bgp_words.proofs.recording.recording_of.Goals as goal
 

@@ -1,7 +1,7 @@
 use Rattle.std.proofs.Common.{◌∙◌, refl, sym, subst}
 use Rattle.clap.specs.Words.{found_of, rows_of}
 use Rattle.bgp_words.specs.Speak.{AreOptions}
-use Rattle.bgp_options.specs.declared.speaking.Speaking.{Speaking}
+use Rattle.bgp_talk.specs.declared.options.Speaking.{Speaking}
 use Rattle.bgp_words.proofs.SameParts.{same_speaking, same_truth}
 use Rattle.bgp_words.proofs.speak.speaking_of.Goals as goal
 
