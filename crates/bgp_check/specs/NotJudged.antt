@@ -16,7 +16,7 @@ use Rattle.bgp_check.specs.declared.not_judged.NotJudged.TheVariants.{AddPath, I
 use Rattle.bgp_check.specs.declared.not_judged.NotJudged.TheVariants.{DynamicCapabilities}
 use Rattle.bgp_check.specs.declared.not_judged.NotJudged.TheVariants.{Confederations}
 use Rattle.bgp_parts.specs.Unjudged.{offers_next_hops, paths_exchanged}
-use Rattle.bgp_confederations.specs.Confederations.{SomeShowConfederations}
+use Rattle.bgp_parts.specs.Confederations.{SomeShowConfederations}
 use Rattle.bgp_parts.specs.Opens.{HasOwnOpen, HasPeersOpen, HasWholeOpen}
 use Rattle.bgp_check.specs.WidestOf.{AreTold}
 

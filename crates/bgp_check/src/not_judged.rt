@@ -14,9 +14,8 @@ ghost use Rattle.bgp_check.specs.WidestOf.{AreTold, OffersNone};
 use crate::dynamic::offers_dynamic;
 use crate::offer::offer_of;
 use crate::opens::whole_open;
-use bgp_confederations::some_show_confederations;
 use bgp_open::{Families, read_open};
-use bgp_parts::{Fields, UnjudgedOffer, read_fields};
+use bgp_parts::{Fields, UnjudgedOffer, read_fields, some_show_confederations};
 use mrt::Record;
 
 /// Why an end isn't judged.

@@ -1,7 +1,7 @@
 -- Whether records show an UPDATE of a confederation, record after record.
 use Rattle.std.proofs.Common.{◌↔◌, ◌≡◌, ◌⊎◌, ◌++◌, Bool, true, false, IsTrue, List, [], ◌∷◌, inl, inr}
 use Rattle.bgp_prefix.specs.Shown.{ShownRecord}
-use Rattle.bgp_confederations.specs.Confederations.{ShowsConfederation, SomeShowConfederations}
+use Rattle.bgp_parts.specs.Confederations.{ShowsConfederation, SomeShowConfederations}
 
 -- one of them does, or the last one
 parted : (records : List ShownRecord) (shown : ShownRecord) → SomeShowConfederations (records ++ shown ∷ [])

@@ -1,7 +1,7 @@
 -- How a capture is read to its end, and what its records are.
 use Rattle.std.proofs.Common.{◌↔◌, ◌≡◌, ◌∙◌, ◌+◌, ◌++◌, ℕ, Bool, IsTrue, List, [], Option, None, Some, Result, Ok, Err, refl, sym, ap, subst, inl, inr, append-nil, length, length-append}
 use Rattle.bgp_prefix.specs.Shown.{ShownRecord}
-use Rattle.bgp_confederations.specs.Confederations.{SomeShowConfederations}
+use Rattle.bgp_parts.specs.Confederations.{SomeShowConfederations}
 use Rattle.bgp_open.specs.declared.config.Config.{Config}
 use Rattle.mrt.specs.declared.fault.CaptureFault.{CaptureFault}
 use Rattle.mrt.specs.declared.fault.FaultKind.TheVariants as kinds

@@ -4,7 +4,7 @@ use Rattle.std.specs.List.{AllByRecursion}
 use Rattle.bgp_prefix.specs.Shown.{ShownRecord}
 use Rattle.bgp_prefix.specs.declared.session.Session.{Session}
 use Rattle.bgp_open.specs.declared.config.Config.{Config}
-use Rattle.bgp_confederations.specs.Confederations.{SomeShowConfederations}
+use Rattle.bgp_parts.specs.Confederations.{SomeShowConfederations}
 use Rattle.mrt.specs.declared.fault.CaptureFault.{CaptureFault}
 use Rattle.mrt.specs.declared.fault.FaultKind.{FaultKind}
 use Rattle.mrt.specs.declared.fault.FaultKind.TheVariants as kinds

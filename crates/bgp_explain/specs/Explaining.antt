@@ -3,7 +3,7 @@
 use Rattle.std.specs.Prelude.{◌↔◌, ◌≡◌, ℕ, Bool, List, length, IsTrue, Option, None}
 use Rattle.std.specs.Prelude.{Result, Ok, Err}
 use Rattle.bgp_prefix.specs.Shown.{ShownRecord}
-use Rattle.bgp_confederations.specs.Confederations.{SomeShowConfederations}
+use Rattle.bgp_parts.specs.Confederations.{SomeShowConfederations}
 use Rattle.bgp_open.specs.declared.config.Config.{Config}
 use Rattle.mrt.specs.Capture.{Piece, ArePieces, Spells, joined, records_of}
 use Rattle.mrt.specs.Reader.{ReaderState}

@@ -5,7 +5,7 @@ use Rattle.std.specs.Prelude.{Option, None, Some, IsTrue, Result, Ok, Err}
 use Rattle.std.proofs.Common.{inl, inr}
 use Rattle.std.specs.Borrow.{Bor}
 use Rattle.bgp_prefix.specs.Shown.{ShownRecord}
-use Rattle.bgp_confederations.specs.Confederations.{SomeShowConfederations}
+use Rattle.bgp_parts.specs.Confederations.{SomeShowConfederations}
 use Rattle.bgp_open.specs.declared.config.Config.{Config}
 use Rattle.mrt.specs.Capture.{joined, records_of}
 use Rattle.mrt.specs.FromRead.{ReaderState, fresh_reader, Gives}

@@ -2,7 +2,7 @@
 
 ghost use Rattle.std.specs.Prelude.{◌↔◌, ◌≡◌, ◌<◌, ◌+◌, ◌++◌, ◌∷◌, [], List, IsTrue};
 ghost use Rattle.bgp_prefix.specs.Shown.{ShownRecord};
-ghost use Rattle.bgp_confederations.specs.Confederations.{SomeShowConfederations};
+ghost use Rattle.bgp_parts.specs.Confederations.{SomeShowConfederations};
 ghost use Rattle.mrt.specs.declared.fault.FaultKind.TheVariants.{Memory};
 ghost use Rattle.mrt.specs.Progress.{failures_of};
 ghost use Rattle.mrt.specs.Reader.{fresh_reader, shown_of};
@@ -14,9 +14,9 @@ use crate::explained::{Explained, Totals};
 use crate::skipped::Skipped;
 use crate::so_far::Progress;
 use crate::tally::Tally;
-use bgp_confederations::shows_confederation;
 use bgp_judge::Tracker;
 use bgp_open::Config;
+use bgp_parts::shows_confederation;
 use bgp_tool::Seen;
 use mrt::{CaptureFault, FaultKind, Reader, Record, Source};
 use std::alloc::Allocator;

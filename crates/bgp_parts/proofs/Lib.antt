@@ -9,3 +9,4 @@ pub mod Withdrawals
 pub mod ReadableOpen
 pub mod Tuples
 pub mod OneOwnOpen
+mod ConfederationPaths

@@ -6,3 +6,4 @@ pub mod UpdateParts
 pub mod Withdrawal
 pub mod Unjudged
 pub mod Opens
+pub mod Confederations

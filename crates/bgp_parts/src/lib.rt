@@ -1,10 +1,14 @@
 //! What a message that was sent lacks of the messages that could have been sent, part by part, as
-//! data without text; and what the OPENs of a session offer that isn't judged.
+//! data without text; and what of a session isn't judged: what its OPENs offer, and UPDATEs of a
+//! confederation (RFC 5065).
 //!
 //! ```text
 //! match own_open_parts(&config, octets) {
 //!     OwnOpenParts::Malformed(fault) => tell_fault(fault),
 //!     OwnOpenParts::Differing(parts) => tell_parts(parts.hold, parts.id),
+//! }
+//! if some_show_confederations(records) {
+//!     return Err(NotJudged::Confederations);
 //! }
 //! ```
 #![tactic(auto)]
@@ -12,6 +16,7 @@
 mod add_path;
 mod attribute;
 mod capabilities;
+mod confederations;
 mod fields;
 mod laws;
 mod multiprotocol;
@@ -25,6 +30,7 @@ mod withdrawal;
 
 pub use attribute::AttributeFault;
 pub use capabilities::Capabilities;
+pub use confederations::{has_confederation, shows_confederation, some_show_confederations};
 pub use fields::{FIXED_LEN, Fields, read_fields};
 pub use laws::{
     clean_lacks_nothing, own_open_lacks_nothing, parts_tell_withdrawals, possible_lacks_nothing,

@@ -1,7 +1,7 @@
 -- What is put of one connection whose records are judged, and what there is to tell of it besides.
 use Rattle.std.specs.Prelude.{◌↔◌, ◌≡◌, ◌++◌, ℕ, Bool, IsTrue, List, Option}
 use Rattle.mrt.specs.declared.sink.Sink as sinks
-use Rattle.bgp_confederations.specs.Confederations.{SomeShowConfederations}
+use Rattle.bgp_parts.specs.Confederations.{SomeShowConfederations}
 use Rattle.bgp_open.specs.declared.config.Config.{Config}
 use Rattle.bgp_judge.specs.Verdict.{HasVerdict, VerdictValue}
 use Rattle.bgp_text.specs.Lines.{Writes}

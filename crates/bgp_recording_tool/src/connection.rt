@@ -31,11 +31,11 @@ ghost use Rattle.bgp_recording_tool.specs.Told.{refused_status, value_status, va
 use crate::judging::{status_of, verdict_status};
 use crate::remark::{Remark, add_help};
 use crate::remarking::add_remarks_on;
-use bgp_confederations::some_show_confederations;
 use bgp_explain::{ExplainedRecords, Places, Report, explain_records, put_explained_records};
 use bgp_import::{Gathered, Import, Refusal, put_refusal, records_of, refresh_in};
 use bgp_judge::Tracker;
 use bgp_open::Config;
+use bgp_parts::some_show_confederations;
 use bgp_prefix::{RouteRefresh, Session};
 use bgp_reason_text::Style;
 use bgp_recording::{Entry, Recording};

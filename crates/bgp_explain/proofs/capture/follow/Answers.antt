@@ -3,7 +3,7 @@ use Rattle.mrt.specs.declared.fault.CaptureFault.{CaptureFault}
 use Rattle.mrt.specs.declared.fault.FaultKind.TheVariants.{Memory}
 use Rattle.mrt.specs.Reader.{ReaderState, shown_of}
 use Rattle.bgp_judge.proofs.CaptureSoFar.{answer_of, answered, less_left, nothing_read, passes_more, refused, untaken}
-use Rattle.bgp_confederations.specs.Confederations.{SomeShowConfederations}
+use Rattle.bgp_parts.specs.Confederations.{SomeShowConfederations}
 use Rattle.bgp_explain.specs.Progress.{IsAt}
 use Rattle.bgp_explain.proofs.Confederations.{none_show}
 use Rattle.bgp_explain.proofs.Keeping.{none_yet}

@@ -1,7 +1,7 @@
 use Rattle.std.proofs.Common.{◌↔◌, IsTrue, ◌≡◌, ◌≤◌, ◌-◌, ◌^◌, List}
 use Rattle.bgp_prefix.specs.Shown.{ShownRecord}
 use Rattle.bgp_judge.proofs.CaptureSoFar.{SoFar}
-use Rattle.bgp_confederations.specs.Confederations.{SomeShowConfederations}
+use Rattle.bgp_parts.specs.Confederations.{SomeShowConfederations}
 use Rattle.bgp_explain.specs.Progress.{IsAt}
 use Rattle.bgp_explain.proofs.capture.follow.Given as goal
 

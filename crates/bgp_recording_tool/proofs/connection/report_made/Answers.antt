@@ -5,7 +5,7 @@ use Rattle.mrt.specs.Reader.{shown_of}
 use Rattle.bgp_judge.specs.Verdict.{HasVerdict, verdict_value}
 use Rattle.bgp_recording.specs.Captured.{records_of}
 use Rattle.bgp_recording.specs.declared.entry.Entry.{Entry}
-use Rattle.bgp_confederations.specs.Confederations.{SomeShowConfederations}
+use Rattle.bgp_parts.specs.Confederations.{SomeShowConfederations}
 use Rattle.bgp_explain.specs.Records.{AreExplained, CanBeShown}
 use Rattle.bgp_explain.proofs.NextRecord.{can_of, entries_can}
 use Rattle.bgp_recording_tool.specs.Connections.{IsMore}

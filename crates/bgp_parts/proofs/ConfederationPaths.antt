@@ -6,7 +6,7 @@ use Rattle.bgp_attr.specs.Types.{type_number}
 use Rattle.bgp_attr.specs.declared.types.AttrType.TheVariants.{AsPath}
 use Rattle.bgp_update.specs.Sections.{IsUpdate, Sections}
 use Rattle.bgp_update.proofs.OneSplit.{one_split}
-use Rattle.bgp_confederations.specs.Confederations.{HasConfederation, is_path_in_one}
+use Rattle.bgp_parts.specs.Confederations.{HasConfederation, is_path_in_one}
 
 -- its first AS_PATH begins with a segment of a confederation
 abbrev is_in_one : Sections → Bool

@@ -1,7 +1,7 @@
 use Rattle.std.proofs.Common.{◌↔◌, drop, map}
 use Rattle.mrt.specs.Reader.{shown_of}
-use Rattle.bgp_confederations.specs.Confederations.{SomeShowConfederations}
-use Rattle.bgp_confederations.proofs.records.some_show_confederations.Given as goal
+use Rattle.bgp_parts.specs.Confederations.{SomeShowConfederations}
+use Rattle.bgp_parts.proofs.confederations.some_show_confederations.Given as goal
 
 -- no record so far does
 abbrev pub invariant-loop-record : goal.invariant-loop-record

@@ -1,9 +1,9 @@
 use Rattle.std.proofs.Common.{◌≡◌, ◌∙◌, ap, option_map}
 use Rattle.bgp_attr.specs.Field.{attribute_of}
 use Rattle.bgp_update.specs.Fields.{sections_of}
-use Rattle.bgp_confederations.specs.Confederations.{is_path_in_one}
-use Rattle.bgp_confederations.proofs.Paths.{has_by}
-use Rattle.bgp_confederations.proofs.update.has_confederation.Goals as goal
+use Rattle.bgp_parts.specs.Confederations.{is_path_in_one}
+use Rattle.bgp_parts.proofs.ConfederationPaths.{has_by}
+use Rattle.bgp_parts.proofs.confederations.has_confederation.Goals as goal
 
 pub returns-in-Some : goal.returns-in-Some
 returns-in-Some c =
