@@ -10,7 +10,7 @@ use Rattle.bgp_check.specs.declared.peer_as.PeerAs.{PeerAs}
 use Rattle.bgp_check.specs.StretchTold.{IsStretchTold, ToldValue, answer_by, with_leaving}
 use Rattle.bgp_check_text.specs.Settings.{are_told}
 use Rattle.bgp_check_text.specs.OfCapture.{IsReadAlike, session_of}
-use Rattle.bgp_check_text.specs.declared.judge_options.JudgeOptions.{JudgeOptions}
+use Rattle.bgp_check_text.specs.declared.options.JudgeOptions.{JudgeOptions}
 use Rattle.bgp_check_capture_tool.specs.Judging.{AreOptionsFor, AreOptionsOf, AreOptionsTo}
 use Rattle.bgp_check_capture_tool.specs.Stretches.{first_of}
 use Rattle.bgp_check_capture_tool.specs.Repeated.{LineGivesTheVerdict}

@@ -12,7 +12,7 @@ use Rattle.bgp_check_text.specs.OwnFaults.{IsToldConfiguration}
 use Rattle.bgp_check_text.specs.Settings.{are_told, where_refused}
 use Rattle.bgp_check_text.specs.JudgeLine.{judge_line}
 use Rattle.bgp_check_text.specs.OfCapture.{AreCaptureOptions}
-use Rattle.bgp_check_text.specs.declared.judge_options.JudgeOptions.{JudgeOptions}
+use Rattle.bgp_check_text.specs.declared.options.JudgeOptions.{JudgeOptions}
 use Rattle.bgp_check_capture_tool.specs.declared.telling.Telling.{Telling}
 
 -- the line, where they are told

@@ -10,7 +10,7 @@ use Rattle.bgp_check_text.specs.Reason.{IsReasonTo, reason_text}
 use Rattle.bgp_check_text.specs.declared.reason.Reason.{Reason}
 use Rattle.bgp_check_text.specs.Highest.{highest_state}
 use Rattle.bgp_explain.specs.Places.{numbered_places}
-use Rattle.bgp_check_text.specs.declared.judge_options.JudgeOptions.{JudgeOptions}
+use Rattle.bgp_check_text.specs.declared.options.JudgeOptions.{JudgeOptions}
 use Rattle.bgp_check_capture_tool.specs.Judging.{AreOptionsOf}
 use Rattle.bgp_check_capture_tool.specs.declared.part.Part.{Part}
 use Rattle.bgp_check_capture_tool.specs.declared.stretch_end.StretchEnd.{StretchEnd as Held}

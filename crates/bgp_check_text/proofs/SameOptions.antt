@@ -5,7 +5,7 @@ use Rattle.bgp_prefix.specs.Shown.{ShownRecord}
 use Rattle.bgp_open.specs.declared.config.Config.{Config}
 use Rattle.bgp_recording.specs.Captured.{IsNoRefresh}
 use Rattle.bgp_check_text.specs.OfCapture.{AreOptionsFor, session_by, session_of}
-use Rattle.bgp_check_text.specs.declared.judge_options.JudgeOptions.{JudgeOptions}
+use Rattle.bgp_check_text.specs.declared.options.JudgeOptions.{JudgeOptions}
 use Rattle.bgp_check_text.proofs.Refreshes.{one_flag}
 
 pub one_session : (config : Config) (records : List ShownRecord) (skips no_refresh : Bool) (options : JudgeOptions) → AreOptionsFor config records skips options

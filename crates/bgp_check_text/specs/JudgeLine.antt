@@ -7,8 +7,8 @@ use Rattle.bgp_prefix.specs.declared.address.Address.TheVariants.{V4}
 use Rattle.bgp_prefix.specs.declared.session.Session.{Session}
 use Rattle.bgp_open.specs.declared.config.Config.{Config}
 use Rattle.bgp_open.specs.declared.families.Families.{Families}
-use Rattle.bgp_check_text.specs.declared.judge_options.Asked.{Asked}
-use Rattle.bgp_check_text.specs.declared.judge_options.JudgeOptions.{JudgeOptions}
+use Rattle.bgp_check_text.specs.declared.options.Asked.{Asked}
+use Rattle.bgp_check_text.specs.declared.options.JudgeOptions.{JudgeOptions}
 
 -- an option with a number, where there is one
 abbrev pub number_text : List ℕ → Option (List ℕ) → List ℕ

@@ -13,8 +13,8 @@ use Rattle.mrt_sessions.specs.ReadsAs.{ReadsAs, addresses_in}
 use Rattle.mrt_sessions.specs.Sessions.{records_between}
 use Rattle.bgp_open.specs.declared.config.Config.{Config}
 use Rattle.bgp_recording.specs.Captured.{IsNoRefresh}
-use Rattle.bgp_check_text.specs.declared.judge_options.Asked.{Asked}
-use Rattle.bgp_check_text.specs.declared.judge_options.JudgeOptions.{JudgeOptions}
+use Rattle.bgp_check_text.specs.declared.options.Asked.{Asked}
+use Rattle.bgp_check_text.specs.declared.options.JudgeOptions.{JudgeOptions}
 
 -- ---- the session
 

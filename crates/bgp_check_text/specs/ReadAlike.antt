@@ -14,8 +14,8 @@ use Rattle.bgp_recording.specs.declared.framing.Framings.{Framings}
 use Rattle.bgp_recording.specs.declared.framing.Unshown.{Unshown}
 use Rattle.bgp_import.specs.Refreshes.{IsRefreshIn}
 use Rattle.bgp_import.specs.declared.refusal.Refusal.{Refusal}
-use Rattle.bgp_check_text.specs.declared.judge_options.Asked.{Asked}
-use Rattle.bgp_check_text.specs.declared.judge_options.JudgeOptions.{JudgeOptions}
+use Rattle.bgp_check_text.specs.declared.options.Asked.{Asked}
+use Rattle.bgp_check_text.specs.declared.options.JudgeOptions.{JudgeOptions}
 
 -- it frames both directions by what the local system is configured to offer
 abbrev pub framings_by : Config → Bool → Framings

@@ -6,7 +6,7 @@ ghost use Rattle.streams.specs.Held.{HoldsConnections};
 ghost use Rattle.streams.specs.Passed.{Segment};
 ghost use Rattle.bgp_check_text.specs.Asked.{asked_of, count_to, named_among, place_among, unless};
 
-use crate::judge_options::Asked;
+use crate::options::Asked;
 use bgp_import::end_of;
 use bgp_prefix::Session;
 use std::alloc::Allocator;

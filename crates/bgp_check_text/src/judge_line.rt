@@ -6,7 +6,7 @@ ghost use Rattle.bgp_check_text.specs.JudgeLine.{addresses_text, asked_text, cho
 ghost use Rattle.bgp_check_text.specs.JudgeLine.{families_word, flag_text, hold_text, judge_line};
 ghost use Rattle.bgp_check_text.specs.JudgeLine.{needs_text, number_text, refresh_text};
 
-use crate::judge_options::{Asked, JudgeOptions};
+use crate::options::{Asked, JudgeOptions};
 use bgp_open::{Config, Families};
 use bgp_prefix::Session;
 use bgp_text::{Lines, put_address};

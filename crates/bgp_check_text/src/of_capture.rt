@@ -7,7 +7,7 @@ ghost use Rattle.mrt_sessions.specs.Located.{located};
 ghost use Rattle.bgp_recording.specs.Captured.{IsNoRefresh};
 ghost use Rattle.bgp_check_text.specs.OfCapture.{AreCaptureOptions, IsReadAlike, session_by};
 
-use crate::judge_options::{Asked, JudgeOptions};
+use crate::options::{Asked, JudgeOptions};
 use bgp_open::Config;
 use bgp_prefix::{RouteRefresh, Session};
 use mrt::{Record, is_route_refresh};

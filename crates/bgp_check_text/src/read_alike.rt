@@ -10,7 +10,7 @@ ghost use Rattle.bgp_check_text.specs.ReadAlike.{AreJudgeOptions, IsReadAlike, f
 ghost use Rattle.bgp_check_text.specs.ReadAlike.{passes_over};
 
 use crate::framed_alike::are_framed_alike;
-use crate::judge_options::{Asked, JudgeOptions};
+use crate::options::{Asked, JudgeOptions};
 use bgp_import::refresh_in;
 use bgp_open::Config;
 use bgp_recording::{

@@ -8,8 +8,8 @@ use Rattle.bgp_recording.specs.declared.entry.Entry.{Entry}
 use Rattle.bgp_recording.specs.declared.framing.Unshown.{Unshown}
 use Rattle.bgp_check.specs.Answered.{AnswerValue, HasItsVerdict, IsAnswerTo, IsJudged}
 use Rattle.bgp_check_text.specs.ReadAlike.{AreOptionsOf, IsReadAlike, framings_by}
-use Rattle.bgp_check_text.specs.declared.judge_options.Asked.{Asked}
-use Rattle.bgp_check_text.specs.declared.judge_options.JudgeOptions.{JudgeOptions}
+use Rattle.bgp_check_text.specs.declared.options.Asked.{Asked}
+use Rattle.bgp_check_text.specs.declared.options.JudgeOptions.{JudgeOptions}
 use Rattle.bgp_check_text.specs.Settings.{are_told}
 use Rattle.bgp_check_tool.specs.Judging.{AreOptionsFor, AreOptionsTo}
 use Rattle.bgp_check_tool.specs.Repeated.{LineGivesTheVerdict}

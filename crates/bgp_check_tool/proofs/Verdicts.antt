@@ -16,7 +16,7 @@ use Rattle.bgp_check.specs.Over.{HasVerdictOver}
 use Rattle.bgp_check.specs.WidestMade.{IsFaultless}
 use Rattle.bgp_parts.proofs.OneOwnOpen.{one_own}
 use Rattle.bgp_check_text.specs.Asked.{asked_of}
-use Rattle.bgp_check_text.specs.declared.judge_options.Asked.{Asked}
+use Rattle.bgp_check_text.specs.declared.options.Asked.{Asked}
 use Rattle.streams.specs.Connections.{numbered}
 use Rattle.bgp_check_tool.specs.declared.options.CheckOptions.{CheckOptions}
 use Rattle.bgp_check_tool.specs.Headline.{IsToldOfSide, NoConfigurationHasARun, NothingIsVacuous, ToldNoHasNoRun, VerdictIsOverAll}

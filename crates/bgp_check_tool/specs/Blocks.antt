@@ -18,7 +18,7 @@ use Rattle.bgp_import.specs.declared.refusal.Refusal.{Refusal}
 use Rattle.bgp_import.specs.declared.refusal.Refusal.TheVariants as refusals
 use Rattle.bgp_import.specs.Octets.{octets_from}
 use Rattle.bgp_check_text.specs.Asked.{asked_of}
-use Rattle.bgp_check_text.specs.declared.judge_options.Asked.{Asked}
+use Rattle.bgp_check_text.specs.declared.options.Asked.{Asked}
 use Rattle.bgp_check_tool.specs.declared.connection.EndsTold.{EndsTold}
 use Rattle.bgp_check_tool.specs.declared.connection.EndsTold.TheVariants as ends
 use Rattle.bgp_check_tool.specs.declared.options.CheckOptions.{CheckOptions}

@@ -10,8 +10,8 @@ use Rattle.bgp_check.specs.Answered.{AnswerValue, JudgedAs, Unjudged}
 use Rattle.bgp_check_text.specs.OwnFaults.{IsToldConfiguration}
 use Rattle.bgp_check_text.specs.JudgeLine.{judge_line}
 use Rattle.bgp_check_text.specs.ReadAlike.{AreJudgeOptions}
-use Rattle.bgp_check_text.specs.declared.judge_options.Asked.{Asked}
-use Rattle.bgp_check_text.specs.declared.judge_options.JudgeOptions.{JudgeOptions}
+use Rattle.bgp_check_text.specs.declared.options.Asked.{Asked}
+use Rattle.bgp_check_text.specs.declared.options.JudgeOptions.{JudgeOptions}
 use Rattle.bgp_check_tool.specs.declared.options.CheckOptions.{CheckOptions}
 use Rattle.bgp_check_text.specs.Settings.{are_told}
 use Rattle.bgp_check_text.specs.declared.settings.Settings.{Settings}

@@ -18,8 +18,8 @@ use Rattle.bgp_check_text.specs.Reason.{IsReasonTo, reason_text}
 use Rattle.bgp_explain.specs.Places.{shown_places}
 use Rattle.bgp_check_text.specs.Highest.{highest_state}
 use Rattle.bgp_check_tool.specs.declared.ending.Told.{Told}
-use Rattle.bgp_check_text.specs.declared.judge_options.Asked.{Asked}
-use Rattle.bgp_check_text.specs.declared.judge_options.JudgeOptions.{JudgeOptions}
+use Rattle.bgp_check_text.specs.declared.options.Asked.{Asked}
+use Rattle.bgp_check_text.specs.declared.options.JudgeOptions.{JudgeOptions}
 use Rattle.bgp_check_tool.specs.declared.options.CheckOptions.{CheckOptions}
 use Rattle.bgp_check_tool.specs.Judging.{AreOptionsTo}
 use Rattle.bgp_check_tool.specs.Late.{IsLate}

@@ -2,7 +2,7 @@ use Rattle.std.proofs.Common.{◌≡◌, ◌∙◌, true, false, Some, ap, inr, 
 use Rattle.streams.specs.declared.passed.Side.{Side}
 use Rattle.bgp_import.specs.Octets.{octets_from}
 use Rattle.bgp_import.specs.ListText.{other_side}
-use Rattle.bgp_check_text.specs.declared.judge_options.Asked.{Asked}
+use Rattle.bgp_check_text.specs.declared.options.Asked.{Asked}
 use Rattle.bgp_check_tool.specs.Told.{IsEndTold, told_value}
 use Rattle.streams.specs.Connections.{numbered}
 use Rattle.bgp_import.proofs.Telling.{are_covered, is_clocked}

@@ -10,7 +10,7 @@ use Rattle.bgp_recording.specs.Recorded.{IsRecordedInOrder}
 use Rattle.bgp_check_text.specs.OwnFaults.{IsToldConfiguration}
 use Rattle.bgp_check_text.specs.Settings.{are_told}
 use Rattle.bgp_check_text.specs.ReadAlike.{AreJudgeOptions}
-use Rattle.bgp_check_text.specs.declared.judge_options.JudgeOptions.{JudgeOptions}
+use Rattle.bgp_check_text.specs.declared.options.JudgeOptions.{JudgeOptions}
 use Rattle.bgp_check_tool.specs.Judging.{AreOptionsFor}
 use Rattle.bgp_check_tool.proofs.judging.options_for.Goals as goal
 
