@@ -42,10 +42,10 @@ abbrev pub IsSentKeepalive : ShownRecord → Type 0
 IsSentKeepalive (Sent second octets) = IsKeepalive octets
 IsSentKeepalive shown = ⊥
 
--- the length of an OPEN's parameters and the octet after it are 255 (RFC 9072, 2)
+-- Optional Parameters Length, octet 28 of an OPEN, isn't 0, and the next octet is 255 (RFC 9072, 2)
 abbrev pub HasExtendedParameters : List ℕ → Type 0
 HasExtendedParameters octets =
-    (29 < length octets) × (slice_index octets 28 ≡ 255) × (slice_index octets 29 ≡ 255)
+    (29 < length octets) × (slice_index octets 28 ≢ 0) × (slice_index octets 29 ≡ 255)
 
 -- an OPEN with such parameters
 abbrev pub IsExtendedOpen : Config → List ℕ → Type 0

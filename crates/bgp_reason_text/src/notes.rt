@@ -119,11 +119,11 @@ fn is_sent_keepalive(shown: &Record<'_>) -> bool
     }
 }
 
-/// Whether an OPEN says that its parameters have the form of RFC 9072.
+/// Whether the parameters of an OPEN have an extended length (RFC 9072, 2).
 fn has_extended_parameters(octets: &[u8]) -> bool
     ensures { IsTrue result ↔ HasExtendedParameters octets.now }
 {
-    29 < octets.len() && octets[28] == 255 && octets[29] == 255
+    29 < octets.len() && octets[28] != 0 && octets[29] == 255
 }
 
 /// Whether octets are a NOTIFICATION of this code.
