@@ -1,6 +1,6 @@
 //! Whether other rules of framing find the same messages in a connection.
 
-ghost use Rattle.std.specs.Prelude.{◌≡◌, ◌⊎◌, ◌↔◌, IsTrue, ℕ, map};
+ghost use Rattle.std.specs.Prelude.{◌≡◌, ◌↔◌, IsTrue, ℕ};
 ghost use Rattle.mrt.specs.Reader.{shown_of};
 ghost use Rattle.bgp_recording.specs.Captured.{records_of};
 ghost use Rattle.bgp_recording.specs.Recorded.{IsRecordedInOrder};
@@ -9,7 +9,7 @@ ghost use Rattle.bgp_check_text.specs.FramedAlike.{IsPlainRecord, IsSameLimit, I
 ghost use Rattle.streams.specs.declared.connection.Connection.{Connection as Connected};
 
 use crate::laws::records_are_framed_alike;
-use bgp_recording::{Framing, Framings, Recording, Rest, Unshown};
+use bgp_recording::{Entry, Framing, Framings, Recording, Rest, Unshown};
 use bgp_wire::{HEADER_LEN, Limit};
 use mrt::Record;
 use std::alloc::Allocator;
@@ -27,12 +27,12 @@ fn is_plain(one: &Record<'_>) -> bool
     }
 }
 
-/// Whether none does.
-fn are_plain(records: &[Record<'_>]) -> bool
-    ensures { IsTrue result ↔ ArePlain (map shown_of records.now) }
+/// Whether none of them does.
+fn are_plain(entries: &[Entry<'_>]) -> bool
+    ensures { IsTrue result ↔ ArePlain (records_of entries.now) }
 {
-    for one in records {
-        if !is_plain(one) {
+    for one in entries {
+        if !is_plain(&one.record) {
             return false;
         }
     }
@@ -56,20 +56,20 @@ fn has_no_header(rest: Rest) -> bool
     }
 }
 
-/// Whether the new limit is the old one, or the lesser one, where none of the records shows a
-/// longer message.
-fn is_same_limit(records: &[Record<'_>], old: Framing, new: Framing) -> bool
-    ensures { IsTrue result → IsSameLimit (map shown_of records.now) old new }
+/// Whether the new limit is the old one; or it is the lesser one, and no message of the records is
+/// longer.
+fn is_same_limit(entries: &[Entry<'_>], old: Framing, new: Framing) -> bool
+    ensures { IsTrue result → IsSameLimit (records_of entries.now) old new }
 {
     match (old.limit, new.limit) {
         (Limit::Plain, Limit::Plain) | (Limit::Extended, Limit::Extended) => true,
-        (Limit::Extended, Limit::Plain) => are_plain(records),
+        (Limit::Extended, Limit::Plain) => are_plain(entries),
         (Limit::Plain, Limit::Extended) => false,
     }
 }
 
-/// Whether the new rules pass over ROUTE-REFRESHes (RFC 2918) as the old ones do; or over none,
-/// where none was passed over.
+/// Whether the new rules pass over ROUTE-REFRESHes (RFC 2918) as the old ones do; or over none, and
+/// none was passed over.
 fn is_same_refresh(old: Framing, new: Framing, unshown: Unshown) -> bool
     ensures { IsTrue result → IsSameRefresh old new unshown }
 {
@@ -81,22 +81,22 @@ fn is_same_refresh(old: Framing, new: Framing, unshown: Unshown) -> bool
 
 /// Whether the new rules find the same messages in a stream. Those that the old ones find are among
 /// the records, and this of it is in none.
-fn finds_the_same(records: &[Record<'_>], old: Framing, new: Framing, unshown: Unshown) -> bool
-    ensures { IsTrue result → FindsTheSame (map shown_of records.now) old new unshown }
+fn finds_the_same(entries: &[Entry<'_>], old: Framing, new: Framing, unshown: Unshown) -> bool
+    ensures { IsTrue result → FindsTheSame (records_of entries.now) old new unshown }
 {
     if are_same(old, new) {
         return true;
     }
-    is_same_limit(records, old, new)
+    is_same_limit(entries, old, new)
         && is_same_refresh(old, new, unshown)
         && has_no_header(unshown.rest)
 }
 
 /// Whether the records that were made of a connection by the old rules of framing are those by the
-/// new ones, too, as far as that can be said without framing it again: the rules are the same, or
-/// they differ only in lengths and messages that don't occur.
+/// new ones, too, as far as that can be said without framing it again: the rules are the same; or
+/// they differ only in lengths and messages that don't occur, and no whole header stands in what is
+/// left of a stream.
 pub fn are_framed_alike<A: Allocator>(made: &Recording<'_, A>, old: Framings, new: Framings) -> bool
-    requires { map shown_of made.now.records.items ≡ records_of made.now.entries.items }
     ensures { IsTrue result → (within : ℕ) (connection : Connected)
         → IsRecordedInOrder old within connection made.now.entries.items made.now.received
         made.now.sent
@@ -104,7 +104,7 @@ pub fn are_framed_alike<A: Allocator>(made: &Recording<'_, A>, old: Framings, ne
         made.now.sent }
 {
     records_are_framed_alike();
-    let records = made.records.as_slice();
-    finds_the_same(records, old.received, new.received, made.received)
-        && finds_the_same(records, old.sent, new.sent, made.sent)
+    let entries = made.entries.as_slice();
+    finds_the_same(entries, old.received, new.received, made.received)
+        && finds_the_same(entries, old.sent, new.sent, made.sent)
 }

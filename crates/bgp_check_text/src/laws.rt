@@ -15,9 +15,11 @@ pub fn a_capture_is_read_alike()
 }
 
 /// What is made of a connection by some rules of framing is made of it by others, too, if these
-/// differ only in what doesn't occur: the greater limit, where no message is longer than the lesser
-/// one; and passing over ROUTE-REFRESHes (RFC 2918), where none was passed over. So whoever decides
-/// that from the rules, and from the records, answers what making the records again would.
+/// differ only in what doesn't occur: the greater limit, if no message is longer than the lesser one;
+/// and passing over ROUTE-REFRESHes (RFC 2918), if none was passed over. In either case no whole
+/// header stands in what is left of a stream, since such a header may be at fault by the lesser
+/// limit. So whoever decides that from the rules and the records answers what making the records
+/// again would.
 pub fn records_are_framed_alike()
     ensures { RecordsAreFramedAlike }
 {}

@@ -1,8 +1,6 @@
 //! Whether `bgp judge` reads the same records of a connection as are told.
 
 ghost use Rattle.std.specs.Prelude.{◌≡◌, ◌↔◌, IfOk, IsTrue, map};
-ghost use Rattle.mrt.specs.Reader.{shown_of};
-ghost use Rattle.bgp_recording.specs.Captured.{records_of};
 ghost use Rattle.bgp_recording.specs.Gathered.{IsClocked, IsCovered};
 ghost use Rattle.bgp_recording.specs.Recorded.{IsRecordedInOrder};
 ghost use Rattle.bgp_recording.specs.Tells.{numbered_of};
@@ -73,7 +71,6 @@ fn reads_them<A: Allocator + Copy>(
 ) -> Result<bool, AllocError>
     requires received { IsCovered connection.now.received }
     requires sent { IsCovered connection.now.sent }
-    requires records { map shown_of made.now.records.items ≡ records_of made.now.entries.items }
     ensures { IfOk result (λ reads. IsClocked connection.now
         → IsRecordedInOrder framings within connection.now made.now.entries.items
         made.now.received made.now.sent
@@ -104,8 +101,6 @@ pub fn judge_options<A: Allocator + Copy>(
 ) -> Result<Option<JudgeOptions>, AllocError>
     requires received { IsCovered connection.now.received }
     requires sent { IsCovered connection.now.sent }
-    requires records { map shown_of made.now.records.items ≡ records_of made.now.entries.items }
-    // Where the packets' seconds don't fall, the records tell the connection.
     ensures { IfOk result (λ options. IsClocked connection.now
         → IsRecordedInOrder framings within connection.now made.now.entries.items
         made.now.received made.now.sent → AreJudgeOptions config asked
