@@ -1,5 +1,5 @@
 -- What the lines of a session are worth.
-use Rattle.std.proofs.Common.{◌≡◌, ◌∙◌, ◌+◌, ◌++◌, ℕ, zero, suc, Bool, List, [], ◌∷◌, Option, None, Some, codes, refl, sym, ap, append_assoc, append-nil, subst, arith, inl, inr, length, take, unwrap_or}
+use Rattle.std.proofs.Common.{◌≡◌, ◌∙◌, ◌+◌, ◌++◌, ℕ, zero, suc, Bool, List, [], ◌∷◌, Option, None, Some, codes, refl, sym, ap, append_assoc, append-nil, subst, arith, inl, inr, length, slice_index_or, take, unwrap_or}
 use Rattle.std.specs.Fmt.{decimal}
 use Rattle.std.specs.List.{AllByRecursion, slice_get}
 use Rattle.bgp_prefix.specs.Shown.{ShownRecord}
@@ -24,7 +24,7 @@ use Rattle.bgp_check.specs.declared.peer_as.PeerAs.{PeerAs}
 use Rattle.bgp_check.specs.Left.{LeftVerdictIsOverAll}
 use Rattle.bgp_check.specs.Named.{NoNamesItsRecord}
 use Rattle.bgp_check.specs.StretchLaws.{IsLeftSo, JudgedAreStretches}
-use Rattle.bgp_check.specs.StretchTold.{IsStretchTold, ToldValue, with_leaving}
+use Rattle.bgp_check.specs.StretchTold.{IsStretchTold, ToldValue, place_of, with_leaving}
 use Rattle.bgp_check.proofs.Stretched.{no_by}
 use Rattle.bgp_check_text.specs.Text.{as_text, peer_text}
 use Rattle.bgp_check_capture_tool.specs.Checking.{Block, IsBlock}
@@ -169,12 +169,16 @@ module _ (addresses : Addresses) (named : List Located) (plain : Bool) (end : St
       let stretch = are_stretches f.view.session f.stretch (length f.stretch) leaving end.told is f.stretched (left_so f.behind f.next) in
       let it = names_it f.view.session f.stretch leaving end.told no.number no.peer no.under no.count is no.is in
       let place = ap (λ (p : Part). p.before + unwrap_or end.told.impossible 0 + 1) f.is.is_part ∙ ap (λ (o : Option ℕ). length f.front + unwrap_or o 0 + 1) it.is_named in
+      let found : it.place ≡ slice_index_or is.left.places no.count (length f.stretch) =
+          ap (λ (o : Option ℕ). unwrap_or o 0) (sym it.is_named ∙ is.is_place ∙ ap (λ (a : AnswerValue). place_of a is.left.places (length f.stretch)) answered) in
       let names = subst (λ (n : ℕ). Names (end_text routes addresses.local (Stretch end)) n addresses.local) place
       (told_names routes addresses.local end no.number no.peer no.under no.count no.is) in
       record {
         it = its_stretch;
+        is_part = f.is.is_part;
         count = no.count;
         place = length f.front + it.place;
+        is_place = ap (λ (n : ℕ). length f.front + n) found;
         impossible = it.shown;
         is_judged = subst (λ (rs : List ShownRecord). slice_get rs no.count ≡ Some it.shown) is.are_records it.is_judged;
         stands = subst (λ (rs : List ShownRecord). slice_get rs (length f.front + it.place) ≡ Some it.shown) (sym f.whole)

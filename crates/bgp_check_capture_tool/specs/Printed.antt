@@ -1,6 +1,6 @@
 -- What the lines of a session are worth: a verdict that is printed of a capture.
 use Rattle.std.specs.Prelude.{◌≡◌, ◌↔◌, ◌⊎◌, ◌<◌, ◌+◌, ◌++◌, IsTrue, ℕ, Bool, List, []}
-use Rattle.std.specs.Prelude.{Option, None, Some, codes, length, take}
+use Rattle.std.specs.Prelude.{Option, None, Some, codes, length, slice_index_or, take}
 use Rattle.std.specs.Fmt.{decimal}
 use Rattle.std.specs.List.{AllByRecursion, slice_get}
 use Rattle.bgp_prefix.specs.Shown.{ShownRecord}
@@ -80,14 +80,15 @@ abbrev pub judged_of : {addresses : Addresses} {named : List Located}
     → ReadStretch addresses named → List ShownRecord
 judged_of it = with_leaving it.left.records (first_of it.behind)
 
--- ---- a line that begins with `no`
+-- ---- a line that begins with the word `no`
 
 -- the lines of a stretch begin so
 abbrev pub BeginsWithNo : Bool → Addresses → StretchEnd → Type 0
 BeginsWithNo routes addresses end =
     (rest : List ℕ) × (end_text routes addresses.local (Stretch end) ≡ codes "no " ++ rest)
 
--- They name a record of the session, which is judged in this stretch of it. No run under a
+-- They name a record of the session: of those that are judged in this stretch of it, the one after
+-- so many, at its place among all that the session has. No run under a
 -- configuration under which the OPEN that was sent is the local system's own shows what is judged
 -- up to that record; nor all of it. Some run under one of these configurations shows what is judged
 -- before it, if there is such a configuration: it is the record at which no run goes on. If there
@@ -95,8 +96,11 @@ BeginsWithNo routes addresses end =
 pub record IsTrueNo (routes : Bool) (addresses : Addresses) (named : List Located)
     (end : StretchEnd) : Type 0 where
   pub it : ReadStretch addresses named
+  pub is_part : end.part ≡ record { before = length it.front; count = length it.stretch }
   pub count : ℕ
   pub place : ℕ
+  pub is_place : place
+      ≡ length it.front + slice_index_or it.left.places count (length it.stretch)
   pub impossible : ShownRecord
   pub is_judged : slice_get (judged_of it) count ≡ Some impossible
   pub stands : slice_get it.records place ≡ Some impossible
@@ -125,8 +129,8 @@ NoesAreTrue routes named block =
     Each (IsTrueIfNo routes block.addresses (records_between block.addresses named)) block.ends
 
 -- The octets have these records, and the text is that of blocks, each of which is told of a session
--- of these: so each line that begins with `no` is that of a stretch. In these each such line is
--- true.
+-- of these: so each line that begins with the word `no` is that of a stretch. In these each such
+-- line is true.
 pub record HasTrueNoes (options : CaptureOptions) (octets : List ℕ) (fault : Option CaptureFault)
     (text : List ℕ) : Type 0 where
   pub named : List Located

@@ -76,7 +76,7 @@ pub record HasRecords (options : CheckOptions) (packets : List Recorded) (last_p
       connection
   pub are_records : AreRecordsOf options.within (seen_from side connection) entries
 
--- ---- a line that begins with `no`
+-- ---- a line that begins with the word `no`
 
 -- the lines of an end begin so
 abbrev pub BeginsWithNo : Bool → EndTold → Type 0
@@ -120,8 +120,8 @@ NoesAreTrue options packets last_packet (Refused session opening refusal) = Unit
 NoesAreTrue options packets last_packet (AllRefused addresses refusal) = Unit {0}
 
 -- These packets are read of the source. What is written are blocks, each of which is told of the
--- packets where it stands: so each line that begins with `no` is that of an end. In these each such
--- line is true. Behind them stands no line of an end.
+-- packets where it stands: so each line that begins with the word `no` is that of an end. In these
+-- each such line is true. Behind them stands no line of an end.
 pub record PrintsTrueNoes {S T : Type 0} (gives : S → S → List ℕ → Type 0) (has_ended : S → Bool)
     (takes : T → T → List ℕ → Type 0) (failures : T → ℕ) (options : CheckOptions)
     (source source' : S) (sink sink' : T) (status : ℕ) (cut_short : Option CutShort) : Type 0
