@@ -12,12 +12,12 @@ taken_twice (suc n) [] more = refl
 taken_twice (suc n) (octet ∷ octets) more = ap (λ rest. octet ∷ rest) (taken_twice n octets more)
 
 -- by no octets it stays
-pub kept_nothing : (front : List ℕ) → length front ≤ 16 → front ≡ kept (front ++ [])
-kept_nothing front within = sym (ap kept (append-nil front) ∙ take_all 16 front within)
+pub kept_nothing : (front : List ℕ) → length front ≤ 262 → front ≡ kept (front ++ [])
+kept_nothing front within = sym (ap kept (append-nil front) ∙ take_all 262 front within)
 
 -- by octets, and then more, it is what is kept of both
 pub kept_joined : (a b c xs ys : List ℕ) → b ≡ kept (a ++ xs) → c ≡ kept (b ++ ys)
     → c ≡ kept (a ++ (xs ++ ys))
 kept_joined a b c xs ys first second =
-    second ∙ ap (λ front. kept (front ++ ys)) first ∙ taken_twice 16 (a ++ xs) ys
+    second ∙ ap (λ front. kept (front ++ ys)) first ∙ taken_twice 262 (a ++ xs) ys
     ∙ ap kept (append_assoc a xs ys)

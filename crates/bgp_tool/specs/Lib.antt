@@ -10,3 +10,4 @@ pub mod Seen
 pub mod OpenedCapture
 pub mod Answer
 pub mod Judging
+pub mod NothingFound

@@ -46,18 +46,29 @@ abbrev pub unmet_by : Bool → Option Endpoints → Option Unmet
 unmet_by true other = None
 unmet_by false other = Some (record { other = other })
 
+-- What a file is that begins as no capture does: a capture all the same, where a record of another
+-- session was met.
+abbrev pub unless_met : Option Endpoints → Option Form → Option Form
+unless_met None form = form
+unless_met (Some other) form = None
+
 -- What is told of what was read of a capture, by whether a record of the session was read, what the
 -- file is if it is no capture, why it is refused if it is, what is lacking in it if it is judged
 -- yes, and the addresses of the first record of another session.
 module _ (command : CaptureCommand) (file : Bor (List ℕ)) where
+  abbrev pub told_where : Bool → Option Form → Option CaptureFault → Option Seen
+      → Option Endpoints → Option Note
+  told_where true form None lacking other = option_map (NothingDone file) lacking
+  told_where true form (Some fault) lacking other = Some (Refused file fault None)
+  told_where false (Some form) fault lacking other = Some (NoCapture file form command)
+  told_where false None None lacking other = Some (NoSession file other)
+  told_where false None (Some fault) lacking other =
+      Some (Refused file fault (unmet_by (may_be_of_session fault.kind) other))
+
   abbrev pub told_by : Bool → Option Form → Option CaptureFault → Option Seen → Option Endpoints
       → Option Note
-  told_by true form None lacking other = option_map (NothingDone file) lacking
-  told_by true form (Some fault) lacking other = Some (Refused file fault None)
-  told_by false (Some form) fault lacking other = Some (NoCapture file form command)
-  told_by false None None lacking other = Some (NoSession file other)
-  told_by false None (Some fault) lacking other =
-      Some (Refused file fault (unmet_by (may_be_of_session fault.kind) other))
+  told_by found form fault lacking other =
+      told_where found (unless_met other form) fault lacking other
 
   -- by the first octets and what was found
   abbrev pub told_of : List ℕ → records.ReaderState → Option CaptureFault → Option Seen

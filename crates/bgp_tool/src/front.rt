@@ -1,15 +1,17 @@
 //! The first octets of a source, which tell what it is.
 
 ghost use Rattle.std.specs.Prelude.{◌≡◌, ◌≤◌, ◌<◌, ◌^◌, ◌++◌, List, ℕ, [], length, take};
-ghost use Rattle.std.specs.Prelude.{IfOk, OnErr};
 ghost use Rattle.bgp_tool.specs.Front.{kept};
 ghost use Rattle.bgp_tool.specs.Front as spec;
 
 use arrayvec::ArrayVec;
 use mrt::{Failed, Source};
 
-/// How many octets are kept.
-const FRONT: usize = 16;
+/// How many octets are kept: up to the end of tar's magic number, which is the latest of all.
+const FRONT: usize = 262;
+
+/// How many octets are looked at for text.
+const TEXT: usize = 16;
 
 /// What a file is, by its first octets.
 #[derive(Clone, Copy, Debug, PartialEq, Eq)]
@@ -26,20 +28,32 @@ pub enum Form {
     Xz,
     /// Compressed by zstd (RFC 8878).
     Zstd,
+    /// An archive of zip.
+    Zip,
+    /// An archive of tar (POSIX's `ustar`).
+    Tar,
     /// Records of RFC 6396.
     Mrt,
     /// A raw stream: messages, one after another (RFC 4271, 4.1).
     Stream,
-    /// Text.
+    /// Text: a hexadecimal dump with an address in each line, as `xxd` prints it.
+    Dump,
+    /// Text: hexadecimal digits.
+    Digits,
+    /// Another text.
     Text,
+    /// A file without an octet.
+    Empty,
+    /// None of these.
+    Other,
 }
 
-/// A source that keeps the first 16 octets that it gave.
+/// A source that keeps the first 262 octets that it gave.
 #[derive(Drop)]
 pub struct WithFront<S> {
     source: S,
     front: ArrayVec<u8, FRONT>,
-    ghost within: { length front.items ≤ 16 },
+    ghost within: { length front.items ≤ 262 },
 }
 
 impl<S: Source> WithFront<S> {
@@ -118,7 +132,7 @@ impl<S: Source> Source for WithFront<S> {
     }
 }
 
-/// What a file with this front is, if it is no raw stream.
+/// Returns what a file with this front is, if it is no raw stream and that can be known.
 pub(crate) fn no_stream(front: &[u8]) -> Option<Form>
     ensures { result ≡ spec.no_stream front.now }
 {
@@ -129,22 +143,66 @@ pub(crate) fn no_stream(front: &[u8]) -> Option<Form>
     }
 }
 
-/// What a file with this front is, if it is no capture.
+/// Returns what a file with this front is, if it is no capture.
 pub(crate) fn no_capture(front: &[u8]) -> Option<Form>
     ensures { result ≡ spec.no_capture front.now }
 {
-    if is_mrt(front) { None } else { form_of(front) }
+    if is_mrt(front) {
+        None
+    } else {
+        form_or_other(front)
+    }
 }
 
-/// What a file with this front is, if that can be told.
+/// Returns what a file with this front is, if it is no recording of packets.
+pub(crate) fn no_recording(front: &[u8]) -> Option<Form>
+    ensures { result ≡ spec.no_recording front.now }
+{
+    if is_pcap(front) || is_pcapng(front) {
+        None
+    } else {
+        form_or_other(front)
+    }
+}
+
+/// Returns what a file with this front is: another one, if it is long enough to have a record's type
+/// and nothing known begins so.
+fn form_or_other(front: &[u8]) -> Option<Form>
+    ensures { result ≡ spec.form_or_other front.now }
+{
+    match form_of(front) {
+        Some(form) => Some(form),
+        None if front.len() < 8 => None,
+        None => Some(Form::Other),
+    }
+}
+
+/// Returns what a file with this front is, if that can be known.
+#[tactic(auto, unfolding(crate::specs::Front::form_of))]
 fn form_of(front: &[u8]) -> Option<Form>
     ensures { result ≡ spec.form_of front.now }
 {
-    if is_pcap(front) {
+    if front.is_empty() {
+        Some(Form::Empty)
+    } else if is_pcap(front) {
         Some(Form::Pcap)
     } else if is_pcapng(front) {
         Some(Form::Pcapng)
-    } else if is_gzip(front) {
+    } else if is_mrt(front) {
+        Some(Form::Mrt)
+    } else if is_stream(front) {
+        Some(Form::Stream)
+    } else {
+        packed_or_text(front)
+    }
+}
+
+/// Returns the same of a file that no command reads.
+#[tactic(auto, unfolding(crate::specs::Front::packed_or_text))]
+fn packed_or_text(front: &[u8]) -> Option<Form>
+    ensures { result ≡ spec.packed_or_text front.now }
+{
+    if is_gzip(front) {
         Some(Form::Gzip)
     } else if is_bzip2(front) {
         Some(Form::Bzip2)
@@ -152,11 +210,32 @@ fn form_of(front: &[u8]) -> Option<Form>
         Some(Form::Xz)
     } else if is_zstd(front) {
         Some(Form::Zstd)
-    } else if is_mrt(front) {
-        Some(Form::Mrt)
-    } else if is_stream(front) {
-        Some(Form::Stream)
-    } else if is_text(front) {
+    } else if is_zip(front) {
+        Some(Form::Zip)
+    } else if is_tar(front) {
+        Some(Form::Tar)
+    } else {
+        text_form(start_of(front))
+    }
+}
+
+/// Returns as much of a front as is looked at for text.
+fn start_of(front: &[u8]) -> &[u8]
+    ensures { result.now ≡ take 16 front.now }
+{
+    &front[..TEXT.min(front.len())]
+}
+
+/// Returns which text begins so, if one does.
+#[tactic(auto, unfolding(crate::specs::Front::text_form))]
+fn text_form(start: &[u8]) -> Option<Form>
+    ensures { result ≡ spec.text_form start.now }
+{
+    if is_dump(start) {
+        Some(Form::Dump)
+    } else if is_digits(start) {
+        Some(Form::Digits)
+    } else if is_text(start) {
         Some(Form::Text)
     } else {
         None
@@ -209,6 +288,25 @@ fn is_zstd(front: &[u8]) -> bool
     front.starts_with(&[0x28, 0xb5, 0x2f, 0xfd])
 }
 
+/// Whether an archive of zip begins so: with the header of a file in it.
+fn is_zip(front: &[u8]) -> bool
+    ensures { result ≡ spec.is_zip front.now }
+{
+    front.starts_with(&[0x50, 0x4b, 0x03, 0x04])
+}
+
+/// Whether an archive of tar begins so: `ustar` stands behind the first 257 octets of the header.
+fn is_tar(front: &[u8]) -> bool
+    ensures { result ≡ spec.is_tar front.now }
+{
+    front.len() >= FRONT
+        && front[257] == b'u'
+        && front[258] == b's'
+        && front[259] == b't'
+        && front[260] == b'a'
+        && front[261] == b'r'
+}
+
 /// Whether a record of RFC 6396 begins so: behind its timestamp TABLE_DUMP, TABLE_DUMP_V2, BGP4MP
 /// or BGP4MP_ET, and a subtype.
 fn is_mrt(front: &[u8]) -> bool
@@ -230,11 +328,42 @@ fn is_stream(front: &[u8]) -> bool
     ])
 }
 
-/// Whether a text begins so.
-fn is_text(front: &[u8]) -> bool
-    ensures { result ≡ spec.is_text front.now }
+/// Whether a hexadecimal dump of `xxd` begins so: with the address 0 and a colon.
+fn is_dump(start: &[u8]) -> bool
+    ensures { result ≡ spec.is_dump start.now }
 {
-    !front.is_empty() && front.iter().all(|octet| is_text_octet(*octet))
+    start.starts_with(b"00000000:")
+}
+
+/// Whether hexadecimal digits begin so. If six of them are 0, they may be an address.
+fn is_digits(start: &[u8]) -> bool
+    ensures { result ≡ spec.is_digits start.now }
+{
+    !start.starts_with(b"000000") && are_digits(start)
+}
+
+/// Whether all of these octets are hexadecimal digits, or stand between two.
+fn are_digits(start: &[u8]) -> bool
+    ensures { result ≡ spec.are_digits start.now }
+{
+    start.iter().all(|octet| is_digits_octet(*octet))
+}
+
+/// Whether a text begins so.
+fn is_text(start: &[u8]) -> bool
+    ensures { result ≡ spec.is_text start.now }
+{
+    start.iter().all(|octet| is_text_octet(*octet))
+}
+
+/// Whether this octet is a hexadecimal digit, or stands between two.
+fn is_digits_octet(octet: u8) -> bool
+    ensures { result ≡ spec.is_digits_octet octet }
+{
+    matches!(
+        octet,
+        b'0'..=b'9' | b'a'..=b'f' | b'A'..=b'F' | b' ' | b'\t' | b'\n' | b'\r'
+    )
 }
 
 /// Whether this octet stands in a text.

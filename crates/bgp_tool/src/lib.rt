@@ -17,6 +17,7 @@ mod headline;
 mod judging;
 mod laws;
 mod note;
+mod nothing_found;
 mod opened;
 mod opened_capture;
 mod pair_fault;
@@ -34,6 +35,7 @@ pub use headline::{each_capture_has_one_verdict, judge_capture, text_and_status}
 pub use judging::{put_answer, write_answer};
 pub use laws::each_stream_has_one_text;
 pub use note::{CaptureCommand, Note, Unmet};
+pub use nothing_found::{without_packets, without_records};
 pub use opened::{Outcome, decode_opened, unopened, unwritten};
 pub use opened_capture::{decode_opened_capture, note_of};
 pub use pair_fault::{PairEnd, PairFault};

@@ -10,13 +10,19 @@ use mrt::{CaptureFault, Endpoints};
 use std::fmt;
 use std::io::ErrorKind;
 
-/// A command that reads a capture.
+/// A command that reads a capture or a recording of packets.
 #[derive(Clone, Copy, Debug, PartialEq, Eq)]
 pub enum CaptureCommand {
     /// `bgp decode --mrt`.
     Decode,
     /// `bgp judge`.
     Judge,
+    /// `bgp import`.
+    Import,
+    /// `bgp list`.
+    List,
+    /// `bgp check`.
+    Check,
 }
 
 /// That no record of a session was met.
@@ -66,6 +72,11 @@ pub enum Note<'a> {
         /// The addresses of the first record of another session, if there was one.
         other: Option<Endpoints>,
     },
+    /// No record of any session is in the capture, which was read to its end.
+    NoSessions {
+        /// Its name, or `-` for standard input.
+        file: &'a str,
+    },
     /// The file is no raw stream.
     NoStream {
         /// Its name, or `-` for standard input.
@@ -73,7 +84,7 @@ pub enum Note<'a> {
         /// What it is.
         form: Form,
     },
-    /// The file is no capture.
+    /// The file is no capture, or no recording of packets.
     NoCapture {
         /// Its name, or `-` for standard input.
         file: &'a str,
@@ -159,7 +170,12 @@ impl fmt::Display for Note<'_> {
                 write!(f, "{}: memory was refused at octet {octet}", Told(file))
             }
             Note::NoSession { file, other } => put_no_session(f, file, other),
-            Note::NoStream { file, form } => put_form(f, file, form, "bgp decode"),
+            Note::NoSessions { file } => write!(
+                f,
+                "{}: no record of a session is in the file: the entries of a table aren't judged",
+                Told(file)
+            ),
+            Note::NoStream { file, form } => put_form(f, file, form, "bgp decode -"),
             Note::NoCapture {
                 file,
                 form,
@@ -181,11 +197,14 @@ impl fmt::Display for Note<'_> {
     }
 }
 
-/// A command as it is typed, with two dots for its options.
+/// A command that reads standard input, as it is typed, with two dots for its options.
 fn typed(command: CaptureCommand) -> &'static str {
     match command {
-        CaptureCommand::Decode => "bgp decode --mrt ..",
-        CaptureCommand::Judge => "bgp judge ..",
+        CaptureCommand::Decode => "bgp decode --mrt .. -",
+        CaptureCommand::Judge => "bgp judge .. -",
+        CaptureCommand::Import => "bgp import .. - OUT",
+        CaptureCommand::List => "bgp list -",
+        CaptureCommand::Check => "bgp check -",
     }
 }
 

@@ -7,11 +7,11 @@ ghost use Rattle.mrt.specs.FromWrite.{writer_state};
 ghost use Rattle.bgp_tool.specs.declared.note.Note.TheVariants as notes;
 ghost use Rattle.bgp_tool.specs.Front.{no_capture as no_capture_by};
 ghost use Rattle.bgp_tool.specs.Opened.{IsUnopened};
-ghost use Rattle.bgp_tool.specs.OpenedCapture.{told_by, unmet_by, may_be_of_session};
+ghost use Rattle.bgp_tool.specs.OpenedCapture.{told_by, unmet_by, unless_met, may_be_of_session};
 ghost use Rattle.bgp_tool.specs.OpenedCapture.{DecodesOpened};
 
 use crate::captures::decode_with;
-use crate::front::{WithFront, no_capture};
+use crate::front::{Form, WithFront, no_capture};
 use crate::note::{CaptureCommand, Note, Unmet};
 use crate::opened::{Outcome, unopened, unwritten};
 use crate::seen::Seen;
@@ -137,20 +137,30 @@ fn told<'a, A: Allocator + Copy>(
             None => lacking.map(|seen| Note::NothingDone { file, seen }),
         };
     }
-    if let Some(form) = no_capture(front) {
+    let other = records.first_other();
+    if let Some(form) = unless_met(other, no_capture(front)) {
         return Some(Note::NoCapture {
             file,
             form,
             command,
         });
     }
-    let other = records.first_other();
     match refused {
         Some(fault) => {
             let unmet = unmet_at(fault.kind, other);
             Some(Note::Refused { file, fault, unmet })
         }
         None => Some(Note::NoSession { file, other }),
+    }
+}
+
+/// What a file is that begins as no capture does, unless a record of another session was met.
+fn unless_met(other: Option<Endpoints>, form: Option<Form>) -> Option<Form>
+    ensures { result ≡ unless_met other form }
+{
+    match other {
+        None => form,
+        Some(_) => None,
     }
 }
 

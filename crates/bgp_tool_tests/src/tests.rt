@@ -3,6 +3,7 @@
 //! `real_captures`.)
 
 mod captures;
+mod fronts;
 mod great;
 mod judging;
 mod opened;

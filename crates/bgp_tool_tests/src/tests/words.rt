@@ -24,7 +24,7 @@ fn each_status_has_its_number(rt: HostRuntime) {
 }
 
 /// What is told, and its words.
-static NOTES: [(Note<'static>, &str); 12] = [
+static NOTES: [(Note<'static>, &str); 15] = [
     (
         Note::NothingDone {
             file: "-",
@@ -99,6 +99,27 @@ static NOTES: [(Note<'static>, &str); 12] = [
             unmet: None,
         },
         "a.mrt: memory was refused at octet 36",
+    ),
+    (
+        Note::NoSessions { file: "rib.mrt" },
+        "rib.mrt: no record of a session is in the file: the entries of a table aren't judged",
+    ),
+    (
+        Note::NoCapture {
+            file: "a.pcap.xz",
+            form: Form::Xz,
+            command: CaptureCommand::Import,
+        },
+        "a.pcap.xz is compressed by xz: `xzcat a.pcap.xz | bgp import .. - OUT`",
+    ),
+    (
+        Note::NoCapture {
+            file: "a.zip",
+            form: Form::Zip,
+            command: CaptureCommand::Check,
+        },
+        "a.zip is an archive of zip: `unzip -p a.zip NAME | bgp check -` reads a file that `unzip \
+         -l a.zip` lists",
     ),
     (
         Note::Pair {
