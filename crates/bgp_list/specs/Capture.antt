@@ -1,5 +1,5 @@
 -- What listing a capture writes and answers.
-use Rattle.std.specs.Prelude.{◌≡◌, ◌⊎◌, ◌+◌, ◌++◌, ℕ, Bool, List, [], Option, None, Some}
+use Rattle.std.specs.Prelude.{◌≡◌, ◌⊎◌, ◌+◌, ◌++◌, ℕ, Bool, List, [], Option, None, Some, length}
 use Rattle.mrt.specs.declared.fault.CaptureFault.{CaptureFault}
 use Rattle.mrt.specs.declared.fault.FaultKind.{FaultKind}
 use Rattle.mrt.specs.declared.fault.FaultKind.TheVariants as kinds
@@ -7,6 +7,7 @@ use Rattle.bgp_tool.specs.Answer.{IsWritten}
 use Rattle.bgp_tool.specs.CaptureDecoding.{status_by}
 use Rattle.mrt_sessions.specs.File.{HasRecords, Located, fault_by}
 use Rattle.mrt_sessions.specs.Held.{IsHeld, failures_by}
+use Rattle.mrt_sessions.specs.Sessions.{sessions_in}
 use Rattle.mrt_sessions.specs.declared.holding.Ending.{Ending}
 use Rattle.bgp_list.specs.Sessions.{fault_text, sessions_text}
 
@@ -25,25 +26,27 @@ pub record ListsAll (octets : List ℕ) (ending : Ending) (text : List ℕ)
   pub is_text : text ≡ sessions_text named
   pub is_fault : fault ≡ fault_by ending refusal offset
 
--- or only that there was no memory for a list of the records
-abbrev pub Lists : List ℕ → Ending → List ℕ → Option CaptureFault → Type 0
-Lists octets ending text fault =
-    ListsAll octets ending text fault ⊎ ((text ≡ []) × (fault ≡ Some no_memory))
+-- So many sessions are told; or none, and only that there was no memory for a list of the records.
+abbrev pub Lists : List ℕ → Ending → List ℕ → ℕ → Option CaptureFault → Type 0
+Lists octets ending text count fault =
+    ((all : ListsAll octets ending text fault) × (count ≡ length (sessions_in all.named)))
+    ⊎ ((text ≡ []) × (count ≡ 0) × (fault ≡ Some no_memory))
 
 abbrev pub status_of : Option CaptureFault → ℕ
 status_of None = 0
 status_of (Some fault) = status_by fault.kind
 
--- A source is held, and its sessions are told, and why it isn't read to its end. All of that was
--- written, if the sink didn't fail.
+-- A source is held, and its sessions are told, so many, and why it isn't read to its end. All of
+-- that was written, if the sink didn't fail.
 pub record ListsCapture {S T : Type 0} (gives : S → S → List ℕ → Type 0) (has_ended : S → Bool)
     (takes : T → T → List ℕ → Type 0) (source_failures : S → ℕ) (failures : T → ℕ)
-    (source source' : S) (sink sink' : T) (status : ℕ) (fault : Option CaptureFault) : Type 0 where
+    (source source' : S) (sink sink' : T) (status count : ℕ) (fault : Option CaptureFault)
+    : Type 0 where
   pub octets : List ℕ
   pub ending : Ending
   pub held : IsHeld gives has_ended source source' octets ending
   pub counted : source_failures source' ≡ source_failures source + failures_by ending
   pub text : List ℕ
-  pub lists : Lists octets ending text fault
+  pub lists : Lists octets ending text count fault
   pub written : IsWritten takes failures (text ++ fault_text fault) (status_of fault) sink sink'
       status

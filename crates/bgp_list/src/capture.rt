@@ -1,9 +1,12 @@
 //! `bgp list` of a capture.
 
-ghost use Rattle.std.specs.Prelude.{◌≡◌, ◌<◌, List, ℕ};
+ghost use Rattle.std.specs.Prelude.{◌≡◌, ◌<◌, List, None, ℕ};
 ghost use Rattle.bgp_text.specs.Lines.{Writes};
 ghost use Rattle.bgp_tool.specs.CaptureDecoding.{status_by};
+ghost use Rattle.bgp_tool.specs.Front.{no_capture};
+ghost use Rattle.bgp_tool.specs.NothingFound.{without_records_by};
 ghost use Rattle.bgp_tool.specs.Status.{code_of};
+ghost use Rattle.bgp_tool.specs.declared.note.CaptureCommand.TheVariants.{List as ListCommand};
 ghost use Rattle.mrt_sessions.specs.File.{Located};
 ghost use Rattle.mrt_sessions.specs.Sessions.{HoldsSessions, held_records};
 ghost use Rattle.bgp_list.specs.Capture.{Lists, ListsCapture, status_of};
@@ -11,7 +14,7 @@ ghost use Rattle.bgp_list.specs.Sessions.{fault_text, session_line, sessions_tex
 
 use crate::session::put_session;
 use bgp_text::{Lines, put_refused};
-use bgp_tool::{Status, hand_over};
+use bgp_tool::{CaptureCommand, Note, Status, hand_over, without_records};
 use mrt::{CaptureFault, FaultKind, Sink, Source};
 use mrt_sessions::{Addresses, Ending, Sessions, hold, records_in};
 use std::alloc::Allocator;
@@ -21,8 +24,26 @@ use std::alloc::Allocator;
 pub struct ListedCapture {
     /// The exit status.
     pub status: u8,
+    /// How many sessions are listed.
+    pub sessions: usize,
     /// Why the file isn't read to its end, if it isn't.
     pub fault: Option<CaptureFault>,
+}
+
+impl ListedCapture {
+    /// Returns what to say of the file, which begins with these octets, if no session is listed:
+    /// what it is, as far as that is known ([`without_records`]). Else its fault is what there is to
+    /// say.
+    pub fn file_note<'a>(&self, file: &'a str, front: &[u8]) -> Option<Note<'a>>
+        ensures some { 0 < self.now.sessions → result ≡ None }
+        ensures none { self.now.sessions ≡ 0 → result
+            ≡ without_records_by ListCommand file.entry (no_capture front.now) self.now.fault }
+    {
+        if self.sessions > 0 {
+            return None;
+        }
+        without_records(CaptureCommand::List, file, front, self.fault)
+    }
 }
 
 /// That there is no memory for a list of the records.
@@ -56,27 +77,27 @@ fn put_sessions<W: Sink, A: Allocator + Copy>(lines: &mut Lines<'_, W>, sessions
     }
 }
 
-/// Puts the lines of all sessions whose records these octets have, and answers why the file isn't
-/// read to its end, if it isn't.
+/// Puts the lines of all sessions whose records these octets have. Returns how many there are, and
+/// why the file isn't read to its end, if it isn't.
 fn put_listed<W: Sink, A: Allocator + Copy>(
     alloc: A,
     octets: &[u8],
     ending: Ending,
     lines: &mut Lines<'_, W>,
-) -> Option<CaptureFault>
+) -> (usize, Option<CaptureFault>)
     ensures { (text : List ℕ) × Writes lines.old lines.new text
-        × Lists octets.now ending text result }
+        × Lists octets.now ending text result.0 result.1 }
 {
     let Ok(file) = records_in(alloc, octets) else {
         lines.put(b"");
-        return Some(NO_MEMORY);
+        return (0, Some(NO_MEMORY));
     };
     let Ok(sessions) = Sessions::of(alloc, file.records.as_slice()) else {
         lines.put(b"");
-        return Some(NO_MEMORY);
+        return (0, Some(NO_MEMORY));
     };
     put_sessions(lines, &sessions);
-    file.fault(ending)
+    (sessions.in_order().len(), file.fault(ending))
 }
 
 /// Puts why a file isn't read to its end, if it isn't.
@@ -134,17 +155,18 @@ pub fn list_capture<A: Allocator + Copy, R: Source, W: Sink>(
     requires source { R.failures source.old < u64.MAX }
     requires sink { W.failures sink.old < u64.MAX }
     ensures { ListsCapture R.gives R.has_ended W.takes R.failures W.failures
-        source.old source.new sink.old sink.new result.status result.fault }
+        source.old source.new sink.old sink.new result.status result.sessions result.fault }
 {
     let held = hold(alloc, source);
     let mut lines = Lines::new(sink);
-    let fault = put_listed(alloc, held.octets.as_slice(), held.ending, &mut lines);
+    let (sessions, fault) = put_listed(alloc, held.octets.as_slice(), held.ending, &mut lines);
     put_fault(&mut lines, fault);
     let status = hand_over(&mut lines, status_of(fault));
     // No effect: it ends the loan of the sink.
     lines.into_sink();
     ListedCapture {
         status: status.code(),
+        sessions,
         fault,
     }
 }

@@ -21,6 +21,7 @@ mod session;
 pub use capture::{ListedCapture, fault_status, list_capture, put_fault};
 pub use firsts::{NUMBERS, add_first};
 pub use laws::each_of_them_is_listed;
+pub use line::Line;
 pub use listed::{ListedRecording, NothingListed};
 pub use recording::list_recording;
 pub use session::put_session;

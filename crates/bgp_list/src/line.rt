@@ -19,8 +19,8 @@ use std::alloc::Allocator;
 use streams::{Connections, Opening};
 
 /// A line of a list.
-#[derive(Clone, Copy)]
-pub(crate) enum Line {
+#[derive(Clone, Copy, Debug)]
+pub enum Line {
     /// A connection: how many octets whoever opened it sent, and how many the other.
     Octets(Session, Opening, usize, usize),
     /// A connection that is refused.

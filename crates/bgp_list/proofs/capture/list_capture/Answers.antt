@@ -18,7 +18,7 @@ returns g c =
       held = c.hold-held.ensures.held;
       counted = c.hold-held.ensures.failures;
       text = listed.0;
-      lists = subst (λ (o : List ℕ). Lists o c.hold-held.result.ending listed.0 c.put_listed-fault.result) c.as_slice.ensures.value listed.2;
+      lists = subst (λ (o : List ℕ). Lists o c.hold-held.result.ending listed.0 c.put_listed-fault.result.0 c.put_listed-fault.result.1) c.as_slice.ensures.value listed.2;
       written = is_written c.new-lines.result c.hand_over-status.new.lines c.args.sink.now _ fresh c.new-lines.ensures.now (search rules)
           _ _ _ wrote c.hand_over-status.ensures.none (coded_as _ _ _ _ c.code.ensures (told_as _ _ _ _ c.hand_over-status.ensures.told c.status_of.ensures));
     }
