@@ -1,6 +1,6 @@
 -- What checking a capture writes and answers.
 use Rattle.std.specs.Prelude.{◌≡◌, ◌⊎◌, ◌+◌, ◌++◌, ℕ, Bool, true, false, List, [], ◌∷◌, map}
-use Rattle.std.specs.Prelude.{Option, None, Some, codes, if◌then◌else◌}
+use Rattle.std.specs.Prelude.{Option, None, Some, codes, length, if◌then◌else◌}
 use Rattle.std.specs.List.{AllByRecursion, flat_map}
 use Rattle.mrt.specs.declared.fault.CaptureFault.{CaptureFault}
 use Rattle.mrt.specs.declared.fault.FaultKind.{FaultKind}
@@ -101,19 +101,21 @@ pub record TellsAll (options : CaptureOptions) (octets : List ℕ) (ending : End
     pub are_firsts : firsts ≡ firsts_after [] (faults_in blocks)
     pub is_fault : fault ≡ fault_by ending refusal offset
 
--- or only that there was no memory for a list of the records
+-- So many sessions are told; or none, and only that there was no memory for a list of the records.
 abbrev pub Tells : CaptureOptions → List ℕ → Ending → List ℕ → Tally → List (Option CaptureFault)
-    → Option CaptureFault → Type 0
-Tells options octets ending text tally firsts fault =
-    TellsAll options octets ending text tally firsts fault
-    ⊎ ((text ≡ []) × (tally ≡ no_tally) × (firsts ≡ []) × (fault ≡ Some no_memory))
+    → ℕ → Option CaptureFault → Type 0
+Tells options octets ending text tally firsts count fault =
+    ((all : TellsAll options octets ending text tally firsts fault)
+    × (count ≡ length (sessions_in all.named)))
+    ⊎ ((text ≡ []) × (tally ≡ no_tally) × (firsts ≡ []) × (count ≡ 0)
+    × (fault ≡ Some no_memory))
 
 pub record PutsFile {T : Type 0} {sink : sinks.Ghosts T} (options : CaptureOptions)
     (octets : List ℕ) (ending : Ending) (lines lines' : Lines T sink) (tally : Tally)
-    (firsts : List (Option CaptureFault)) (fault : Option CaptureFault) : Type 0 where
+    (firsts : List (Option CaptureFault)) (count : ℕ) (fault : Option CaptureFault) : Type 0 where
   pub text : List ℕ
   pub wrote : Writes lines lines' text
-  pub tells : Tells options octets ending text tally firsts fault
+  pub tells : Tells options octets ending text tally firsts count fault
 
 -- that there is no session, where nothing was told
 abbrev pub nothing_text : Tally → List ℕ
@@ -130,13 +132,13 @@ nothing_where false incomplete None = Some (record { is_incomplete = incomplete 
 abbrev pub nothing_by : Tally → Option CaptureFault → Option NothingJudged
 nothing_by tally fault = nothing_where (has_verdict tally) (is_incomplete tally) fault
 
--- A source is held, and its sessions are told, and why it isn't read to its end; then that there is
--- none, if so, and last how many ends there are of each verdict. All of that was written, if the
+-- A source is held, and its sessions are told, so many, and why it isn't read to its end; then that
+-- there is none, if so, and last how many ends there are of each verdict. All of that was written, if the
 -- sink didn't fail. Of all refusals those are answered that are the first of their number.
 pub record ChecksCapture {S T : Type 0} (gives : S → S → List ℕ → Type 0) (has_ended : S → Bool)
     (takes : T → T → List ℕ → Type 0) (source_failures : S → ℕ) (failures : T → ℕ)
     (options : CaptureOptions) (source source' : S) (sink sink' : T) (status : ℕ)
-    (firsts : List (Option CaptureFault)) (fault : Option CaptureFault)
+    (firsts : List (Option CaptureFault)) (count : ℕ) (fault : Option CaptureFault)
     (nothing : Option NothingJudged) : Type 0
   where
     pub octets : List ℕ
@@ -146,7 +148,7 @@ pub record ChecksCapture {S T : Type 0} (gives : S → S → List ℕ → Type 0
     pub text : List ℕ
     pub of_sessions : Tally
     pub of_blocks : List (Option CaptureFault)
-    pub tells : Tells options octets ending text of_sessions of_blocks fault
+    pub tells : Tells options octets ending text of_sessions of_blocks count fault
     pub tally : Tally
     pub counts : tally ≡ with_fault of_sessions fault
     pub are_firsts : firsts ≡ with_first of_blocks fault

@@ -1,6 +1,10 @@
 //! `bgp check` of a capture.
 
-ghost use Rattle.std.specs.Prelude.{◌≡◌, ◌<◌, [], List, map};
+ghost use Rattle.std.specs.Prelude.{◌≡◌, ◌<◌, [], List, None, Some, map};
+ghost use Rattle.bgp_list.specs.Capture.{no_memory};
+ghost use Rattle.bgp_tool.specs.Front.{no_capture};
+ghost use Rattle.bgp_tool.specs.NothingFound.{without_records_by};
+ghost use Rattle.bgp_tool.specs.declared.note.CaptureCommand.TheVariants.{Check};
 ghost use Rattle.mrt_sessions.specs.File.{Located};
 ghost use Rattle.mrt_sessions.specs.Located.{located};
 ghost use Rattle.mrt_sessions.specs.Sessions.{HoldsSessions, held_records, records_between};
@@ -23,7 +27,7 @@ use bgp_check_text::Tally;
 use bgp_judge::Tracker;
 use bgp_list::{put_fault, put_session};
 use bgp_text::Lines;
-use bgp_tool::hand_over;
+use bgp_tool::{CaptureCommand, Note, hand_over, without_records};
 use mrt::{CaptureFault, Sink, Source};
 use mrt_sessions::{Addresses, Ending, NamedRecord, Sessions, hold, records_in};
 use std::alloc::Allocator;
@@ -36,10 +40,28 @@ pub struct CheckedCapture {
     /// The refusals in the lines, of each number the first, in their order: what helps against each
     /// is to be told. None of them is `None`.
     pub refusals: ArrayVec<Option<CaptureFault>, NUMBERS>,
+    /// How many sessions the file has.
+    pub sessions: usize,
     /// Why the file isn't read to its end, if it isn't.
     pub fault: Option<CaptureFault>,
     /// That no end is judged, of a file that was read to its end.
     pub nothing: Option<NothingJudged>,
+}
+
+impl CheckedCapture {
+    /// Returns what to say of the file, which begins with these octets, if it has no session: what
+    /// it is, as far as that is known ([`without_records`]). Else its refusals and `nothing` are what
+    /// there is to say.
+    pub fn file_note<'a>(&self, file: &'a str, front: &[u8]) -> Option<Note<'a>>
+        ensures some { 0 < self.now.sessions → result ≡ None }
+        ensures none { self.now.sessions ≡ 0 → result
+            ≡ without_records_by Check file.entry (no_capture front.now) self.now.fault }
+    {
+        if self.sessions > 0 {
+            return None;
+        }
+        without_records(CaptureCommand::Check, file, front, self.fault)
+    }
 }
 
 /// Puts what is told of the session that has these records in a file, and counts it.
@@ -110,31 +132,60 @@ fn put_sessions<A: Allocator + Copy, T: Tracker<A>, W: Sink>(
     counted
 }
 
-/// Puts what is told of all sessions whose records these octets have, and answers what is counted
-/// of it, and why the file isn't read to its end, if it isn't.
+/// What is put of a file's sessions.
+struct PutFile {
+    /// What is counted of it.
+    counted: Counted,
+    /// How many sessions there are.
+    sessions: usize,
+    /// Why the file isn't read to its end, if it isn't.
+    fault: Option<CaptureFault>,
+}
+
+impl PutFile {
+    /// That there is no memory for a list of the records.
+    fn without_memory() -> PutFile
+        ensures tally { result.counted.tally ≡ no_tally }
+        ensures refusals { result.counted.refusals.items ≡ [] }
+        ensures sessions { result.sessions ≡ 0 }
+        ensures fault { result.fault ≡ Some no_memory }
+    {
+        PutFile {
+            counted: Counted::new(),
+            sessions: 0,
+            fault: Some(NO_MEMORY),
+        }
+    }
+}
+
+/// Puts what is told of all sessions whose records these octets have.
 fn put_file<A: Allocator + Copy, T: Tracker<A>, W: Sink>(
     alloc: A,
     octets: &[u8],
     ending: Ending,
     options: &CaptureOptions,
     lines: &mut Lines<'_, W>,
-) -> (Counted, Option<CaptureFault>)
-    ensures puts { PutsFile options.now octets.now ending lines.old lines.new result.0.tally
-        result.0.refusals.items result.1 }
-    ensures apart { AreApart result.0.refusals.items }
+) -> PutFile
+    ensures puts { PutsFile options.now octets.now ending lines.old lines.new
+        result.counted.tally result.counted.refusals.items result.sessions result.fault }
+    ensures apart { AreApart result.counted.refusals.items }
 {
     let Ok(file) = records_in(alloc, octets) else {
         lines.put(b"");
-        return (Counted::new(), Some(NO_MEMORY));
+        return PutFile::without_memory();
     };
     let Ok(sessions) = Sessions::of(alloc, file.records.as_slice()) else {
         lines.put(b"");
-        return (Counted::new(), Some(NO_MEMORY));
+        return PutFile::without_memory();
     };
     let fault = file.fault(ending);
     let telling = Telling::of(options, file.is_plain, fault);
     let counted = put_sessions::<A, T, W>(alloc, &sessions, telling, lines);
-    (counted, fault)
+    PutFile {
+        counted,
+        sessions: sessions.in_order().len(),
+        fault,
+    }
 }
 
 /// Puts that there is no session, where nothing was told.
@@ -171,11 +222,15 @@ pub(crate) fn check_capture<A: Allocator + Copy, T: Tracker<A>, R: Source, W: Si
     requires sink { W.failures sink.old < u64.MAX }
     ensures { ChecksCapture R.gives R.has_ended W.takes R.failures W.failures options.now
         source.old source.new sink.old sink.new result.status result.refusals.items
-        result.fault result.nothing }
+        result.sessions result.fault result.nothing }
 {
     let held = hold(alloc, source);
     let mut lines = Lines::new(sink);
-    let (mut counted, fault) = put_file::<A, T, W>(
+    let PutFile {
+        mut counted,
+        sessions,
+        fault,
+    } = put_file::<A, T, W>(
         alloc,
         held.octets.as_slice(),
         held.ending,
@@ -193,6 +248,7 @@ pub(crate) fn check_capture<A: Allocator + Copy, T: Tracker<A>, R: Source, W: Si
     CheckedCapture {
         status: status.code(),
         refusals,
+        sessions,
         fault,
         nothing: nothing_by(tally, fault),
     }

@@ -18,9 +18,9 @@ use std::alloc::Allocator;
 /// are those of a run of the session machine (RFC 4271, 8.2.2) under some configuration under which
 /// the OPEN that it sent is its own. A stretch begins where the system leaves Idle.
 ///
-/// **The sentence.** Where the lines of a stretch begin with `no at record N`, no configuration under
-/// which the OPEN that was sent is the local system's own has a run that shows the records of that
-/// stretch up to record N of the session; of these records, ROUTE-REFRESH messages that their
+/// **The sentence.** Where the lines of a stretch begin with `no at record N`, no configuration
+/// under which the OPEN that was sent is the local system's own has a run that shows the records of
+/// that stretch up to record N of the session; of these records, ROUTE-REFRESH messages that their
 /// receiver offered are passed over. Some such configuration has a run that shows those before it,
 /// if the OPEN is any configuration's own. That is the clause `no`. All that is printed is tied to
 /// the file, so that no other line passes for one of these.
@@ -56,7 +56,7 @@ pub fn check_capture<A: Allocator + Copy, T: Tracker<A>, R: Source, W: Sink>(
         source.new sink.old sink.new result.status result.fault }
     ensures all { ChecksCapture R.gives R.has_ended W.takes R.failures W.failures options.now
         source.old source.new sink.old sink.new result.status result.refusals.items
-        result.fault result.nothing }
+        result.sessions result.fault result.nothing }
 {
     no_configuration_explains_a_no();
     what_is_judged_is_a_stretch();

@@ -1,4 +1,4 @@
-use Rattle.std.proofs.Common.{[], List, Option, inl, inr, map, refl, subst, sym}
+use Rattle.std.proofs.Common.{◌∙◌, [], List, Option, ap, inl, inr, length, map, refl, subst, sym}
 use Rattle.mrt.specs.declared.fault.CaptureFault.{CaptureFault}
 use Rattle.std.specs.List.{AllByRecursion}
 use Rattle.mrt_sessions.specs.Located.{located}
@@ -12,13 +12,17 @@ use Rattle.bgp_check_capture_tool.proofs.Apart.{none_apart}
 use Rattle.bgp_check_capture_tool.proofs.checking.put_file.Goals as goal
 
 pub returns-in_default-clause-puts : goal.returns-in_default-clause-puts
-returns-in_default-clause-puts g c = record { text = []; wrote = c.put.ensures; tells = inr (refl, c.new.ensures.tally, c.new.ensures.refusals, refl) }
+returns-in_default-clause-puts g c = record {
+  text = [];
+  wrote = c.put.ensures;
+  tells = inr (refl, c.without_memory.ensures.tally, c.without_memory.ensures.refusals, c.without_memory.ensures.sessions, c.without_memory.ensures.fault);
+}
 
 pub returns-in_default-clause-apart : goal.returns-in_default-clause-apart
-returns-in_default-clause-apart g c = subst (λ (fs : List (Option CaptureFault)). AreApart fs) (sym c.new.ensures.refusals) none_apart
+returns-in_default-clause-apart g c = subst (λ (fs : List (Option CaptureFault)). AreApart fs) (sym c.without_memory.ensures.refusals) none_apart
 
 pub returns-in_default-of-clause-apart : goal.returns-in_default-of-clause-apart
-returns-in_default-of-clause-apart g c = subst (λ (fs : List (Option CaptureFault)). AreApart fs) (sym c.new-in_default-of.ensures.refusals) none_apart
+returns-in_default-of-clause-apart g c = subst (λ (fs : List (Option CaptureFault)). AreApart fs) (sym c.without_memory-in_default-of.ensures.refusals) none_apart
 
 pub put_sessions-counted-requires : goal.put_sessions-counted-requires
 put_sessions-counted-requires g c = (map located c.as_slice.result.now, c.in-Ok-of.ensures)
@@ -31,7 +35,7 @@ returns-clause-puts g c =
     record {
       text = blocks_text c.args.options.now.routes named puts.blocks;
       wrote = subst (λ (telling : Telling). Writes c.args.lines.now c.put_sessions-counted.new.lines (blocks_text telling.routes named puts.blocks)) c.of-telling.ensures puts.wrote;
-      tells = inl record {
+      tells = inl (record {
         named = named;
         offset = c.in-Ok.file.offset;
         refusal = c.in-Ok.file.refusal;
@@ -44,5 +48,5 @@ returns-clause-puts g c =
         is_tally = puts.tallied;
         are_firsts = puts.added;
         is_fault = c.fault-fault.ensures;
-      };
+      }, ap length (c.in_order.ensures ∙ holds.in_order));
     }

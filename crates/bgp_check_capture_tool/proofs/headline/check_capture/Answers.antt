@@ -12,7 +12,7 @@ returns-clause-no g c =
       held = checks.held;
       text = checks.text;
       noes = elim checks.tells [
-        | inl all ↦ inl record {
+        | inl told ↦ let all = told.0 in inl record {
           named = all.named;
           offset = all.offset;
           refusal = all.refusal;
