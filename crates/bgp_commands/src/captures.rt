@@ -5,7 +5,7 @@ use crate::recordings::tell_unwritten;
 use bgp_check_capture_tool::{CaptureOptions, check_capture};
 use bgp_compact::CompactTracker;
 use bgp_list::list_capture;
-use bgp_tool::Note;
+use bgp_tool::{Note, WithFront};
 use mrt::{CaptureFault, FaultKind, FromRead, FromWrite, Sink};
 use std::alloc::Global;
 use std::io;
@@ -17,14 +17,17 @@ pub(crate) fn list_records<R: Print + Eprint + AllocGlobal, F: Read + Drop>(
     file: &str,
     reader: F,
 ) -> u8 {
-    let mut source = FromRead::new(reader);
+    let mut source = WithFront::new(FromRead::new(reader));
     let mut sink = FromWrite::new(io::writer(rt));
     let listed = list_capture(rt.alloc(), &mut source, &mut sink);
     if sink.failures() > 0 {
         tell_unwritten(rt, &sink);
         return listed.status;
     }
-    tell_fault(rt, file, &source, listed.fault);
+    match listed.file_note(file, source.front()) {
+        Some(note) => tell_note(rt, &note),
+        None => tell_fault(rt, file, source.source(), listed.fault),
+    }
     listed.status
 }
 
@@ -35,7 +38,7 @@ pub(crate) fn check_records<R: Print + Eprint + AllocGlobal, F: Read + Drop>(
     file: &str,
     reader: F,
 ) -> u8 {
-    let mut source = FromRead::new(reader);
+    let mut source = WithFront::new(FromRead::new(reader));
     let mut sink = FromWrite::new(io::writer(rt));
     let checked = check_capture::<Global, CompactTracker<Global>, _, _>(
         rt.alloc(),
@@ -47,8 +50,12 @@ pub(crate) fn check_records<R: Print + Eprint + AllocGlobal, F: Read + Drop>(
         tell_unwritten(rt, &sink);
         return checked.status;
     }
+    if let Some(note) = checked.file_note(file, source.front()) {
+        tell_note(rt, &note);
+        return checked.status;
+    }
     for fault in &checked.refusals {
-        tell_fault(rt, file, &source, *fault);
+        tell_fault(rt, file, source.source(), *fault);
     }
     if let Some(nothing) = checked.nothing {
         let _ = eprintln!(rt; "bgp: {nothing}");

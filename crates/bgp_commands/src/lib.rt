@@ -8,6 +8,7 @@
 
 mod captures;
 mod devices;
+mod forms;
 mod made_file;
 mod recordings;
 mod running;

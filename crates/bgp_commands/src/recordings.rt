@@ -7,6 +7,7 @@ ghost use Rattle.bgp_tool.specs.declared.status.Status.TheVariants.{Usage};
 
 use crate::captures::{check_records, list_records};
 use crate::devices::{buffered, open, tell, tell_cut_short, tell_note};
+use crate::forms::no_recording;
 use crate::made_file::MadeFile;
 use bgp_check_capture_tool::CaptureOptions;
 use bgp_check_tool::{CheckOptions, check_recording};
@@ -15,7 +16,7 @@ use bgp_import::{Cause, Import, Imported, RecordingOptions, Refusal, Stopped, im
 use bgp_list::list_recording;
 use bgp_prefix::Session;
 use bgp_recording_tool::{Peeked, import_of};
-use bgp_tool::{ErrorWords, Note, Status, unopened, unwritten};
+use bgp_tool::{ErrorWords, Note, Status, WithFront, unopened, unwritten};
 use mrt::{FromRead, FromWrite, Sink};
 use std::alloc::Global;
 use std::io;
@@ -137,7 +138,7 @@ fn import_from<R: Files + Print + Eprint + AllocGlobal, F: Read + Drop>(
         ≡ family_of import.now.selection.session.local }
 {
     let mut source = match buffered(rt, opened) {
-        Ok(reader) => FromRead::new(reader),
+        Ok(reader) => WithFront::new(FromRead::new(reader)),
         Err(error) => return tell_unopened(rt, file, &error),
     };
     if out == "-" {
@@ -146,21 +147,21 @@ fn import_from<R: Files + Print + Eprint + AllocGlobal, F: Read + Drop>(
         if imported.ended == Err(Stopped::Unwritten) {
             tell_unwritten(rt, &sink);
         }
-        return tell_imported(rt, file, &source, &imported);
+        return tell_imported(rt, file, &mut source, &imported);
     }
     let mut sink = FromWrite::new(MadeFile::new(rt, out));
     let imported = import_recording(rt.alloc(), import, &mut source, &mut sink);
     if imported.ended == Err(Stopped::Unwritten) {
         tell_unmade(rt, out, sink);
     }
-    tell_imported(rt, file, &source, &imported)
+    tell_imported(rt, file, &mut source, &imported)
 }
 
 /// Tells what there is to tell of an import, and answers its exit status.
 fn tell_imported<R: Eprint, F: Read>(
     rt: &R,
     file: &str,
-    source: &FromRead<F>,
+    source: &mut WithFront<FromRead<F>>,
     imported: &Imported,
 ) -> u8 {
     tell_cut_short(rt, imported.cut_short);
@@ -231,16 +232,20 @@ fn tell_help<R: Eprint>(rt: &R, refusal: Refusal) {
     }
 }
 
-/// Tells that a recording is refused, and what helps, and answers the exit status.
+/// Tells that a recording is refused, and what helps, or what the file is, if it is none, and
+/// answers the exit status.
 fn tell_refused<R: Eprint, F: Read>(
     rt: &R,
     file: &str,
-    source: &FromRead<F>,
+    source: &mut WithFront<FromRead<F>>,
     refusal: Refusal,
 ) -> u8 {
     let _ = eprintln!(rt; "bgp: {refusal}");
-    tell_help(rt, refusal);
-    tell_cause(rt, file, source, refusal)
+    match no_recording(file, source, refusal) {
+        Some(note) => tell_note(rt, &note),
+        None => tell_help(rt, refusal),
+    }
+    tell_cause(rt, file, source.source(), refusal)
 }
 
 /// Tells the device or the memory that a refusal is for, if it is for one, and answers the exit

@@ -10,10 +10,11 @@ use bgp_compact::CompactTracker;
 use bgp_explain::{Report, explain_capture};
 use bgp_import::{Imported, RecordingOptions, Stopped, import_recording};
 use bgp_judge::{PlainTracker, Tracker};
-use bgp_list::{ListedRecording, list_recording};
+use bgp_list::{ListedRecording, list_capture, list_recording};
 use bgp_open::Config;
 use bgp_prefix::Session;
 use bgp_recording_tool::{Judged, decode_recording, judge_recording};
+use bgp_tool::WithFront;
 use bgp_words::Command;
 use mrt::{MemSink, MemSource};
 use std::alloc::Global;
@@ -182,30 +183,41 @@ fn check<T: Tracker<Global>>(
     options: &CheckOptions,
     file: &File<'_>,
 ) -> io::Result<String> {
+    if !file.is_recording() {
+        return check_records::<T>(alloc, options, file);
+    }
     let mut source = file.source(alloc)?;
     let mut sink = MemSink::new(alloc);
-    if file.is_recording() {
-        let checked = check_recording::<Global, T, MemSource, MemSink>(
-            alloc,
-            options,
-            &mut source,
-            &mut sink,
-        );
-        let mut told = Told::with_status(alloc, checked.status);
-        told.put_printed(sink.octets());
-        for refusal in checked.refusals.iter().flatten() {
-            told.put_note(refusal.help());
-        }
-        // What to record is told of many files; that nothing helps is what cases say.
-        told.put_note(checked.nothing.filter(|nothing| !nothing.is_incomplete));
-        return told.end();
+    let checked = check_recording::<Global, T, MemSource, MemSink>(
+        alloc,
+        options,
+        &mut source,
+        &mut sink,
+    );
+    let mut told = Told::with_status(alloc, checked.status);
+    told.put_printed(sink.octets());
+    for refusal in checked.refusals.iter().flatten() {
+        told.put_note(refusal.help());
     }
+    // What to record is told of many files; that nothing helps is what cases say.
+    told.put_note(checked.nothing.filter(|nothing| !nothing.is_incomplete));
+    told.end()
+}
+
+/// What `bgp check` answers of a file that is no recording, by a tracker.
+fn check_records<T: Tracker<Global>>(
+    alloc: Global,
+    options: &CheckOptions,
+    file: &File<'_>,
+) -> io::Result<String> {
     let CheckOptions {
         routes,
         settings,
         ..
     } = *options;
-    let checked = check_capture::<Global, T, MemSource, MemSink>(
+    let mut source = WithFront::new(file.source(alloc)?);
+    let mut sink = MemSink::new(alloc);
+    let checked = check_capture::<Global, T, WithFront<MemSource>, MemSink>(
         alloc,
         &CaptureOptions { routes, settings },
         &mut source,
@@ -213,17 +225,35 @@ fn check<T: Tracker<Global>>(
     );
     let mut told = Told::with_status(alloc, checked.status);
     told.put_printed(sink.octets());
-    told.put_note(checked.nothing.filter(|nothing| !nothing.is_incomplete));
+    let note = checked.file_note("-", source.front());
+    told.put_note(note);
+    if note.is_none() {
+        told.put_note(checked.nothing.filter(|nothing| !nothing.is_incomplete));
+    }
     told.end()
 }
 
-/// What `bgp list` answers of a recording.
+/// What `bgp list` answers.
 fn list(alloc: Global, port: u16, file: &File<'_>) -> io::Result<String> {
+    if !file.is_recording() {
+        return list_records(alloc, file);
+    }
     let mut source = file.source(alloc)?;
     let mut sink = MemSink::new(alloc);
     let listed = list_recording(alloc, port, &mut source, &mut sink);
     let mut told = Told::with_status(alloc, listed.status);
     put_list_notes(&mut told, &listed);
+    told.put_printed(sink.octets());
+    told.end()
+}
+
+/// What `bgp list` answers of a file that is no recording.
+fn list_records(alloc: Global, file: &File<'_>) -> io::Result<String> {
+    let mut source = WithFront::new(file.source(alloc)?);
+    let mut sink = MemSink::new(alloc);
+    let listed = list_capture(alloc, &mut source, &mut sink);
+    let mut told = Told::with_status(alloc, listed.status);
+    told.put_note(listed.file_note("-", source.front()));
     told.put_printed(sink.octets());
     told.end()
 }

@@ -7,6 +7,7 @@
 //! explained. `checked.txt` and `captures.txt` have recordings and captures that are checked, whose
 //! settings aren't known: by hand, at random with planted oddities, and of real sessions; and where
 //! a verdict is told with the options of `bgp judge`, that is asked by them for the same.
+//! `forms.txt` has files that are neither, made by other programs, and what is told of them.
 //! `slow.txt` has nine recordings, each of which is imported, judged, decoded and checked: of
 //! routers that answer an OPEN late, and of messages in the packet that ends the connection. Each
 //! file is read at once and octet by octet, and what judges does so by the plain tracker and by the

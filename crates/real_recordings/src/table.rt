@@ -14,13 +14,14 @@ enum Kind {
     Prefixes,
 }
 
-static TABLES: [(&str, Kind); 9] = [
+static TABLES: [(&str, Kind); 10] = [
     ("cases.txt", Kind::Cases),
     ("judged.txt", Kind::Cases),
     ("explained.txt", Kind::Cases),
     ("explained-by-hand.txt", Kind::Cases),
     ("checked.txt", Kind::Cases),
     ("captures.txt", Kind::Cases),
+    ("forms.txt", Kind::Cases),
     ("slow.txt", Kind::Cases),
     ("words.txt", Kind::CommandLines),
     ("announced.txt", Kind::Prefixes),
