@@ -7,3 +7,4 @@ pub mod Repeated
 pub mod Texts
 pub mod Alone
 pub mod Printed
+pub mod Headings

@@ -8,6 +8,7 @@ pub mod Blocks
 pub mod Counted
 pub mod Places
 pub mod Checking
+pub mod Headings
 pub mod Headline
 pub mod Repeated
 pub mod Alone

@@ -3,6 +3,7 @@
 ghost use Rattle.bgp_check_tool.specs.Alone.{EachConnectionIsTold, EachRefusalIsTold};
 ghost use Rattle.bgp_check_tool.specs.Headline.{NoConfigurationHasARun, NothingIsVacuous};
 ghost use Rattle.bgp_check_tool.specs.Headline.{ToldNoHasNoRun, VerdictIsOverAll};
+ghost use Rattle.bgp_check_tool.specs.Headings.{ListIsWithoutEnds};
 ghost use Rattle.bgp_check_tool.specs.Repeated.{LineGivesTheVerdict};
 
 use bgp_check::{a_verdict_holds_under_its_configuration, no_configuration_explains_a_no};
@@ -35,6 +36,13 @@ pub fn no_verdict_is_vacuous()
 pub fn each_of_them_is_told()
     ensures told { EachConnectionIsTold }
     ensures refused { EachRefusalIsTold }
+{}
+
+/// Without the lines of a connection's ends, what [`check_recording`](crate::check_recording) tells
+/// of a recording is what `bgp list` does: a line a connection, or for two addresses of whose
+/// connections none can be told, at the same packets, unless memory was refused.
+pub fn without_its_ends_it_is_the_list()
+    ensures { ListIsWithoutEnds }
 {}
 
 /// The line with the options of `bgp judge` gives the verdict that is told before it: framed as

@@ -1,0 +1,86 @@
+-- The list of a recording is what is told of it without the lines of its ends.
+use Rattle.std.proofs.Common.{◌≡◌, ◌∙◌, ◌++◌, ℕ, Bool, List, [], ◌∷◌, codes, inl, inr, refl, sym, ap, append_assoc, append-nil}
+use Rattle.std.specs.List.{AllByRecursion, flat_map}
+use Rattle.std.specs.Map.{keys_of}
+use Rattle.packets.specs.Packet.{Recorded}
+use Rattle.bgp_import.specs.ListText.{octets_text, opening_text, refused_text}
+use Rattle.bgp_list.specs.Lines.{IsLineAt, line_text}
+use Rattle.bgp_list.specs.declared.line.Line.{Line}
+use Rattle.bgp_check_tool.specs.declared.options.CheckOptions.{CheckOptions}
+use Rattle.bgp_check_tool.specs.Blocks.{AllRefused, Block, BothEnds, OneEnd, Refused, block_text, neither_text, session_text, turned_down_text}
+use Rattle.bgp_check_tool.specs.Checking.{blocks_text}
+use Rattle.bgp_check_tool.specs.Headings.{HasMemory, ListIsWithoutEnds, end_lines, heading, headings}
+use Rattle.bgp_check_tool.specs.Places.{IsToldAt}
+
+-- ---- the text
+
+behind : (x y z n ends : List ℕ) → x ++ (y ++ (z ++ (n ++ ends))) ≡ (x ++ (y ++ (z ++ n))) ++ ends
+behind x y z n ends =
+    sym (append_assoc x (y ++ (z ++ n)) ends ∙ ap (λ (o : List ℕ). x ++ o) (append_assoc y (z ++ n) ends ∙ ap (λ (o : List ℕ). y ++ o) (append_assoc z n ends)))
+
+unfolding neither_text turned_down_text session_text
+one_text : (routes : Bool) (block : Block) → block_text routes block ≡ line_text (heading block) ++ end_lines routes block
+one_text routes (BothEnds session opening first second opener other) =
+    behind (opening_text session opening) (codes " ") (octets_text first second) (codes "\n") (end_lines routes (BothEnds session opening first second opener other))
+one_text routes (OneEnd session opening first second) =
+    behind (opening_text session opening) (codes " ") (octets_text first second) (codes "\n") (end_lines routes (OneEnd session opening first second))
+one_text routes (Refused session opening refusal) = sym (append-nil (line_text (heading (Refused session opening refusal))))
+one_text routes (AllRefused addresses refusal) = sym (append-nil (line_text (heading (AllRefused addresses refusal))))
+
+all_text : (routes : Bool) (blocks : List (ℕ × Block))
+    → blocks_text routes blocks ≡ flat_map (λ (b : ℕ × Block). line_text (heading b.1) ++ end_lines routes b.1) blocks
+all_text routes [] = refl
+all_text routes (block ∷ blocks) =
+    ap (λ (o : List ℕ). o ++ blocks_text routes blocks) (one_text routes block.1)
+    ∙ ap (λ (o : List ℕ). (line_text (heading block.1) ++ end_lines routes block.1) ++ o) (all_text routes blocks)
+
+-- ---- the lines
+
+module _ (options : CheckOptions) (packets : List Recorded) (last_packet : ℕ) where
+  one_line : (place : ℕ) (block : Block) → IsToldAt options packets last_packet place block → HasMemory last_packet block
+      → IsLineAt options.port packets last_packet place (heading block)
+  one_line place (BothEnds session opening first second opener other) told has = let its = told.is_block.1.1 in record {
+    addresses = told.addresses;
+    segments = told.segments;
+    has = told.has;
+    is_session = told.is_session;
+    is_place = told.is_place;
+    is_line = (refl, refl, record { connection = its.connection; chosen = its.chosen; is_first = its.is_first; is_second = its.is_second });
+  }
+  one_line place (OneEnd session opening first second) told has = let its = told.is_block.1.1 in record {
+    addresses = told.addresses;
+    segments = told.segments;
+    has = told.has;
+    is_session = told.is_session;
+    is_place = told.is_place;
+    is_line = (refl, refl, record { connection = its.connection; chosen = its.chosen; is_first = its.is_first; is_second = its.is_second });
+  }
+  one_line place (Refused session opening refusal) told has = elim told.is_block.1.1 [
+    | inl spoilt ↦ record {
+      addresses = told.addresses;
+      segments = told.segments;
+      has = told.has;
+      is_session = told.is_session;
+      is_place = told.is_place;
+      is_line = (refl, refl, record { fault = spoilt.fault; refused = spoilt.refused; is = spoilt.is });
+    }
+    | inr lacks ↦ absurd (has lacks.is)
+  ]
+  one_line place (AllRefused addresses refusal) told has = record { ordered = told.ordered; fault = told.fault; refused = told.refused; is = told.is }
+
+  all_lines : (blocks : List (ℕ × Block)) → AllByRecursion (λ (b : ℕ × Block). IsToldAt options packets last_packet b.0 b.1) blocks
+      → AllByRecursion (λ (b : ℕ × Block). HasMemory last_packet b.1) blocks
+      → AllByRecursion (λ (l : ℕ × Line). IsLineAt options.port packets last_packet l.0 l.1) (headings blocks)
+  all_lines [] told has = tt
+  all_lines (block ∷ blocks) told has = (one_line block.0 block.1 told.0 has.0, all_lines blocks told.1 has.1)
+
+same_places : (blocks : List (ℕ × Block)) → keys_of (headings blocks) ≡ keys_of blocks
+same_places [] = refl
+same_places (block ∷ blocks) = ap (λ (places : List ℕ). block.0 ∷ places) (same_places blocks)
+
+pub without_ends : ListIsWithoutEnds
+without_ends options packets last_packet blocks told has = record {
+  is_text = all_text options.routes blocks;
+  are_lines = all_lines options packets last_packet blocks told has;
+  are_places = same_places blocks;
+}

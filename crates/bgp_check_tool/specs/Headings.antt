@@ -1,0 +1,65 @@
+-- What is told of a recording, without the lines of its ends: its list.
+use Rattle.std.specs.Prelude.{◌≡◌, ◌≢◌, ◌++◌, ℕ, Bool, List, [], map}
+use Rattle.std.specs.List.{AllByRecursion, flat_map}
+use Rattle.std.specs.Map.{keys_of}
+use Rattle.packets.specs.Packet.{Recorded}
+use Rattle.bgp_import.specs.ListText.{end_of, other_side}
+use Rattle.bgp_import.specs.declared.refusal.Refusal.TheVariants as refusals
+use Rattle.bgp_list.specs.Lines.{IsLineAt, line_text}
+use Rattle.bgp_list.specs.declared.line.Line.{Line}
+use Rattle.bgp_list.specs.declared.line.Line.TheVariants as lines
+use Rattle.bgp_check_tool.specs.declared.options.CheckOptions.{CheckOptions}
+use Rattle.bgp_check_tool.specs.Blocks.{AllRefused, Block, BothEnds, OneEnd, Refused}
+use Rattle.bgp_check_tool.specs.Checking.{blocks_text}
+use Rattle.bgp_check_tool.specs.Places.{IsToldAt}
+use Rattle.bgp_check_tool.specs.Text.{one_end_line, told_lines}
+
+-- ---- the first line of a block, which is that of a list, and those of its ends
+
+abbrev pub heading : Block → Line
+heading (BothEnds session opening first second opener other) =
+    lines.Octets session opening first second
+heading (OneEnd session opening first second) = lines.Octets session opening first second
+heading (Refused session opening refusal) = lines.Refused session opening refusal
+heading (AllRefused addresses refusal) = lines.AllRefused addresses refusal
+
+abbrev pub end_lines : Bool → Block → List ℕ
+end_lines routes (BothEnds session opening first second opener other) =
+    told_lines routes opener ++ told_lines routes other
+end_lines routes (OneEnd session opening first second) =
+    one_end_line (end_of opening.opened_by session opening)
+    ++ one_end_line (end_of (other_side opening.opened_by) session opening)
+end_lines routes (Refused session opening refusal) = []
+end_lines routes (AllRefused addresses refusal) = []
+
+-- the first lines, each at its place
+abbrev pub headings : List (ℕ × Block) → List (ℕ × Line)
+headings blocks = map (λ (b : ℕ × Block). (b.0, heading b.1)) blocks
+
+-- memory wasn't refused for the ends of a connection, which has no line in a list
+abbrev pub HasMemory : ℕ → Block → Type 0
+HasMemory last_packet (BothEnds session opening first second opener other) = Unit {0}
+HasMemory last_packet (OneEnd session opening first second) = Unit {0}
+HasMemory last_packet (Refused session opening refusal) = refusal ≢ refusals.Memory last_packet
+HasMemory last_packet (AllRefused addresses refusal) = Unit {0}
+
+-- ---- the law
+
+-- What is told of a recording are these lines, block by block. And the first lines are those that a
+-- list of it has, at the same places.
+pub record TellsTheList (routes : Bool) (port : ℕ) (packets : List Recorded) (last_packet : ℕ)
+    (blocks : List (ℕ × Block)) : Type 0 where
+  pub is_text : blocks_text routes blocks
+      ≡ flat_map (λ (b : ℕ × Block). line_text (heading b.1) ++ end_lines routes b.1) blocks
+  pub are_lines : AllByRecursion
+      (λ (l : ℕ × Line). IsLineAt port packets last_packet l.0 l.1) (headings blocks)
+  pub are_places : keys_of (headings blocks) ≡ keys_of blocks
+
+abbrev pub ListIsWithoutEnds : Type 0
+ListIsWithoutEnds =
+    (options : CheckOptions) (packets : List Recorded) (last_packet : ℕ)
+    (blocks : List (ℕ × Block))
+    → AllByRecursion
+    (λ (b : ℕ × Block). IsToldAt options packets last_packet b.0 b.1) blocks
+    → AllByRecursion (λ (b : ℕ × Block). HasMemory last_packet b.1) blocks
+    → TellsTheList options.routes options.port packets last_packet blocks
