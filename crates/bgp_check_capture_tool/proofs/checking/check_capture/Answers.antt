@@ -10,7 +10,7 @@ pub returns : goal.returns
 returns g c =
     let law : Joins g.W.Sink = record { joined = g.met.W.Sink.joined } in
     let fresh : IsFresh c.new-lines.result = record { empty = c.new-lines.ensures.empty; calm = c.new-lines.ensures.fresh } in
-    let puts = c.put_file.ensures.puts in
+    let puts = c.put_file-counted.ensures.puts in
     let wrote = and_nothing law (and_then law puts.wrote (and_then law c.put_fault.ensures (and_then law c.put_nothing.ensures c.put.ensures))) c.hand_over-status.ensures.writes in
     record {
       octets = c.hold-held.result.octets.items;
@@ -18,9 +18,9 @@ returns g c =
       held = c.hold-held.ensures.held;
       counted = c.hold-held.ensures.failures;
       text = puts.text;
-      of_sessions = c.put_file.result.counted.tally;
-      of_blocks = c.put_file.result.counted.refusals.items;
-      tells = subst (λ (o : List ℕ). Tells c.args.options.now o c.hold-held.result.ending puts.text c.put_file.result.counted.tally c.put_file.result.counted.refusals.items c.put_file.result.sessions c.put_file.result.fault) c.as_slice.ensures.value puts.tells;
+      of_sessions = c.put_file-counted.result.counted.tally;
+      of_blocks = c.put_file-counted.result.counted.refusals.items;
+      tells = subst (λ (o : List ℕ). Tells c.args.options.now o c.hold-held.result.ending puts.text c.put_file-counted.result.counted.tally c.put_file-counted.result.counted.refusals.items c.put_file-counted.result.sessions c.put_file-counted.result.fault) c.as_slice.ensures.value puts.tells;
       tally = c.add_fault.new.self.tally;
       counts = c.add_fault.ensures.tallied;
       are_firsts = c.add_fault.ensures.added;
