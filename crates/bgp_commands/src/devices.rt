@@ -1,189 +1,100 @@
-//! Files and standard streams as readers and writers of `bgp_tool`'s calls.
+//! Commands that read a file, over files and standard streams.
 
+ghost use Rattle.std.specs.Prelude.{◌≡◌, ◌<◌, ◌^◌, IsTrue};
+ghost use Rattle.mrt.specs.FromWrite.{writer_state};
+ghost use Rattle.bgp_words.specs.Import.{CanImport};
+ghost use Rattle.bgp_commands.specs.Answers.{reads_file};
+
+use crate::answering::{file_of, run_over};
+use crate::made_file::MadeFile;
+use crate::voice::StandardError;
 use bgp_compact::CompactTracker;
-use bgp_explain::Report;
-use bgp_import::{CutShort, RecordingOptions};
-use bgp_open::Config;
-use bgp_prefix::Session;
-use bgp_recording_tool::{FileOutcome, decode_file, judge_file};
-use bgp_tool::{ErrorWords, Note, Outcome, decode_opened, passed_over};
-use bgp_wire::Limit;
-use mrt::{FromWrite, SkippedRecords};
+use bgp_words::Command;
+use mrt::FromWrite;
 use std::alloc::Global;
 use std::fs::OpenFile;
-use std::io::{BufReader, ErrorKind, Read};
+use std::io::{BufReader, ErrorKind, Read, Write};
 use std::rt::Files;
 use std::{fs, io};
 
-/// Runs `decode` on a file, or on standard input for `-`, whose messages may be so long, and
-/// answers the exit status.
-pub fn decode<R: Files + Input + Print + Eprint + AllocGlobal>(
+/// Runs a command that reads a file, or standard input for `-`, and prints to standard output.
+/// Returns the exit status.
+pub(crate) fn print_answer<R: Files + Input + Print + Eprint + AllocGlobal>(
     rt: &R,
-    limit: Limit,
-    file: &str,
-) -> u8 {
-    if file == "-" {
-        decode_from(rt, limit, file, Ok(rt.reader()))
+    command: &Command<'_>,
+) -> u8
+    requires reads { IsTrue (reads_file command.now) }
+    requires importable { CanImport command.now }
+{
+    write_answer(rt, command, &mut FromWrite::new(io::writer(rt)))
+}
+
+/// Runs a command that reads a file and makes another one of this name; `-` is standard output. The
+/// file is made, or emptied, when its first octet is written, so if nothing is written it stays as
+/// it was. Returns the exit status.
+pub(crate) fn make_file<R: Files + Input + Print + Eprint + AllocGlobal>(
+    rt: &R,
+    command: &Command<'_>,
+    out: &str,
+) -> u8
+    requires reads { IsTrue (reads_file command.now) }
+    requires importable { CanImport command.now }
+{
+    if out == "-" {
+        print_answer(rt, command)
     } else {
-        decode_from(rt, limit, file, open(rt, file))
+        write_answer(rt, command, &mut FromWrite::new(MadeFile::new(rt, out)))
     }
 }
 
-/// Runs `decode --mrt` on a file, or on standard input for `-`, and answers the exit status.
-pub fn decode_capture<R: Files + Input + Print + Eprint + AllocGlobal>(
+/// Runs a command that reads a file, or standard input for `-`, into a sink, and returns the exit
+/// status.
+fn write_answer<R: Files + Input + Eprint + AllocGlobal, W: Write>(
     rt: &R,
-    session: &Session,
-    recording: &RecordingOptions,
-    file: &str,
-) -> u8 {
+    command: &Command<'_>,
+    sink: &mut FromWrite<W>,
+) -> u8
+    requires reads { IsTrue (reads_file command.now) }
+    requires importable { CanImport command.now }
+    requires sink { (writer_state sink.old).failures < 2 ^ 63 }
+{
+    let file = file_of(command);
     if file == "-" {
-        decode_capture_from(rt, session, recording, file, Ok(rt.reader()))
+        answer_opened(rt, command, Ok(rt.reader()), sink)
     } else {
-        decode_capture_from(rt, session, recording, file, open(rt, file))
+        answer_opened(rt, command, open(rt, file), sink)
     }
 }
 
-/// Runs `judge` on a file, or on standard input for `-`, and answers the exit status.
-pub fn judge<R: Files + Input + Print + Eprint + AllocGlobal>(
+/// Runs a command over what a file's reader gives, if it could be opened.
+fn answer_opened<R: Eprint + AllocGlobal, F: Read + Drop, W: Write>(
     rt: &R,
-    config: &Config,
-    report: Report,
-    recording: &RecordingOptions,
-    file: &str,
-) -> u8 {
-    if file == "-" {
-        judge_from(rt, config, report, recording, file, Ok(rt.reader()))
-    } else {
-        judge_from(rt, config, report, recording, file, open(rt, file))
-    }
-}
-
-/// Decodes what a file's reader gives.
-fn decode_from<R: Print + Eprint + AllocGlobal, F: Read + Drop>(
-    rt: &R,
-    limit: Limit,
-    file: &str,
+    command: &Command<'_>,
     opened: io::Result<F>,
-) -> u8 {
-    let mut sink = FromWrite::new(io::writer(rt));
-    tell(
-        rt,
-        &decode_opened(limit, rt.alloc(), file, opened, &mut sink),
-    )
+    sink: &mut FromWrite<W>,
+) -> u8
+    requires reads { IsTrue (reads_file command.now) }
+    requires importable { CanImport command.now }
+    requires sink { (writer_state sink.old).failures < 2 ^ 63 }
+{
+    let opened = buffered(rt, opened);
+    let mut voice = StandardError(rt);
+    run_over::<CompactTracker<Global>, _, _, _>(rt.alloc(), command, opened, sink, &mut voice)
 }
 
-/// Decodes the capture or the recording that a file's reader gives.
-fn decode_capture_from<R: Print + Eprint + AllocGlobal, F: Read + Drop>(
-    rt: &R,
-    session: &Session,
-    recording: &RecordingOptions,
-    file: &str,
-    opened: io::Result<F>,
-) -> u8 {
-    let mut sink = FromWrite::new(io::writer(rt));
-    let reader = buffered(rt, opened);
-    tell_all(
-        rt,
-        &decode_file(rt.alloc(), session, recording, file, reader, &mut sink),
-    )
-}
-
-/// Judges the capture or the recording that a file's reader gives.
-fn judge_from<R: Print + Eprint + AllocGlobal, F: Read + Drop>(
-    rt: &R,
-    config: &Config,
-    report: Report,
-    recording: &RecordingOptions,
-    file: &str,
-    opened: io::Result<F>,
-) -> u8 {
-    let mut sink = FromWrite::new(io::writer(rt));
-    let reader = buffered(rt, opened);
-    let outcome = judge_file::<Global, CompactTracker<Global>, _, _>(
-        rt.alloc(),
-        config,
-        report,
-        recording,
-        file,
-        reader,
-        &mut sink,
-    );
-    tell_all(rt, &outcome)
-}
-
-/// Puts a buffer before the file of a capture or a recording, of which a record or a packet is
-/// asked for in pieces.
-pub fn buffered<R: AllocGlobal, F: Read + Drop>(
+/// Puts a buffer before a file, which is asked for few octets at a time.
+fn buffered<R: AllocGlobal, F: Read + Drop>(
     rt: &R,
     opened: io::Result<F>,
 ) -> io::Result<BufReader<F>> {
     BufReader::new(rt.alloc(), opened?)
 }
 
-/// Opens a file to read, and refuses a folder, which can be opened and not read.
-pub fn open<R: Files>(rt: &R, file: &str) -> io::Result<R::File> {
+/// Opens a file to read. A folder can be opened, and not read: it is refused.
+fn open<R: Files>(rt: &R, file: &str) -> io::Result<R::File> {
     let opened = fs::open(rt, file)?;
     if opened.metadata()?.is_dir() {
-        return Err(io::Error::from(io::ErrorKind::IsADirectory));
+        return Err(io::Error::from(ErrorKind::IsADirectory));
     }
     Ok(opened)
-}
-
-/// Tells what there is to tell of a command's end, and answers its exit status.
-pub fn tell<R: Eprint>(rt: &R, outcome: &Outcome<'_>) -> u8 {
-    tell_passed_over(rt, outcome.skipped);
-    if let Some(note) = outcome.note {
-        tell_note(rt, &note);
-    }
-    outcome.status
-}
-
-/// Tells what there is to tell of the end of a command over a capture or a recording, and answers
-/// its exit status.
-pub fn tell_all<R: Eprint>(rt: &R, outcome: &FileOutcome<'_, Global>) -> u8 {
-    tell_cut_short(rt, outcome.cut_short);
-    tell_passed_over(rt, outcome.skipped);
-    if outcome.confederation {
-        tell_note(rt, &Note::Confederation);
-    }
-    for remark in &outcome.remarks {
-        let _ = eprintln!(rt; "bgp: {remark}");
-    }
-    if let Some(note) = outcome.note {
-        tell_note(rt, &note);
-    }
-    outcome.status
-}
-
-/// Tells that a recording was cut short, where it was.
-pub fn tell_cut_short<R: Eprint>(rt: &R, cut_short: Option<CutShort>) {
-    if let Some(cut_short) = cut_short {
-        let _ = eprintln!(rt; "bgp: {cut_short}");
-    }
-}
-
-/// Tells how many ROUTE-REFRESH messages of a capture were passed over, where any was.
-fn tell_passed_over<R: Eprint>(rt: &R, skipped: Option<SkippedRecords>) {
-    let Some(skipped) = skipped else {
-        return;
-    };
-    let (received, sent) = passed_over(&skipped);
-    if let Some(note) = received {
-        tell_note(rt, &note);
-    }
-    if let Some(note) = sent {
-        tell_note(rt, &note);
-    }
-}
-
-/// Tells one sentence.
-pub fn tell_note<R: Eprint>(rt: &R, note: &Note<'_>) {
-    let _ = eprintln!(rt; "bgp: {note}");
-}
-
-/// Tells why standard output can't be written, unless a pipe was closed.
-pub fn tell_unwritten<R: Eprint>(rt: &R, error: &io::Error) {
-    if error.kind() != ErrorKind::BrokenPipe {
-        let _ = eprintln!(rt; "bgp: standard output: {}", ErrorWords(error.kind()));
-    }
 }

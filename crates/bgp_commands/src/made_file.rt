@@ -1,6 +1,6 @@
 //! A file that is made at its first write.
 
-ghost use Rattle.std.specs.Prelude.{◌≡◌, None, is_some};
+ghost use Rattle.std.specs.Prelude.{◌≡◌, None};
 
 use std::io::Write;
 use std::rt::Files;
@@ -25,13 +25,6 @@ impl<'r, 'n, R: Files> MadeFile<'r, 'n, R> {
             name,
             file: None,
         }
-    }
-
-    /// Whether it was made.
-    pub fn is_made(&self) -> bool
-        ensures { result ≡ is_some self.now.file }
-    {
-        self.file.is_some()
     }
 }
 

@@ -1,14 +1,16 @@
 //! A command line, from its words to the exit status.
 
+ghost use Rattle.bgp_words.specs.Import.{CanImport};
+ghost use Rattle.bgp_words.specs.Speak.{CanSpeak};
+
+use crate::devices::{make_file, print_answer};
+use crate::speaker;
 use crate::words::words_status;
-use crate::{devices, recordings, speaker};
-use bgp_check_tool::{CheckOptions, Settings};
-use bgp_explain::Report;
-use bgp_tool::Status;
-use bgp_wire::Limit;
+use bgp_tool::{ErrorWords, Status};
 use bgp_words::{Command, command_line};
 use clap::Error;
 use std::convert::AsStr;
+use std::io::ErrorKind;
 use std::net::Net;
 use std::rt::{Clock, Files};
 
@@ -21,70 +23,33 @@ pub fn run_words<R: Files + Net + Clock + Input + Print + Eprint + AllocGlobal, 
     words: &[S],
 ) -> u8 {
     match command_line(rt.alloc(), words) {
-        Ok(Command::Decode { extended, file }) => {
-            devices::decode(rt, Limit::with_extended(extended), file)
-        }
-        Ok(
-            Command::Capture {
-                session,
-                recording,
-                file,
-            },
-        ) => devices::decode_capture(rt, &session, &recording, file),
-        Ok(
-            Command::Judge {
-                config,
-                recording,
-                explain,
-                file,
-            },
-        ) => {
-            let report = if explain {
-                Report::WithReason
-            } else {
-                Report::VerdictAlone
-            };
-            devices::judge(rt, &config, report, &recording, file)
-        }
-        Ok(
-            Command::Import {
-                session,
-                recording,
-                file,
-                out,
-            },
-        ) => recordings::import(rt, &session, &recording, file, out),
-        Ok(Command::List { port, file }) => recordings::list(rt, port, file),
-        Ok(
-            Command::Check {
-                port,
-                within,
-                routes,
-                settings,
-                file,
-            },
-        ) => {
-            let options = CheckOptions {
-                port,
-                within,
-                routes,
-                settings: if settings {
-                    Settings::Always
-                } else {
-                    Settings::UnlessYes
-                },
-            };
-            recordings::check(rt, &options, file)
-        }
-        Ok(
-            Command::Speak {
-                config,
-                speaking,
-                file,
-            },
-        ) => speaker::speak(rt, errors, &config, &speaking, file),
-        Ok(Command::Pair { file }) => speaker::pair(rt, file),
+        Ok(command) => run(rt, errors, &command),
         Err(error) => told(rt, &error).code(),
+    }
+}
+
+/// Runs a command, and returns the exit status.
+fn run<R: Files + Net + Clock + Input + Print + Eprint + AllocGlobal, E: Print>(
+    rt: &R,
+    errors: &E,
+    command: &Command<'_>,
+) -> u8
+    requires speakable { CanSpeak command.now }
+    requires importable { CanImport command.now }
+{
+    match *command {
+        Command::Decode { .. }
+        | Command::Capture { .. }
+        | Command::Judge { .. }
+        | Command::List { .. }
+        | Command::Check { .. } => print_answer(rt, command),
+        Command::Import { out, .. } => make_file(rt, command, out),
+        Command::Speak {
+            config,
+            speaking,
+            file,
+        } => speaker::speak(rt, errors, &config, &speaking, file),
+        Command::Pair { file } => speaker::pair(rt, file),
     }
 }
 
@@ -98,8 +63,15 @@ fn told<R: Print + Eprint>(rt: &R, error: &Error) -> Status {
     match print!(rt; "{error}") {
         Ok(()) => status,
         Err(error) => {
-            devices::tell_unwritten(rt, &error);
+            tell_unprinted(rt, error.kind());
             Status::Device
         }
+    }
+}
+
+/// Tells why standard output can't be written, unless a pipe was closed.
+fn tell_unprinted<R: Eprint>(rt: &R, error: ErrorKind) {
+    if error != ErrorKind::BrokenPipe {
+        let _ = eprintln!(rt; "bgp: standard output: {}", ErrorWords(error));
     }
 }

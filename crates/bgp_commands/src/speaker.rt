@@ -3,13 +3,20 @@
 ghost use Rattle.std.specs.Prelude.{◌≡◌, ◌<◌, ◌^◌, IfOk};
 ghost use Rattle.bgp_prefix.specs.Address.{family_of};
 ghost use Rattle.bgp_talk.specs.declared.wire.Connection.TheVariants.{NotAsked};
+ghost use Rattle.bgp_commands.specs.Speaking.{end_sentence, no_connection_sentence};
+ghost use Rattle.bgp_commands.specs.Speaking.{waiting_sentence};
 
-use crate::devices::tell;
+use crate::answer::Answer;
+use crate::ends::{Output, output_of};
+use crate::sentence::Sentence;
+use crate::sentences::unwritten_sentence;
+use crate::voice::{StandardError, Voice, say_each, say_some};
 use bgp_compact::CompactTracker;
 use bgp_open::Config;
+
 use bgp_speak_tool::{Watched, announce_note, pair_session, speak_as};
 use bgp_talk::{SocketWire, Speaking, Start};
-use bgp_tool::{ErrorWords, Note, Status};
+use bgp_tool::{Note, Status};
 use mrt::FromWrite;
 use std::alloc::Global;
 use std::io::{ErrorKind, Write};
@@ -18,8 +25,8 @@ use std::rt::{Clock, Files};
 use std::{fs, io};
 
 /// Runs `speak`: speaks with a peer over TCP, and answers the exit status. The file of the capture
-/// is made, or emptied. Each record is printed on standard error when it is written, unless that is
-/// to be quiet.
+/// is made, or emptied, once there is a port. Each record is printed on standard error when it is
+/// written, unless that is to be quiet.
 pub fn speak<R: Files + Net + Clock + Print + Eprint + AllocGlobal, E: Print>(
     rt: &R,
     errors: &E,
@@ -42,14 +49,14 @@ pub fn speak<R: Files + Net + Clock + Print + Eprint + AllocGlobal, E: Print>(
     match fs::create(rt, file) {
         Ok(opened) => {
             tell_prefix(rt, config, speaking);
-            tell_waiting(rt, speaking);
+            say_some(&mut StandardError(rt), waiting_sentence(speaking));
             speak_over(rt, errors, config, speaking, file, opened, wire)
         }
-        Err(error) => unopened(rt, file, error.kind()),
+        Err(error) => unmade(rt, file, error.kind()),
     }
 }
 
-/// Speaks over a wire, writes the capture to its file, and tells what went wrong, if anything did.
+/// Speaks over a wire, writes the capture to its file, and says what went wrong, if anything did.
 fn speak_over<R: Net + Clock + Print + Eprint + AllocGlobal, E: Print, F: Write + Drop>(
     rt: &R,
     errors: &E,
@@ -77,8 +84,10 @@ fn speak_over<R: Net + Clock + Print + Eprint + AllocGlobal, E: Print, F: Write 
         &mut capture,
         &mut output,
     );
-    tell_refusal(rt, &wire);
-    tell_end(rt, status, file, &capture.into_inner(), &output);
+    let no_connection = no_connection_sentence(wire.port(), wire.refusal());
+    let capture = output_of(&capture.into_inner(), 0);
+    let end = end_sentence(status, file, capture, output_of(&output, 0));
+    say_each(&mut StandardError(rt), &[no_connection, end]);
     status
 }
 
@@ -93,7 +102,9 @@ pub fn pair<R: Files + Net + Print + Eprint + AllocGlobal>(rt: &R, file: &str) -
         file,
         &mut sink,
     );
-    tell(rt, &outcome)
+    let answer = Answer::Ended(outcome);
+    answer.say(&mut StandardError(rt));
+    answer.status()
 }
 
 /// The null device, if it can be opened. Three of them take the numbers of all standard streams
@@ -113,14 +124,6 @@ fn wire_for<R: Net + Clock>(rt: &R, start: Start) -> io::Result<SocketWire<'_, R
     }
 }
 
-/// Whether a connection is waited for, and not opened.
-fn is_passive(start: Start) -> bool {
-    match start {
-        Start::Connect(_) => false,
-        Start::Listen(_) => true,
-    }
-}
-
 /// The port of a start.
 fn port_of(start: Start) -> u16 {
     match start {
@@ -135,64 +138,60 @@ fn tell_prefix<R: Eprint>(rt: &R, config: &Config, speaking: &Speaking) {
     }
 }
 
-/// Tells where a peer is waited for, if one is, unless it is to be quiet.
-fn tell_waiting<R: Eprint>(rt: &R, speaking: &Speaking) {
-    if is_passive(speaking.start) && !speaking.quiet {
-        let port = port_of(speaking.start);
-        let _ = eprintln!(rt; "bgp: waiting for a peer at 127.0.0.1:{port}");
+/// Returns where a peer is waited for, if one is and it isn't to be quiet.
+fn waiting_sentence<'a>(speaking: &Speaking) -> Option<Sentence<'a>>
+    ensures { result ≡ waiting_sentence speaking.now.start speaking.now.quiet }
+{
+    match (speaking.start, speaking.quiet) {
+        (Start::Listen(port), false) => Some(Sentence::Waiting { port }),
+        (Start::Listen(_), true) | (Start::Connect(_), _) => None,
     }
 }
 
-/// Tells why there was no connection, if there was none.
-fn tell_refusal<R: Net + Clock + Eprint>(rt: &R, wire: &SocketWire<'_, R>) {
-    if let Some(error) = wire.refusal() {
-        let port = wire.port();
-        let _ = eprintln!(rt;
-            "bgp: no connection at 127.0.0.1:{port}: {}",
-            ErrorWords(error)
-        );
-    }
+/// Returns why there was no connection, if there was none.
+fn no_connection_sentence<'a>(port: u16, refusal: Option<ErrorKind>) -> Option<Sentence<'a>>
+    ensures { result ≡ no_connection_sentence port refusal }
+{
+    let error = refusal?;
+    Some(Sentence::NoConnection { port, error })
 }
 
-/// Tells that memory was refused, or which device failed. A closed pipe isn't told.
-fn tell_end<R: Eprint, F: Write, O: Write>(
-    rt: &R,
+/// Returns that memory was refused, or which device failed, if so. A pipe that was closed isn't a
+/// failure.
+fn end_sentence<'a>(
     status: u8,
-    file: &str,
-    capture: &FromWrite<F>,
-    output: &FromWrite<O>,
-) {
+    file: &'a str,
+    capture: Output,
+    output: Output,
+) -> Option<Sentence<'a>>
+    ensures { result ≡ end_sentence status file.entry capture output }
+{
     if status == Status::Memory.code() {
-        let _ = eprintln!(rt; "bgp: memory was refused");
-    } else if let Some(error) = capture.last_error() {
-        let octet = capture.taken();
-        let words = ErrorWords(error);
-        let _ = eprintln!(rt; "bgp: {file:?}: write failed at octet {octet}: {words}");
-    } else if let Some(error) = output.last_error() {
-        tell_unprinted(rt, output.taken(), error);
+        return Some(Sentence::NoMemory);
+    }
+    match capture {
+        Output::Whole => unwritten_sentence(output),
+        Output::Closed { octet } => {
+            let error = Some(ErrorKind::BrokenPipe);
+            Some(Sentence::Unwritten { file, octet, error })
+        }
+        Output::Failed { octet, error } => Some(Sentence::Unwritten { file, octet, error }),
     }
 }
 
-/// Tells that standard output can't be written, unless a pipe was closed.
-fn tell_unprinted<R: Eprint>(rt: &R, octet: u64, error: ErrorKind) {
-    if error != ErrorKind::BrokenPipe {
-        let error = Some(error);
-        let _ = eprintln!(rt; "bgp: {}", Note::Unwritten { octet, error });
-    }
-}
-
-/// Tells that the capture's file can't be opened, and answers the exit status.
-fn unopened<R: Eprint>(rt: &R, file: &str, error: ErrorKind) -> u8 {
-    let _ = eprintln!(rt; "bgp: {}", Note::Unopened { file, error });
+/// Says that the capture's file can't be made, and answers the exit status.
+fn unmade<R: Eprint>(rt: &R, file: &str, error: ErrorKind) -> u8
+    ensures { result ≡ 5 }
+{
+    StandardError(rt).say(Sentence::Note(Note::Unopened { file, error }));
     Status::Device.code()
 }
 
-/// Tells that a port can't be listened on, and answers the exit status.
-fn unheard<R: Eprint>(rt: &R, start: Start, error: ErrorKind) -> u8 {
+/// Says that a port can't be listened on, and answers the exit status.
+fn unheard<R: Eprint>(rt: &R, start: Start, error: ErrorKind) -> u8
+    ensures { result ≡ 5 }
+{
     let port = port_of(start);
-    let _ = eprintln!(rt;
-        "bgp: can't listen at 127.0.0.1:{port}: {}",
-        ErrorWords(error)
-    );
+    StandardError(rt).say(Sentence::NotListening { port, error });
     Status::Device.code()
 }

@@ -6,6 +6,7 @@ use bgp_recording_tool::Peeked;
 use mrt::MemSource;
 use std::alloc::Global;
 use std::io;
+use std::io::Read;
 use std::num::NonZeroUsize;
 
 /// The octets of a file, which is read so many at a time at the most.
@@ -37,11 +38,33 @@ impl<'a> File<'a> {
         Peeked::new(self.octets).is_recording()
     }
 
-    /// What reads it.
+    /// What reads it, as a file is read.
+    pub(crate) fn reader(&self) -> Pieces<'a> {
+        Pieces {
+            octets: self.octets,
+            most: self.most,
+        }
+    }
+
+    /// What reads it, as a source.
     pub(crate) fn source(&self, alloc: Global) -> io::Result<MemSource>
         ensures { IfOk result (λ source. source.failures < 2 ^ 63) }
     {
         let octets = Vec::from_slice(alloc, self.octets)?;
         Ok(MemSource::new(octets).in_pieces_of(self.most))
+    }
+}
+
+/// Octets that are read, so many at a time at the most.
+#[derive(Drop)]
+pub(crate) struct Pieces<'a> {
+    octets: &'a [u8],
+    most: NonZeroUsize,
+}
+
+impl Read for Pieces<'_> {
+    fn read(&mut self, buffer: &mut [u8]) -> io::Result<usize> {
+        let count = buffer.len().min(self.most.get());
+        self.octets.read(&mut buffer[..count])
     }
 }

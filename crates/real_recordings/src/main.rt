@@ -9,7 +9,10 @@
 //! a verdict is told with the options of `bgp judge`, that is asked by them for the same.
 //! `forms.txt` has files that are neither, made by other programs, and what is told of them.
 //! `slow.txt` has nine recordings, each of which is imported, judged, decoded and checked: of
-//! routers that answer an OPEN late, and of messages in the packet that ends the connection. Each
+//! routers that answer an OPEN late, and of messages in the packet that ends the connection.
+//! `options.txt` was worked out by hand from the RFCs and docs/bgp.1.md: for options of each command
+//! a file whose answer is another one by that option. All these are answered by the function that
+//! answers the program's commands (`answer_to` of bgp_commands), over octets in memory. Each
 //! file is read at once and octet by octet, and what judges does so by the plain tracker and by the
 //! compact one. `words.txt` has command lines, and the command that each spells, or the status and
 //! what is told. `announced.txt` has prefixes that `bgp speak` is to announce, and what is told of
@@ -17,7 +20,7 @@
 //!
 //! Then recordings of real sessions between five daemons, in `sessions`, are listed, judged from
 //! both ends, and explained as the captures that are made of them, but for the packets. Last some
-//! command lines are run over real files.
+//! command lines are run over real files, and `bgp speak` and `bgp pair` over loopback.
 //!
 //! Of the other program's 300 explained captures five are in the table by hand, with what differs:
 //! four in which large communities are an attribute without a name, and one that tells from when on
@@ -32,6 +35,7 @@ mod file;
 mod repeated;
 mod runs;
 mod session;
+mod speaking;
 mod spelled;
 mod table;
 mod told;
@@ -39,6 +43,7 @@ mod words;
 
 use runs::run_all;
 use session::compare_sessions;
+use speaking::speak_all;
 use std::io;
 use std::net::Net;
 use std::process::ExitCode;
@@ -65,5 +70,6 @@ fn go_through_all<R: Files + Net + Clock + Input + Print + Eprint + AllocGlobal,
     let tables = compare_tables(rt)?;
     let sessions = compare_sessions(rt)?;
     run_all(rt, errors)?;
+    speak_all(rt, errors)?;
     Ok(tables && sessions)
 }

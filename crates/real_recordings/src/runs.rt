@@ -6,6 +6,7 @@
 //! and `half.pcap` has the packets of one of its sides alone. Standard input is `session.pcap`.
 
 use bgp_commands::run_words;
+use std::alloc::Global;
 use std::net::Net;
 use std::rt::{Clock, Files};
 use std::{fs, io};
@@ -75,8 +76,9 @@ static IMPORTS: [Import; 8] = [
     },
 ];
 
-/// Command lines that write no file. `made.mrt` is there by now.
-static READERS: [&str; 11] = [
+/// Command lines that write no file. `made.mrt` is there by now. By then standard input has ended,
+/// so that `-` is a file of no octet; a file of that name isn't there.
+static READERS: [&str; 27] = [
     "bgp list session.pcap",
     "bgp list half.pcap",
     "bgp list --port 1179 session.pcap",
@@ -88,6 +90,22 @@ static READERS: [&str; 11] = [
     "bgp check --routes session.pcap",
     "bgp check --routes --settings made.mrt",
     "bgp list",
+    "bgp list -",
+    "bgp check -",
+    "bgp decode -",
+    "bgp decode --mrt --peer 192.0.2.2 --local 192.0.2.1 -",
+    "bgp judge --local-as 65001 --peer-as 65002 --local-id 192.0.2.1 --local 192.0.2.1 --peer 192.0.2.2 -",
+    "bgp list sessions",
+    "bgp check none.pcap",
+    "bgp decode none.pcap",
+    "bgp decode session.pcap",
+    "bgp judge --hold 180 --local-as 65001 --peer-as 65002 --local-id 192.0.2.1 --local 192.0.2.1 --peer 192.0.2.2 --families both made.mrt",
+    "bgp judge --connection 2 --local-as 65001 --peer-as 65002 --local-id 192.0.2.1 --local 192.0.2.1 --peer 192.0.2.2 --families both session.pcap",
+    "bgp judge --local-port 40000 --local-as 65001 --peer-as 65002 --local-id 192.0.2.1 --local 192.0.2.1 --peer 192.0.2.2 --families both session.pcap",
+    "bgp check --port 1179 session.pcap",
+    "bgp check half.pcap",
+    "bgp --version",
+    "bgp lost",
 ];
 
 /// Runs all command lines, in this order.
@@ -104,16 +122,22 @@ pub(crate) fn run_all<R: Files + Net + Clock + Input + Print + Eprint + AllocGlo
     Ok(())
 }
 
+/// The words of a command line.
+pub(crate) fn words_in<'a>(alloc: Global, line: &'a str) -> io::Result<Vec<&'a str>> {
+    let mut words = Vec::new(alloc);
+    for word in line.split(' ') {
+        words.push(word)?;
+    }
+    Ok(words)
+}
+
 /// Prints a command line, what it prints, and its status.
-fn run<R: Files + Net + Clock + Input + Print + Eprint + AllocGlobal, E: Print>(
+pub(crate) fn run<R: Files + Net + Clock + Input + Print + Eprint + AllocGlobal, E: Print>(
     rt: &R,
     errors: &E,
     line: &str,
 ) -> io::Result<()> {
-    let mut words = Vec::new(rt.alloc());
-    for word in line.split(' ') {
-        words.push(word)?;
-    }
+    let words = words_in(rt.alloc(), line)?;
     println!(rt; "> {line}")?;
     let status = run_words(rt, errors, words.as_slice());
     println!(rt; "status {status}")
@@ -130,8 +154,16 @@ fn run_import<R: Files + Net + Clock + Input + Print + Eprint + AllocGlobal, E: 
         fs::write(rt, import.out, octets.as_slice())?;
     }
     run(rt, errors, import.words)?;
-    let out = import.out;
-    match (fs::read(rt, out), import.after) {
+    print_file(rt, import.out, import.after)
+}
+
+/// Prints whether a file has the octets of another one, or whether it is there if it hasn't to be.
+pub(crate) fn print_file<R: Files + Print + AllocGlobal>(
+    rt: &R,
+    out: &str,
+    after: Option<&str>,
+) -> io::Result<()> {
+    match (fs::read(rt, out), after) {
         (Ok(octets), Some(after)) => {
             let is_so = octets.as_slice() == fs::read(rt, after)?.as_slice();
             println!(rt; "{out} is {after}: {is_so}")

@@ -23,6 +23,7 @@ static TABLES: [(&str, Kind); 10] = [
     ("captures.txt", Kind::Cases),
     ("forms.txt", Kind::Cases),
     ("slow.txt", Kind::Cases),
+    ("options.txt", Kind::Cases),
     ("words.txt", Kind::CommandLines),
     ("announced.txt", Kind::Prefixes),
 ];

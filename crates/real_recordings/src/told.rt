@@ -1,5 +1,7 @@
 //! What a command answers, told by lines.
 
+use bgp_commands::{Sentence, Voice};
+use bgp_tool::Note;
 use std::alloc::{AllocError, Global};
 use std::fmt::{Display, Write};
 use std::io;
@@ -60,5 +62,37 @@ impl Told {
         } else {
             Ok(self.text)
         }
+    }
+}
+
+impl Voice for Told {
+    ghost use Rattle.std.specs.Prelude.{⊤};
+
+    ghost says = { λ _ _ _. ⊤ };
+
+    ghost nothing = { λ _. tt };
+
+    ghost joined = { λ _ _ _ _ _ _ _. tt };
+
+    fn say(&mut self, sentence: Sentence<'_>) {
+        if is_compared(&sentence) {
+            self.put_note(Some(sentence));
+        }
+    }
+}
+
+/// Whether cases have such a sentence. What to record is told of many files; that nothing helps is
+/// what cases say.
+fn is_compared(sentence: &Sentence<'_>) -> bool {
+    match sentence {
+        Sentence::CutShort(_)
+        | Sentence::Remark(_)
+        | Sentence::Help(_)
+        | Sentence::NothingListed(_)
+        | Sentence::NotLookedInto(_) => true,
+        Sentence::Note(note) => matches!(note, Note::NoCapture { .. } | Note::NoSessions { .. }),
+        Sentence::NoEndOfRecording(nothing) => !nothing.is_incomplete,
+        Sentence::NoEndOfCapture(nothing) => !nothing.is_incomplete,
+        _ => false,
     }
 }

@@ -1,0 +1,331 @@
+-- What each command that reads a file does: which call it is, and with which options.
+use Rattle.std.specs.Prelude.{◌≡◌, ◌≢◌, ◌<◌, ◌⊎◌, ◌++◌, ℕ, Bool, true, false, List, [], Option, None, codes}
+use Rattle.std.specs.Prelude.{Result, Ok, Err, IfOk, IfErr, IsTrue, IsFalse, if◌then◌else◌}
+use Rattle.std.specs.Borrow.{Bor}
+use Rattle.std.specs.Global.{Global}
+use Rattle.std.specs.IoError.{error_kind}
+use Rattle.std.specs.declared.io.Error.{Error}
+use Rattle.mrt.specs.FromRead.{ReaderState, fresh_reader, reader_state, Gives}
+use Rattle.mrt.specs.FromWrite.{WriterState, writer_state, Takes}
+use Rattle.mrt.specs.declared.fault.CaptureFault.{CaptureFault}
+use Rattle.mrt.specs.declared.sink.FromWrite.{FromWrite}
+use Rattle.mrt.specs.declared.source.FromRead.{FromRead}
+use Rattle.bgp_wire.specs.Header.{limit_with}
+use Rattle.bgp_prefix.specs.Shown.{ShownRecord}
+use Rattle.bgp_prefix.specs.declared.session.Session.{Session}
+use Rattle.bgp_open.specs.declared.config.Config.{Config}
+use Rattle.bgp_import.specs.declared.options.RecordingOptions.{RecordingOptions}
+use Rattle.bgp_words.specs.declared.words.Command.{Command}
+use Rattle.bgp_words.specs.declared.words.Command.TheVariants as words
+use Rattle.bgp_tool.specs.Front.{kept, no_capture, no_recording}
+use Rattle.bgp_tool.specs.NothingFound.{without_packets_by, without_records_by}
+use Rattle.bgp_tool.specs.Opened.{DecodesReader, IsUnopened}
+use Rattle.bgp_tool.specs.declared.front.WithFront.{WithFront}
+use Rattle.bgp_tool.specs.declared.note.CaptureCommand.{CaptureCommand}
+use Rattle.bgp_tool.specs.declared.note.CaptureCommand.TheVariants as commands
+use Rattle.bgp_tool.specs.declared.note.Note.{Note}
+use Rattle.bgp_tool.specs.declared.opened.Outcome.{Outcome}
+use Rattle.bgp_explain.specs.declared.report.Report.{Report}
+use Rattle.bgp_explain.specs.declared.report.Report.TheVariants.{VerdictAlone, WithReason}
+use Rattle.bgp_import.specs.Imports.{Imports}
+use Rattle.bgp_import.specs.Refusals.{cause_of}
+use Rattle.bgp_import.specs.declared.importing.Imported.{Imported}
+use Rattle.bgp_import.specs.declared.importing.Stopped.{Stopped}
+use Rattle.bgp_import.specs.declared.importing.Stopped.TheVariants.{Refused, Unwritten}
+use Rattle.bgp_import.specs.declared.note.Notes.{Notes}
+use Rattle.bgp_import.specs.declared.refusal.Cause.{Cause}
+use Rattle.bgp_import.specs.declared.refusal.Cause.TheVariants as causes
+use Rattle.bgp_list.specs.Capture.{ListsCapture}
+use Rattle.bgp_list.specs.Recording.{ListsRecording}
+use Rattle.bgp_list.specs.declared.capture.ListedCapture.{ListedCapture}
+use Rattle.bgp_list.specs.declared.listed.ListedRecording.{ListedRecording}
+use Rattle.bgp_check_text.specs.declared.settings.Settings.{Settings}
+use Rattle.bgp_check_text.specs.declared.settings.Settings.TheVariants.{Always, UnlessYes}
+use Rattle.bgp_check_tool.specs.Checking.{ChecksRecording}
+use Rattle.bgp_check_tool.specs.Printed as recordings
+use Rattle.bgp_check_tool.specs.declared.checking.CheckedRecording.{CheckedRecording}
+use Rattle.bgp_check_tool.specs.declared.options.CheckOptions.{CheckOptions}
+use Rattle.bgp_check_capture_tool.specs.Checking.{ChecksCapture}
+use Rattle.bgp_check_capture_tool.specs.Printed as captures
+use Rattle.bgp_check_capture_tool.specs.declared.checking.CheckedCapture.{CheckedCapture}
+use Rattle.bgp_check_capture_tool.specs.declared.options.CaptureOptions.{CaptureOptions}
+use Rattle.bgp_recording_tool.specs.Files.{DecodesFile, IsPeeked, JudgesFile, is_recording}
+use Rattle.bgp_recording_tool.specs.Files.{peeked_remaining}
+use Rattle.bgp_recording_tool.specs.Options.{import_of}
+use Rattle.bgp_recording_tool.specs.declared.files.FileOutcome.{FileOutcome}
+use Rattle.bgp_recording_tool.specs.declared.peeked.Peeked.{Peeked}
+use Rattle.bgp_commands.specs.Ends.{AreEnds}
+use Rattle.bgp_commands.specs.declared.answer.Answer.{Answer}
+use Rattle.bgp_commands.specs.declared.answer.Answer.TheVariants as answers
+use Rattle.bgp_commands.specs.declared.answer.Destination.{Destination}
+use Rattle.bgp_commands.specs.declared.answer.Destination.TheVariants.{StandardOutput, File}
+use Rattle.bgp_commands.specs.declared.ends.Ends.{Ends}
+
+-- ---- commands
+
+-- the file that a command reads, or else the one that it writes
+abbrev pub file_of : Command → Bor (List ℕ)
+file_of (words.Decode extended file) = file
+file_of (words.Capture session recording file) = file
+file_of (words.Judge config recording explain file) = file
+file_of (words.Import session recording file out) = file
+file_of (words.List port file) = file
+file_of (words.Check port within routes settings file) = file
+file_of (words.Speak config speaking file) = file
+file_of (words.Pair file) = file
+
+-- a command reads a file
+abbrev pub reads_file : Command → Bool
+reads_file (words.Decode extended file) = true
+reads_file (words.Capture session recording file) = true
+reads_file (words.Judge config recording explain file) = true
+reads_file (words.Import session recording file out) = true
+reads_file (words.List port file) = true
+reads_file (words.Check port within routes settings file) = true
+reads_file (words.Speak config speaking file) = false
+reads_file (words.Pair file) = false
+
+-- a command is an import of a file to itself
+abbrev pub IsOneName : Command → Type 0
+IsOneName (words.Decode extended file) = ⊥
+IsOneName (words.Capture session recording file) = ⊥
+IsOneName (words.Judge config recording explain file) = ⊥
+IsOneName (words.Import session recording file out) =
+    (file.now ≡ out.now) × (file.now ≢ codes "-")
+IsOneName (words.List port file) = ⊥
+IsOneName (words.Check port within routes settings file) = ⊥
+IsOneName (words.Speak config speaking file) = ⊥
+IsOneName (words.Pair file) = ⊥
+
+-- ---- options
+
+abbrev pub report_with : Bool → Report
+report_with explain = if explain then WithReason else VerdictAlone
+
+abbrev pub settings_with : Bool → Settings
+settings_with settings = if settings then Always else UnlessYes
+
+abbrev pub check_options : ℕ → ℕ → Bool → Bool → CheckOptions
+check_options port within routes settings = record {
+  port = port;
+  within = within;
+  routes = routes;
+  settings = settings_with settings;
+}
+
+-- of a capture: its messages have no port, and were handled when their records were written
+abbrev pub capture_options : CheckOptions → CaptureOptions
+capture_options options = record { routes = options.routes; settings = options.settings }
+
+-- an MRT file is written to standard output or to the file of this name
+abbrev pub IsDestination : Bor (List ℕ) → Destination → Type 0
+IsDestination out to = ((out.now ≡ codes "-") × (to ≡ StandardOutput))
+    ⊎ ((out.now ≢ codes "-") × (to ≡ File out))
+
+-- ---- calls over a reader and a writer
+
+-- what a source over a reader gives, and what a sink over a writer takes
+abbrev pub GivesRead : {R : Type 0} → (R → Option (List ℕ)) → FromRead R → FromRead R → List ℕ
+    → Type 0
+GivesRead remaining from to octets = Gives remaining (reader_state from) (reader_state to) octets
+
+abbrev pub has_ended : {R : Type 0} → FromRead R → Bool
+has_ended source = (reader_state source).has_ended
+
+abbrev pub read_failures : {R : Type 0} → FromRead R → ℕ
+read_failures source = (reader_state source).failures
+
+abbrev pub TakesWritten : {W : Type 0} → (W → Option (List ℕ)) → FromWrite W → FromWrite W
+    → List ℕ → Type 0
+TakesWritten contents from to octets =
+    Takes contents (writer_state from) (writer_state to) octets
+
+abbrev pub write_failures : {W : Type 0} → FromWrite W → ℕ
+write_failures sink = (writer_state sink).failures
+
+-- A reader was read by a call, from a source that had given nothing into the sink, and both came as
+-- far as is answered.
+pub record IsCalled {R W : Type 0} (file : Bor (List ℕ)) (reader : R) (old new : FromWrite W)
+    (ends : Ends) (IsCall : FromRead R → FromRead R → Type 0) : Type 0 where
+  pub begun : FromRead R
+  pub read : FromRead R
+  pub fresh : reader_state begun ≡ fresh_reader reader
+  pub is_call : IsCall begun read
+  pub are_ends : AreEnds file (reader_state read) (writer_state new) (write_failures old) None
+      ends
+
+-- ---- the same of a source that keeps its first octets
+
+abbrev pub GivesFront : {R : Type 0} → (R → Option (List ℕ)) → WithFront (FromRead R)
+    → WithFront (FromRead R) → List ℕ → Type 0
+GivesFront remaining from to octets = GivesRead remaining from.source to.source octets
+    × (to.front.items ≡ kept (from.front.items ++ octets))
+
+abbrev pub front_ended : {R : Type 0} → WithFront (FromRead R) → Bool
+front_ended source = has_ended source.source
+
+abbrev pub front_failures : {R : Type 0} → WithFront (FromRead R) → ℕ
+front_failures source = read_failures source.source
+
+-- It is called so, and this is what the file is by what is kept.
+pub record IsCalledWithFront {R W : Type 0} (file : Bor (List ℕ)) (reader : R)
+    (old new : FromWrite W) (ends : Ends)
+    (IsCall : WithFront (FromRead R) → WithFront (FromRead R) → Type 0)
+    (IsNote : WithFront (FromRead R) → Option Note → Type 0) : Type 0 where
+  pub begun : WithFront (FromRead R)
+  pub read : WithFront (FromRead R)
+  pub fresh : reader_state begun.source ≡ fresh_reader reader
+  pub no_front : begun.front.items ≡ []
+  pub is_call : IsCall begun read
+  pub note : Option Note
+  pub is_note : IsNote read note
+  pub are_ends : AreEnds file (reader_state read.source) (writer_state new) (write_failures old)
+      note ends
+
+-- what a file is in which so many sessions were found
+pub record IsFileNote {R : Type 0} (command : CaptureCommand) (file : Bor (List ℕ)) (sessions : ℕ)
+    (fault : Option CaptureFault) (read : WithFront (FromRead R)) (note : Option Note) : Type 0
+  where
+    pub some : 0 < sessions → note ≡ None
+    pub none : sessions ≡ 0
+        → note ≡ without_records_by command file (no_capture read.front.items) fault
+
+-- what a file is of which a recording was to be imported, by what is kept after more was asked for
+pub record IsFrontNote {R : Type 0} (remaining : R → Option (List ℕ)) (file : Bor (List ℕ))
+    (read after : WithFront (FromRead R)) (note : Option Note) : Type 0 where
+  pub goes_on : (after ≡ read) ⊎ ((more : List ℕ) × GivesFront remaining read after more)
+  pub is_note : note
+      ≡ without_packets_by commands.Import file (no_recording after.front.items)
+
+abbrev pub IsCauseNote : {R : Type 0} → (R → Option (List ℕ)) → Bor (List ℕ)
+    → WithFront (FromRead R) → WithFront (FromRead R) → Cause → Option Note → Type 0
+IsCauseNote remaining file read after causes.Recording note =
+    IsFrontNote remaining file read after note
+IsCauseNote remaining file read after causes.Memory note = note ≡ None
+IsCauseNote remaining file read after causes.Device note = note ≡ None
+
+abbrev pub IsImportNote : {R : Type 0} → (R → Option (List ℕ)) → Bor (List ℕ)
+    → WithFront (FromRead R) → WithFront (FromRead R) → Result Notes Stopped → Option Note → Type 0
+IsImportNote remaining file read after (Ok made) note = note ≡ None
+IsImportNote remaining file read after (Err Unwritten) note = note ≡ None
+IsImportNote remaining file read after (Err (Refused refusal)) note =
+    IsCauseNote remaining file read after (cause_of refusal) note
+
+module _ {R W : Type 0} (remaining : R → Option (List ℕ)) (contents : W → Option (List ℕ))
+    (file : Bor (List ℕ)) (reader : R) (old new : FromWrite W) where
+  -- the one connection that is meant of a recording is written as a capture
+  abbrev pub ImportsFile : Session → RecordingOptions → Imported → Ends → Type 0
+  ImportsFile session recording imported ends = IsCalledWithFront file reader old new ends
+      (λ begun read. Imports (GivesFront remaining) front_ended (TakesWritten contents)
+      (import_of session recording) begun read old new imported)
+      (λ read note. (after : WithFront (FromRead R))
+      × IsImportNote remaining file read after imported.ended note)
+
+  -- the connections at this port are listed
+  abbrev pub ListsPackets : ℕ → ListedRecording → Ends → Type 0
+  ListsPackets port listed ends = IsCalled file reader old new ends
+      (λ begun read. ListsRecording (GivesRead remaining) has_ended (TakesWritten contents)
+      read_failures write_failures port begun read old new listed)
+
+  -- the sessions of a capture are listed
+  abbrev pub ListsRecords : ListedCapture → Ends → Type 0
+  ListsRecords listed ends = IsCalledWithFront file reader old new ends
+      (λ begun read. ListsCapture (GivesFront remaining) front_ended (TakesWritten contents)
+      front_failures write_failures begun read old new listed.status listed.sessions
+      listed.fault)
+      (IsFileNote commands.List file listed.sessions listed.fault)
+
+  -- both ends of each connection are checked
+  abbrev pub ChecksPackets : CheckOptions → CheckedRecording → Ends → Type 0
+  ChecksPackets options checked ends = IsCalled file reader old new ends
+      (λ begun read. recordings.PrintsTrueNoes (GivesRead remaining) has_ended
+      (TakesWritten contents) write_failures options begun read old new checked.status
+      checked.cut_short
+      × ChecksRecording (GivesRead remaining) has_ended (TakesWritten contents) read_failures
+      write_failures options begun read old new checked.status checked.cut_short
+      checked.refusals.items checked.refusal checked.nothing)
+
+  -- the local system of each session of a capture is checked
+  abbrev pub ChecksRecords : CaptureOptions → CheckedCapture → Ends → Type 0
+  ChecksRecords options checked ends = IsCalledWithFront file reader old new ends
+      (λ begun read. captures.PrintsTrueNoes (GivesFront remaining) front_ended
+      (TakesWritten contents) write_failures options begun read old new checked.status
+      checked.fault
+      × ChecksCapture (GivesFront remaining) front_ended (TakesWritten contents) front_failures
+      write_failures options begun read old new checked.status checked.refusals.items
+      checked.sessions checked.fault checked.nothing)
+      (IsFileNote commands.Check file checked.sessions checked.fault)
+
+-- ---- by the first four octets
+
+-- A file is a recording, and this is answered of it, or a capture, and that is.
+pub record ByFront {R : Type 0} (remaining : R → Option (List ℕ)) (reader : R)
+    (OfRecording OfCapture : Peeked R → Type 0) : Type 0 where
+  pub peeked : Peeked R
+  pub is_peeked : IsPeeked remaining reader peeked
+  pub is : (IsTrue (is_recording peeked.front.items) × OfRecording peeked)
+      ⊎ (IsFalse (is_recording peeked.front.items) × OfCapture peeked)
+
+module _ {R W : Type 0} (remaining : R → Option (List ℕ)) (contents : W → Option (List ℕ))
+    (file : Bor (List ℕ)) (reader : R) (old new : FromWrite W) (answer : Answer) where
+  abbrev pub ListsFile : ℕ → Type 0
+  ListsFile port = ByFront remaining reader
+      (λ peeked. (listed : ListedRecording) × ((ends : Ends)
+      × ((answer ≡ answers.ListedRecording listed ends)
+      × ListsPackets (peeked_remaining remaining) contents file peeked old new port listed ends)))
+      (λ peeked. (listed : ListedCapture) × ((ends : Ends)
+      × ((answer ≡ answers.ListedCapture listed ends)
+      × ListsRecords (peeked_remaining remaining) contents file peeked old new listed ends)))
+
+  abbrev pub ChecksFile : CheckOptions → Type 0
+  ChecksFile options = ByFront remaining reader
+      (λ peeked. (checked : CheckedRecording) × ((ends : Ends)
+      × ((answer ≡ answers.CheckedRecording checked ends)
+      × ChecksPackets (peeked_remaining remaining) contents file peeked old new options checked
+      ends)))
+      (λ peeked. (checked : CheckedCapture) × ((ends : Ends)
+      × ((answer ≡ answers.CheckedCapture checked ends)
+      × ChecksRecords (peeked_remaining remaining) contents file peeked old new
+      (capture_options options) checked ends)))
+
+-- ---- each command
+
+module _ {R W : Type 0} (may_lack : Config → List ShownRecord → ShownRecord → Type 0)
+    (remaining : R → Option (List ℕ)) (contents : W → Option (List ℕ)) (reader : R)
+    (old new : FromWrite W) (answer : Answer) where
+  abbrev pub Answers : Command → Type 0
+  Answers (words.Decode extended file) = (outcome : Outcome)
+      × ((answer ≡ answers.Ended outcome)
+      × DecodesReader (limit_with extended) remaining contents file reader (writer_state old)
+      (writer_state new) outcome)
+  Answers (words.Capture session recording file) = (outcome : FileOutcome Global)
+      × ((answer ≡ answers.Read outcome)
+      × DecodesFile remaining contents recording file reader old new outcome session)
+  Answers (words.Judge config recording explain file) = (outcome : FileOutcome Global)
+      × ((answer ≡ answers.Read outcome)
+      × JudgesFile remaining contents recording file reader old new outcome config
+      (report_with explain) may_lack)
+  Answers (words.Import session recording file out) = (imported : Imported) × ((to : Destination)
+      × ((ends : Ends) × ((answer ≡ answers.Imported imported to ends) × IsDestination out to
+      × ImportsFile remaining contents file reader old new session recording imported ends)))
+  Answers (words.List port file) = ListsFile remaining contents file reader old new answer port
+  Answers (words.Check port within routes settings file) = ChecksFile remaining contents file
+      reader old new answer (check_options port within routes settings)
+  Answers (words.Speak config speaking file) = ⊥
+  Answers (words.Pair file) = ⊥
+
+-- ---- a command and its file
+
+-- A command is answered over a file that could be opened; or it is said that it couldn't, or that
+-- `import` names one file twice, and then nothing is written.
+pub record AnswersTo {R W : Type 0} (may_lack : Config → List ShownRecord → ShownRecord → Type 0)
+    (remaining : R → Option (List ℕ)) (contents : W → Option (List ℕ))
+    (opened : Result R Error) (old new : FromWrite W) (command : Command) (answer : Answer) : Type 0
+  where
+    pub one_name : IsOneName command
+        → (answer ≡ answers.OneName (file_of command)) × (new ≡ old)
+    pub unopened : ¬ IsOneName command → IfErr opened (λ error. (outcome : Outcome)
+        × ((answer ≡ answers.Ended outcome)
+        × IsUnopened (file_of command) (error_kind error) outcome × (new ≡ old)))
+    pub answered : ¬ IsOneName command → IfOk opened (λ reader. Answers may_lack remaining
+        contents reader old new answer command)

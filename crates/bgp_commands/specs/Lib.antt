@@ -1,0 +1,4 @@
+pub mod Ends
+pub mod Sentences
+pub mod Answers
+pub mod Speaking

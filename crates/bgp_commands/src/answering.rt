@@ -1,0 +1,241 @@
+//! The commands that read a file, over any reader and any writer.
+
+ghost use Rattle.std.specs.Prelude.{◌≡◌, ◌<◌, ◌^◌, ◌↔◌, IsTrue};
+ghost use Rattle.mrt.specs.FromWrite.{writer_state};
+ghost use Rattle.bgp_tool.specs.Opened.{DecodesReader};
+ghost use Rattle.bgp_recording_tool.specs.Files.{DecodesFile, JudgesFile};
+ghost use Rattle.bgp_words.specs.Import.{CanImport};
+ghost use Rattle.bgp_wire.specs.Header.{limit_with};
+ghost use Rattle.bgp_commands.specs.Answers.{Answers, AnswersTo, IsOneName, report_with};
+ghost use Rattle.bgp_commands.specs.Answers as specs;
+ghost use Rattle.bgp_commands.specs.Sentences.{sentences_of, status_of};
+ghost use Rattle.bgp_commands.specs.declared.answer.Answer.{Answer as Given};
+
+use crate::answer::Answer;
+use crate::checking::{check, settings_with};
+use crate::importing::import;
+use crate::listing::list;
+use crate::voice::Voice;
+use bgp_check_tool::CheckOptions;
+use bgp_explain::Report;
+use bgp_judge::Tracker;
+use bgp_open::Config;
+use bgp_import::RecordingOptions;
+use bgp_prefix::Session;
+use bgp_recording_tool::{FileOutcome, decode_file, judge_file};
+use bgp_tool::{Outcome, decode_opened, unopened};
+use bgp_wire::Limit;
+use bgp_words::Command;
+use mrt::FromWrite;
+use std::alloc::Global;
+use std::io;
+use std::io::{Read, Write};
+
+/// Returns the name of the file that a command reads, or of the one that it writes if it reads
+/// none.
+pub fn file_of<'a>(command: &Command<'a>) -> &'a str
+    ensures { result ≡ specs.file_of command.now }
+{
+    match *command {
+        Command::Decode { file, .. }
+        | Command::Capture { file, .. }
+        | Command::Judge { file, .. }
+        | Command::Import { file, .. }
+        | Command::List { file, .. }
+        | Command::Check { file, .. }
+        | Command::Speak { file, .. }
+        | Command::Pair { file } => file,
+    }
+}
+
+/// Checks whether a command reads a file.
+pub fn reads_file(command: &Command<'_>) -> bool
+    ensures { result ≡ specs.reads_file command.now }
+{
+    match command {
+        Command::Decode { .. }
+        | Command::Capture { .. }
+        | Command::Judge { .. }
+        | Command::Import { .. }
+        | Command::List { .. }
+        | Command::Check { .. } => true,
+        Command::Speak { .. } | Command::Pair { .. } => false,
+    }
+}
+
+/// Checks whether a command is an import of a file to itself. Both names are `-` for standard input
+/// and standard output.
+fn is_one_name(command: &Command<'_>) -> bool
+    ensures { IsTrue result ↔ IsOneName command.now }
+{
+    match *command {
+        Command::Import { file, out, .. } => file == out && file != "-",
+        _ => false,
+    }
+}
+
+/// Answers a command that reads a file: a reader gives the file's octets, if it could be opened,
+/// and a sink takes what the command prints, or the MRT file that `import` makes.
+///
+/// Each command is one call, with just the options that it names (`specs/Answers.antt`). The reader
+/// is asked for few octets at a time: put a buffer before a file.
+pub fn answer_to<'a, T: Tracker<Global>, R: Read + Drop, W: Write>(
+    alloc: Global,
+    command: &Command<'a>,
+    opened: io::Result<R>,
+    sink: &mut FromWrite<W>,
+) -> Answer<'a>
+    requires reads { IsTrue (specs.reads_file command.now) }
+    requires importable { CanImport command.now }
+    requires sink { (writer_state sink.old).failures < 2 ^ 63 }
+    ensures { AnswersTo T.may_lack R.remaining W.contents opened sink.old sink.new command.now
+        result }
+{
+    if is_one_name(command) {
+        return Answer::OneName(file_of(command));
+    }
+    match opened {
+        Ok(reader) => answer_from::<T, R, W>(alloc, command, reader, sink),
+        Err(error) => Answer::Ended(unopened(file_of(command), error.kind())),
+    }
+}
+
+/// Answers a command that reads a file, as [`answer_to`] does, says all that there is to say of the
+/// answer, and returns its exit status.
+pub fn run_over<T: Tracker<Global>, R: Read + Drop, W: Write, V: Voice>(
+    alloc: Global,
+    command: &Command<'_>,
+    opened: io::Result<R>,
+    sink: &mut FromWrite<W>,
+    voice: &mut V,
+) -> u8
+    requires reads { IsTrue (specs.reads_file command.now) }
+    requires importable { CanImport command.now }
+    requires sink { (writer_state sink.old).failures < 2 ^ 63 }
+    ensures { (answer : Given) × (AnswersTo T.may_lack R.remaining W.contents opened sink.old
+        sink.new command.now answer × V.says voice.old voice.new (sentences_of answer)
+        × (result ≡ status_of answer)) }
+{
+    let answer = answer_to::<T, R, W>(alloc, command, opened, sink);
+    answer.say(voice);
+    answer.status()
+}
+
+/// Answers a command that reads a file, which could be opened.
+fn answer_from<'a, T: Tracker<Global>, R: Read + Drop, W: Write>(
+    alloc: Global,
+    command: &Command<'a>,
+    reader: R,
+    sink: &mut FromWrite<W>,
+) -> Answer<'a>
+    requires reads { IsTrue (specs.reads_file command.now) }
+    requires importable { CanImport command.now }
+    requires sink { (writer_state sink.old).failures < 2 ^ 63 }
+    ensures { Answers T.may_lack R.remaining W.contents reader sink.old sink.new result
+        command.now }
+{
+    match *command {
+        Command::Decode { extended, file } => {
+            Answer::Ended(decode(alloc, extended, file, reader, sink))
+        }
+        Command::Capture {
+            session,
+            recording,
+            file,
+        } => Answer::Read(decode_session(
+            alloc, &session, &recording, file, reader, sink,
+        )),
+        Command::Judge {
+            config,
+            recording,
+            explain,
+            file,
+        } => Answer::Read(judge::<T, R, W>(
+            alloc, &config, &recording, explain, file, reader, sink,
+        )),
+        Command::Import {
+            session,
+            recording,
+            file,
+            out,
+        } => import(alloc, &session, &recording, file, out, reader, sink),
+        Command::List { port, file } => list(alloc, port, file, reader, sink),
+        Command::Check {
+            port,
+            within,
+            routes,
+            settings,
+            file,
+        } => {
+            let options = CheckOptions {
+                port,
+                within,
+                routes,
+                settings: settings_with(settings),
+            };
+            check::<T, R, W>(alloc, &options, file, reader, sink)
+        }
+        Command::Speak { .. } | Command::Pair { .. } => unreachable!(),
+    }
+}
+
+/// Decodes a stream, whose messages may be extended ones or not.
+fn decode<'a, R: Read + Drop, W: Write>(
+    alloc: Global,
+    extended: bool,
+    file: &'a str,
+    reader: R,
+    sink: &mut FromWrite<W>,
+) -> Outcome<'a>
+    requires { (writer_state sink.old).failures < 2 ^ 63 }
+    ensures { DecodesReader (limit_with extended) R.remaining W.contents file.entry reader
+        (writer_state sink.old) (writer_state sink.new) result }
+{
+    let limit = Limit::with_extended(extended);
+    decode_opened(limit, alloc, file, Ok(reader), sink)
+}
+
+/// Decodes the records of one session.
+fn decode_session<'a, R: Read + Drop, W: Write>(
+    alloc: Global,
+    session: &Session,
+    recording: &RecordingOptions,
+    file: &'a str,
+    reader: R,
+    sink: &mut FromWrite<W>,
+) -> FileOutcome<'a, Global>
+    requires { (writer_state sink.old).failures < 2 ^ 63 }
+    ensures { DecodesFile R.remaining W.contents recording.now file.entry reader sink.old sink.new
+        result session.now }
+{
+    decode_file(alloc, session, recording, file, Ok(reader), sink)
+}
+
+/// Judges one session, with the reason or without.
+fn judge<'a, T: Tracker<Global>, R: Read + Drop, W: Write>(
+    alloc: Global,
+    config: &Config,
+    recording: &RecordingOptions,
+    explain: bool,
+    file: &'a str,
+    reader: R,
+    sink: &mut FromWrite<W>,
+) -> FileOutcome<'a, Global>
+    requires { (writer_state sink.old).failures < 2 ^ 63 }
+    ensures { JudgesFile R.remaining W.contents recording.now file.entry reader sink.old sink.new
+        result config.now (report_with explain) T.may_lack }
+{
+    let report = report_with(explain);
+    judge_file::<Global, T, R, W>(alloc, config, report, recording, file, Ok(reader), sink)
+}
+
+/// Returns what is reported, with the reason or without.
+fn report_with(explain: bool) -> Report
+    ensures { result ≡ report_with explain }
+{
+    if explain {
+        Report::WithReason
+    } else {
+        Report::VerdictAlone
+    }
+}

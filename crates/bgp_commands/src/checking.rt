@@ -1,0 +1,104 @@
+//! `bgp check` over any reader and any writer.
+
+ghost use Rattle.std.specs.Prelude.{◌≡◌, ◌<◌, ◌^◌};
+ghost use Rattle.mrt.specs.FromWrite.{writer_state};
+ghost use Rattle.bgp_commands.specs.Answers.{ChecksFile, ChecksPackets, ChecksRecords};
+ghost use Rattle.bgp_commands.specs.Answers as specs;
+
+use crate::answer::Answer;
+use crate::ends::Ends;
+use bgp_check_capture_tool::{CaptureOptions, CheckedCapture, check_capture};
+use bgp_check_tool::{CheckOptions, CheckedRecording, Settings, check_recording};
+use bgp_judge::Tracker;
+use bgp_recording_tool::Peeked;
+use bgp_tool::WithFront;
+use mrt::{FromRead, FromWrite, Sink};
+use std::alloc::Global;
+use std::io::{Read, Write};
+
+/// Returns after which verdicts the options of `bgp judge` are printed: after each, or not after a
+/// yes.
+pub(crate) fn settings_with(settings: bool) -> Settings
+    ensures { result ≡ specs.settings_with settings }
+{
+    if settings {
+        Settings::Always
+    } else {
+        Settings::UnlessYes
+    }
+}
+
+/// Returns how an MRT file is checked.
+fn capture_options(options: &CheckOptions) -> CaptureOptions
+    ensures { result ≡ specs.capture_options options.now }
+{
+    let CheckOptions {
+        routes,
+        settings,
+        ..
+    } = *options;
+    CaptureOptions { routes, settings }
+}
+
+/// Checks both ends of each connection in a pcap file, or the local system of each session in an
+/// MRT file. The first four octets say which it is.
+pub(crate) fn check<'a, T: Tracker<Global>, R: Read + Drop, W: Write>(
+    alloc: Global,
+    options: &CheckOptions,
+    file: &'a str,
+    reader: R,
+    sink: &mut FromWrite<W>,
+) -> Answer<'a>
+    requires { (writer_state sink.old).failures < 2 ^ 63 }
+    ensures { ChecksFile R.remaining W.contents file.entry reader sink.old sink.new result
+        options.now }
+{
+    let peeked = Peeked::new(reader);
+    if peeked.is_recording() {
+        let (checked, ends) = check_packets::<T, _, W>(alloc, options, file, peeked, sink);
+        Answer::CheckedRecording(checked, ends)
+    } else {
+        let options = capture_options(options);
+        let (checked, ends) = check_records::<T, _, W>(alloc, &options, file, peeked, sink);
+        Answer::CheckedCapture(checked, ends)
+    }
+}
+
+/// Checks both ends of each connection in a pcap file.
+fn check_packets<'a, T: Tracker<Global>, R: Read + Drop, W: Write>(
+    alloc: Global,
+    options: &CheckOptions,
+    file: &'a str,
+    reader: R,
+    sink: &mut FromWrite<W>,
+) -> (CheckedRecording, Ends<'a>)
+    requires { (writer_state sink.old).failures < 2 ^ 63 }
+    ensures { ChecksPackets R.remaining W.contents file.entry reader sink.old sink.new options.now
+        result.0 result.1 }
+{
+    let mut source = FromRead::new(reader);
+    let failures = sink.failures();
+    let checked = check_recording::<Global, T, _, _>(alloc, options, &mut source, sink);
+    let ends = Ends::of(file, &source, sink, failures, None);
+    (checked, ends)
+}
+
+/// Checks the local system of each session in an MRT file.
+fn check_records<'a, T: Tracker<Global>, R: Read + Drop, W: Write>(
+    alloc: Global,
+    options: &CaptureOptions,
+    file: &'a str,
+    reader: R,
+    sink: &mut FromWrite<W>,
+) -> (CheckedCapture, Ends<'a>)
+    requires { (writer_state sink.old).failures < 2 ^ 63 }
+    ensures { ChecksRecords R.remaining W.contents file.entry reader sink.old sink.new options.now
+        result.0 result.1 }
+{
+    let mut source = WithFront::new(FromRead::new(reader));
+    let failures = sink.failures();
+    let checked = check_capture::<Global, T, _, _>(alloc, options, &mut source, sink);
+    let note = checked.file_note(file, source.front());
+    let ends = Ends::of(file, source.source(), sink, failures, note);
+    (checked, ends)
+}
