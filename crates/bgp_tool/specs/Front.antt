@@ -25,9 +25,13 @@ is_pcapng front = begins front (10 ∷ 13 ∷ 13 ∷ 10 ∷ [])
 abbrev pub is_gzip : List ℕ → Bool
 is_gzip front = begins front (31 ∷ 139 ∷ 8 ∷ [])
 
--- of bzip2: BZh
+-- of bzip2: BZh, and how hard it compresses, a digit from 1 to 9
+abbrev pub is_level : ℕ → Bool
+is_level octet = nat_le 49 octet && nat_le octet 57
+
 abbrev pub is_bzip2 : List ℕ → Bool
 is_bzip2 front = begins front (66 ∷ 90 ∷ 104 ∷ [])
+    && (nat_le 4 (length front) && is_level (slice_index front 3))
 
 -- of xz: fd, 7zXZ and 00
 abbrev pub is_xz : List ℕ → Bool
@@ -86,10 +90,14 @@ is_digits_octet octet =
 abbrev pub are_digits : List ℕ → Bool
 are_digits start = list_all is_digits_octet start
 
--- hexadecimal digits, unless the first six are 0 and may be an address
+-- an address, 0, as dumps begin: six digits or more, or four and a blank
+abbrev pub begins_with_address : List ℕ → Bool
+begins_with_address start = begins start (48 ∷ 48 ∷ 48 ∷ 48 ∷ 48 ∷ 48 ∷ [])
+    || begins start (48 ∷ 48 ∷ 48 ∷ 48 ∷ 32 ∷ [])
+
+-- hexadecimal digits, unless they begin with what may be an address
 abbrev pub is_digits : List ℕ → Bool
-is_digits start =
-    not (begins start (48 ∷ 48 ∷ 48 ∷ 48 ∷ 48 ∷ 48 ∷ [])) && are_digits start
+is_digits start = not (begins_with_address start) && are_digits start
 
 -- an octet of a text: printable, a tab or an end of line
 abbrev pub is_text_octet : ℕ → Bool
@@ -106,13 +114,17 @@ text_form start =
 
 -- ---- what a file is
 
+-- which text a file is, by its first octets: of fewer than eight it isn't said
+unfoldable pub text_of : List ℕ → Option Form
+text_of front = if nat_le 8 (length front) then text_form (take 16 front) else None
+
 -- nothing that a command reads: compressed, an archive, or a text
 unfoldable pub packed_or_text : List ℕ → Option Form
 packed_or_text front =
     if is_gzip front then Some Gzip else (if is_bzip2 front then Some Bzip2
     else (if is_xz front then Some Xz else (if is_zstd front then Some Zstd
     else (if is_zip front then Some Zip else (if is_tar front then Some Tar
-    else text_form (take 16 front))))))
+    else text_of front)))))
 
 -- what the file is, if its front shows it
 unfoldable pub form_of : List ℕ → Option Form

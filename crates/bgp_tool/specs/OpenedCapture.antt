@@ -46,11 +46,17 @@ abbrev pub unmet_by : Bool → Option Endpoints → Option Unmet
 unmet_by true other = None
 unmet_by false other = Some (record { other = other })
 
--- What a file is that begins as no capture does: a capture all the same, where a record of another
--- session was met.
-abbrev pub unless_met : Option Endpoints → Option Form → Option Form
-unless_met None form = form
-unless_met (Some other) form = None
+-- a record is refused that may be one of the session
+abbrev pub refuses_of_session : Option CaptureFault → Bool
+refuses_of_session None = false
+refuses_of_session (Some fault) = may_be_of_session fault.kind
+
+-- What a file is that begins as no capture does: a capture all the same, if a record of another
+-- session was met, or one that may be of this session is refused.
+abbrev pub unless_met : Option Endpoints → Bool → Option Form → Option Form
+unless_met None false form = form
+unless_met None true form = None
+unless_met (Some other) of_session form = None
 
 -- What is told of what was read of a capture, by whether a record of the session was read, what the
 -- file is if it is no capture, why it is refused if it is, what is lacking in it if it is judged
@@ -68,7 +74,7 @@ module _ (command : CaptureCommand) (file : Bor (List ℕ)) where
   abbrev pub told_by : Bool → Option Form → Option CaptureFault → Option Seen → Option Endpoints
       → Option Note
   told_by found form fault lacking other =
-      told_where found (unless_met other form) fault lacking other
+      told_where found (unless_met other (refuses_of_session fault) form) fault lacking other
 
   -- by the first octets and what was found
   abbrev pub told_of : List ℕ → records.ReaderState → Option CaptureFault → Option Seen

@@ -215,7 +215,19 @@ fn packed_or_text(front: &[u8]) -> Option<Form>
     } else if is_tar(front) {
         Some(Form::Tar)
     } else {
+        text_of(front)
+    }
+}
+
+/// Returns which text a file is that begins so. Of fewer than eight octets it isn't said.
+#[tactic(auto, unfolding(crate::specs::Front::text_of))]
+fn text_of(front: &[u8]) -> Option<Form>
+    ensures { result ≡ spec.text_of front.now }
+{
+    if front.len() >= 8 {
         text_form(start_of(front))
+    } else {
+        None
     }
 }
 
@@ -271,7 +283,14 @@ fn is_gzip(front: &[u8]) -> bool
 fn is_bzip2(front: &[u8]) -> bool
     ensures { result ≡ spec.is_bzip2 front.now }
 {
-    front.starts_with(b"BZh")
+    front.starts_with(b"BZh") && front.len() >= 4 && is_level(front[3])
+}
+
+/// Whether bzip2 compresses with this level: a digit, but not 0.
+fn is_level(octet: u8) -> bool
+    ensures { result ≡ spec.is_level octet }
+{
+    matches!(octet, b'1'..=b'9')
 }
 
 /// Whether what xz compressed begins so.
@@ -335,11 +354,18 @@ fn is_dump(start: &[u8]) -> bool
     start.starts_with(b"00000000:")
 }
 
-/// Whether hexadecimal digits begin so. If six of them are 0, they may be an address.
+/// Whether hexadecimal digits begin so, and not what may be an address.
 fn is_digits(start: &[u8]) -> bool
     ensures { result ≡ spec.is_digits start.now }
 {
-    !start.starts_with(b"000000") && are_digits(start)
+    !begins_with_address(start) && are_digits(start)
+}
+
+/// Whether the address 0 begins so, as dumps have it: six digits or more, or four and a blank.
+fn begins_with_address(start: &[u8]) -> bool
+    ensures { result ≡ spec.begins_with_address start.now }
+{
+    start.starts_with(b"000000") || start.starts_with(b"0000 ")
 }
 
 /// Whether all of these octets are hexadecimal digits, or stand between two.

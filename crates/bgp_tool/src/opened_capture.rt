@@ -8,6 +8,7 @@ ghost use Rattle.bgp_tool.specs.declared.note.Note.TheVariants as notes;
 ghost use Rattle.bgp_tool.specs.Front.{no_capture as no_capture_by};
 ghost use Rattle.bgp_tool.specs.Opened.{IsUnopened};
 ghost use Rattle.bgp_tool.specs.OpenedCapture.{told_by, unmet_by, unless_met, may_be_of_session};
+ghost use Rattle.bgp_tool.specs.OpenedCapture.{refuses_of_session};
 ghost use Rattle.bgp_tool.specs.OpenedCapture.{DecodesOpened};
 
 use crate::captures::decode_with;
@@ -138,7 +139,8 @@ fn told<'a, A: Allocator + Copy>(
         };
     }
     let other = records.first_other();
-    if let Some(form) = unless_met(other, no_capture(front)) {
+    let of_session = refuses_of_session(refused);
+    if let Some(form) = unless_met(other, of_session, no_capture(front)) {
         return Some(Note::NoCapture {
             file,
             form,
@@ -154,13 +156,24 @@ fn told<'a, A: Allocator + Copy>(
     }
 }
 
-/// What a file is that begins as no capture does, unless a record of another session was met.
-fn unless_met(other: Option<Endpoints>, form: Option<Form>) -> Option<Form>
-    ensures { result ≡ unless_met other form }
+/// Returns what a file is that begins as no capture does, unless a record of another session was
+/// met, or one that may be of this session is refused.
+fn unless_met(other: Option<Endpoints>, of_session: bool, form: Option<Form>) -> Option<Form>
+    ensures { result ≡ unless_met other of_session form }
 {
     match other {
-        None => form,
-        Some(_) => None,
+        None if !of_session => form,
+        _ => None,
+    }
+}
+
+/// Returns whether a record is refused that may be of the session.
+fn refuses_of_session(refused: Option<CaptureFault>) -> bool
+    ensures { result ≡ refuses_of_session refused }
+{
+    match refused {
+        None => false,
+        Some(fault) => may_be_of_session(fault.kind),
     }
 }
 
@@ -169,15 +182,24 @@ fn unless_met(other: Option<Endpoints>, form: Option<Form>) -> Option<Form>
 fn unmet_at(kind: FaultKind, other: Option<Endpoints>) -> Option<Unmet>
     ensures { result ≡ unmet_by (may_be_of_session kind) other }
 {
+    if may_be_of_session(kind) {
+        None
+    } else {
+        Some(Unmet { other })
+    }
+}
+
+/// Returns whether a record that is refused so may be one of the session.
+fn may_be_of_session(kind: FaultKind) -> bool
+    ensures { result ≡ may_be_of_session kind }
+{
     match kind {
-        FaultKind::Truncated | FaultKind::TooLong | FaultKind::Device | FaultKind::Memory => {
-            Some(Unmet { other })
-        }
+        FaultKind::Truncated | FaultKind::TooLong | FaultKind::Device | FaultKind::Memory => false,
         FaultKind::Body
         | FaultKind::BadState
         | FaultKind::NotAMessage
         | FaultKind::TimeBack
         | FaultKind::RouteRefresh
-        | FaultKind::AddPath => None,
+        | FaultKind::AddPath => true,
     }
 }
