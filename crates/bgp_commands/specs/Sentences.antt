@@ -162,10 +162,13 @@ abbrev pub confederation_sentence : Bool → Option Sentence
 confederation_sentence true = Some (Note notes.Confederation)
 confederation_sentence false = None
 
+abbrev pub record_sentences : {X : Type 0} → FileOutcome X → List Sentence
+record_sentences outcome = some_of (option_map CutShort outcome.cut_short
+    ∷ received_sentence outcome.skipped ∷ sent_sentence outcome.skipped
+    ∷ confederation_sentence outcome.confederation ∷ [])
+
 abbrev pub read_sentences : {X : Type 0} → FileOutcome X → List Sentence
-read_sentences outcome =
-    some_of (option_map CutShort outcome.cut_short ∷ received_sentence outcome.skipped
-    ∷ sent_sentence outcome.skipped ∷ confederation_sentence outcome.confederation ∷ [])
+read_sentences outcome = record_sentences outcome
     ++ (some_of (map of_remark outcome.remarks.items)
     ++ option_to_list (option_map Note outcome.note))
 

@@ -8,7 +8,7 @@ ghost use Rattle.bgp_commands.specs.Sentences.{fault_sentence, import_sentences}
 ghost use Rattle.bgp_commands.specs.Sentences.{listed_capture_sentences, listed_sentences};
 ghost use Rattle.bgp_commands.specs.Sentences.{listed_recording_sentences, made_sentence};
 ghost use Rattle.bgp_commands.specs.Sentences.{made_sentences, nothing_sentences, one_help};
-ghost use Rattle.bgp_commands.specs.Sentences.{read_sentences, recording_sentences};
+ghost use Rattle.bgp_commands.specs.Sentences.{read_sentences, record_sentences, recording_sentences};
 ghost use Rattle.bgp_commands.specs.Sentences.{refused_sentences, some_of, wrapped_sentence};
 ghost use Rattle.bgp_commands.specs.declared.sentence.Sentence.TheVariants.{OneName};
 
@@ -16,18 +16,18 @@ use crate::answer::Destination;
 use crate::ends::{Ends, Output};
 use crate::sentence::Sentence;
 use crate::sentences::{
-    cause_sentence, cut_short_sentence, fault_sentence, help_sentence, made_sentence,
-    note_or, nothing_listed, one_help, passed_over_sentences, unmade_sentence, unwritten_sentence,
+    cause_sentence, confederation_sentence, cut_short_sentence, fault_sentence, help_sentence,
+    made_sentence, note_or, note_sentence, nothing_listed, one_help, passed_over_sentences,
+    unmade_sentence, unwritten_sentence,
     wrapped_sentence,
 };
 use crate::voice::{Voice, say_each, say_remarks, say_some};
 use bgp_check_capture_tool::CheckedCapture;
 use bgp_check_tool::CheckedRecording;
-use bgp_import::{NotLookedInto, Wrapped};
-use bgp_import::{self as import, Imported, Notes, Refusal, Stopped};
+use bgp_import::{self as import, Imported, NotLookedInto, Notes, Refusal, Stopped, Wrapped};
 use bgp_list::{ListedCapture, ListedRecording, NothingListed};
 use bgp_recording_tool::FileOutcome;
-use bgp_tool::{Note, Outcome};
+use bgp_tool::Outcome;
 use mrt::CaptureFault;
 use std::alloc::Global;
 
@@ -36,23 +36,26 @@ pub(crate) fn ended<V: Voice>(voice: &mut V, outcome: &Outcome<'_>)
     ensures { V.says voice.old voice.new (ended_sentences outcome.now) }
 {
     let (received, sent) = passed_over_sentences(outcome.skipped);
-    let note = outcome.note.map(|note| Sentence::Note(note));
-    say_each(voice, &[received, sent, note]);
+    say_each(voice, &[received, sent, note_sentence(outcome.note)]);
 }
 
 /// Says how `decode --mrt` or `judge` ended.
 pub(crate) fn read<V: Voice>(voice: &mut V, outcome: &FileOutcome<'_, Global>)
     ensures { V.says voice.old voice.new (read_sentences outcome.now) }
 {
+    of_records(voice, outcome);
+    say_remarks(voice, outcome.remarks.as_slice());
+    say_some(voice, note_sentence(outcome.note));
+}
+
+/// Says what there is to say of the file's packets and records.
+fn of_records<V: Voice>(voice: &mut V, outcome: &FileOutcome<'_, Global>)
+    ensures { V.says voice.old voice.new (record_sentences outcome.now) }
+{
     let cut_short = cut_short_sentence(outcome.cut_short);
     let (received, sent) = passed_over_sentences(outcome.skipped);
-    let confederation = outcome
-        .confederation
-        .then_some(Sentence::Note(Note::Confederation));
-    let note = outcome.note.map(|note| Sentence::Note(note));
+    let confederation = confederation_sentence(outcome.confederation);
     say_each(voice, &[cut_short, received, sent, confederation]);
-    say_remarks(voice, outcome.remarks.as_slice());
-    say_some(voice, note);
 }
 
 /// Says that `import` names one file twice.

@@ -40,6 +40,24 @@ pub(crate) fn passed_over_sentences<'a>(
     )
 }
 
+/// Returns a note, if there is one.
+pub(crate) fn note_sentence<'a>(note: Option<Note<'a>>) -> Option<Sentence<'a>>
+    ensures { result ≡ option_map sentences.Note note.entry }
+{
+    note.map(|note| Sentence::Note(note))
+}
+
+/// Returns that an UPDATE of a confederation is among the records, if one is.
+pub(crate) fn confederation_sentence<'a>(is_there: bool) -> Option<Sentence<'a>>
+    ensures { result ≡ specs.confederation_sentence is_there }
+{
+    if is_there {
+        Some(Sentence::Note(Note::Confederation))
+    } else {
+        None
+    }
+}
+
 /// Returns what helps against a refusal, if anything does.
 pub(crate) fn help_sentence<'a>(refusal: Refusal) -> Option<Sentence<'a>>
     ensures { result ≡ specs.help_sentence refusal }

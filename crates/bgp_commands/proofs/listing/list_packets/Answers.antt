@@ -1,0 +1,17 @@
+use Rattle.std.proofs.Common.{ℕ, None, subst}
+use Rattle.mrt.specs.FromRead.{reader_state}
+use Rattle.mrt.specs.FromWrite.{writer_state}
+use Rattle.bgp_commands.specs.Ends.{AreEnds}
+use Rattle.bgp_commands.proofs.listing.list_packets.Goals as goal
+
+pub returns : goal.returns
+returns g c = record {
+  begun = c.new-source.result;
+  read = c.list_recording-listed.new.source;
+  fresh = c.new-source.ensures;
+  is_call = c.list_recording-listed.ensures;
+  are_ends = subst
+      (λ (n : ℕ). AreEnds c.args.file (reader_state c.list_recording-listed.new.source)
+      (writer_state c.list_recording-listed.new.sink) n None c.of-ends.result)
+      c.failures-failures.ensures c.of-ends.ensures;
+}
