@@ -5,8 +5,8 @@ use Rattle.std.specs.Borrow.{Bor}
 use Rattle.std.specs.Global.{Global}
 use Rattle.std.specs.IoError.{error_kind}
 use Rattle.std.specs.declared.io.Error.{Error}
-use Rattle.mrt.specs.FromRead.{ReaderState, fresh_reader, reader_state, Gives}
-use Rattle.mrt.specs.FromWrite.{WriterState, writer_state, Takes}
+use Rattle.mrt.specs.FromRead.{fresh_reader, reader_state, Gives}
+use Rattle.mrt.specs.FromWrite.{writer_state, Takes}
 use Rattle.mrt.specs.declared.fault.CaptureFault.{CaptureFault}
 use Rattle.mrt.specs.declared.sink.FromWrite.{FromWrite}
 use Rattle.mrt.specs.declared.source.FromRead.{FromRead}

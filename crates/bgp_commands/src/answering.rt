@@ -18,9 +18,9 @@ use crate::listing::list;
 use crate::voice::Voice;
 use bgp_check_tool::CheckOptions;
 use bgp_explain::Report;
+use bgp_import::RecordingOptions;
 use bgp_judge::Tracker;
 use bgp_open::Config;
-use bgp_import::RecordingOptions;
 use bgp_prefix::Session;
 use bgp_recording_tool::{FileOutcome, decode_file, judge_file};
 use bgp_tool::{Outcome, decode_opened, unopened};
@@ -142,9 +142,7 @@ fn answer_from<'a, T: Tracker<Global>, R: Read + Drop, W: Write>(
             session,
             recording,
             file,
-        } => Answer::Read(decode_session(
-            alloc, &session, &recording, file, reader, sink,
-        )),
+        } => Answer::Read(decode_session(alloc, &session, &recording, file, reader, sink)),
         Command::Judge {
             config,
             recording,

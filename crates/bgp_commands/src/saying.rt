@@ -18,8 +18,7 @@ use crate::sentence::Sentence;
 use crate::sentences::{
     cause_sentence, confederation_sentence, cut_short_sentence, fault_sentence, help_sentence,
     made_sentence, note_or, note_sentence, nothing_listed, one_help, passed_over_sentences,
-    unmade_sentence, unwritten_sentence,
-    wrapped_sentence,
+    unmade_sentence, unwritten_sentence, wrapped_sentence,
 };
 use crate::voice::{Voice, say_each, say_remarks, say_some};
 use bgp_check_capture_tool::CheckedCapture;
@@ -131,11 +130,7 @@ fn helps<V: Voice>(voice: &mut V, refusals: &[Option<Refusal>])
 }
 
 /// Says how `list` of a pcap file ended.
-pub(crate) fn listed_recording<V: Voice>(
-    voice: &mut V,
-    listed: &ListedRecording,
-    ends: &Ends<'_>,
-)
+pub(crate) fn listed_recording<V: Voice>(voice: &mut V, listed: &ListedRecording, ends: &Ends<'_>)
     ensures { V.says voice.old voice.new (listed_recording_sentences listed.now ends.now) }
 {
     match ends.output {
@@ -209,11 +204,7 @@ fn ends_of_recording<V: Voice>(voice: &mut V, checked: &CheckedRecording, ends: 
 }
 
 /// Says how `check` of an MRT file ended.
-pub(crate) fn checked_capture<V: Voice>(
-    voice: &mut V,
-    checked: &CheckedCapture,
-    ends: &Ends<'_>,
-)
+pub(crate) fn checked_capture<V: Voice>(voice: &mut V, checked: &CheckedCapture, ends: &Ends<'_>)
     ensures { V.says voice.old voice.new (checked_capture_sentences checked.now ends.now) }
 {
     match ends.output {

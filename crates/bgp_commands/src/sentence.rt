@@ -1,7 +1,6 @@
 //! What the program says on standard error, one sentence a line.
 
-use bgp_import::NotLookedInto;
-use bgp_import::{self as import, CutShort, Help, Refusal};
+use bgp_import::{self as import, CutShort, Help, NotLookedInto, Refusal};
 use bgp_list::NothingListed;
 use bgp_recording_tool::Remark;
 use bgp_tool::{ErrorWords, Note};
@@ -93,10 +92,7 @@ impl fmt::Display for Sentence<'_> {
             Sentence::NoEndOfRecording(nothing) => write!(f, "{nothing}"),
             Sentence::NoEndOfCapture(nothing) => write!(f, "{nothing}"),
             Sentence::OneName { file } => {
-                write!(
-                    f,
-                    "{file:?} is FILE and OUT: give the capture another name"
-                )
+                write!(f, "{file:?} is FILE and OUT: give the capture another name")
             }
             Sentence::Unwritten { file, octet, error } => put_unwritten(f, file, octet, error),
             Sentence::Waiting { port } => write!(f, "waiting for a peer at 127.0.0.1:{port}"),
@@ -104,7 +100,11 @@ impl fmt::Display for Sentence<'_> {
                 write!(f, "can't listen at 127.0.0.1:{port}: {}", ErrorWords(error))
             }
             Sentence::NoConnection { port, error } => {
-                write!(f, "no connection at 127.0.0.1:{port}: {}", ErrorWords(error))
+                write!(
+                    f,
+                    "no connection at 127.0.0.1:{port}: {}",
+                    ErrorWords(error)
+                )
             }
             Sentence::NoMemory => f.write_str("memory was refused"),
         }

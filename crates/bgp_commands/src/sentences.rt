@@ -8,8 +8,7 @@ ghost use Rattle.bgp_commands.specs.declared.sentence.Sentence.TheVariants as se
 use crate::answer::Destination;
 use crate::ends::{Ends, Output};
 use crate::sentence::Sentence;
-use bgp_import::NotLookedInto;
-use bgp_import::{self as import, Cause, CutShort, Refusal};
+use bgp_import::{self as import, Cause, CutShort, NotLookedInto, Refusal};
 use bgp_list::{ListedRecording, NothingListed};
 use bgp_tool::{Note, passed_over};
 use mrt::{CaptureFault, FaultKind, SkippedRecords};
@@ -75,10 +74,7 @@ pub(crate) fn one_help<'a>(refusal: Option<Refusal>) -> Option<Sentence<'a>>
 
 /// Returns that memory was refused or that the file can't be read, if a pcap file is refused for
 /// that.
-pub(crate) fn cause_sentence<'a>(
-    ends: &Ends<'a>,
-    refusal: Option<Refusal>,
-) -> Option<Sentence<'a>>
+pub(crate) fn cause_sentence<'a>(ends: &Ends<'a>, refusal: Option<Refusal>) -> Option<Sentence<'a>>
     ensures { result ≡ specs.cause_sentence ends.now refusal }
 {
     let Ends {

@@ -13,7 +13,6 @@ use crate::sentences::unwritten_sentence;
 use crate::voice::{StandardError, Voice, say_each, say_some};
 use bgp_compact::CompactTracker;
 use bgp_open::Config;
-
 use bgp_speak_tool::{Watched, announce_note, pair_session, speak_as};
 use bgp_talk::{SocketWire, Speaking, Start};
 use bgp_tool::{Note, Status};

@@ -4,9 +4,7 @@ use crate::runs::{print_file, run, words_in};
 use bgp_commands::run_words;
 use bgp_talk::SocketWire;
 use std::io;
-use std::net::{
-    Ipv4Addr, Net, OpenListener, SocketAddr, SocketAddrV4, TcpListener, TcpStream,
-};
+use std::net::{Ipv4Addr, Net, OpenListener, SocketAddr, SocketAddrV4, TcpListener, TcpStream};
 use std::rt::{Clock, Files};
 
 /// The words of `bgp speak`, but for the port and the file.

@@ -14,7 +14,7 @@ enum Kind {
     Prefixes,
 }
 
-static TABLES: [(&str, Kind); 10] = [
+static TABLES: [(&str, Kind); 11] = [
     ("cases.txt", Kind::Cases),
     ("judged.txt", Kind::Cases),
     ("explained.txt", Kind::Cases),
