@@ -22,7 +22,7 @@ pub enum Sentence<'a> {
     Help(Help),
     /// How an MRT file was made of a pcap file.
     Made(import::Note),
-    /// No MRT record begins at this octet of an MRT file.
+    /// What stands at this octet of an MRT file is no record, or a longer one than is read.
     NoRecord {
         /// The file's name, or `-` for standard input.
         file: &'a str,
@@ -85,7 +85,7 @@ impl fmt::Display for Sentence<'_> {
             Sentence::Made(note) => write!(f, "{note}"),
             Sentence::NoRecord { file, offset } => write!(
                 f,
-                "{file:?}: no record of MRT begins at octet {offset}; a recording is pcap or pcapng"
+                "{file:?}: the record at octet {offset} is longer than any that is read, or none begins there"
             ),
             Sentence::NothingListed(nothing) => write!(f, "{nothing}"),
             Sentence::NotLookedInto(wrapped) => write!(f, "{wrapped}"),
