@@ -45,8 +45,8 @@ HasMemory last_packet (AllRefused addresses refusal) = Unit {0}
 
 -- ---- the law
 
--- What is told of a recording are these lines, block by block. And the first lines are those that a
--- list of it has, at the same places.
+-- What is told of a recording are these lines, block by block. And each first line is one that a
+-- list of it has, at the same place.
 pub record TellsTheList (routes : Bool) (port : ℕ) (packets : List Recorded) (last_packet : ℕ)
     (blocks : List (ℕ × Block)) : Type 0 where
   pub is_text : blocks_text routes blocks

@@ -38,9 +38,11 @@ pub fn each_of_them_is_told()
     ensures refused { EachRefusalIsTold }
 {}
 
-/// Without the lines of a connection's ends, what [`check_recording`](crate::check_recording) tells
-/// of a recording is what `bgp list` does: a line a connection, or for two addresses of whose
-/// connections none can be told, at the same packets, unless memory was refused.
+/// Without the lines of its ends, what [`check_recording`](crate::check_recording) prints of a
+/// connection is a line of `bgp list`, at the same packet; and so it is of two addresses none of
+/// whose connections can be read. That none is left out is said by `check_recording` itself. Of what
+/// follows the connections (that the file is cut short, how many ends there are) nothing is said,
+/// nor if memory was refused.
 pub fn without_its_ends_it_is_the_list()
     ensures { ListIsWithoutEnds }
 {}
