@@ -170,7 +170,7 @@ module _ (addresses : Addresses) (named : List Located) (plain : Bool) (end : St
       let it = names_it f.view.session f.stretch leaving end.told no.number no.peer no.under no.count is no.is in
       let place = ap (λ (p : Part). p.before + unwrap_or end.told.impossible 0 + 1) f.is.is_part ∙ ap (λ (o : Option ℕ). length f.front + unwrap_or o 0 + 1) it.is_named in
       let found : it.place ≡ slice_index_or is.left.places no.count (length f.stretch) =
-          ap (λ (o : Option ℕ). unwrap_or o 0) (sym it.is_named ∙ is.is_place ∙ ap (λ (a : AnswerValue). place_of a is.left.places (length f.stretch)) answered) in
+      ap (λ (o : Option ℕ). unwrap_or o 0) (sym it.is_named ∙ is.is_place ∙ ap (λ (a : AnswerValue). place_of a is.left.places (length f.stretch)) answered) in
       let names = subst (λ (n : ℕ). Names (end_text routes addresses.local (Stretch end)) n addresses.local) place
       (told_names routes addresses.local end no.number no.peer no.under no.count no.is) in
       record {

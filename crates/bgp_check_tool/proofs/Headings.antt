@@ -19,6 +19,7 @@ behind x y z n ends =
     sym (append_assoc x (y ++ (z ++ n)) ends ∙ ap (λ (o : List ℕ). x ++ o) (append_assoc y (z ++ n) ends ∙ ap (λ (o : List ℕ). y ++ o) (append_assoc z n ends)))
 
 unfolding neither_text turned_down_text session_text
+
 one_text : (routes : Bool) (block : Block) → block_text routes block ≡ line_text (heading block) ++ end_lines routes block
 one_text routes (BothEnds session opening first second opener other) =
     behind (opening_text session opening) (codes " ") (octets_text first second) (codes "\n") (end_lines routes (BothEnds session opening first second opener other))

@@ -35,18 +35,21 @@ returns-clause-puts g c =
     record {
       text = blocks_text c.args.options.now.routes named puts.blocks;
       wrote = subst (λ (telling : Telling). Writes c.args.lines.now c.put_sessions-counted.new.lines (blocks_text telling.routes named puts.blocks)) c.of-telling.ensures puts.wrote;
-      tells = inl (record {
-        named = named;
-        offset = c.in-Ok.file.offset;
-        refusal = c.in-Ok.file.refusal;
-        plain = c.in-Ok.file.is_plain;
-        has = c.in-Ok.ensures.plain;
-        blocks = puts.blocks;
-        are = puts.are;
-        told = subst (λ (telling : Telling). AllByRecursion (IsBlock telling named) puts.blocks) c.of-telling.ensures puts.told;
-        is_text = refl;
-        is_tally = puts.tallied;
-        are_firsts = puts.added;
-        is_fault = c.fault-fault.ensures;
-      }, ap length (c.in_order.ensures ∙ holds.in_order));
+      tells = inl (
+        record {
+          named = named;
+          offset = c.in-Ok.file.offset;
+          refusal = c.in-Ok.file.refusal;
+          plain = c.in-Ok.file.is_plain;
+          has = c.in-Ok.ensures.plain;
+          blocks = puts.blocks;
+          are = puts.are;
+          told = subst (λ (telling : Telling). AllByRecursion (IsBlock telling named) puts.blocks) c.of-telling.ensures puts.told;
+          is_text = refl;
+          is_tally = puts.tallied;
+          are_firsts = puts.added;
+          is_fault = c.fault-fault.ensures;
+        },
+        ap length (c.in_order.ensures ∙ holds.in_order),
+      );
     }
