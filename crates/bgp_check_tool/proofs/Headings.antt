@@ -18,9 +18,8 @@ behind : (x y z n ends : List ℕ) → x ++ (y ++ (z ++ (n ++ ends))) ≡ (x ++ 
 behind x y z n ends =
     sym (append_assoc x (y ++ (z ++ n)) ends ∙ ap (λ (o : List ℕ). x ++ o) (append_assoc y (z ++ n) ends ∙ ap (λ (o : List ℕ). y ++ o) (append_assoc z n ends)))
 
-unfolding neither_text turned_down_text session_text
-
 one_text : (routes : Bool) (block : Block) → block_text routes block ≡ line_text (heading block) ++ end_lines routes block
+unfolding neither_text octets_text turned_down_text refused_text session_text
 one_text routes (BothEnds session opening first second opener other) =
     behind (opening_text session opening) (codes " ") (octets_text first second) (codes "\n") (end_lines routes (BothEnds session opening first second opener other))
 one_text routes (OneEnd session opening first second) =
@@ -40,7 +39,7 @@ all_text routes (block ∷ blocks) =
 module _ (options : CheckOptions) (packets : List Recorded) (last_packet : ℕ) where
   one_line : (place : ℕ) (block : Block) → IsToldAt options packets last_packet place block → HasMemory last_packet block
       → IsLineAt options.port packets last_packet place (heading block)
-  one_line place (BothEnds session opening first second opener other) told has = let its = told.is_block.1.1 in record {
+  one_line place (BothEnds session opening first second opener other) told has = let its = told.is_block.2 in record {
     addresses = told.addresses;
     segments = told.segments;
     has = told.has;
@@ -48,7 +47,7 @@ module _ (options : CheckOptions) (packets : List Recorded) (last_packet : ℕ) 
     is_place = told.is_place;
     is_line = (refl, refl, record { connection = its.connection; chosen = its.chosen; is_first = its.is_first; is_second = its.is_second });
   }
-  one_line place (OneEnd session opening first second) told has = let its = told.is_block.1.1 in record {
+  one_line place (OneEnd session opening first second) told has = let its = told.is_block.2 in record {
     addresses = told.addresses;
     segments = told.segments;
     has = told.has;
@@ -56,7 +55,7 @@ module _ (options : CheckOptions) (packets : List Recorded) (last_packet : ℕ) 
     is_place = told.is_place;
     is_line = (refl, refl, record { connection = its.connection; chosen = its.chosen; is_first = its.is_first; is_second = its.is_second });
   }
-  one_line place (Refused session opening refusal) told has = elim told.is_block.1.1 [
+  one_line place (Refused session opening refusal) told has = elim told.is_block.2 [
     | inl spoilt ↦ record {
       addresses = told.addresses;
       segments = told.segments;

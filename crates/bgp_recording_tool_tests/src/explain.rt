@@ -5,7 +5,7 @@ use crate::two_connections::SESSION;
 use bgp_compact::CompactTracker;
 use bgp_explain::{JudgedCapture, Report, explain_capture, judge_opened};
 use bgp_open::{Config, ConfigParts, Families};
-use bgp_tool::Note;
+use bgp_tool::{CaptureCommand, Form, Note};
 use linked_list_allocator::LocalHeap;
 use mrt::{FromWrite, MemSink, MemSource, SinkUpset};
 use std::alloc::Global;
@@ -162,12 +162,16 @@ fn is_told(
     Some(outcome.note == note && outcome.status == status && !confederation)
 }
 
-/// An empty capture is told to have no record of the session, and a file that couldn't be opened;
-/// and nothing of a capture that is explained.
+/// It is said that a file is empty, and that one couldn't be opened; and nothing of a capture that
+/// is explained.
 fn are_ends_told(alloc: Global) -> bool {
-    let (file, other) = ("a.mrt", None);
+    let file = "a.mrt";
     let error = ErrorKind::NotFound;
-    let empty = Some(Note::NoSession { file, other });
+    let empty = Some(Note::NoCapture {
+        file,
+        form: Form::Empty,
+        command: CaptureCommand::Judge,
+    });
     let unopened = Some(Note::Unopened { file, error });
     is_told(alloc, Ok(&[]), (empty, 0)) == Some(true)
         && is_told(alloc, Err(io::Error::from(error)), (unopened, 5)) == Some(true)
