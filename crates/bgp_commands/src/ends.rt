@@ -68,7 +68,7 @@ impl<'a> Ends<'a> {
         note: Option<Note<'a>>,
     ) -> Ends<'a>
         ensures { AreEnds file.entry (reader_state source.now) (writer_state sink.now) failures
-            note result }
+            note.entry result }
     {
         Ends {
             file,
