@@ -1,7 +1,9 @@
 //! What a command over a file answers, told as a case tells it: the program's own dispatch, over
 //! octets in memory.
 
-ghost use Rattle.bgp_words.specs.Import.{CanImport};
+ghost use Rattle.std.specs.Prelude.{◌↔◌, IsTrue};
+ghost use Rattle.bgp_words.specs.Import.{AreApart, CanImport};
+ghost use Rattle.bgp_words.specs.Settings.{IsOfOneFamily};
 
 use crate::case::malformed;
 use crate::file::File;
@@ -11,6 +13,7 @@ use bgp_commands::{Answer, reads_file};
 use bgp_compact::CompactTracker;
 use bgp_import::{Imported, Stopped};
 use bgp_judge::{PlainTracker, Tracker};
+use bgp_prefix::Session;
 use bgp_words::Command;
 use mrt::FromWrite;
 use std::alloc::Global;
@@ -19,7 +22,9 @@ use std::io;
 /// The lines of the answer to the words of a command over a file.
 pub(crate) fn answer_to(alloc: Global, words: &str, file: &File<'_>) -> io::Result<String> {
     let words = words_of(alloc, words)?;
-    let command = command_of(alloc, words.as_slice())?;
+    let Ok(command) = command_of(alloc, words.as_slice()) else {
+        return Err(malformed());
+    };
     answer_by_both(alloc, &command, file)
 }
 
@@ -28,9 +33,7 @@ pub(crate) fn answer_by_both(
     alloc: Global,
     command: &Command<'_>,
     file: &File<'_>,
-) -> io::Result<String>
-    requires { CanImport command.now }
-{
+) -> io::Result<String> {
     let plain = answer_by::<PlainTracker<Global>>(alloc, command, file)?;
     let compact = answer_by::<CompactTracker<Global>>(alloc, command, file)?;
     if plain == compact {
@@ -45,16 +48,50 @@ pub(crate) fn answer_by<T: Tracker<Global>>(
     alloc: Global,
     command: &Command<'_>,
     file: &File<'_>,
-) -> io::Result<String>
-    requires { CanImport command.now }
-{
+) -> io::Result<String> {
     if !reads_file(command) {
+        return Err(malformed());
+    }
+    if !can_import(command) {
         return Err(malformed());
     }
     let mut sink = FromWrite::new(Vec::new(alloc));
     let opened = Ok(file.reader());
     let answer = bgp_commands::answer_to::<T, _, _>(alloc, command, opened, &mut sink);
     lines_of(alloc, &answer, sink.into_inner().as_slice())
+}
+
+/// Whether a command, if it imports, names ends as packets have them and that can be told apart.
+fn can_import(command: &Command<'_>) -> bool
+    ensures { IsTrue result → CanImport command.now }
+{
+    match command {
+        Command::Import {
+            session,
+            recording,
+            ..
+        } => are_ends(session, recording.local_port),
+        _ => true,
+    }
+}
+
+/// Whether both addresses are of one family, and the two ends can be told apart.
+fn are_ends(session: &Session, local_port: Option<u16>) -> bool
+    ensures family { IsTrue result → IsOfOneFamily session.now }
+    ensures apart { IsTrue result → AreApart session.now local_port }
+{
+    if session.peer.family() == session.local.family() {
+        are_apart(session, local_port)
+    } else {
+        false
+    }
+}
+
+/// Whether the two ends of a session can be told apart in a recording.
+fn are_apart(session: &Session, local_port: Option<u16>) -> bool
+    ensures { IsTrue result ↔ AreApart session.now local_port }
+{
+    session.peer != session.local || local_port.is_some()
 }
 
 /// The lines of an answer that printed these octets, or wrote them as a capture. What is told on

@@ -1,8 +1,7 @@
 //! The words of a command, as `bgp` reads them, and what is meant by them.
 
-ghost use Rattle.std.specs.Prelude.{◌≡◌, IfOk, IfSome};
+ghost use Rattle.std.specs.Prelude.{◌≡◌, IfSome};
 ghost use Rattle.bgp_prefix.specs.Address.{family_of};
-ghost use Rattle.bgp_words.specs.Import.{CanImport};
 
 use crate::case::malformed;
 use bgp_import::{Import, RecordingOptions};
@@ -27,13 +26,8 @@ pub(crate) fn words_of<'a>(alloc: Global, told: &'a str) -> io::Result<Vec<&'a s
 }
 
 /// The command that words spell.
-pub(crate) fn command_of<'a>(alloc: Global, words: &'a [&'a str]) -> io::Result<Command<'a>>
-    ensures { IfOk result CanImport }
-{
-    match command_line(alloc, words) {
-        Ok(command) => Ok(command),
-        Err(_) => Err(malformed()),
-    }
+pub(crate) fn command_of<'a>(alloc: Global, words: &'a [&'a str]) -> io::Result<Command<'a>> {
+    command_line(alloc, words).map_err(|_| malformed())
 }
 
 /// What is imported of a session between two addresses of one family.
