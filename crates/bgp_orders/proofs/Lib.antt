@@ -7,3 +7,4 @@ pub mod Over
 pub mod Steps
 pub mod Rows
 pub mod Counts
+pub mod NoOrder

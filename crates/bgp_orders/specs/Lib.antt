@@ -3,3 +3,4 @@ pub mod Ways
 pub mod Explained
 pub mod Nodes
 pub mod Rows
+pub mod Connections

@@ -22,6 +22,7 @@
 //! ```
 #![tactic(auto)]
 
+mod connection;
 mod counting;
 mod explained;
 mod laws;
@@ -29,6 +30,7 @@ mod leading;
 mod node;
 mod search;
 
+pub use connection::{OverOrders, Unexplained, no_order_explains_a_no, verdict_over_orders};
 pub use counting::{MOST_NODES, explained_count};
 pub use explained::Explained;
 pub use laws::{
