@@ -16,3 +16,4 @@ pub mod CaptureEnds
 pub mod Telling
 pub mod Receiving
 pub mod OneVerdict
+pub mod Lacking

@@ -81,7 +81,7 @@ less_by n m true is = let lt = ltb-true n m is in inl (omega arith)
 less_by n m false is = inr (ltb-false n m is)
 
 -- the first impossible record is one
-not_below : (config : Config) (records : List ShownRecord) (n m : ℕ) → (¬ Begins config (take (n + 1) records)) → Begins config (take m records) → m ≤ n
+pub not_below : (config : Config) (records : List ShownRecord) (n m : ℕ) → (¬ Begins config (take (n + 1) records)) → Begins config (take m records) → m ≤ n
 not_below config records n m behind before =
     elim (less_by n m (ltb n m) refl) as (λ v. m ≤ n) [
       | inl below ↦ absurd (behind (subst (λ (v : List ShownRecord). Begins config v) (take-take (n + 1) m records below) (front_begins config (take m records) (n + 1) before)))
@@ -101,7 +101,7 @@ module _ (config : Config) (records : List ShownRecord) where
   begun : (ends : List End) → HasVerdict config records (Yes ends) → Begins config records
   begun ends says = let (e, complete) = first_end config records ends says.0 says.1.each in complete_begins config records e complete
 
-  no_other : (count : ℕ) → HasVerdict config records (No count) → Begins config records → ⊥
+  pub no_other : (count : ℕ) → HasVerdict config records (No count) → Begins config records → ⊥
   no_other count denies all = denies.2 (front_begins config records (count + 1) all)
 
   not_unfinished : (ends : List End) → HasVerdict config records (Yes ends) → HasVerdict config records Unfinished → ⊥

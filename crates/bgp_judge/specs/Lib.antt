@@ -8,6 +8,7 @@ pub mod Openings
 pub mod Ends
 pub mod Verdict
 pub mod Judging
+pub mod Memory
 pub mod Told
 pub mod Receiving
 pub mod Plain

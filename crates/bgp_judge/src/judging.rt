@@ -7,6 +7,7 @@ ghost use Rattle.bgp_open.specs.declared.config.Config.{Config as TheConfig};
 ghost use Rattle.bgp_machine.specs.Run.{Begins};
 ghost use Rattle.mrt.specs.Reader.{shown_of};
 ghost use Rattle.bgp_judge.specs.Judging.{IsAt};
+ghost use Rattle.bgp_judge.specs.Memory.{LacksMemoryFor};
 ghost use Rattle.bgp_judge.specs.Verdict.{IsVerdict};
 
 use crate::end::End;
@@ -69,7 +70,10 @@ pub fn advance<A: Allocator + Copy, T: Tracker<A>>(
 }
 
 /// Judges these records of a session: yes with every possible end, no, or unfinished. Returns
-/// `AllocError` and no verdict if the tracker is refused memory.
+/// `AllocError` and no verdict if the tracker is refused memory: before the first record or at one
+/// of them, where it may lack it, or behind them all. The tracker takes no record after an
+/// impossible one, so a no is answered whatever is refused behind that one
+/// ([law](crate::memory_is_lacked_behind_no_impossible_record)).
 ///
 /// The verdict is the same with every tracker.
 pub fn judge_records<A: Allocator + Copy, T: Tracker<A>>(
@@ -77,7 +81,9 @@ pub fn judge_records<A: Allocator + Copy, T: Tracker<A>>(
     config: &Config,
     records: &[Record<'_>],
 ) -> Result<Verdict<A>, AllocError>
-    ensures { IfOk result (IsVerdict config.now (map shown_of records.now)) }
+    ensures verdict { IfOk result (IsVerdict config.now (map shown_of records.now)) }
+    ensures memory { OnErr result (LacksMemoryFor T.may_lack_at_start T.may_lack config.now
+        (map shown_of records.now)) }
 {
     let mut tracker = T::start(alloc, config)?;
     for (count, shown) in records.iter().enumerate() {

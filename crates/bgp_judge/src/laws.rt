@@ -2,10 +2,12 @@
 
 ghost use Rattle.std.specs.Prelude.{◌≤◌, ℕ, length};
 ghost use Rattle.bgp_judge.specs.Chains.{BareChains, BareStep, BeginsByChains, EndsByChains};
+ghost use Rattle.bgp_judge.specs.Memory.{LacksNoneBehindANo};
 ghost use Rattle.bgp_judge.specs.Receiving.{HasAStep, IsImpossibleWhereOwed, IsSettled};
 ghost use Rattle.bgp_judge.specs.Told.{EachRunIsAsTold, HasOneEnd, HasOneTable, ToldOneMore};
 ghost use Rattle.bgp_judge.specs.Verdict.{HasOneVerdict, NeverNone};
 
+use crate::tracker::Tracker;
 use bgp_machine::{Head, each_owed_want_can_be_met, hear};
 use bgp_open::{Config, Link};
 use bgp_update::{read_update, some_outcome};
@@ -31,6 +33,13 @@ pub fn one_end_for_each_disabled_set()
 pub fn records_have_just_one_verdict()
     ensures one { HasOneVerdict }
     ensures some { NeverNone }
+{}
+
+/// States that where records have a verdict of no and memory is lacked for them, it is lacked before
+/// the first record or for one that isn't behind the impossible one. So a no is answered whatever
+/// is refused behind its record.
+pub fn memory_is_lacked_behind_no_impossible_record<A: Allocator + Copy, T: Tracker<A>>(tracker: &T)
+    ensures { LacksNoneBehindANo T.may_lack_at_start T.may_lack }
 {}
 
 /// Shows that an UPDATE is applied or refused on a link. One for which memory is refused isn't one

@@ -28,8 +28,8 @@ pub use end::End;
 pub use judging::{advance, judge_records, verdict_of};
 pub use laws::{
     a_member_is_reached, each_message_has_a_step, impossible_only_where_owed,
-    one_end_for_each_disabled_set, records_have_just_one_verdict, records_tell_the_state,
-    routes_decide_nothing,
+    memory_is_lacked_behind_no_impossible_record, one_end_for_each_disabled_set,
+    records_have_just_one_verdict, records_tell_the_state, routes_decide_nothing,
 };
 pub use member::PlainMember;
 pub use members::next_members;

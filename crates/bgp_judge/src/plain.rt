@@ -34,7 +34,9 @@ impl<A: Allocator + Copy> Tracker<A> for PlainTracker<A> {
         (tracker.config ≡ config) × StandFor config (Among tracker.members.items) records
         × AreApart tracker.members.items };
 
-    // It copies its members at each record.
+    // It keeps a list of members from the start, and copies them at each record.
+    ghost may_lack_at_start = { λ config. Unit {0} };
+
     ghost may_lack = { λ config records shown. Unit {0} };
 
     fn start(alloc: A, config: &Config) -> Result<PlainTracker<A>, AllocError> {

@@ -17,12 +17,17 @@ pub trait Tracker<A: Allocator + Copy>: Drop {
     /// Says for which configuration and which records the tracker stands, by what it holds now.
     ghost stands_for: { Self → TheConfig → List ShownRecord → Type 0 };
 
+    /// Says under which configuration the tracker may lack memory before it took any record.
+    ghost may_lack_at_start: { TheConfig → Type 0 };
+
     /// Says after which records, under a configuration, the tracker may lack memory for one more.
     ghost may_lack: { TheConfig → List ShownRecord → ShownRecord → Type 0 };
 
-    /// Returns a tracker that stands for no record.
+    /// Returns a tracker that stands for no record. Memory is refused only where the tracker may
+    /// lack it at the start.
     fn start(alloc: A, config: &Config) -> Result<Self, AllocError>
-        ensures { IfOk result (λ tracker. stands_for tracker config.now []) };
+        ensures start { IfOk result (λ tracker. stands_for tracker config.now []) }
+        ensures memory { OnErr result (may_lack_at_start config.now) };
 
     /// Takes one more record, and returns whether the records begin a run of the session machine.
     /// If they don't, or if memory is refused, the tracker stands for what it stood for. Memory is

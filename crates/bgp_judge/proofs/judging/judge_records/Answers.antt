@@ -1,13 +1,27 @@
-use Rattle.std.proofs.Common.{IfOk, List, map, take, subst, rules}
+use Rattle.std.proofs.Common.{IfOk, List, map, take, inl, inr, subst, rules}
 use Rattle.bgp_prefix.specs.Shown.{ShownRecord}
 use Rattle.bgp_machine.specs.Run.{Begins}
 use Rattle.mrt.specs.Reader.{shown_of}
+use Rattle.bgp_judge.specs.Memory.{LacksMemoryFor}
 use Rattle.bgp_judge.specs.Verdict.{IsVerdict}
+use Rattle.bgp_judge.proofs.Lacking.{lacks_at, on_err}
 use Rattle.bgp_judge.proofs.Verdicts.{no_record_begins, shown_more, shown_all, first_impossible}
 use Rattle.bgp_judge.proofs.judging.judge_records.Goals as goal
 
 pub loop-count-init : goal.loop-count-init
-loop-count-init g c = record { stands = c.in_ok-tracker.ensures; begins = no_record_begins c.args.config.now }
+loop-count-init g c = record { stands = c.in_ok-tracker.ensures.start; begins = no_record_begins c.args.config.now }
+
+pub returns-in_err-tracker-clause-memory : goal.returns-in_err-tracker-clause-memory
+returns-in_err-tracker-clause-memory g c =
+    on_err (LacksMemoryFor g.T.Tracker.may_lack_at_start g.T.Tracker.may_lack c.args.config.now (map shown_of c.args.records.now)) c.from_residual.result
+    (inl c.in_err-tracker.ensures.memory)
+
+pub returns-in_err-take-clause-memory : goal.returns-in_err-take-clause-memory
+returns-in_err-take-clause-memory g c =
+    let so_far = map shown_of (take c.loop-count.count c.args.records.now) in
+    on_err (LacksMemoryFor g.T.Tracker.may_lack_at_start g.T.Tracker.may_lack c.args.config.now (map shown_of c.args.records.now)) c.from_residual-in_err-take.result
+    (lacks_at g.T.Tracker.may_lack_at_start g.T.Tracker.may_lack c.args.config.now c.args.records.now c.loop-count.count _ c.loop-count-test.true c.loop-count.invariant.begins
+    (c.in_err-take.ensures.memory c.args.config.now so_far c.loop-count.invariant.stands))
 
 pub returns-then-not-branch : goal.returns-then-not-branch
 returns-then-not-branch g c =
@@ -27,8 +41,14 @@ loop-count-preserved g c =
           ((c.in_ok-take.ensures.alive c.args.config.now so_far c.loop-count.invariant.stands).0 c.if-not-branch.false);
     }
 
-pub returns : goal.returns
-returns g c =
+pub returns-clause-verdict : goal.returns-clause-verdict
+returns-clause-verdict g c =
     let all = shown_all c.args.records.now c.loop-count.count c.loop-count-test.false in
     subst (λ (v : List ShownRecord). IfOk c.verdict_of.result (IsVerdict c.args.config.now v)) all
     (c.verdict_of.ensures c.args.config.now (map shown_of (take c.loop-count.count c.args.records.now)) c.loop-count.invariant.stands c.loop-count.invariant.begins)
+
+pub returns-clause-memory : goal.returns-clause-memory
+returns-clause-memory g c =
+    let all = shown_all c.args.records.now c.loop-count.count c.loop-count-test.false in
+    on_err (LacksMemoryFor g.T.Tracker.may_lack_at_start g.T.Tracker.may_lack c.args.config.now (map shown_of c.args.records.now)) c.verdict_of.result
+    (inr (inr (subst (λ (v : List ShownRecord). Begins c.args.config.now v) all c.loop-count.invariant.begins)))

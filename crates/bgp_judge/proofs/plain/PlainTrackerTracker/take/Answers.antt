@@ -1,4 +1,4 @@
-use Rattle.std.proofs.Common.{◌≡◌, IsTrue, refl, sym, ◌∙◌, [], ◌∷◌, ◌++◌}
+use Rattle.std.proofs.Common.{IsTrue, refl, sym, ◌∙◌, [], ◌∷◌, ◌++◌}
 use Rattle.mrt.specs.Reader.{shown_of}
 use Rattle.bgp_judge.proofs.PlainStanding.{next_stands, begin_where}
 use Rattle.bgp_judge.proofs.plain.PlainTrackerTracker.take.Goals as goal
