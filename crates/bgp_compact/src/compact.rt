@@ -93,6 +93,8 @@ impl<A: Allocator + Copy> Tracker<A> for CompactTracker<A> {
     ghost stands_for = { λ tracker config records.
         TrackerStands tracker.config tracker.words tracker.table config records };
 
+    ghost may_lack_at_start = { λ config. ⊥ };
+
     ghost may_lack = { λ config records shown. TakesMemory config records shown };
 
     /// A tracker that stands for no record. It takes no memory.
