@@ -16,6 +16,7 @@ pub mod Cut
 pub mod Ends
 pub mod Over
 pub mod Checked
+pub mod Memory
 pub mod Answered
 pub mod SessionOffers
 pub mod BeforeLeaving

@@ -1,12 +1,13 @@
 //! What is answered of an end of a session.
 
-ghost use Rattle.std.specs.Prelude.{◌≡◌, IfOk, IfSome, None, Option, map, option_map};
+ghost use Rattle.std.specs.Prelude.{◌≡◌, IfOk, OnErr, IfSome, None, Option, map, option_map};
 ghost use Rattle.bgp_open.specs.Open.{OpenFields};
 ghost use Rattle.bgp_open.specs.OpenFault.{IsWellFormed};
 ghost use Rattle.bgp_judge.specs.Verdict.{verdict_value};
 ghost use Rattle.mrt.specs.Reader.{shown_of};
 ghost use Rattle.bgp_check.specs.Answered.{IsAnswerTo, IsJudged, answer_value, heard_as, number_of};
 ghost use Rattle.bgp_check.specs.Answered.{peer_as_by};
+ghost use Rattle.bgp_check.specs.Memory.{LacksMemoryAtEnd};
 ghost use Rattle.bgp_check.specs.NotJudged.{IsWhyNot};
 ghost use Rattle.bgp_parts.specs.Opens.{HasOwnOpen, HasPeersOpen};
 ghost use Rattle.bgp_check.specs.WidestOf.{AreTold, OffersNone};
@@ -98,8 +99,10 @@ fn judge_end<A: Allocator + Copy, T: Tracker<A>>(
         (option_map (λ o. o.now) peers) }
     requires none { IsWhyNot (map shown_of records.now) None }
     requires family { ¬ OffersNone (option_map (λ o. o.now) own) }
-    ensures { IfOk result (λ judged. IsJudged session.now (map shown_of records.now)
+    ensures judged { IfOk result (λ judged. IsJudged session.now (map shown_of records.now)
         judged.as_number judged.peer_as judged.under (verdict_value judged.verdict)) }
+    ensures memory { OnErr result (LacksMemoryAtEnd T.may_lack_at_start T.may_lack session.now
+        (map shown_of records.now)) }
 {
     widest_settings_are_widest();
     what_is_told_holds_over_all();
@@ -120,14 +123,17 @@ fn judge_end<A: Allocator + Copy, T: Tracker<A>>(
 /// isn't judged; or the verdict over all configurations under which the OPEN that it sent is its
 /// own, and it is a no where that OPEN has an own fault. Of the session it takes the two addresses.
 ///
-/// `AllocError` is answered where the tracker was refused memory, and then nothing else.
+/// `AllocError` is answered where the tracker was refused memory, and then nothing else: only of an
+/// end that is judged, under a configuration that [`check_records`](crate::check_records) judges.
 pub fn check_end<A: Allocator + Copy, T: Tracker<A>>(
     alloc: A,
     session: &Session,
     records: &[Record<'_>],
 ) -> Result<Answer<A>, AllocError>
-    ensures { IfOk result (λ answer.
+    ensures answer { IfOk result (λ answer.
         IsAnswerTo session.now (map shown_of records.now) (answer_value answer)) }
+    ensures memory { OnErr result (LacksMemoryAtEnd T.may_lack_at_start T.may_lack session.now
+        (map shown_of records.now)) }
 {
     let own = own_open(records);
     let peers = peers_open(records);

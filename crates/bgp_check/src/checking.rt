@@ -1,9 +1,10 @@
 //! The verdict on an end's records over all configurations under which its OPEN is its own.
 
-ghost use Rattle.std.specs.Prelude.{◌≡◌, ◌↔◌, IfOk, IsTrue, map};
+ghost use Rattle.std.specs.Prelude.{◌≡◌, ◌↔◌, IfOk, OnErr, IsTrue, map};
 ghost use Rattle.mrt.specs.Reader.{shown_of};
 ghost use Rattle.bgp_judge.specs.Verdict.{verdict_value};
 ghost use Rattle.bgp_check.specs.Checked.{IsTold, IsUnder, IsYes, tells_other};
+ghost use Rattle.bgp_check.specs.Memory.{LacksMemoryOver};
 
 use crate::widest::Widest;
 use bgp_judge::{Tracker, Verdict, judge_records};
@@ -44,7 +45,8 @@ fn tells_other<A: Allocator>(one: &Verdict<A>, other: &Verdict<A>) -> bool
 
 /// The verdict on the records of a stretch, over all configurations of the end of which these are
 /// the widest. The second one is judged only where the first isn't yes. `AllocError` is answered
-/// where the tracker was refused memory, and then no verdict.
+/// where the tracker was refused memory under a configuration that is judged, and then no verdict;
+/// as of [`judge_records`], never for what stands behind the impossible record of a no.
 pub fn check_records<A: Allocator + Copy, T: Tracker<A>>(
     alloc: A,
     widest: &Widest,
@@ -54,6 +56,8 @@ pub fn check_records<A: Allocator + Copy, T: Tracker<A>>(
         checked.wants_peers (verdict_value checked.verdict)) }
     ensures under { IfOk result (λ checked.
         IsUnder widest.now checked.wants_peers checked.under) }
+    ensures memory { OnErr result (LacksMemoryOver T.may_lack_at_start T.may_lack widest.now
+        (map shown_of records.now)) }
 {
     let Some(wanting) = widest.wanting else {
         return Ok(Checked {

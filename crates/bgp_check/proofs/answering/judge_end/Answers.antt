@@ -1,12 +1,34 @@
 use Rattle.std.proofs.Common.{map, option_map}
 use Rattle.bgp_judge.specs.Verdict.{verdict_value}
+use Rattle.bgp_judge.proofs.Lacking.{on_err}
 use Rattle.mrt.specs.Reader.{shown_of}
+use Rattle.bgp_check.specs.Memory.{LacksMemoryAtEnd}
 use Rattle.bgp_check.proofs.Answered.{with_fault}
 use Rattle.bgp_check.proofs.ToldOpen.{told_of}
 use Rattle.bgp_check.proofs.answering.judge_end.Goals as goal
 
-pub returns : goal.returns
-returns g c =
+pub returns-in_err-checked-clause-memory : goal.returns-in_err-checked-clause-memory
+returns-in_err-checked-clause-memory g c =
+    let session = c.args.session.now in
+    let own = option_map (λ o. o.now) c.args.own in
+    let peers = option_map (λ o. o.now) c.args.peers in
+    let told = told_of peers in
+    let records = map shown_of c.args.records.now in
+    on_err (LacksMemoryAtEnd g.T.Tracker.may_lack_at_start g.T.Tracker.may_lack session records) c.from_residual.result (record {
+      own = own;
+      peers = peers;
+      told = told.0;
+      widest = c.in-Some.widest;
+      none = c.requires.none;
+      has_own = c.requires.own;
+      has_peers = c.requires.peers;
+      are_told = told.1;
+      made = c.in-Some.ensures.some told.0 told.1;
+      lacks = c.in_err-checked.ensures.memory;
+    })
+
+pub returns-clause-judged : goal.returns-clause-judged
+returns-clause-judged g c =
     let session = c.args.session.now in
     let own = option_map (λ o. o.now) c.args.own in
     let peers = option_map (λ o. o.now) c.args.peers in

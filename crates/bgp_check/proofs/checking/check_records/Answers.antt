@@ -12,5 +12,5 @@ returns-else-tells_other-clause-told g c =
     let another = c.args.widest.now.another in
     let first = verdict_value c.in_ok-first.first in
     subst (λ (wanting : Option Config). IsToldBy wanting another records true first) (sym c.in-Some.is)
-    (first_is_told c.in-Some.wanting another records first (verdict_value c.in_ok-second.second) c.in_ok-first.ensures c.in_ok-second.ensures
+    (first_is_told c.in-Some.wanting another records first (verdict_value c.in_ok-second.second) c.in_ok-first.ensures.verdict c.in_ok-second.ensures.verdict
     (sym c.tells_other.ensures ∙ c.if-tells_other.false))
