@@ -1,8 +1,10 @@
 //! The verdict on records, and why it is a no or unfinished.
 
-ghost use Rattle.std.specs.Prelude.{List, ℕ, IfOk, is_some, map};
+ghost use Rattle.std.specs.Prelude.{List, ℕ, IfOk, OnErr, is_some, map};
 ghost use Rattle.bgp_prefix.specs.Shown.{ShownRecord};
 ghost use Rattle.mrt.specs.Reader.{shown_of};
+ghost use Rattle.bgp_machine.specs.Run.{Begins};
+ghost use Rattle.bgp_judge.specs.Memory.{LacksMemoryFor};
 ghost use Rattle.bgp_judge.specs.Verdict.{verdict_value};
 ghost use Rattle.bgp_text.specs.Lines.{Writes};
 ghost use Rattle.bgp_explain.specs.Details.{AreDetailsOf};
@@ -39,16 +41,20 @@ pub struct ExplainedRecords<A: Allocator = Global> {
     pub seen: Seen,
 }
 
-/// What judging records answers, by how far the judging has come with them.
+/// What judging records answers, by how far the judging has come with them. Memory is refused where
+/// the tracker lacks it for the ends, and there alone.
 fn concluded<A: Allocator + Copy, T: Tracker<A>>(
     alloc: A,
     config: &Config,
     tracker: &T,
     progress: Progress<A>,
 ) -> Result<ExplainedRecords<A>, AllocError>
-    ensures { (records : List ShownRecord)
+    ensures explained { (records : List ShownRecord)
         → IsAt (T.stands_for tracker.now) config.now records progress
         → IfOk result (AreExplained config.now records) }
+    ensures err { (records : List ShownRecord)
+        → IsAt (T.stands_for tracker.now) config.now records progress
+        → OnErr result (Begins config.now records) }
 {
     let (tally, seen) = (progress.tally, progress.seen);
     let (verdict, reason) = progress.conclude(alloc, tracker, config)?;
@@ -61,7 +67,9 @@ fn concluded<A: Allocator + Copy, T: Tracker<A>>(
 }
 
 /// Judges records, one after another, and keeps why the verdict is a no or unfinished, as far as
-/// there is memory for it. Memory is refused where the tracker lacks it.
+/// there is memory for it. `AllocError` is answered where the tracker lacks memory: before the first
+/// record, for one that doesn't stand behind the impossible one, or behind all of them where they
+/// begin a run. So what is kept for the reason never costs the verdict.
 ///
 /// Beside the tracker it holds the message that was received last and the first impossible record.
 pub fn explain_records<A: Allocator + Copy, T: Tracker<A>>(
@@ -69,7 +77,9 @@ pub fn explain_records<A: Allocator + Copy, T: Tracker<A>>(
     config: &Config,
     records: &[Record<'_>],
 ) -> Result<ExplainedRecords<A>, AllocError>
-    ensures { IfOk result (AreExplained config.now (map shown_of records.now)) }
+    ensures explained { IfOk result (AreExplained config.now (map shown_of records.now)) }
+    ensures memory { OnErr result (LacksMemoryFor T.may_lack_at_start T.may_lack config.now
+        (map shown_of records.now)) }
 {
     let mut tracker = T::start(alloc, config)?;
     let mut progress = Progress::new(alloc);

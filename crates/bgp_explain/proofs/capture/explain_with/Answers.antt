@@ -16,7 +16,7 @@ use Rattle.bgp_explain.proofs.capture.explain_with.Goals as goal
 pub follow-followed-requires-clause-at : goal.follow-followed-requires-clause-at
 follow-followed-requires-clause-at g c =
     none_at (g.T.Tracker.stands_for c.in-Ok.tracker) c.args.config.now [] c.new-progress.result c.new-progress.result.stop c.new-progress.ensures.none
-    c.in-Ok.ensures (no_record_begins c.args.config.now) (c.new-progress.ensures.told c.args.config.now)
+    c.in-Ok.ensures.start (no_record_begins c.args.config.now) (c.new-progress.ensures.told c.args.config.now)
 
 pub follow-followed-requires-clause-count : goal.follow-followed-requires-clause-count
 follow-followed-requires-clause-count g c = let told = c.new-progress.ensures.told c.args.config.now in told.count
