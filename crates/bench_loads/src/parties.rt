@@ -2,8 +2,9 @@
 //! 192.0.2.2. Both offer both families and AS numbers of four octets.
 
 use crate::broken;
-use bgp_open::{Config, ConfigParts, Families, Link, negotiate, read_open};
+use bgp_open::{Config, ConfigParts, Link, negotiate, read_open};
 use bgp_prefix::{Address, RouteRefresh, Session};
+use bgp_vectors::SPEAKER_A;
 use bgp_wire::vectors::{OPEN_A, OPEN_B};
 use std::io;
 
@@ -33,12 +34,8 @@ fn config_of(local_as: u32, local_id: u32, peer_as: u32) -> io::Result<Config> {
         local_as,
         peer_as,
         local_id,
-        hold: 90,
-        families: Families { v4: true, v6: true },
-        as4: true,
-        delay_open: false,
-        large_hold: 240,
         session: SESSION,
+        ..SPEAKER_A
     });
     match config {
         Some(config) => Ok(config),

@@ -7,29 +7,11 @@ pub(crate) mod memory;
 
 use bgp_judge::{End, PlainTracker, Verdict, judge};
 use bgp_machine::Fsm;
-use bgp_open::{Config, ConfigParts, Families};
-use bgp_prefix::{Address, RouteRefresh, Session, read_prefix};
+use bgp_open::{Config, Families};
+use bgp_prefix::{Address, read_prefix};
+use bgp_vectors::ROUTER_A;
 use mrt::{FaultKind, MemSink, MemSource, Record, Sink, is_writable, write_record};
 use std::alloc::{AllocError, Allocator, Global};
-
-/// What router A is configured to do: AS 65001 at 192.0.2.1, with AS 65002 at 192.0.2.2, Hold Time
-/// 90, both families and four-octet AS numbers.
-const PARTS_A: ConfigParts = ConfigParts {
-    local_as: 65001,
-    peer_as: 65002,
-    local_id: 0xc000_0201,
-    hold: 90,
-    families: Families { v4: true, v6: true },
-    as4: true,
-    delay_open: false,
-    large_hold: 240,
-    session: Session {
-        peer: Address::V4(0xc000_0202),
-        local: Address::V4(0xc000_0201),
-        refresh: RouteRefresh::Refused,
-        extended: false,
-    },
-};
 
 /// No family.
 pub(crate) const NONE: Families = Families {
@@ -45,7 +27,7 @@ pub(crate) const V6: Families = Families {
 
 /// Router A.
 pub(crate) fn router_a() -> Option<Config> {
-    Config::new(PARTS_A)
+    Config::new(ROUTER_A)
 }
 
 /// An end: the state, the disabled families and the prefixes of its routes.

@@ -11,28 +11,9 @@ mod taking;
 
 use bgp_machine::{Head, HoldTimer};
 use bgp_open::{Config, ConfigParts, Families, Link, negotiate, read_open};
-use bgp_prefix::{Address, RouteRefresh, Session};
+use bgp_vectors::ROUTER_A;
 use bgp_wire::vectors::OPEN_B;
 use std::process::Abort;
-
-/// What router A is configured to do: AS 65001 at 192.0.2.1, with AS 65002 at 192.0.2.2, Hold Time
-/// 90, both families and four-octet AS numbers.
-const PARTS_A: ConfigParts = ConfigParts {
-    local_as: 65001,
-    peer_as: 65002,
-    local_id: 0xc000_0201,
-    hold: 90,
-    families: Families { v4: true, v6: true },
-    as4: true,
-    delay_open: false,
-    large_hold: 240,
-    session: Session {
-        peer: Address::V4(0xc000_0202),
-        local: Address::V4(0xc000_0201),
-        refresh: RouteRefresh::Refused,
-        extended: false,
-    },
-};
 
 /// The HoldTimer of a session, set at 102 for 90 seconds.
 const TIMER: HoldTimer = HoldTimer {
@@ -50,7 +31,7 @@ const LARGE: HoldTimer = HoldTimer {
 fn router_a(rt: &impl Abort, delay_open: bool) -> Config {
     let parts = ConfigParts {
         delay_open,
-        ..PARTS_A
+        ..ROUTER_A
     };
     Config::new(parts).expect(rt, "no configuration")
 }

@@ -1,10 +1,10 @@
 //! Exchanges of router A with router B, whose answers were worked out by hand. Messages have the
 //! names of `bgp_wire::vectors`.
 
-use bgp_open::{Config, ConfigParts, Families};
+use bgp_open::{Config, ConfigParts};
 use bgp_orders::{Explained, explained_count};
-use bgp_prefix::{Address, RouteRefresh, Session};
 use bgp_recording::{Exchange, Message};
+use bgp_vectors::ROUTER_A;
 use bgp_wire::MessageType;
 use bgp_wire::vectors::{
     ANNOUNCES_10, HOLD_TIMER_EXPIRED, KEEPALIVE, KEEPALIVE_OF_18, MP_UNREACH_TWICE, OPEN_A, OPEN_B,
@@ -403,20 +403,8 @@ static ROWS: [Row; 18] = [
 /// What router A is configured to do.
 fn router_a(delays: bool) -> Option<Config> {
     Config::new(ConfigParts {
-        local_as: 65001,
-        peer_as: 65002,
-        local_id: 0xc000_0201,
-        hold: 90,
-        families: Families { v4: true, v6: true },
-        as4: true,
         delay_open: delays,
-        large_hold: 240,
-        session: Session {
-            peer: Address::V4(0xc000_0202),
-            local: Address::V4(0xc000_0201),
-            refresh: RouteRefresh::Refused,
-            extended: false,
-        },
+        ..ROUTER_A
     })
 }
 

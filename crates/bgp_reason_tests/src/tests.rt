@@ -2,18 +2,16 @@
 //! message of another type, and whether an UPDATE withdraws that is refused.
 
 use bgp_machine::Fsm;
-use bgp_open::{
-    Config, ConfigParts, Families, Link, OpenFault, OpenSubcodes, negotiate, read_open,
-};
+use bgp_open::{Config, Link, OpenFault, OpenSubcodes, negotiate, read_open};
 use bgp_parts::{
     NotificationParts, OwnOpenParts, UpdatePart, is_withdrawal, notification_parts, own_open_parts,
     update_parts,
 };
-use bgp_prefix::{Address, RouteRefresh, Session};
 use bgp_reason::{FsmErrors, Possible, States};
 use bgp_reason_text::{NotWhole, Style, put_possible, put_state};
 use bgp_text::Lines;
 use bgp_update::{Subcodes, is_clean};
+use bgp_vectors::ROUTER_A;
 use bgp_wire::HeaderFaults;
 use bgp_wire::vectors::{KEEPALIVE, MP_UNREACH_TWICE, OPEN_B};
 use mrt::{MemSink, Record};
@@ -107,27 +105,9 @@ fn each_subcode_stands_in_its_place(rt: HostRuntime) {
     assert!(rt; are_put(rt.alloc()));
 }
 
-/// AS 65001 at 192.0.2.1, with AS 65002 at 192.0.2.2, both families and four-octet AS numbers.
-const PARTS: ConfigParts = ConfigParts {
-    local_as: 65001,
-    peer_as: 65002,
-    local_id: 0xc000_0201,
-    hold: 90,
-    families: Families { v4: true, v6: true },
-    as4: true,
-    delay_open: false,
-    large_hold: 240,
-    session: Session {
-        peer: Address::V4(0xc000_0202),
-        local: Address::V4(0xc000_0201),
-        refresh: RouteRefresh::Refused,
-        extended: false,
-    },
-};
-
-/// What it and the peer's OPEN settle.
+/// What router A and the peer's OPEN settle.
 fn settled() -> Option<Link> {
-    match (Config::new(PARTS), read_open(&OPEN_B)) {
+    match (Config::new(ROUTER_A), read_open(&OPEN_B)) {
         (Some(config), Ok(open)) => Some(negotiate(&config, &open)),
         _ => None,
     }
@@ -135,7 +115,7 @@ fn settled() -> Option<Link> {
 
 /// Whether a KEEPALIVE is no OPEN of the local system's own, but a malformed one.
 fn is_no_open() -> bool {
-    match Config::new(PARTS) {
+    match Config::new(ROUTER_A) {
         Some(config) => matches!(
             own_open_parts(&config, &KEEPALIVE),
             OwnOpenParts::Malformed(OpenFault::Malformed)

@@ -1,11 +1,11 @@
 //! A verdict that is explained into a sink that fails and with little memory, and what is told of
 //! the end of a file.
 
-use crate::two_connections::SESSION;
 use bgp_compact::CompactTracker;
 use bgp_explain::{JudgedCapture, Report, explain_capture, judge_opened};
-use bgp_open::{Config, ConfigParts, Families};
+use bgp_open::{Config, ConfigParts};
 use bgp_tool::{CaptureCommand, Form, Note};
+use bgp_vectors::ROUTER_A;
 use linked_list_allocator::LocalHeap;
 use mrt::{FromWrite, MemSink, MemSource, SinkUpset};
 use std::alloc::Global;
@@ -13,17 +13,7 @@ use std::io::{self, ErrorKind};
 
 /// AS 65001 with AS 65002, where this Hold Time is configured.
 pub(crate) fn config_with(hold: u16) -> Option<Config> {
-    Config::new(ConfigParts {
-        local_as: 65001,
-        peer_as: 65002,
-        local_id: 0xc000_0201,
-        hold,
-        families: Families { v4: true, v6: true },
-        as4: true,
-        delay_open: false,
-        large_hold: 240,
-        session: SESSION,
-    })
+    Config::new(ConfigParts { hold, ..ROUTER_A })
 }
 
 /// A session in which an OPEN is sent, at second 100 (RFC 6396, 4.4, of 4-octet AS numbers).

@@ -8,25 +8,13 @@ use crate::two_connections::{JUDGED, SESSION, recording};
 use bgp_explain::Report;
 use bgp_import::RecordingOptions;
 use bgp_judge::PlainTracker;
-use bgp_open::{Config, ConfigParts, Families};
+use bgp_open::Config;
 use bgp_recording_tool::judge_recording;
+use bgp_vectors::ROUTER_A;
 use linked_list_allocator::LocalHeap;
 use mrt::{MemSink, MemSource, SourceUpset};
 use std::alloc::{Allocator, Global};
 use std::num::NonZeroUsize;
-
-/// AS 65001 with AS 65002.
-const PARTS: ConfigParts = ConfigParts {
-    local_as: 65001,
-    peer_as: 65002,
-    local_id: 0xc000_0201,
-    hold: 90,
-    families: Families { v4: true, v6: true },
-    as4: true,
-    delay_open: false,
-    large_hold: 240,
-    session: SESSION,
-};
 
 /// All connections on port 179.
 const OPTIONS: RecordingOptions = RecordingOptions {
@@ -61,7 +49,7 @@ fn outcome_of(text: &[u8], status: u8) -> Option<Outcome> {
 /// What comes of judging the recording, of which at most 40 octets are read at once, with this
 /// memory, where the read of this number fails.
 fn judged<A: Allocator + Copy>(memory: A, alloc: Global, call: u64) -> Option<Outcome> {
-    let config = Config::new(PARTS)?;
+    let config = Config::new(ROUTER_A)?;
     let mut source = MemSource::new(recording(alloc)?)
         .in_pieces_of(NonZeroUsize::new(40)?)
         .upset_at(call, SourceUpset::Fail);

@@ -12,34 +12,16 @@ mod reports;
 mod sinks;
 mod wires;
 
-use bgp_open::{Config, ConfigParts, Families};
-use bgp_prefix::{Address, Prefix, RouteRefresh, Session, read_prefix};
+use bgp_open::{Config, Families};
+use bgp_prefix::{Prefix, read_prefix};
 use bgp_talk::{MemRead, MemWire, Report, SpeakFault, Wire, WireUpset, speak};
+use bgp_vectors::SPEAKER_A;
 use bgp_wire::vectors::{KEEPALIVE, OPEN_B};
 use mrt::{MemSink, Sink, SinkUpset};
 use std::alloc::{Allocator, Global};
 use std::num::NonZeroUsize;
 
-/// What router A is configured to do: AS 65001 at 192.0.2.1, with AS 65002 at 192.0.2.2, Hold Time
-/// 90, both families and four-octet AS numbers.
-const PARTS_A: ConfigParts = ConfigParts {
-    local_as: 65001,
-    peer_as: 65002,
-    local_id: 0xc000_0201,
-    hold: 90,
-    families: Families { v4: true, v6: true },
-    as4: true,
-    delay_open: false,
-    large_hold: 240,
-    session: Session {
-        peer: Address::V4(0xc000_0202),
-        local: Address::V4(0xc000_0201),
-        refresh: RouteRefresh::NotOffered,
-        extended: false,
-    },
-};
-
-/// Its IPv4 next hop, 192.0.2.1.
+/// Router A's IPv4 next hop, 192.0.2.1.
 const HOP_4: u32 = 0xc000_0201;
 
 /// Its IPv6 next hop, 2001:db8::1.
@@ -175,7 +157,7 @@ fn upset_of(is_refused: bool) -> WireUpset {
 
 /// What a talk comes to where the core has this memory.
 fn came_of<A: Allocator + Copy>(memory: A, alloc: Global, talk: &Talk<'_>) -> Option<Came> {
-    let config = Config::new(PARTS_A)?;
+    let config = Config::new(SPEAKER_A)?;
     let own = own_of(alloc, talk.announces)?;
     spoken(memory, alloc, &config, own.as_slice(), talk)
 }

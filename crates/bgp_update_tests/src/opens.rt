@@ -17,30 +17,8 @@ mod reading;
 mod writing;
 
 use bgp_open::{Config, ConfigParts, Families, OpenSubcodes, negotiate, open_faults, read_open};
-use bgp_prefix::{Address, RouteRefresh, Session};
+use bgp_vectors::ROUTER_A;
 use std::process::Abort;
-
-/// The session of router A: 192.0.2.1 with 192.0.2.2.
-const SESSION_A: Session = Session {
-    peer: Address::V4(0xc000_0202),
-    local: Address::V4(0xc000_0201),
-    refresh: RouteRefresh::Refused,
-    extended: false,
-};
-
-/// What router A is configured to do: AS 65001 at 192.0.2.1, with AS 65002 at 192.0.2.2, Hold Time
-/// 90, both families and four-octet AS numbers.
-const PARTS_A: ConfigParts = ConfigParts {
-    local_as: 65001,
-    peer_as: 65002,
-    local_id: 0xc000_0201,
-    hold: 90,
-    families: BOTH,
-    as4: true,
-    delay_open: false,
-    large_hold: 240,
-    session: SESSION_A,
-};
 
 const BOTH: Families = Families { v4: true, v6: true };
 

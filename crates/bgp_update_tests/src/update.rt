@@ -4,34 +4,17 @@
 mod extended;
 mod memory;
 
-use bgp_open::{Config, ConfigParts, Families, Link, negotiate, read_open};
+use bgp_open::{Config, Link, negotiate, read_open};
 use bgp_path::{NextHop, Origin, PathParts};
-use bgp_prefix::{Address, RouteRefresh, Session, read_prefix};
+use bgp_prefix::read_prefix;
 use bgp_update::{Changes, Put, is_clean, most_octets, read_update};
+use bgp_vectors::SPEAKER_A;
 use bgp_wire::vectors::OPEN_B;
 use std::alloc::{AllocError, Allocator, Global};
 
-/// A router, with both families and AS numbers of 4 octets, and an external peer of AS 65002.
-static ROUTER: ConfigParts = ConfigParts {
-    local_as: 65001,
-    peer_as: 65002,
-    local_id: 0xc000_0201,
-    hold: 90,
-    families: Families { v4: true, v6: true },
-    as4: true,
-    delay_open: false,
-    large_hold: 240,
-    session: Session {
-        peer: Address::V4(0xc000_0202),
-        local: Address::V4(0xc000_0201),
-        refresh: RouteRefresh::NotOffered,
-        extended: false,
-    },
-};
-
 /// What both OPENs settle, but for whether the peer offers extended messages.
 fn link(extended: bool) -> Option<Link> {
-    let config = Config::new(ROUTER)?;
+    let config = Config::new(SPEAKER_A)?;
     let open = read_open(&OPEN_B).ok()?;
     let mut link = negotiate(&config, &open);
     link.extended = extended;

@@ -6,33 +6,15 @@ mod memory;
 mod rows;
 mod sizes;
 
-use bgp_open::{Config, ConfigParts, Families, Link, negotiate, read_open};
+use bgp_open::{Config, Families, Link, negotiate, read_open};
 use bgp_path::{
     AsPath, Items, LargeCommunity, NextHop, Origin, Path, PathParts, Segment, SegmentKind,
 };
-use bgp_prefix::{Address, Family, Prefix, RouteRefresh, Session, read_prefix};
+use bgp_prefix::{Family, Prefix, read_prefix};
 use bgp_update_writer::{Update, UpdateFault, write_update};
+use bgp_vectors::SPEAKER_A;
 use bgp_wire::vectors::OPEN_B;
 use std::alloc::{AllocError, Global};
-
-/// The router: AS 65001 at 192.0.2.1, with AS 65002 at 192.0.2.2, both families and four-octet AS
-/// numbers.
-static PARTS_A: ConfigParts = ConfigParts {
-    local_as: 65001,
-    peer_as: 65002,
-    local_id: 0xc000_0201,
-    hold: 90,
-    families: BOTH,
-    as4: true,
-    delay_open: false,
-    large_hold: 240,
-    session: Session {
-        peer: Address::V4(0xc000_0202),
-        local: Address::V4(0xc000_0201),
-        refresh: RouteRefresh::NotOffered,
-        extended: false,
-    },
-};
 
 const BOTH: Families = Families { v4: true, v6: true };
 
@@ -137,7 +119,7 @@ const WITHDRAW: Row<'static> = Row {
 
 /// What the router and its peer settle, but for what a row says otherwise.
 fn link_of(row: &Row<'_>) -> Option<Link> {
-    let config = Config::new(PARTS_A)?;
+    let config = Config::new(SPEAKER_A)?;
     let open = read_open(&OPEN_B).ok()?;
     let mut link = negotiate(&config, &open);
     link.families = row.families;

@@ -3,8 +3,8 @@
 
 use crate::judged::{Judged, common_answer};
 use crate::walk::random_session;
-use bgp_open::{Config, ConfigParts, Families};
-use bgp_prefix::{Address, RouteRefresh, Session};
+use bgp_open::{Config, ConfigParts};
+use bgp_vectors::ROUTER_A;
 use mrt::{MemSink, Record, Sink, is_writable, write_record};
 use rand_pcg::Pcg32;
 use std::alloc::Global;
@@ -12,26 +12,6 @@ use std::io;
 
 /// How many sessions there are.
 const SESSIONS: usize = 1000;
-
-/// What the router is configured to do: AS 65001 at 192.0.2.1, with AS 65002 at 192.0.2.2, Hold
-/// Time 90, both families and four-octet AS numbers. In every fourth session its OPEN is never
-/// delayed.
-const PARTS: ConfigParts = ConfigParts {
-    local_as: 65001,
-    peer_as: 65002,
-    local_id: 0xc000_0201,
-    hold: 90,
-    families: Families { v4: true, v6: true },
-    as4: true,
-    delay_open: false,
-    large_hold: 240,
-    session: Session {
-        peer: Address::V4(0xc000_0202),
-        local: Address::V4(0xc000_0201),
-        refresh: RouteRefresh::Refused,
-        extended: false,
-    },
-};
 
 /// How many sessions were judged so.
 #[derive(Clone, Copy)]
@@ -48,10 +28,10 @@ struct Counts {
 
 /// Writes a record.
 fn put(sink: &mut MemSink, record: &Record<'_>) -> io::Result<()> {
-    if sink.failures() == u64::MAX || !is_writable(&PARTS.session, record) {
+    if sink.failures() == u64::MAX || !is_writable(&ROUTER_A.session, record) {
         return Err(io::Error::from(io::ErrorKind::InvalidData));
     }
-    match write_record(sink, &PARTS.session, 65002, 65001, record) {
+    match write_record(sink, &ROUTER_A.session, 65002, 65001, record) {
         Ok(()) => Ok(()),
         Err(_) => Err(io::Error::from(io::ErrorKind::InvalidData)),
     }
@@ -109,7 +89,7 @@ fn is_next_alike(
 ) -> io::Result<bool> {
     let Some(config) = Config::new(ConfigParts {
         delay_open,
-        ..PARTS
+        ..ROUTER_A
     }) else {
         return Ok(false);
     };
@@ -127,7 +107,7 @@ fn is_next_alike(
 }
 
 /// Judges all, and prints each that the trackers don't answer alike, and then how many had which
-/// verdict. Answers whether all are so.
+/// verdict. Answers whether all are so. In every fourth session the OPEN is never delayed.
 pub(crate) fn judge_sessions<R: Print + AllocGlobal>(rt: &R) -> io::Result<bool> {
     let mut random = Pcg32::new(42, 54);
     let mut counts = Counts {

@@ -1,8 +1,8 @@
 //! The UPDATEs of the streams: whether each is one that a speaker may send on its link.
 
-use bgp_open::{Config, ConfigParts, Families, Link, negotiate, read_open};
-use bgp_prefix::{Address, RouteRefresh, Session};
+use bgp_open::{Config, ConfigParts, Link, negotiate, read_open};
 use bgp_update::is_clean;
+use bgp_vectors::SPEAKER_A;
 use bgp_wire::{Frames, Limit, MessageType, Next};
 use std::alloc::Global;
 use std::rt::Files;
@@ -68,18 +68,8 @@ fn config_of(local_as: u32, peer_as: u32, as4: bool) -> Option<Config> {
     Config::new(ConfigParts {
         local_as,
         peer_as,
-        local_id: 0xc000_0201,
-        hold: 90,
-        families: Families { v4: true, v6: true },
         as4,
-        delay_open: false,
-        large_hold: 240,
-        session: Session {
-            peer: Address::V4(0xc000_0202),
-            local: Address::V4(0xc000_0201),
-            refresh: RouteRefresh::NotOffered,
-            extended: false,
-        },
+        ..SPEAKER_A
     })
 }
 

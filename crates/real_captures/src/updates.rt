@@ -9,9 +9,10 @@
 use crate::case::octets_of;
 use bgp_open::{Config, ConfigParts, Families, Link, negotiate, read_open};
 use bgp_path::Path;
-use bgp_prefix::{Address, Prefix, RouteRefresh, Session};
+use bgp_prefix::Prefix;
 use bgp_text::write_route;
 use bgp_update::{Changes, Outcomes, Subcodes, is_clean, read_update};
+use bgp_vectors::SPEAKER_A;
 use mrt::MemSink;
 use std::alloc::{AllocError, Global};
 use std::io;
@@ -127,22 +128,12 @@ fn open_of(used: Families) -> [u8; 49] {
 fn config_of(as4: bool, is_internal: bool, used: Families) -> Option<Config> {
     Config::new(ConfigParts {
         local_as: if is_internal { 65002 } else { 65001 },
-        peer_as: 65002,
-        local_id: 0xc000_0201,
-        hold: 90,
         families: Families {
             v4: used.v4,
             v6: used.v6 || !used.v4,
         },
         as4,
-        delay_open: false,
-        large_hold: 240,
-        session: Session {
-            peer: Address::V4(0xc000_0202),
-            local: Address::V4(0xc000_0201),
-            refresh: RouteRefresh::NotOffered,
-            extended: false,
-        },
+        ..SPEAKER_A
     })
 }
 

@@ -10,8 +10,8 @@ use crate::judging::{capture_of, end_text, is_judged};
 use bgp_judge::End;
 use bgp_machine::Fsm;
 use bgp_open::{Config, ConfigParts, Families};
-use bgp_prefix::{Address, RouteRefresh, Session};
 use bgp_speaker::{Core, Run, drive};
+use bgp_vectors::SPEAKER_A;
 use rand_pcg::Pcg32;
 use std::alloc::Global;
 use std::io;
@@ -20,25 +20,7 @@ use walk::walk;
 /// How many drives there are.
 const DRIVES: u32 = 1000;
 
-/// What the core is configured to do: AS 65001 at 192.0.2.1, with AS 65002 at 192.0.2.2.
-const PARTS: ConfigParts = ConfigParts {
-    local_as: 65001,
-    peer_as: 65002,
-    local_id: 0xc000_0201,
-    hold: 90,
-    families: Families { v4: true, v6: true },
-    as4: true,
-    delay_open: false,
-    large_hold: 240,
-    session: Session {
-        peer: Address::V4(0xc000_0202),
-        local: Address::V4(0xc000_0201),
-        refresh: RouteRefresh::NotOffered,
-        extended: false,
-    },
-};
-
-/// Its IPv4 next hop, 192.0.2.1.
+/// Router A's IPv4 next hop, 192.0.2.1.
 const HOP_4: u32 = 0xc000_0201;
 
 /// Its IPv6 next hop, 2001:db8::1.
@@ -63,7 +45,7 @@ fn config_of(number: u32) -> io::Result<Config> {
         as4: number % 3 != 0,
         delay_open: number % 4 != 0,
         large_hold: if number % 11 == 0 { 20 } else { 240 },
-        ..PARTS
+        ..SPEAKER_A
     });
     match config {
         Some(config) => Ok(config),

@@ -33,7 +33,7 @@ fn is_judged(
     text: &str,
     (status, note): (u8, Option<Note<'_>>),
 ) -> Option<bool> {
-    let config = Config::new(PARTS)?;
+    let config = Config::new(ROUTER_A)?;
     let mut sink = FromWrite::new(Vec::new(alloc));
     let outcome = judge_file::<Global, PlainTracker<Global>, _, _>(
         alloc,

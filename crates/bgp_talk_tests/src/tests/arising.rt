@@ -131,7 +131,7 @@ fn are_seen(alloc: Global, config: &Config, own: &[Prefix], taken: &Cell<usize>)
 /// Whether they are, and the Cease and the change to Idle come after the last read.
 fn are_written_as_they_arise(alloc: Global) -> bool {
     let taken = Cell::new(0);
-    match (Config::new(PARTS_A), own_of(alloc, true)) {
+    match (Config::new(SPEAKER_A), own_of(alloc, true)) {
         (Some(config), Some(own)) => {
             are_seen(alloc, &config, own.as_slice(), &taken) && taken.get() == 564 + 53 + 36
         }

@@ -63,7 +63,7 @@ struct Drive {
 
 /// The drive of these inputs.
 fn drive_of(alloc: Global) -> Option<Drive> {
-    let config = Config::new(PARTS_A)?;
+    let config = Config::new(SPEAKER_A)?;
     let inputs = inputs_of(alloc)?;
     let run = drive(alloc, &config, HOP_4, HOP_6, inputs.as_slice()).ok()?;
     Some(Drive {

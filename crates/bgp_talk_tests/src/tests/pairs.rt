@@ -18,8 +18,8 @@ static RECORDS: [Record<'static>; 4] = [
 /// Writes a record. Answers whether it could be.
 fn put(sink: &mut MemSink, record: &Record<'_>) -> bool {
     sink.failures() < u64::MAX
-        && is_writable(&PARTS_A.session, record)
-        && write_record(sink, &PARTS_A.session, 65002, 65001, record).is_ok()
+        && is_writable(&SPEAKER_A.session, record)
+        && write_record(sink, &SPEAKER_A.session, 65002, 65001, record).is_ok()
 }
 
 /// A capture of so many of [`RECORDS`], if they could be written.
@@ -36,7 +36,7 @@ fn capture_of(alloc: Global, count: usize) -> Option<Vec<u8>> {
 /// What judging both captures writes and answers, each of so many of a session's first records,
 /// where this write of the sink fails.
 fn judged_pair(alloc: Global, left: usize, right: usize, fails: u64) -> Option<(Vec<u8>, u8)> {
-    let config = Config::new(PARTS_A)?;
+    let config = Config::new(SPEAKER_A)?;
     let mut left = MemSource::new(capture_of(alloc, left)?);
     let mut right = MemSource::new(capture_of(alloc, right)?);
     let mut sink = MemSink::new(alloc).upset_at(fails, SinkUpset::Fail);

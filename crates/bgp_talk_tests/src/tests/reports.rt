@@ -25,7 +25,7 @@ fn spoken<A: Allocator + Copy>(
     capture_fails: u64,
     output_fails: u64,
 ) -> Option<(Vec<u8>, usize, u8)> {
-    let config = Config::new(PARTS_A)?;
+    let config = Config::new(SPEAKER_A)?;
     let own = read_prefix("10.1.0.0/16")?;
     let mut wire = MemWire::new(alloc, &READS[..4], &SECONDS);
     let mut capture = MemSink::new(alloc).upset_at(capture_fails, SinkUpset::Fail);

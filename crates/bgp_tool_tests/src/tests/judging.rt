@@ -4,29 +4,11 @@
 use super::*;
 use bgp_compact::CompactTracker;
 use bgp_judge::{PlainTracker, Tracker};
-use bgp_open::{Config, ConfigParts, Families};
-use bgp_prefix::{Address, RouteRefresh, Session};
+use bgp_open::Config;
+use bgp_vectors::ROUTER_A;
 use bgp_wire::vectors::{MP_REACH_TRANSITIVE, OPEN_A};
 use mrt::Record::{self, Change, In, Out};
 use mrt::{Sink, is_writable, write_record};
-
-/// What router A is configured to do.
-pub(super) const PARTS_A: ConfigParts = ConfigParts {
-    local_as: 65001,
-    peer_as: 65002,
-    local_id: 0xc000_0201,
-    hold: 90,
-    families: Families { v4: true, v6: true },
-    as4: true,
-    delay_open: false,
-    large_hold: 240,
-    session: Session {
-        peer: Address::V4(0xc000_0202),
-        local: Address::V4(0xc000_0201),
-        refresh: RouteRefresh::Refused,
-        extended: false,
-    },
-};
 
 /// A session whose last UPDATE may disable IPv6 or not.
 static RECORDS: [Record<'static>; 10] = [
@@ -54,8 +36,8 @@ route 10.0.0.0/8 via 192.0.2.2 path 65002 origin 0
 /// Writes a record. Answers whether it could be.
 fn put(sink: &mut MemSink, record: &Record<'_>) -> bool {
     sink.failures() < u64::MAX
-        && is_writable(&PARTS_A.session, record)
-        && write_record(sink, &PARTS_A.session, 65002, 65001, record).is_ok()
+        && is_writable(&ROUTER_A.session, record)
+        && write_record(sink, &ROUTER_A.session, 65002, 65001, record).is_ok()
 }
 
 /// A capture of so many of [`RECORDS`], if they could be written.
@@ -71,7 +53,7 @@ fn capture_of(alloc: Global, count: usize) -> Option<Vec<u8>> {
 
 /// What judging [`RECORDS`] with this memory writes and answers.
 fn judged<A: Allocator + Copy, T: Tracker<A>>(alloc: Global, memory: A) -> Option<(Vec<u8>, u8)> {
-    let config = Config::new(PARTS_A)?;
+    let config = Config::new(ROUTER_A)?;
     let mut source = MemSource::new(capture_of(alloc, RECORDS.len())?);
     let mut sink = MemSink::new(alloc);
     let status = judge_capture::<A, T, _, _>(memory, &config, &mut source, &mut sink);

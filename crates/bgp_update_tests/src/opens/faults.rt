@@ -118,7 +118,7 @@ fn are_equal(faults: OpenFaults, again: OpenFaults) -> bool {
 
 #[test]
 fn equal_faults_have_equal_fields(rt: HostRuntime) {
-    let is_right = match Config::new(PARTS_A) {
+    let is_right = match Config::new(ROUTER_A) {
         Some(config) => are_equal(open_faults(&config, &OPEN_B), open_faults(&config, &OPEN_B)),
         None => false,
     };

@@ -31,7 +31,7 @@ fn are_copied(link: Link, again: Link, faults: OpenFaults) -> bool {
 
 /// The same of what router A settles with the peer.
 fn are_copied_of_b() -> bool {
-    match (Config::new(PARTS_A), read_open(&OPEN_B)) {
+    match (Config::new(ROUTER_A), read_open(&OPEN_B)) {
         (Some(config), Ok(open)) => are_copied(
             negotiate(&config, &open),
             negotiate(&config, &open),

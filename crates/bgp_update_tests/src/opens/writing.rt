@@ -259,7 +259,7 @@ fn keeps_two_octets(alloc: Global) -> bool {
     let Ok(mut out) = Vec::from_slice(&heap, &[1, 2]) else {
         return false;
     };
-    !appends_own(&PARTS_A, &mut out) && out.as_slice() == [1, 2].as_slice()
+    !appends_own(&ROUTER_A, &mut out) && out.as_slice() == [1, 2].as_slice()
 }
 
 #[test]

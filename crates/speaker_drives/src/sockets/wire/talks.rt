@@ -4,10 +4,10 @@ ghost use Rattle.std.specs.Prelude.{◌≡◌};
 ghost use Rattle.bgp_talk.specs.declared.wire.Connection.TheVariants.{NotAsked};
 
 use super::{accepted, listen};
-use bgp_open::{Config, ConfigParts, Families};
-use bgp_prefix::{Address, RouteRefresh, Session};
+use bgp_open::Config;
 use bgp_speak_tool::speak_session;
 use bgp_talk::SocketWire;
+use bgp_vectors::SPEAKER_A;
 use bgp_wire::vectors::{ADMINISTRATIVE_SHUTDOWN, OPEN_A};
 use mrt::MemSink;
 use std::io;
@@ -15,26 +15,7 @@ use std::io::{ErrorKind, Read};
 use std::net::Net;
 use std::rt::Clock;
 
-/// What router A is configured to do: AS 65001 at 192.0.2.1, with AS 65002 at 192.0.2.2, Hold Time
-/// 90, both families and four-octet AS numbers.
-const PARTS_A: ConfigParts = ConfigParts {
-    local_as: 65001,
-    peer_as: 65002,
-    local_id: 0xc000_0201,
-    hold: 90,
-    families: Families { v4: true, v6: true },
-    as4: true,
-    delay_open: false,
-    large_hold: 240,
-    session: Session {
-        peer: Address::V4(0xc000_0202),
-        local: Address::V4(0xc000_0201),
-        refresh: RouteRefresh::NotOffered,
-        extended: false,
-    },
-};
-
-/// Its IPv4 next hop, 192.0.2.1.
+/// Router A's IPv4 next hop, 192.0.2.1.
 const HOP_4: u32 = 0xc000_0201;
 
 /// Its IPv6 next hop, 2001:db8::1.
@@ -91,7 +72,7 @@ fn speak<R: Net + Clock + Print + AllocGlobal>(
     requires fresh { wire.connection ≡ NotAsked }
     requires failures { wire.failures ≡ 0 }
 {
-    let Some(config) = Config::new(PARTS_A) else {
+    let Some(config) = Config::new(SPEAKER_A) else {
         return Err(io::Error::from(ErrorKind::InvalidData));
     };
     let session = &config.parts.session;
