@@ -8,7 +8,6 @@ use Rattle.bgp_machine.specs.Lists.{Has}
 use Rattle.bgp_machine.specs.Owed.{EachOwedCanBeMet}
 use Rattle.bgp_recording.specs.declared.message.Message.{Message}
 use Rattle.bgp_recording.specs.declared.ordering.Exchange.{Exchange}
-use Rattle.bgp_recording.specs.declared.standing.Before.TheVariants.{Other}
 use Rattle.bgp_recording.specs.declared.state.State.{State}
 use Rattle.bgp_recording.specs.declared.state.State.TheVariants.{Connect, Active}
 use Rattle.bgp_recording.specs.States.{state_number}
@@ -23,6 +22,8 @@ use Rattle.bgp_orders.specs.declared.node.Node.{Node as CodeNode}
 use Rattle.bgp_orders.specs.Explained.{IsExplained}
 use Rattle.bgp_orders.specs.Nodes.{Node, IsFirstNode, first_node}
 use Rattle.bgp_orders.specs.Rows.{IsIn, InRow, IsRow, HasLast, HasSome, count_of, IsAnswer, GainsNodes, StartsIn, node_at}
+use Rattle.bgp_orders.specs.declared.node.Spot.{Spot}
+use Rattle.bgp_orders.specs.Turns.{first_spot}
 use Rattle.bgp_orders.specs.Ways.{MayStart}
 use Rattle.bgp_orders.proofs.Over.{at_most_explained, none_explained}
 use Rattle.bgp_orders.proofs.Steps.{gains_either, gains_keeps, node_of_some, some_of_node}
@@ -113,25 +114,26 @@ here_last exchange (x ∷ xs) h = elim h.1 [
 pub starts_just : {X : Type 0} (config : Config) (exchange : Exchange) (start : State) (x : PlainMember X) (old new : ℕ) (slice members : List (PlainMember X)) → MayStart exchange start
     → member_value x ≡ fresh_member → slice ≡ x ∷ [] → old ≡ 1 → new ≡ state_number start
     → ((m2 : Member) → Among members m2 ↔ ((m : Member) × Among slice m × Next config (shown.Changed exchange.second old new) m m2))
-    → (n : Node) → ((m : Member) × Among members m × (n ≡ node_at exchange (record { place = record { received = 0; sent = 0 }; has_ended = false; last = exchange.second; state = start; before = Other }) m))
-    ↔ StartsIn config exchange start n
-starts_just config exchange start x old new slice members may fresh one a b just n = (
-  λ h.
-      let k = (just h.0).0 h.1 in
-      let is : k.0 ≡ fresh_member = elim (subst (λ (v : List (PlainMember _)). Among v k.0) one k.1) [ inl e ↦ sym e ∙ fresh | inr none ↦ absurd none ] in
-      let next : Next config (shown.Changed exchange.second 1 (state_number start)) fresh_member h.0 =
-      subst (λ (v : ℕ). Next config (shown.Changed exchange.second 1 v) fresh_member h.0) b
-      (subst (λ (v : ℕ). Next config (shown.Changed exchange.second v new) fresh_member h.0) a
-      (subst (λ (v : Member). Next config (shown.Changed exchange.second old new) v h.0) is k.2)) in
-      (may, bare h.0, (h.0, next, refl), h.2),
-  λ h.
-      let k = h.2 in
-      let next : Next config (shown.Changed exchange.second old new) fresh_member k.0 =
-      subst (λ (v : ℕ). Next config (shown.Changed exchange.second v new) fresh_member k.0) (sym a)
-      (subst (λ (v : ℕ). Next config (shown.Changed exchange.second 1 v) fresh_member k.0) (sym b) k.1) in
-      let among : Among slice fresh_member = subst (λ (v : List (PlainMember _)). Among v fresh_member) (sym one) (inl fresh) in
-      (k.0, (just k.0).1 (fresh_member, among, next), h.3 ∙ ap (λ (v : Member). first_node exchange start v) (sym k.2)),
-)
+    → (spot : Spot) → spot ≡ first_spot exchange start
+    → (n : Node) → ((m : Member) × Among members m × (n ≡ node_at exchange spot m)) ↔ StartsIn config exchange start n
+starts_just config exchange start x old new slice members may fresh one a b just spot is_first n =
+    let there : (m : Member) → node_at exchange spot m ≡ node_at exchange (first_spot exchange start) m = λ m. ap (λ (s : Spot). node_at exchange s m) is_first in (
+      λ h.
+          let k = (just h.0).0 h.1 in
+          let is : k.0 ≡ fresh_member = elim (subst (λ (v : List (PlainMember _)). Among v k.0) one k.1) [ inl e ↦ sym e ∙ fresh | inr none ↦ absurd none ] in
+          let next : Next config (shown.Changed exchange.second 1 (state_number start)) fresh_member h.0 =
+          subst (λ (v : ℕ). Next config (shown.Changed exchange.second 1 v) fresh_member h.0) b
+          (subst (λ (v : ℕ). Next config (shown.Changed exchange.second v new) fresh_member h.0) a
+          (subst (λ (v : Member). Next config (shown.Changed exchange.second old new) v h.0) is k.2)) in
+          (may, bare h.0, (h.0, next, refl), h.2 ∙ there h.0),
+      λ h.
+          let k = h.2 in
+          let next : Next config (shown.Changed exchange.second old new) fresh_member k.0 =
+          subst (λ (v : ℕ). Next config (shown.Changed exchange.second v new) fresh_member k.0) (sym a)
+          (subst (λ (v : ℕ). Next config (shown.Changed exchange.second 1 v) fresh_member k.0) (sym b) k.1) in
+          let among : Among slice fresh_member = subst (λ (v : List (PlainMember _)). Among v fresh_member) (sym one) (inl fresh) in
+          (k.0, (just k.0).1 (fresh_member, among, next), h.3 ∙ ap (λ (v : Member). first_node exchange start v) (sym k.2) ∙ sym (there k.0)),
+    )
 
 pub firsts_just : {X : Type 0} (config : Config) (exchange : Exchange) (none mid new : List (CodeNode X)) → none ≡ [] → GainsNodes exchange none mid (StartsIn config exchange Connect)
     → GainsNodes exchange mid new (StartsIn config exchange Active) → (n : Node) → IsIn exchange new n ↔ IsFirstNode config exchange n

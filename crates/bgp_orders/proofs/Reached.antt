@@ -83,7 +83,7 @@ first_seconds clock packet second (s ∷ ss) clocked is all le =
     (not_later clock packet second s.packet s.second clocked is all.0 le.0, first_seconds clock packet second ss clocked is all.1 le.1)
 
 -- no sent message comes before the first packet
-told_seconds : (exchange : Exchange) → IsTold exchange → AllByRecursion (λ s. exchange.second ≤ s.second) exchange.sent.now
+pub told_seconds : (exchange : Exchange) → IsTold exchange → AllByRecursion (λ s. exchange.second ≤ s.second) exchange.sent.now
 told_seconds exchange told =
     first_seconds told.clock exchange.packet exchange.second exchange.sent.now told.go_by.clocked told.begins told.go_by.sent_by told.first
 

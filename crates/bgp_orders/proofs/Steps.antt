@@ -5,16 +5,15 @@ use Rattle.std.specs.Slice.{IsItemAt}
 use Rattle.std.proofs.lemmas.List.{map-append, nil_from_length, take_more}
 use Rattle.bgp_prefix.specs.Shown as shown
 use Rattle.bgp_prefix.specs.Shown.{ShownRecord}
+use Rattle.mrt.specs.Reader.{shown_of}
 use Rattle.streams.specs.declared.connection.End.{End}
 use Rattle.bgp_open.specs.declared.config.Config.{Config}
 use Rattle.bgp_machine.specs.Lists.{Has}
 use Rattle.bgp_machine.proofs.RowByRow.{has_left, has_right, has_either}
 use Rattle.bgp_recording.specs.declared.message.Message.{Message}
 use Rattle.bgp_recording.specs.declared.ordering.Exchange.{Exchange}
-use Rattle.bgp_recording.specs.declared.standing.Before.{Before}
-use Rattle.bgp_recording.specs.declared.standing.Before.TheVariants.{Other}
 use Rattle.bgp_recording.specs.declared.state.State.{State}
-use Rattle.bgp_recording.specs.Changes.{led_by_received, led_by_sent, led_by_end, led_by_left, is_answered_before_open, just_received, just_sent, are_left, state_then}
+use Rattle.bgp_recording.specs.Changes.{led_by_sent, led_by_end, led_by_left, are_left, state_then}
 use Rattle.bgp_recording.specs.First.{IsFirst}
 use Rattle.bgp_recording.specs.States.{state_number}
 use Rattle.bgp_recording.specs.Leads.{MayReceiveNext, MaySendNext, MayEndNext, MayReceive, MayPass}
@@ -29,7 +28,10 @@ use Rattle.bgp_orders.specs.declared.node.Node.{Node as CodeNode}
 use Rattle.bgp_orders.specs.declared.node.Spot.{Spot}
 use Rattle.bgp_orders.specs.Nodes.{Node, Hears, Says, Ends, after_received, after_sent, after_end}
 use Rattle.bgp_orders.specs.Rows.{HasSome, IsOf, IsIn, IsMade, IsOfPlace, Passes, GainsNodes, LeadTo, end_left, node_at, pending_at}
-use Rattle.bgp_orders.specs.Ways.{changed_to, received_records, sent_records, end_records, state_after_end}
+use Rattle.bgp_orders.specs.declared.search.Ending.{Ending}
+use Rattle.bgp_orders.specs.declared.search.Turn.{Turn}
+use Rattle.bgp_orders.specs.Turns.{Hearing, Saying, Closing, led_at, heard_spot, said_spot, ended_spot}
+use Rattle.bgp_orders.specs.Ways.{changed_to, received_records, sent_records, end_records}
 
 -- ---- lists of nodes that grow
 
@@ -325,7 +327,7 @@ from_node config records ms ms2 leads m b h k =
     let x = (bare_chains config records m b).0 k in
     (x.0, (leads x.0).1 (m, h, x.1), x.2)
 
-same_first : (xs : List Message) (x y : Message) → IsFirst xs x → IsFirst xs y → x ≡ y
+pub same_first : (xs : List Message) (x y : Message) → IsFirst xs x → IsFirst xs y → x ≡ y
 same_first [] x y h k = absurd h
 same_first (z ∷ zs) x y h k = sym h ∙ k
 
@@ -336,18 +338,9 @@ first_of_list x y left more e = (cc, cc)
 abbrev pub AtSpot : {X : Type 0} → Exchange → Spot → List (PlainMember X) → Node → Type 0
 AtSpot exchange spot members n = (m : Member) × Among members m × (n ≡ node_at exchange spot m)
 
-abbrev pub heard_spot : Exchange → Spot → Message → Spot
-heard_spot exchange spot x = record {
-  place = record { received = spot.place.received + 1; sent = spot.place.sent };
-  has_ended = spot.has_ended;
-  last = max x.second spot.last;
-  state = state_then spot.state (led_by_received spot.state x.kind (is_answered_before_open x.kind (drop spot.place.sent exchange.sent.now)));
-  before = just_received x.kind;
-}
-
 abbrev pub heard_records : Exchange → Spot → Message → List ShownRecord
 heard_records exchange spot x =
-    received_records (max x.second spot.last) spot.state (led_by_received spot.state x.kind (is_answered_before_open x.kind (drop spot.place.sent exchange.sent.now))) x
+    received_records (max x.second spot.last) spot.state (led_at exchange spot x) x
 
 pub hears_none : {X : Type 0} (config : Config) (exchange : Exchange) (spot : Spot) (members : List (PlainMember X)) → (MayReceiveNext (pending_at exchange spot) → ⊥)
     → (n2 : Node) → ((n : Node) × AtSpot exchange spot members n × (x : Message) × Hears config n x n2) → ⊥
@@ -378,15 +371,6 @@ hears_just config exchange spot spot2 x ms ms2 first may e leads n2 =
     )
 
 -- ---- a sent message
-
-abbrev pub said_spot : Spot → Message → Spot
-said_spot spot x = record {
-  place = record { received = spot.place.received; sent = spot.place.sent + 1 };
-  has_ended = spot.has_ended;
-  last = x.second;
-  state = state_then spot.state (led_by_sent spot.state x.kind spot.before);
-  before = just_sent spot.state x.kind spot.before;
-}
 
 abbrev pub said_records : Spot → Message → List ShownRecord
 said_records spot x = sent_records x.second spot.state (led_by_sent spot.state x.kind spot.before) x
@@ -421,15 +405,6 @@ says_just config within exchange spot spot2 x ms ms2 first may e leads n2 =
 
 -- ---- the end
 
-abbrev pub ended_spot : Exchange → Spot → End → Spot
-ended_spot exchange spot e = record {
-  place = spot.place;
-  has_ended = true;
-  last = max e.second spot.last;
-  state = state_after_end spot.state (are_left (drop spot.place.received exchange.received.now));
-  before = Other;
-}
-
 abbrev pub ended_records : Exchange → Spot → End → List ShownRecord
 ended_records exchange spot e = end_records (max e.second spot.last) spot.state (are_left (drop spot.place.received exchange.received.now))
 
@@ -443,7 +418,7 @@ ends_none config within exchange spot members not n2 (n, is, e, ends) =
     not (h.1, some_and (λ x. MayPass within x.second (drop spot.place.received exchange.received.now)) (end_left spot.has_ended exchange.end) e h.0 h.2)
 
 -- the end that is left is the one of the exchange
-left_is : (ended : Bool) (end : Option End) (e : End) (P : End → Type 0) → end ≡ Some e → IsSomeAnd (end_left ended end) P → (end_left ended end ≡ Some e) × P e
+pub left_is : (ended : Bool) (end : Option End) (e : End) (P : End → Type 0) → end ≡ Some e → IsSomeAnd (end_left ended end) P → (end_left ended end ≡ Some e) × P e
 left_is true end e P is h = absurd h
 left_is false end e P is h = (is, subst (λ (v : Option End). IsSomeAnd v P) is h)
 
@@ -470,55 +445,38 @@ ends_just config within exchange spot spot2 e ms ms2 is may same leads n2 =
 
 -- ---- the same, as the code has them
 
-pub hears_by : {X : Type 0} (config : Config) (exchange : Exchange) (spot : Spot) (x : Message) (second : ℕ) (led : Option State) (state : State) (before : Before) (ms slice ms2 : List (PlainMember X))
-    → IsFirst (drop spot.place.received exchange.received.now) x → MayReceiveNext (pending_at exchange spot) → second ≡ max x.second spot.last
-    → led ≡ led_by_received spot.state x.kind (is_answered_before_open x.kind (drop spot.place.sent exchange.sent.now)) → state ≡ state_then spot.state led → before ≡ just_received x.kind → slice ≡ ms
-    → LeadTo config (received_records second spot.state led x) slice ms2
-    → (n2 : Node) → AtSpot exchange (record { place = record { received = spot.place.received + 1; sent = spot.place.sent }; has_ended = spot.has_ended; last = second; state = state; before = before }) ms2 n2
-    ↔ ((n : Node) × AtSpot exchange spot ms n × (y : Message) × Hears config n y n2)
-hears_by config exchange spot x second led state before ms slice ms2 first may at leads_to then just same leads =
-    let spot2 : Spot = record { place = record { received = spot.place.received + 1; sent = spot.place.sent }; has_ended = spot.has_ended; last = second; state = state; before = before } in
-    let state_is : state ≡ state_then spot.state (led_by_received spot.state x.kind (is_answered_before_open x.kind (drop spot.place.sent exchange.sent.now))) = then ∙ ap (λ (v : Option State). state_then spot.state v) leads_to in
-    let e : spot2 ≡ heard_spot exchange spot x =
-    λ i. record { place = record { received = spot.place.received + 1; sent = spot.place.sent }; has_ended = spot.has_ended; last = at i; state = state_is i; before = just i } in
-    hears_just config exchange spot spot2 x ms ms2 first may e
-    (subst (λ (v : List (PlainMember _)). LeadTo config (heard_records exchange spot x) v ms2) same
-    (subst (λ (v : Option State). LeadTo config (received_records (max x.second spot.last) spot.state v x) slice ms2) leads_to
-    (subst (λ (v : ℕ). LeadTo config (received_records v spot.state led x) slice ms2) at leads)))
+pub hears_by : {X : Type 0} (config : Config) (exchange : Exchange) (spot : Spot) (turn : Turn) (ms ms2 : List (PlainMember X)) → Hearing exchange spot turn
+    → LeadTo config (shown_of turn.record ∷ changed_to turn.spot.last spot.state turn.led) ms ms2
+    → (n2 : Node) → AtSpot exchange turn.spot ms2 n2 ↔ ((n : Node) × AtSpot exchange spot ms n × (y : Message) × Hears config n y n2)
+hears_by config exchange spot turn ms ms2 h leads =
+    let x = h.message in
+    let last : turn.spot.last ≡ max x.second spot.last = ap (λ (s : Spot). s.last) h.leads in
+    hears_just config exchange spot turn.spot x ms ms2 h.first h.may h.leads
+    (subst (λ (v : Option State). LeadTo config (received_records (max x.second spot.last) spot.state v x) ms ms2) h.led
+    (subst (λ (v : ℕ). LeadTo config (shown.Received (max x.second spot.last) x.octets.now ∷ changed_to v spot.state turn.led) ms ms2) last
+    (subst (λ (v : ShownRecord). LeadTo config (v ∷ changed_to turn.spot.last spot.state turn.led) ms ms2) h.shows leads)))
 
-pub says_by : {X : Type 0} (config : Config) (within : ℕ) (exchange : Exchange) (spot : Spot) (x : Message) (led : Option State) (state : State) (before : Before) (ms slice ms2 : List (PlainMember X))
-    → IsFirst (drop spot.place.sent exchange.sent.now) x → MaySendNext within (pending_at exchange spot)
-    → led ≡ led_by_sent spot.state x.kind spot.before → state ≡ state_then spot.state led → before ≡ just_sent spot.state x.kind spot.before → slice ≡ ms
-    → LeadTo config (sent_records x.second spot.state led x) slice ms2
-    → (n2 : Node) → AtSpot exchange (record { place = record { received = spot.place.received; sent = spot.place.sent + 1 }; has_ended = spot.has_ended; last = x.second; state = state; before = before }) ms2 n2
-    ↔ ((n : Node) × AtSpot exchange spot ms n × (y : Message) × Says config within n y n2)
-says_by config within exchange spot x led state before ms slice ms2 first may leads_to then just same leads =
-    let spot2 : Spot = record { place = record { received = spot.place.received; sent = spot.place.sent + 1 }; has_ended = spot.has_ended; last = x.second; state = state; before = before } in
-    let state_is : state ≡ state_then spot.state (led_by_sent spot.state x.kind spot.before) = then ∙ ap (λ (v : Option State). state_then spot.state v) leads_to in
-    let e : spot2 ≡ said_spot spot x =
-    λ i. record { place = record { received = spot.place.received; sent = spot.place.sent + 1 }; has_ended = spot.has_ended; last = x.second; state = state_is i; before = just i } in
-    says_just config within exchange spot spot2 x ms ms2 first may e
-    (subst (λ (v : List (PlainMember _)). LeadTo config (said_records spot x) v ms2) same
-    (subst (λ (v : Option State). LeadTo config (sent_records x.second spot.state v x) slice ms2) leads_to leads))
+pub says_by : {X : Type 0} (config : Config) (within : ℕ) (exchange : Exchange) (spot : Spot) (turn : Turn) (ms ms2 : List (PlainMember X)) → Saying within exchange spot turn
+    → LeadTo config (shown_of turn.record ∷ changed_to turn.spot.last spot.state turn.led) ms ms2
+    → (n2 : Node) → AtSpot exchange turn.spot ms2 n2 ↔ ((n : Node) × AtSpot exchange spot ms n × (y : Message) × Says config within n y n2)
+says_by config within exchange spot turn ms ms2 h leads =
+    let x = h.message in
+    let last : turn.spot.last ≡ x.second = ap (λ (s : Spot). s.last) h.leads in
+    says_just config within exchange spot turn.spot x ms ms2 h.first h.may h.leads
+    (subst (λ (v : Option State). LeadTo config (sent_records x.second spot.state v x) ms ms2) h.led
+    (subst (λ (v : ℕ). LeadTo config (shown.Sent x.second x.octets.now ∷ changed_to v spot.state turn.led) ms ms2) last
+    (subst (λ (v : ShownRecord). LeadTo config (v ∷ changed_to turn.spot.last spot.state turn.led) ms ms2) h.shows leads)))
 
-pub ends_by : {X : Type 0} (config : Config) (within : ℕ) (exchange : Exchange) (spot : Spot) (e : End) (second : ℕ) (are : Bool) (led left : Option State) (ended state : State) (ms slice ms2 : List (PlainMember X))
-    → exchange.end ≡ Some e → MayEndNext within (pending_at exchange spot) → second ≡ max e.second spot.last → are ≡ are_left (drop spot.place.received exchange.received.now)
-    → led ≡ led_by_end spot.state → ended ≡ state_then spot.state led → left ≡ led_by_left spot.state are → state ≡ state_then ended left → slice ≡ ms
-    → LeadTo config (end_records second spot.state are) slice ms2
-    → (n2 : Node) → AtSpot exchange (record { place = spot.place; has_ended = true; last = second; state = state; before = Other }) ms2 n2
-    ↔ ((n : Node) × AtSpot exchange spot ms n × (x : End) × Ends config within n x n2)
-ends_by config within exchange spot e second are led left ended state ms slice ms2 is may at some a b c d same leads =
-    let spot2 : Spot = record { place = spot.place; has_ended = true; last = second; state = state; before = Other } in
-    let rest : List Message = drop spot.place.received exchange.received.now in
-    let ended_is : ended ≡ state_then spot.state (led_by_end spot.state) = b ∙ ap (λ (v : Option State). state_then spot.state v) a in
-    let left_to : left ≡ led_by_left spot.state (are_left rest) = c ∙ ap (λ (v : Bool). led_by_left spot.state v) some in
-    let state_is : state ≡ state_after_end spot.state (are_left rest) =
-    d ∙ ap (λ (v : State). state_then v left) ended_is ∙ ap (λ (v : Option State). state_then (state_then spot.state (led_by_end spot.state)) v) left_to in
-    let eq : spot2 ≡ ended_spot exchange spot e = λ i. record { place = spot.place; has_ended = true; last = at i; state = state_is i; before = Other } in
-    ends_just config within exchange spot spot2 e ms ms2 is may eq
+pub ends_by : {X : Type 0} (config : Config) (within : ℕ) (exchange : Exchange) (spot : Spot) (ending : Ending) (ms slice ms2 : List (PlainMember X)) → Closing within exchange spot ending → slice ≡ ms
+    → LeadTo config (end_records ending.spot.last spot.state ending.are_left) slice ms2
+    → (n2 : Node) → AtSpot exchange ending.spot ms2 n2 ↔ ((n : Node) × AtSpot exchange spot ms n × (x : End) × Ends config within n x n2)
+ends_by config within exchange spot ending ms slice ms2 h same leads =
+    let e = h.end in
+    let last : ending.spot.last ≡ max e.second spot.last = ap (λ (s : Spot). s.last) h.leads in
+    ends_just config within exchange spot ending.spot e ms ms2 h.is h.may h.leads
     (subst (λ (v : List (PlainMember _)). LeadTo config (ended_records exchange spot e) v ms2) same
-    (subst (λ (v : Bool). LeadTo config (end_records (max e.second spot.last) spot.state v) slice ms2) some
-    (subst (λ (v : ℕ). LeadTo config (end_records v spot.state are) slice ms2) at leads)))
+    (subst (λ (v : Bool). LeadTo config (end_records (max e.second spot.last) spot.state v) slice ms2) h.left
+    (subst (λ (v : ℕ). LeadTo config (end_records v spot.state ending.are_left) slice ms2) last leads)))
 
 -- ---- a sent message or the end
 

@@ -24,7 +24,7 @@ change_shown : (packet second : ℕ) (state : State) (led : Option State) → ma
 change_shown packet second state None = refl
 change_shown packet second state (Some led) = refl
 
-same_records : (state : State) (before : Before) (events : List Event) → map (λ n. n.shown) (numbered_in state before events) ≡ records_in state before events []
+pub same_records : (state : State) (before : Before) (events : List Event) → map (λ n. n.shown) (numbered_in state before events) ≡ records_in state before events []
 same_records state before [] = refl
 same_records state before (Passed second (Received m) ∷ later) =
     let Records : List Event → List ShownRecord = λ v.

@@ -4,3 +4,4 @@ pub mod Explained
 pub mod Nodes
 pub mod Rows
 pub mod Connections
+pub mod Turns

@@ -1,9 +1,8 @@
 //! How much of an exchange some way explains.
 
-ghost use Rattle.std.specs.Prelude.{◌≡◌, ◌⊎◌, ◌↔◌, ◌+◌, ◌<◌, ℕ, length};
+ghost use Rattle.std.specs.Prelude.{◌≡◌, ◌↔◌, ◌+◌, ◌<◌, ℕ, length};
 ghost use Rattle.std.specs.Prelude.{IfOk, IfSome, IsFalse, IsTrue, OnOk};
 ghost use Rattle.bgp_recording.specs.Told.{IsTold};
-ghost use Rattle.bgp_recording.specs.declared.state.State.TheVariants.{Active, Connect};
 ghost use Rattle.bgp_orders.specs.Nodes.{IsFirstNode, Node as TheNode};
 ghost use Rattle.bgp_orders.specs.Rows.{GainsNodes, HasLast, HasSome, IsAnswer, IsIn};
 ghost use Rattle.bgp_orders.specs.Rows.{IsRow, StartsIn, count_of};
@@ -11,37 +10,39 @@ ghost use Rattle.bgp_orders.specs.Ways.{MayStart};
 
 use crate::explained::Explained;
 use crate::leading::opened_state;
-use crate::node::{Node, Spot, add_each, has_some, one_member};
+use crate::node::{Node, add_each, first_spot, has_some, one_member};
 use crate::search::Search;
 use bgp_judge::{PlainMember, next_members};
 use bgp_machine::each_owed_want_can_be_met;
 use bgp_open::Config;
-use bgp_recording::{Before, Exchange, Place, State};
+use bgp_recording::{Exchange, State};
 use mrt::Record;
 use std::alloc::{AllocError, Allocator};
 
 /// How many nodes are searched at most.
 pub const MOST_NODES: usize = 1_048_576;
 
-/// Checks whether a session may begin in this state, Connect or Active.
-fn may_start(exchange: &Exchange<'_, '_>, start: State) -> bool
-    requires { (start ≡ Connect) ⊎ (start ≡ Active) }
+/// Checks whether a session may begin in this state.
+pub(crate) fn may_start(exchange: &Exchange<'_, '_>, start: State) -> bool
     ensures { IsTrue result ↔ MayStart exchange.now start }
 {
-    start == opened_state(exchange.opened_by)
-        || !exchange.received.is_empty()
-        || !exchange.sent.is_empty()
+    match start {
+        State::Connect | State::Active => {
+            start == opened_state(exchange.opened_by)
+                || !exchange.received.is_empty()
+                || !exchange.sent.is_empty()
+        }
+        _ => false,
+    }
 }
 
-/// Appends the nodes behind the change from Idle to this state, Connect or Active, if a session may
-/// begin in it.
+/// Appends the nodes behind the change from Idle to this state, if a session may begin in it.
 fn add_start<A: Allocator + Copy>(
     alloc: A,
     search: &Search<'_, '_>,
     start: State,
     nodes: &mut Vec<Node<A>, A>,
 ) -> Result<(), AllocError>
-    requires { (start ≡ Connect) ⊎ (start ≡ Active) }
     ensures { OnOk result (GainsNodes search.now.exchange nodes.old.items nodes.new.items
         (StartsIn search.now.config search.now.exchange start)) }
 {
@@ -51,16 +52,7 @@ fn add_start<A: Allocator + Copy>(
     let fresh = one_member(alloc, PlainMember::fresh(alloc))?;
     let change = Record::Change(search.exchange.second, State::Idle.number(), start.number());
     let members = next_members(alloc, &search.config, fresh.as_slice(), &change)?;
-    let spot = Spot {
-        place: Place {
-            received: 0,
-            sent: 0,
-        },
-        has_ended: false,
-        last: search.exchange.second,
-        state: start,
-        before: Before::Other,
-    };
+    let spot = first_spot(&search.exchange, start);
     add_each(alloc, nodes, Node { spot, members })
 }
 
@@ -79,7 +71,7 @@ fn first_nodes<A: Allocator + Copy>(
 }
 
 /// Returns the first row, if it has no more than `most` nodes.
-fn first_row<A: Allocator + Copy>(
+pub(crate) fn first_row<A: Allocator + Copy>(
     alloc: A,
     search: &Search<'_, '_>,
     most: usize,
@@ -93,7 +85,7 @@ fn first_row<A: Allocator + Copy>(
 }
 
 /// Returns the row behind another.
-fn row_after<A: Allocator + Copy>(
+pub(crate) fn row_after<A: Allocator + Copy>(
     alloc: A,
     search: &Search<'_, '_>,
     row: &[Node<A>],
@@ -131,7 +123,7 @@ fn is_empty_row<A: Allocator>(count: usize, sent: usize, next: &[Node<A>]) -> bo
 }
 
 /// Returns how many rows there are behind the first: one for each sent message and one for the end.
-fn row_count(exchange: &Exchange<'_, '_>) -> usize
+pub(crate) fn row_count(exchange: &Exchange<'_, '_>) -> usize
     ensures { result ≡ length exchange.now.sent.now + count_of exchange.now.end }
 {
     match exchange.end {

@@ -6,10 +6,11 @@ ghost use Rattle.bgp_recording.specs.declared.ordering.Exchange.{Exchange as The
 ghost use Rattle.bgp_judge.specs.Plain.{Among, member_value};
 ghost use Rattle.bgp_orders.specs.Nodes.{Node as TheNode};
 ghost use Rattle.bgp_orders.specs.Rows.{GainsNodes, HasSome, IsIn, IsMade, IsOf, node_at};
+ghost use Rattle.bgp_orders.specs.Turns.{first_spot};
 
 use bgp_judge::PlainMember;
 use bgp_prefix::Seconds;
-use bgp_recording::{Before, Message, Place, State};
+use bgp_recording::{Before, Exchange, Message, Place, State};
 use std::alloc::{AllocError, Allocator};
 
 /// Where a walk stands, whatever explains it.
@@ -33,6 +34,22 @@ pub(crate) struct Spot {
 pub(crate) struct Node<A: Allocator> {
     pub(crate) spot: Spot,
     pub(crate) members: Vec<PlainMember<A>, A>,
+}
+
+/// Returns the spot behind the first record, the change from Idle to this state.
+pub(crate) fn first_spot(exchange: &Exchange<'_, '_>, start: State) -> Spot
+    ensures { result ≡ first_spot exchange.now start }
+{
+    Spot {
+        place: Place {
+            received: 0,
+            sent: 0,
+        },
+        has_ended: false,
+        last: exchange.second,
+        state: start,
+        before: Before::Other,
+    }
 }
 
 impl Spot {
@@ -63,7 +80,7 @@ fn has_member<A: Allocator>(members: &[PlainMember<A>], member: &PlainMember<A>)
 
 /// Checks whether the last nodes, which have as many received messages as the spot behind them,
 /// have one of this spot and member.
-fn has<A: Allocator>(nodes: &[Node<A>], spot: Spot, member: &PlainMember<A>) -> bool
+pub(crate) fn has<A: Allocator>(nodes: &[Node<A>], spot: Spot, member: &PlainMember<A>) -> bool
     ensures { IsTrue result → (exchange : TheExchange)
         → IsIn exchange nodes.now (node_at exchange spot (member_value member.now)) }
 {

@@ -7,11 +7,12 @@ ghost use Rattle.mrt.specs.Reader.{shown_of};
 ghost use Rattle.bgp_recording.specs.declared.message.Message.{Message as TheMessage};
 ghost use Rattle.bgp_recording.specs.Changes.{are_left, is_answered_before_open, state_then};
 ghost use Rattle.bgp_recording.specs.First.{IsFirst};
-ghost use Rattle.bgp_recording.specs.Leads.{MayEndNext, MayReceiveNext, MaySendNext};
+ghost use Rattle.bgp_recording.specs.Leads.{IsDone, MayEndNext, MayReceiveNext, MaySendNext};
 ghost use Rattle.bgp_judge.specs.Plain.{member_value};
 ghost use Rattle.bgp_orders.specs.Nodes.{Ends, Hears, Node as TheNode, Says};
 ghost use Rattle.bgp_orders.specs.Rows.{GainsNodes, InNextRow, IsIn, IsMade, IsOf};
 ghost use Rattle.bgp_orders.specs.Rows.{IsOfPlace, LeadTo, Passes, pending_at};
+ghost use Rattle.bgp_orders.specs.Turns.{Closing, Hearing, Saying};
 ghost use Rattle.bgp_orders.specs.Ways.{changed_to, end_records};
 
 use crate::leading::{
@@ -56,7 +57,7 @@ fn is_answered(kind: Option<MessageType>, sent: &[Message<'_>], count: usize) ->
 }
 
 /// Returns the state that is led to, or the same.
-fn state_then(state: State, led: Option<State>) -> State
+pub(crate) fn state_then(state: State, led: Option<State>) -> State
     ensures { result ≡ state_then state led }
 {
     led.unwrap_or(state)
@@ -149,6 +150,30 @@ fn after_end<A: Allocator + Copy>(
     after_change(alloc, config, changed, second, ended, left)
 }
 
+/// A message that may stand next at a spot, and where it leads.
+#[derive(Clone, Copy)]
+pub(crate) struct Turn<'a> {
+    /// The packet that shows the message.
+    pub(crate) packet: u64,
+    /// The message's record.
+    pub(crate) record: Record<'a>,
+    /// The state to which it leads, if to another.
+    pub(crate) led: Option<State>,
+    /// The spot behind it.
+    pub(crate) spot: Spot,
+}
+
+/// The end, if it may stand next at a spot, and where it leads.
+#[derive(Clone, Copy)]
+pub(crate) struct Ending {
+    /// The packet that shows it.
+    pub(crate) packet: u64,
+    /// Received messages are left behind it.
+    pub(crate) are_left: bool,
+    /// The spot behind it.
+    pub(crate) spot: Spot,
+}
+
 /// What is searched: what packets show of a session, under a configuration, if each received
 /// message is handled within so many seconds.
 #[derive(Clone, Copy)]
@@ -158,7 +183,7 @@ pub(crate) struct Search<'l, 'a> {
     pub(crate) within: u16,
 }
 
-impl Search<'_, '_> {
+impl<'a> Search<'_, 'a> {
     /// Checks whether the next received message may stand next.
     fn may_hear(&self, spot: Spot) -> bool
         ensures { IsTrue result ↔ MayReceiveNext (pending_at self.now.exchange spot) }
@@ -211,8 +236,128 @@ impl Search<'_, '_> {
         pending.may_end(self.within)
     }
 
+    /// Returns the next received message with where it leads, if it may stand next.
+    pub(crate) fn hearing(&self, spot: Spot) -> Option<Turn<'a>>
+        ensures some { IfSome result (λ turn. Hearing self.entry.now.exchange spot turn) }
+        ensures none { IfNone result
+            (MayReceiveNext (pending_at self.entry.now.exchange spot) → ⊥) }
+    {
+        if !self.may_hear(spot) {
+            return None;
+        }
+        let message = next_of(self.exchange.received, spot.place.received)?;
+        let second = message.second.max(spot.last);
+        let is_answered = is_answered(message.kind, self.exchange.sent, spot.place.sent);
+        let led = led_by_received(spot.state, message.kind, is_answered);
+        Some(Turn {
+            packet: message.packet,
+            record: Record::In(second, message.octets),
+            led,
+            spot: Spot {
+                place: Place {
+                    received: spot.place.received + 1,
+                    sent: spot.place.sent,
+                },
+                has_ended: spot.has_ended,
+                last: second,
+                state: state_then(spot.state, led),
+                before: just_received(message.kind),
+            },
+        })
+    }
+
+    /// Returns the next sent message with where it leads, if it may stand next.
+    pub(crate) fn saying(&self, spot: Spot) -> Option<Turn<'a>>
+        ensures some { IfSome result (λ turn.
+            Saying self.entry.now.within self.entry.now.exchange spot turn) }
+        ensures none { IfNone result
+            (MaySendNext self.entry.now.within (pending_at self.entry.now.exchange spot) → ⊥) }
+    {
+        if !self.may_say(spot) {
+            return None;
+        }
+        let message = next_of(self.exchange.sent, spot.place.sent)?;
+        let led = led_by_sent(spot.state, message.kind, spot.before);
+        Some(Turn {
+            packet: message.packet,
+            record: Record::Out(message.second, message.octets),
+            led,
+            spot: Spot {
+                place: Place {
+                    received: spot.place.received,
+                    sent: spot.place.sent + 1,
+                },
+                has_ended: spot.has_ended,
+                last: message.second,
+                state: state_then(spot.state, led),
+                before: just_sent(spot.state, message.kind, spot.before),
+            },
+        })
+    }
+
+    /// Returns the end with where it leads, if it may stand next.
+    pub(crate) fn ending(&self, spot: Spot) -> Option<Ending>
+        ensures some { IfSome result (λ ending.
+            Closing self.now.within self.now.exchange spot ending) }
+        ensures none { IfNone result
+            (MayEndNext self.now.within (pending_at self.now.exchange spot) → ⊥) }
+    {
+        if !self.may_end(spot) {
+            return None;
+        }
+        let end = self.exchange.end?;
+        let are_left = are_left(self.exchange.received, spot.place.received);
+        let led = led_by_end(spot.state);
+        let left = led_by_left(spot.state, are_left);
+        let ended = state_then(spot.state, led);
+        Some(Ending {
+            packet: end.packet,
+            are_left,
+            spot: Spot {
+                place: spot.place,
+                has_ended: true,
+                last: end.second.max(spot.last),
+                state: state_then(ended, left),
+                before: Before::Other,
+            },
+        })
+    }
+
+    /// Checks whether nothing is left at a spot.
+    pub(crate) fn is_done(&self, spot: Spot) -> bool
+        ensures { IsTrue result → IsDone (pending_at self.now.exchange spot) }
+    {
+        !are_left(self.exchange.received, spot.place.received)
+            && !are_left(self.exchange.sent, spot.place.sent)
+            && (spot.has_ended || self.exchange.end.is_none())
+    }
+
+    /// Returns what a turn's records make of the members of a node.
+    fn after_turn<A: Allocator + Copy>(
+        &self,
+        alloc: A,
+        node: &Node<A>,
+        turn: &Turn<'_>,
+    ) -> Result<Vec<PlainMember<A>, A>, AllocError>
+        ensures { IfOk result (λ next. LeadTo self.now.config (shown_of turn.now.record
+            ∷ changed_to turn.now.spot.last node.now.spot.state turn.now.led)
+            node.now.members.items next.items) }
+    {
+        let from = node.members.as_slice();
+        let second = turn.spot.last;
+        after_message(
+            alloc,
+            &self.config,
+            from,
+            &turn.record,
+            second,
+            node.spot.state,
+            turn.led,
+        )
+    }
+
     /// Returns what the next received message makes of a node, if it may stand next.
-    fn heard<A: Allocator + Copy>(
+    pub(crate) fn heard<A: Allocator + Copy>(
         &self,
         alloc: A,
         node: &Node<A>,
@@ -221,30 +366,14 @@ impl Search<'_, '_> {
             ↔ ((n : TheNode) × IsOf self.now.exchange node.now n
             × (x : TheMessage) × Hears self.now.config n x n2)) }
     {
-        let spot = node.spot;
-        if !self.may_hear(spot) {
-            return Ok(None);
-        }
-        let Some(message) = next_of(self.exchange.received, spot.place.received) else {
+        let Some(turn) = self.hearing(node.spot) else {
             return Ok(None);
         };
-        let second = message.second.max(spot.last);
-        let is_answered = is_answered(message.kind, self.exchange.sent, spot.place.sent);
-        let led = led_by_received(spot.state, message.kind, is_answered);
-        let record = Record::In(second, message.octets);
-        let from = node.members.as_slice();
-        let members = after_message(alloc, &self.config, from, &record, second, spot.state, led)?;
-        let spot = Spot {
-            place: Place {
-                received: spot.place.received + 1,
-                sent: spot.place.sent,
-            },
-            has_ended: spot.has_ended,
-            last: second,
-            state: state_then(spot.state, led),
-            before: just_received(message.kind),
-        };
-        Ok(Some(Node { spot, members }))
+        let members = self.after_turn(alloc, node, &turn)?;
+        Ok(Some(Node {
+            spot: turn.spot,
+            members,
+        }))
     }
 
     /// Returns what the next sent message makes of a node, if it may stand next.
@@ -257,29 +386,14 @@ impl Search<'_, '_> {
             ↔ ((n : TheNode) × IsOf self.now.exchange node.now n
             × (x : TheMessage) × Says self.now.config self.now.within n x n2)) }
     {
-        let spot = node.spot;
-        if !self.may_say(spot) {
-            return Ok(None);
-        }
-        let Some(message) = next_of(self.exchange.sent, spot.place.sent) else {
+        let Some(turn) = self.saying(node.spot) else {
             return Ok(None);
         };
-        let second = message.second;
-        let led = led_by_sent(spot.state, message.kind, spot.before);
-        let record = Record::Out(second, message.octets);
-        let from = node.members.as_slice();
-        let members = after_message(alloc, &self.config, from, &record, second, spot.state, led)?;
-        let spot = Spot {
-            place: Place {
-                received: spot.place.received,
-                sent: spot.place.sent + 1,
-            },
-            has_ended: spot.has_ended,
-            last: second,
-            state: state_then(spot.state, led),
-            before: just_sent(spot.state, message.kind, spot.before),
-        };
-        Ok(Some(Node { spot, members }))
+        let members = self.after_turn(alloc, node, &turn)?;
+        Ok(Some(Node {
+            spot: turn.spot,
+            members,
+        }))
     }
 
     /// Returns what the end makes of a node, if it may stand next.
@@ -292,33 +406,22 @@ impl Search<'_, '_> {
             ↔ ((n : TheNode) × IsOf self.now.exchange node.now n
             × (e : TheEnd) × Ends self.now.config self.now.within n e n2)) }
     {
-        let spot = node.spot;
-        if !self.may_end(spot) {
-            return Ok(None);
-        }
-        let Some(end) = self.exchange.end else {
+        let Some(ending) = self.ending(node.spot) else {
             return Ok(None);
         };
-        let second = end.second.max(spot.last);
-        let are_left = are_left(self.exchange.received, spot.place.received);
-        let led = led_by_end(spot.state);
-        let left = led_by_left(spot.state, are_left);
-        let ended = state_then(spot.state, led);
         let from = node.members.as_slice();
-        let members = after_end(alloc, &self.config, from, second, spot.state, are_left)?;
-        let spot = Spot {
-            place: spot.place,
-            has_ended: true,
-            last: second,
-            state: state_then(ended, left),
-            before: Before::Other,
-        };
-        Ok(Some(Node { spot, members }))
+        let second = ending.spot.last;
+        let state = node.spot.state;
+        let members = after_end(alloc, &self.config, from, second, state, ending.are_left)?;
+        Ok(Some(Node {
+            spot: ending.spot,
+            members,
+        }))
     }
 
     /// Returns what the next sent message makes of a node, or the end if no message is left to be
     /// sent; if that may stand next.
-    fn passed<A: Allocator + Copy>(
+    pub(crate) fn passed<A: Allocator + Copy>(
         &self,
         alloc: A,
         node: &Node<A>,

@@ -17,5 +17,5 @@ returns g c =
     (λ gains. gains_same s.exchange c.args.nodes.now.items c.add_each.new.nodes.items _ (StartsIn s.config s.exchange c.args.start) (gains s.exchange)
     (starts_just s.config s.exchange c.args.start c.fresh.result c.number.result c.number-2.result c.as_slice.result.now c.in_ok-members.members.items
     (c.may_start.ensures.0 c.if-not-may_start.false) c.fresh.ensures (c.as_slice.ensures.value ∙ c.in_ok-fresh.ensures)
-    c.number.ensures.number c.number-2.ensures.number c.in_ok-members.ensures.next))
+    c.number.ensures.number c.number-2.ensures.number c.in_ok-members.ensures.next c.first_spot-spot.result c.first_spot-spot.ensures))
     c.add_each.ensures
