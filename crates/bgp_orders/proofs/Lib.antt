@@ -8,3 +8,4 @@ pub mod Steps
 pub mod Rows
 pub mod Counts
 pub mod NoOrder
+pub mod Entries

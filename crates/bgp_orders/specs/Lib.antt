@@ -5,3 +5,4 @@ pub mod Nodes
 pub mod Rows
 pub mod Connections
 pub mod Turns
+pub mod Entries

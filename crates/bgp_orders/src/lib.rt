@@ -24,11 +24,14 @@
 
 mod connection;
 mod counting;
+mod course;
 mod explained;
 mod laws;
 mod leading;
 mod node;
 mod search;
+mod tracing;
+mod whole;
 
 pub use connection::{OverOrders, Unexplained, no_order_explains_a_no, verdict_over_orders};
 pub use counting::{MOST_NODES, explained_count};
@@ -37,3 +40,5 @@ pub use laws::{
     explained_messages_are_reached, one_verdict_over_all_ways, orders_are_walks,
     patience_keeps_verdicts, ways_begin_with_their_fronts, whole_ways_are_reached,
 };
+pub use tracing::MOST_KEPT;
+pub use whole::{entries_of_whole_way, runs_of_entries_are_whole};
