@@ -1,14 +1,17 @@
 //! Exchanges of router A with router B, whose answers were worked out by hand. Messages have the
 //! names of `bgp_wire::vectors`.
 
-use bgp_open::{Config, ConfigParts};
-use bgp_orders::{Explained, explained_count};
-use bgp_recording::{Exchange, Message};
+use bgp_judge::{PlainTracker, Verdict, judge_records};
+use bgp_machine::Fsm;
+use bgp_open::{Config, ConfigParts, Families};
+use bgp_orders::{Explained, entries_of_whole_way, explained_count};
+use bgp_recording::{Entry, Exchange, Message};
 use bgp_vectors::ROUTER_A;
 use bgp_wire::MessageType;
 use bgp_wire::vectors::{
     ANNOUNCES_10, HOLD_TIMER_EXPIRED, KEEPALIVE, KEEPALIVE_OF_18, MP_UNREACH_TWICE, OPEN_A, OPEN_B,
 };
+use mrt::Record;
 use std::alloc::Global;
 use streams::{End, Side};
 
@@ -94,7 +97,8 @@ const OPEN_LATE: Message<'static> = Message {
     second: 115,
 };
 
-/// An exchange over a connection that B opens, and how much of it is explained.
+/// An exchange, how much of it is explained, and in which state the session ends if some way is
+/// whole.
 struct Row {
     received: &'static [Message<'static>],
     sent: &'static [Message<'static>],
@@ -102,6 +106,7 @@ struct Row {
     delays: bool,
     within: u16,
     explained: Explained,
+    ends: Option<Fsm>,
 }
 
 /// All, and some run shows just the records of a way.
@@ -219,6 +224,7 @@ static ROWS: [Row; 18] = [
         delays: false,
         within: 10,
         explained: WHOLE,
+        ends: Some(Fsm::Established),
     },
     // A header with a bad length, and 18 seconds later a KEEPALIVE in place of the answer.
     Row {
@@ -233,6 +239,7 @@ static ROWS: [Row; 18] = [
         delays: false,
         within: 10,
         explained: Explained::Only(3),
+        ends: None,
     },
     // The same without the last KEEPALIVE: the answer is owed.
     Row {
@@ -242,6 +249,7 @@ static ROWS: [Row; 18] = [
         delays: false,
         within: 10,
         explained: OWES,
+        ends: None,
     },
     // An UPDATE at fault, and a KEEPALIVE 10 seconds later.
     Row {
@@ -251,6 +259,7 @@ static ROWS: [Row; 18] = [
         delays: false,
         within: 10,
         explained: OWES,
+        ends: None,
     },
     // The same 11 seconds later.
     Row {
@@ -260,6 +269,7 @@ static ROWS: [Row; 18] = [
         delays: false,
         within: 10,
         explained: Explained::Only(2),
+        ends: None,
     },
     // With a patience of 11 seconds.
     Row {
@@ -269,6 +279,7 @@ static ROWS: [Row; 18] = [
         delays: false,
         within: 11,
         explained: OWES,
+        ends: None,
     },
     // The UPDATE that follows it was never read.
     Row {
@@ -282,6 +293,7 @@ static ROWS: [Row; 18] = [
         delays: false,
         within: 10,
         explained: WHOLE,
+        ends: Some(Fsm::Idle),
     },
     // It is overdue, and can't be heard while the first isn't answered.
     Row {
@@ -295,6 +307,7 @@ static ROWS: [Row; 18] = [
         delays: false,
         within: 10,
         explained: Explained::Only(2),
+        ends: None,
     },
     // A HoldTimer that expires two seconds after an UPDATE.
     Row {
@@ -304,6 +317,7 @@ static ROWS: [Row; 18] = [
         delays: false,
         within: 10,
         explained: Explained::Only(2),
+        ends: None,
     },
     // The HoldTimer expires 90 seconds after an UPDATE, and what came then was never read.
     Row {
@@ -313,6 +327,7 @@ static ROWS: [Row; 18] = [
         delays: false,
         within: 10,
         explained: WHOLE,
+        ends: Some(Fsm::Idle),
     },
     // The KEEPALIVE is overdue, and sets the timer again.
     Row {
@@ -322,6 +337,7 @@ static ROWS: [Row; 18] = [
         delays: false,
         within: 10,
         explained: Explained::Only(2),
+        ends: None,
     },
     // The local system ends the connection without an answer: it never read the UPDATE.
     Row {
@@ -335,6 +351,7 @@ static ROWS: [Row; 18] = [
         delays: false,
         within: 10,
         explained: WHOLE,
+        ends: Some(Fsm::Idle),
     },
     // It is overdue then.
     Row {
@@ -348,6 +365,7 @@ static ROWS: [Row; 18] = [
         delays: false,
         within: 10,
         explained: OWES,
+        ends: None,
     },
     // A second OPEN.
     Row {
@@ -357,6 +375,7 @@ static ROWS: [Row; 18] = [
         delays: false,
         within: 10,
         explained: Explained::Only(3),
+        ends: None,
     },
     // The OPEN is delayed.
     Row {
@@ -366,6 +385,7 @@ static ROWS: [Row; 18] = [
         delays: true,
         within: 10,
         explained: WHOLE,
+        ends: Some(Fsm::Established),
     },
     // It may not be.
     Row {
@@ -375,6 +395,7 @@ static ROWS: [Row; 18] = [
         delays: false,
         within: 10,
         explained: Explained::Only(0),
+        ends: None,
     },
     // An OPEN that isn't answered.
     Row {
@@ -384,6 +405,7 @@ static ROWS: [Row; 18] = [
         delays: false,
         within: 10,
         explained: WHOLE,
+        ends: Some(Fsm::Idle),
     },
     // A NOTIFICATION before the OPEN: in Active alone it may come first.
     Row {
@@ -397,6 +419,7 @@ static ROWS: [Row; 18] = [
         delays: true,
         within: 10,
         explained: WHOLE,
+        ends: Some(Fsm::Idle),
     },
 ];
 
@@ -408,17 +431,22 @@ fn router_a(delays: bool) -> Option<Config> {
     })
 }
 
-/// Whether so much of a row's exchange is explained, over a connection that this side opened.
-fn is_explained(alloc: Global, row: &Row, opened_by: Side) -> Option<bool> {
-    let config = router_a(row.delays)?;
-    let exchange = Exchange {
+/// A row's exchange, over a connection that this side opened.
+fn exchange_of(row: &Row, opened_by: Side) -> Exchange<'static, 'static> {
+    Exchange {
         opened_by,
         packet: 1,
         second: 100,
         received: row.received,
         sent: row.sent,
         end: row.end,
-    };
+    }
+}
+
+/// Whether so much of a row's exchange is explained, over a connection that this side opened.
+fn is_explained(alloc: Global, row: &Row, opened_by: Side) -> Option<bool> {
+    let config = router_a(row.delays)?;
+    let exchange = exchange_of(row, opened_by);
     let explained = explained_count(alloc, &config, &exchange, row.within).ok()?;
     Some(explained == row.explained)
 }
@@ -429,4 +457,83 @@ fn exchanges_are_explained(rt: HostRuntime) {
         assert!(rt; is_explained(rt.alloc(), row, Side::Peer) == Some(true));
         assert!(rt; is_explained(rt.alloc(), row, Side::Local) == Some(true));
     }
+}
+
+/// The entries of a whole way of a row's exchange, if there is one.
+fn entries_of(
+    alloc: Global,
+    config: &Config,
+    row: &Row,
+    opened_by: Side,
+) -> Option<Vec<Entry<'static>>> {
+    let exchange = exchange_of(row, opened_by);
+    entries_of_whole_way(alloc, config, &exchange, row.within).ok()?
+}
+
+/// No family.
+const NEITHER: Families = Families {
+    v4: false,
+    v6: false,
+};
+
+/// The state in which the records of these entries end, if they are judged to end in one alone,
+/// with no family disabled.
+fn judged_end(alloc: Global, config: &Config, entries: &[Entry<'_>]) -> Option<Fsm> {
+    let mut records = Vec::new(alloc);
+    for entry in entries {
+        records.push(entry.record).ok()?;
+    }
+    let verdict = judge_records::<Global, PlainTracker<Global>>(alloc, config, &records).ok()?;
+    let Verdict::Yes(ends) = verdict else {
+        return None;
+    };
+    match ends.as_slice() {
+        [end] => (end.rib.disabled() == NEITHER).then_some(end.fsm),
+        _ => None,
+    }
+}
+
+/// Whether a way of a row's exchange is whole just if one is said to be, and ends so.
+fn ends_so(alloc: Global, row: &Row, opened_by: Side) -> Option<bool> {
+    let config = router_a(row.delays)?;
+    match entries_of(alloc, &config, row, opened_by) {
+        Some(entries) => Some(judged_end(alloc, &config, &entries) == row.ends),
+        None => Some(row.ends.is_none()),
+    }
+}
+
+#[test]
+fn entries_of_whole_ways_are_judged_yes(rt: HostRuntime) {
+    for row in &ROWS {
+        assert!(rt; ends_so(rt.alloc(), row, Side::Peer) == Some(true));
+        assert!(rt; ends_so(rt.alloc(), row, Side::Local) == Some(true));
+    }
+}
+
+/// The entries of the last row: the one way that is whole begins in Active.
+const REJECTS: [Entry<'static>; 3] = [
+    Entry {
+        packet: 1,
+        record: Record::Change(100, 1, 3),
+    },
+    Entry {
+        packet: 4,
+        record: Record::Out(101, &REJECTED),
+    },
+    Entry {
+        packet: 4,
+        record: Record::Change(101, 3, 1),
+    },
+];
+
+/// Whether the entries of the last row are these, over a connection that the local system opens.
+fn rejects_in_active(alloc: Global) -> Option<bool> {
+    let config = router_a(true)?;
+    let entries = entries_of(alloc, &config, ROWS.last()?, Side::Local)?;
+    Some(entries.as_slice() == REJECTS.as_slice())
+}
+
+#[test]
+fn a_way_begins_in_either_state(rt: HostRuntime) {
+    assert!(rt; rejects_in_active(rt.alloc()) == Some(true));
 }
