@@ -6,3 +6,4 @@ pub mod Rows
 pub mod Connections
 pub mod Turns
 pub mod Entries
+pub mod WholeWays

@@ -41,4 +41,4 @@ pub use laws::{
     patience_keeps_verdicts, ways_begin_with_their_fronts, whole_ways_are_reached,
 };
 pub use tracing::MOST_KEPT;
-pub use whole::{entries_of_whole_way, runs_of_entries_are_whole};
+pub use whole::{entries_of_whole_way, record_whole_way, runs_of_entries_are_whole};

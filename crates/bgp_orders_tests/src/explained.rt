@@ -21,7 +21,7 @@ const MALFORMED_LIST: [u8; 21] = [
 ];
 
 /// A NOTIFICATION: Connection Rejected (RFC 4486).
-const REJECTED: [u8; 21] = [
+pub(crate) const REJECTED: [u8; 21] = [
     255, 255, 255, 255, 255, 255, 255, 255, 255, 255, 255, 255, 255, 255, 255, 255, 0, 21, 3, 6, 5,
 ];
 
@@ -424,7 +424,7 @@ static ROWS: [Row; 18] = [
 ];
 
 /// What router A is configured to do.
-fn router_a(delays: bool) -> Option<Config> {
+pub(crate) fn router_a(delays: bool) -> Option<Config> {
     Config::new(ConfigParts {
         delay_open: delays,
         ..ROUTER_A
@@ -511,7 +511,7 @@ fn entries_of_whole_ways_are_judged_yes(rt: HostRuntime) {
 }
 
 /// The entries of the last row: the one way that is whole begins in Active.
-const REJECTS: [Entry<'static>; 3] = [
+pub(crate) const REJECTS: [Entry<'static>; 3] = [
     Entry {
         packet: 1,
         record: Record::Change(100, 1, 3),
