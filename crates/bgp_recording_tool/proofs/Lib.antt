@@ -9,6 +9,7 @@ pub mod Statuses
 pub mod Texts
 pub mod Tellings
 mod ToldAlike
+mod ByNoOrder
 mod SameVerdict
 mod YesShown
 mod EntryLines

@@ -12,17 +12,28 @@ use Rattle.streams.specs.declared.fault.Fault.{Fault}
 use Rattle.streams.specs.declared.passed.Side.{Side}
 use Rattle.streams.specs.declared.passed.Side.TheVariants.{Local, Peer}
 use Rattle.mrt.specs.Reader.{shown_of}
-use Rattle.bgp_recording.specs.Captured.{IsNoRefresh, records_of}
+use Rattle.packets.specs.Packet.{Recorded}
+use Rattle.bgp_open.specs.declared.config.Config.{Config}
+use Rattle.bgp_judge.specs.Verdict.{VerdictValue, No, HasVerdict}
+use Rattle.mrt.specs.Capture.{Spells}
+use Rattle.bgp_recording.specs.Captured.{CanBeNamed, IsNoRefresh, records_of}
 use Rattle.bgp_recording.specs.declared.entry.Entry.{Entry}
 use Rattle.bgp_recording.specs.declared.framing.Rest.{Rest}
-use Rattle.bgp_import.specs.Captures.{shown_message}
+use Rattle.bgp_orders.specs.declared.connection.Unexplained.{Unexplained}
+use Rattle.bgp_import.specs.Captures.{IsCapture, shown_message}
+use Rattle.bgp_import.specs.Importing.{IsMadeOf}
+use Rattle.bgp_import.specs.Selecting.{AreTaken}
+use Rattle.bgp_import.specs.declared.importing.Import.{Import}
+use Rattle.bgp_import.specs.declared.note.Notes.{Notes}
 use Rattle.bgp_import.specs.Gathers.{IsNotChosen}
-use Rattle.bgp_import.specs.Once.{IsMadeOfPackets}
+use Rattle.bgp_import.specs.Once.{IsMadeOfPackets, MeanTheSame}
 use Rattle.bgp_import.specs.Refreshes.{IsOne, IsRefreshPacket, IsRefreshIn, refresh_at, earlier}
 use Rattle.bgp_import.specs.Refusals.{refusal_number, refusal_packet}
 use Rattle.bgp_import.specs.declared.refusal.Refusal.{Refusal}
 use Rattle.bgp_recording_tool.specs.Headline.{IsFirstRefresh, ImportAndJudgeAgree, JudgeTellsTheCapture}
-use Rattle.bgp_recording_tool.specs.Told.{Judged, Refused}
+use Rattle.bgp_recording_tool.specs.Connections.{IsJudged}
+use Rattle.bgp_recording_tool.specs.Told.{Judged, NoOrder, Refused}
+use Rattle.bgp_recording_tool.specs.declared.remark.Remark.{Remark}
 use Rattle.bgp_recording_tool.proofs.FirstRefresh.{first_or_none}
 
 -- ---- a ROUTE-REFRESH
@@ -97,13 +108,27 @@ not_unchosen number count segments connection refusal answered not = not_both nu
 
 -- ---- what is told
 
+-- the capture has the verdict on the made records
+module _ (agree : ImportAndJudgeAgree) (config : Config) (imports judges : Import) (number named : Option ℕ) (packets : List Recorded) (segments : List Segment) (connection : Connection)
+    (entries : List Entry) (notes : Notes) (octets : List ℕ) (can : CanBeNamed config.parts.session) (session : judges.selection.session ≡ config.parts.session)
+    (mean : MeanTheSame imports judges) (taken : AreTaken imports.selection 0 packets segments) (also : AreTaken judges.selection 0 packets segments)
+    (answered : IsAnswered number (length packets) (numbered (reverse segments)) connection) (made : IsMadeOf imports connection entries notes)
+    (capture : IsCapture imports.selection.session entries octets) where
+  reads_so : (verdict : VerdictValue) (unexplained : Option Unexplained) (remarks : List Remark) → IsJudged config judges packets segments number named verdict unexplained remarks
+      → (records : List ShownRecord) × Spells config.parts.session octets records × HasVerdict config records verdict
+  reads_so verdict unexplained remarks judged =
+      let theirs : IsMadeOfPackets imports number packets entries notes = record { segments = segments; connection = connection; taken = taken; answered = answered; made = made } in
+      let own : IsMadeOfPackets judges number packets judged.entries judged.notes =
+      record { segments = segments; connection = judged.connection; taken = also; answered = judged.chosen; made = judged.made } in
+      let agrees = (agree config imports judges number packets entries judged.entries notes judged.notes octets can session mean theirs capture own).2 in
+      (records_of judged.entries, agrees.reads (λ refuses. judged.without (subst (λ (s : Session). s.refresh ≡ refreshes.Refused) (sym session) refuses)), judged.is)
+
 pub tells_as : ImportAndJudgeAgree → JudgeTellsTheCapture
 tells_as agree config report imports judges number packets segments connection entries notes octets named (Judged verdict more) remarks can session mean taken also answered made capture told =
-    let theirs : IsMadeOfPackets imports number packets entries notes = record { segments = segments; connection = connection; taken = taken; answered = answered; made = made } in
-    let own : IsMadeOfPackets judges number packets told.judged.entries told.judged.notes =
-    record { segments = segments; connection = told.judged.connection; taken = also; answered = told.judged.chosen; made = told.judged.made } in
-    let agrees = (agree config imports judges number packets entries told.judged.entries notes told.judged.notes octets can session mean theirs capture own).2 in
-    (records_of told.judged.entries, agrees.reads (λ refuses. told.judged.without (subst (λ (s : Session). s.refresh ≡ refreshes.Refused) (sym session) refuses)), told.judged.is)
+    reads_so agree config imports judges number named packets segments connection entries notes octets can session mean taken also answered made capture verdict None remarks told.judged
+tells_as agree config report imports judges number packets segments connection entries notes octets named (NoOrder u more) remarks can session mean taken also answered made capture (count, told) =
+    let (records, spells, is) = reads_so agree config imports judges number named packets segments connection entries notes octets can session mean taken also answered made capture
+    (No count) (Some u) remarks told.judged in (records, spells, count, is)
 tells_as agree config report imports judges number packets segments connection entries notes octets named (Refused refusal) remarks can session mean taken also answered made capture told =
     elim told.why [
       | inl (inl not) ↦ absurd (not_unchosen number (length packets) (reverse segments) connection refusal answered not)

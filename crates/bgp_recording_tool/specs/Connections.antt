@@ -1,6 +1,6 @@
 -- What judging tells of the connections of a session, in a recording that was read to its end.
 use Rattle.std.specs.Prelude.{◌↔◌, ◌≡◌, ◌<◌, ◌⊎◌, ◌++◌, ℕ, zero, suc, Bool, List, [], ◌∷◌}
-use Rattle.std.specs.Prelude.{IsTrue, Option, None, Some, length, reverse, codes}
+use Rattle.std.specs.Prelude.{IsTrue, Option, None, Some, IfSome, length, reverse, codes}
 use Rattle.std.specs.List.{AllByRecursion}
 use Rattle.packets.specs.Packet.{Recorded}
 use Rattle.streams.specs.Choice.{IsAnswered, OpensAs, numbered_one}
@@ -11,9 +11,13 @@ use Rattle.streams.specs.declared.connection.Opening.{Opening}
 use Rattle.bgp_prefix.specs.declared.session.RouteRefresh.TheVariants as refreshes
 use Rattle.bgp_parts.specs.Confederations.{SomeShowConfederations}
 use Rattle.bgp_open.specs.declared.config.Config.{Config}
-use Rattle.bgp_judge.specs.Verdict.{VerdictValue, HasVerdict}
+use Rattle.bgp_judge.specs.Verdict.{VerdictValue, No, HasVerdict}
 use Rattle.bgp_recording.specs.Captured.{IsNoRefresh, records_of}
+use Rattle.bgp_recording.specs.Pieces.{framings_of}
 use Rattle.bgp_recording.specs.declared.entry.Entry.{Entry}
+use Rattle.bgp_orders.specs.Connections.{IsOverOrders}
+use Rattle.bgp_orders.specs.declared.connection.OverOrders.TheVariants as over
+use Rattle.bgp_orders.specs.declared.connection.Unexplained.{Unexplained}
 use Rattle.bgp_import.specs.Importing.{IsMadeOf}
 use Rattle.bgp_import.specs.ListText.{opening_text}
 use Rattle.bgp_import.specs.Making.{IsTurnedDown}
@@ -27,7 +31,8 @@ use Rattle.bgp_explain.specs.declared.report.Report.{Report}
 use Rattle.bgp_explain.specs.declared.report.Report.TheVariants.{VerdictAlone, WithReason}
 use Rattle.bgp_recording_tool.specs.declared.remark.Remark.{Remark}
 use Rattle.bgp_recording_tool.specs.Remarks.{IsHelp, remarks_on}
-use Rattle.bgp_recording_tool.specs.Told.{Told, Judged, Refused, told_text, told_status}
+use Rattle.bgp_recording_tool.specs.Told.{Told, Judged, NoOrder, Refused}
+use Rattle.bgp_recording_tool.specs.Told.{told_text, told_status}
 use Rattle.bgp_recording_tool.specs.Told.{status_over}
 
 -- One connection more is told of, under its line: what was told before it stands before it. Its
@@ -52,11 +57,20 @@ pub record HasOneMore (Before : List ℕ → List ℕ → List Remark → Type 0
 -- The session's packets have these segments, none of which is refused.
 module _ (config : Config) (wanted : Import) (packets : List Recorded) (segments : List Segment)
   where
+    -- This sent message of the connection with this number, or of the only one, is the first that
+    -- no order explains that the packets allow within the patience.
+    pub record IsNoOrder (number : Option ℕ) (u : Unexplained) : Type 0 where
+      pub connection : Connection
+      pub chosen : IsAnswered number (length packets) (numbered (reverse segments)) connection
+      pub over_all : IsOverOrders config wanted.within (framings_of wanted.selection.session)
+          connection (over.No u)
+
     -- These entries are made of the connection with this number, or of the only one, and this is
     -- the verdict on their records. None of them is a ROUTE-REFRESH, where the session refuses
-    -- one. It is remarked if one shows an UPDATE of a confederation.
+    -- one. If a sent message is told, no order explains it. It is remarked if one of the records
+    -- shows an UPDATE of a confederation.
     pub record IsJudged (number named : Option ℕ) (verdict : VerdictValue)
-        (remarks : List Remark) : Type 0 where
+        (unexplained : Option Unexplained) (remarks : List Remark) : Type 0 where
       pub connection : Connection
       pub entries : List Entry
       pub notes : Notes
@@ -65,9 +79,11 @@ module _ (config : Config) (wanted : Import) (packets : List Recorded) (segments
       pub without : wanted.selection.session.refresh ≡ refreshes.Refused
           → AllByRecursion IsNoRefresh (records_of entries)
       pub is : HasVerdict config (records_of entries) verdict
+      pub no_order : IfSome unexplained (IsNoOrder number)
       pub confederation : Bool
       pub shows : IsTrue confederation ↔ SomeShowConfederations (records_of entries)
       pub remarked : remarks ≡ remarks_on named wanted.within entries notes confederation verdict
+          unexplained
 
     -- the session refuses a ROUTE-REFRESH, and there is one
     pub record HasRefresh (number : Option ℕ) (refusal : Refusal) : Type 0 where
@@ -106,16 +122,18 @@ IsMore WithReason config entries verdict more =
 module _ (config : Config) (report : Report) (wanted : Import) (packets : List Recorded)
     (segments : List Segment) where
   -- It is judged, and this stands after the verdict.
-  pub record IsReported (number named : Option ℕ) (verdict : VerdictValue) (more : List ℕ)
-      (remarks : List Remark) : Type 0 where
-    pub judged : IsJudged config wanted packets segments number named verdict remarks
+  pub record IsReported (number named : Option ℕ) (verdict : VerdictValue)
+      (unexplained : Option Unexplained) (more : List ℕ) (remarks : List Remark) : Type 0 where
+    pub judged : IsJudged config wanted packets segments number named verdict unexplained remarks
     pub is_more : IsMore report config judged.entries verdict more
 
   -- What is told of the connection with this number, or of the only one. What is remarked names it
   -- where several are told of.
   abbrev pub IsTold : Option ℕ → Option ℕ → Told → List Remark → Type 0
   IsTold number named (Judged verdict more) remarks =
-      IsReported number named verdict more remarks
+      IsReported number named verdict None more remarks
+  IsTold number named (NoOrder u more) remarks =
+      (count : ℕ) × IsReported number named (No count) (Some u) more remarks
   IsTold number named (Refused refusal) remarks =
       IsNotJudged config wanted packets segments number named refusal remarks
 

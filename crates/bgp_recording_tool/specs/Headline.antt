@@ -1,6 +1,6 @@
--- The laws on what a yes is worth that is answered of a recording, and that what is imported of it
--- is judged the same.
-use Rattle.std.specs.Prelude.{◌≡◌, ◌⊎◌, ◌++◌, ℕ, List, ◌∷◌, Option, length, reverse}
+-- The laws on what a yes and a no over all orders are worth that are answered of a recording, and
+-- that what is imported of it is judged the same.
+use Rattle.std.specs.Prelude.{◌≡◌, ◌⊎◌, ◌++◌, ℕ, List, ◌∷◌, Option, length, reverse, codes}
 use Rattle.std.specs.List.{AllByRecursion}
 use Rattle.bgp_prefix.specs.Shown.{ShownRecord}
 use Rattle.bgp_prefix.specs.declared.session.RouteRefresh.TheVariants as refreshes
@@ -16,11 +16,15 @@ use Rattle.bgp_open.specs.declared.config.Config.{Config}
 use Rattle.bgp_machine.specs.Lists.{Has}
 use Rattle.bgp_machine.specs.Run.{End, IsComplete}
 use Rattle.bgp_judge.specs.Ends.{ListsEnds}
-use Rattle.bgp_judge.specs.Verdict.{VerdictValue, HasVerdict}
+use Rattle.bgp_judge.specs.Verdict.{VerdictValue, No, HasVerdict}
 use Rattle.bgp_recording.specs.Captured.{CanBeNamed, IsNoRefresh, records_of}
 use Rattle.bgp_recording.specs.Pieces.{framings_of}
 use Rattle.bgp_recording.specs.Recorded.{IsRecorded}
 use Rattle.bgp_recording.specs.declared.entry.Entry.{Entry}
+use Rattle.bgp_recording.specs.declared.ordering.Exchange.{Exchange}
+use Rattle.bgp_orders.specs.Connections.{IsPacketOf, NoWayExplains, TellsConnection}
+use Rattle.bgp_orders.specs.Explained.{IsExplained}
+use Rattle.bgp_orders.specs.declared.connection.Unexplained.{Unexplained}
 use Rattle.bgp_explain.specs.declared.report.Report.{Report}
 use Rattle.bgp_import.specs.Captures.{IsCapture}
 use Rattle.bgp_import.specs.Importing.{IsMadeOf}
@@ -29,8 +33,8 @@ use Rattle.bgp_import.specs.declared.importing.Import.{Import}
 use Rattle.bgp_import.specs.Refusals.{refusal_number}
 use Rattle.bgp_import.specs.Selecting.{AreTaken}
 use Rattle.bgp_import.specs.declared.note.Notes.{Notes}
-use Rattle.bgp_recording_tool.specs.Connections.{IsTold}
-use Rattle.bgp_recording_tool.specs.Told.{Told, Judged, Refused}
+use Rattle.bgp_recording_tool.specs.Connections.{IsTold, IsToldAs}
+use Rattle.bgp_recording_tool.specs.Told.{Told, Judged, NoOrder, Refused, no_order_line}
 use Rattle.bgp_recording_tool.specs.declared.remark.Remark.{Remark}
 
 -- Some run of the session machine ends so and shows just the records of these entries, and they
@@ -52,6 +56,31 @@ EachEndIsShown =
     → IsMadeOf wanted connection entries notes
     → ListsEnds config (records_of entries) ends → Has (λ x. x ≡ e) ends
     → IsShownWithin config wanted connection entries notes e
+
+-- What packets tell of the connection with this number, or of the only one: this sent message has
+-- the packet that is told; some order that they allow explains all sent ones before it, and none
+-- explains it, whichever state the session begins in.
+pub record IsByNoOrder (config : Config) (wanted : Import) (packets : List Recorded)
+    (segments : List Segment) (number : Option ℕ) (u : Unexplained) : Type 0 where
+  pub connection : Connection
+  pub chosen : IsAnswered number (length packets) (numbered (reverse segments)) connection
+  pub exchange : Exchange
+  pub tells : TellsConnection (framings_of wanted.selection.session) connection exchange
+  pub packet : IsPacketOf exchange u
+  pub others : IsExplained config wanted.within exchange u.before
+  pub none : NoWayExplains config wanted.within exchange u
+
+-- If what is printed of a connection begins as a no over all orders does, its first line names the
+-- packet of a sent message that no order explains, and the exit status is 1.
+abbrev pub NoAtPacketIsByNoOrder : Type 0
+NoAtPacketIsByNoOrder =
+    (config : Config) (report : Report) (wanted : Import) (packets : List Recorded)
+    (segments : List Segment) (number named : Option ℕ) (text : List ℕ) (status : ℕ)
+    (remarks : List Remark) (rest : List ℕ)
+    → IsToldAs config report wanted packets segments number named text status remarks
+    → text ≡ codes "no at packet " ++ rest
+    → (u : Unexplained) × (more : List ℕ) × (text ≡ no_order_line u.packet ++ more)
+    × (status ≡ 1) × IsByNoOrder config wanted packets segments number u
 
 -- The first ROUTE-REFRESH of some records stands after these.
 pub record IsFirstRefresh (records front : List ShownRecord) : Type 0 where
@@ -100,12 +129,15 @@ ImportAndJudgeAgree =
     → (notes ≡ told) × (records_of entries ≡ records_of judged) × Agrees config judged octets
 
 -- What is told of a connection is what these octets read as: a verdict, where they spell records
--- that have it; 18 RouteRefresh, where a reader refuses them by 7 RouteRefresh; or memory was
--- refused.
+-- that have it; of a no over all orders a no, too; 18 RouteRefresh, where a reader refuses them by 7
+-- RouteRefresh; or memory was refused.
 abbrev pub TellsAs : Config → List ℕ → Told → Type 0
 TellsAs config octets (Judged verdict more) =
     (records : List ShownRecord) × Spells config.parts.session octets records
     × HasVerdict config records verdict
+TellsAs config octets (NoOrder u more) =
+    (records : List ShownRecord) × Spells config.parts.session octets records
+    × (count : ℕ) × HasVerdict config records (No count)
 TellsAs config octets (Refused refusal) =
     ((refusal_number refusal ≡ 18) × (front : List ShownRecord) × (offset : ℕ)
     × IsFirstFault config.parts.session octets front kinds.RouteRefresh offset)

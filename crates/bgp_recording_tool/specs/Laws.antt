@@ -7,6 +7,7 @@ use Rattle.bgp_open.specs.declared.config.Config.{Config}
 use Rattle.bgp_judge.specs.Verdict.{VerdictValue, No}
 use Rattle.bgp_import.specs.Selecting.{AreTaken}
 use Rattle.bgp_import.specs.declared.importing.Import.{Import}
+use Rattle.bgp_orders.specs.declared.connection.Unexplained.{Unexplained}
 use Rattle.bgp_recording.specs.Captured.{records_of}
 use Rattle.bgp_reason.specs.declared.kinds.Possible.{Possible}
 use Rattle.bgp_reason.specs.Possible.{ArePossible}
@@ -15,16 +16,16 @@ use Rattle.bgp_recording_tool.specs.Connections.{IsJudged, IsReported}
 use Rattle.bgp_explain.specs.Laws.{CouldStand}
 use Rattle.bgp_explain.specs.declared.report.Report.TheVariants.{WithReason}
 
--- Of a connection that is explained as a no, and of what is possible in the place of the first
--- impossible of its made records: each of those could have stood there, and no other that a capture
--- can hold.
+-- Of a connection that is explained as a no, over all orders or in the made one, and of what is
+-- possible in the place of the first impossible of its made records: each of those could have stood
+-- there, and no other that a capture can hold.
 abbrev pub MadeCouldHaveStood : Type 0
 MadeCouldHaveStood =
     (config : Config) (wanted : Import) (packets : List Recorded) (segments : List Segment)
-    (number named : Option ℕ) (count : ℕ) (more : List ℕ) (remarks : List Remark)
-    (possible : Possible)
-    → (told : IsReported config WithReason wanted packets segments number named (No count) more
-    remarks)
+    (number named : Option ℕ) (count : ℕ) (unexplained : Option Unexplained) (more : List ℕ)
+    (remarks : List Remark) (possible : Possible)
+    → (told : IsReported config WithReason wanted packets segments number named (No count)
+    unexplained more remarks)
     → ArePossible config (take count (records_of told.judged.entries)) possible
     → CouldStand config (records_of told.judged.entries) count possible
 
@@ -32,9 +33,10 @@ MadeCouldHaveStood =
 abbrev pub RecordingsAreExplainedAsJudged : Type 0
 RecordingsAreExplainedAsJudged =
     (config : Config) (wanted : Import) (packets : List Recorded) (segments : List Segment)
-    (number named other : Option ℕ) (verdict judged : VerdictValue) (more : List ℕ)
-    (remarks others : List Remark)
+    (number named other : Option ℕ) (verdict judged : VerdictValue)
+    (unexplained found : Option Unexplained) (more : List ℕ) (remarks others : List Remark)
     → AreTaken wanted.selection 0 packets segments
-    → IsReported config WithReason wanted packets segments number named verdict more remarks
-    → IsJudged config wanted packets segments number other judged others
+    → IsReported config WithReason wanted packets segments number named verdict unexplained more
+    remarks
+    → IsJudged config wanted packets segments number other judged found others
     → verdict ≡ judged

@@ -36,6 +36,7 @@ IsMisfitFor wanted (kinds.Made note) = ⊥
 IsMisfitFor wanted kinds.NothingSent = ⊥
 IsMisfitFor wanted kinds.Confederation = ⊥
 IsMisfitFor wanted (kinds.No before packet within) = ⊥
+IsMisfitFor wanted (kinds.NoOrder before packet within) = ⊥
 IsMisfitFor wanted (kinds.Refused help) = ⊥
 IsMisfitFor wanted kinds.TwoFamilies = ¬ IsOneFamily wanted.selection.session
 IsMisfitFor wanted kinds.OneAddress =

@@ -1,33 +1,43 @@
 -- What is put of one connection whose records are judged, and what there is to tell of it besides.
-use Rattle.std.specs.Prelude.{◌↔◌, ◌≡◌, ◌++◌, ℕ, Bool, IsTrue, List, Option}
+use Rattle.std.specs.Prelude.{◌↔◌, ◌≡◌, ◌++◌, ℕ, Bool, IsTrue, List, Option, IfSome}
+use Rattle.packets.specs.Packet.{Recorded}
+use Rattle.streams.specs.Passed.{Segment}
 use Rattle.mrt.specs.declared.sink.Sink as sinks
 use Rattle.bgp_parts.specs.Confederations.{SomeShowConfederations}
 use Rattle.bgp_open.specs.declared.config.Config.{Config}
 use Rattle.bgp_judge.specs.Verdict.{HasVerdict, VerdictValue}
 use Rattle.bgp_text.specs.Lines.{Writes}
 use Rattle.bgp_text.specs.declared.lines.Lines.{Lines}
+use Rattle.bgp_import.specs.declared.importing.Import.{Import}
 use Rattle.bgp_import.specs.declared.note.Notes.{Notes}
 use Rattle.bgp_recording.specs.Captured.{records_of}
 use Rattle.bgp_recording.specs.declared.entry.Entry.{Entry}
+use Rattle.bgp_orders.specs.declared.connection.Unexplained.{Unexplained}
 use Rattle.bgp_explain.specs.declared.report.Report.{Report}
 use Rattle.bgp_recording_tool.specs.declared.remark.Remark.{Remark}
-use Rattle.bgp_recording_tool.specs.Connections.{IsMore}
+use Rattle.bgp_recording_tool.specs.Connections.{IsMore, IsNoOrder}
 use Rattle.bgp_recording_tool.specs.Remarks.{remarks_on}
-use Rattle.bgp_recording_tool.specs.Told.{value_status, value_text}
+use Rattle.bgp_recording_tool.specs.Told.{IsNo, told_of, told_status, told_text}
 
--- the verdict on the records of these entries and what stands after it, with this exit status
+-- The verdict on the records of these entries, or of a no the sent message of the connection with
+-- this number that no order explains; and what stands after it, with this exit status.
 pub record PutsReport {T : Type 0} {sink : sinks.Ghosts T} (config : Config) (report : Report)
-    (named : Option ℕ) (within : ℕ) (entries : List Entry) (notes : Notes)
+    (wanted : Import) (packets : List Recorded) (segments : List Segment)
+    (number named : Option ℕ) (entries : List Entry) (notes : Notes)
     (lines lines' : Lines T sink) (remarks remarks' : List Remark) (status : ℕ) : Type 0 where
   pub verdict : VerdictValue
+  pub unexplained : Option Unexplained
   pub more : List ℕ
   pub is : HasVerdict config (records_of entries) verdict
+  pub is_no : IfSome unexplained (λ u. IsNo verdict)
+  pub no_order : IfSome unexplained (IsNoOrder config wanted packets segments number)
   pub is_more : IsMore report config entries verdict more
-  pub wrote : Writes lines lines' (value_text verdict ++ more)
+  pub wrote : Writes lines lines' (told_text (told_of verdict unexplained more))
   pub confederation : Bool
   pub shows : IsTrue confederation ↔ SomeShowConfederations (records_of entries)
-  pub added : remarks' ≡ remarks ++ remarks_on named within entries notes confederation verdict
-  pub tells : status ≡ value_status verdict
+  pub added : remarks' ≡ remarks
+      ++ remarks_on named wanted.within entries notes confederation verdict unexplained
+  pub tells : status ≡ told_status (told_of verdict unexplained more)
 
 -- nothing is put or added
 pub record PutsNothing {T : Type 0} {sink : sinks.Ghosts T} (lines lines' : Lines T sink)

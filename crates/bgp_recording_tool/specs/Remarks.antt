@@ -8,6 +8,7 @@ use Rattle.bgp_tool.specs.Seen.{is_sent}
 use Rattle.bgp_judge.specs.Verdict.{VerdictValue, Yes, No, Unfinished}
 use Rattle.bgp_recording.specs.declared.entry.Entry.{Entry}
 use Rattle.bgp_recording.specs.declared.making.Recording.{Recording}
+use Rattle.bgp_orders.specs.declared.connection.Unexplained.{Unexplained}
 use Rattle.bgp_import.specs.Captures.{put_off}
 use Rattle.bgp_import.specs.Notes.{notes_in_order}
 use Rattle.bgp_import.specs.Refusals.{cause_of}
@@ -64,19 +65,29 @@ confederation_remark connection false = None
 
 -- Of a yes, that nothing was sent, where that is so; of a no, how many records come before the
 -- first impossible one, the packet that shows that, and how long a message may have waited.
-abbrev pub verdict_remark : Option ℕ → ℕ → List Entry → VerdictValue → Option Remark
-verdict_remark connection within entries (Yes ends) =
+abbrev pub made_order_remark : Option ℕ → ℕ → List Entry → VerdictValue → Option Remark
+made_order_remark connection within entries (Yes ends) =
     if has_sent entries then None else Some (remark_on connection kinds.NothingSent)
-verdict_remark connection within entries (No count) =
+made_order_remark connection within entries (No count) =
     Some (remark_on connection (kinds.No count (packet_after entries count) within))
-verdict_remark connection within entries Unfinished = None
+made_order_remark connection within entries Unfinished = None
+
+-- If a sent message is known that no order explains, it is told in place of the record of a no: how
+-- many come before it, its packet, and how long a message may have waited.
+abbrev pub verdict_remark : Option ℕ → ℕ → List Entry → VerdictValue → Option Unexplained
+    → Option Remark
+verdict_remark connection within entries verdict None =
+    made_order_remark connection within entries verdict
+verdict_remark connection within entries verdict (Some u) =
+    Some (remark_on connection (kinds.NoOrder u.before u.packet within))
 
 -- All that is told of a connection of which these entries are made: with this patience, and with
 -- an UPDATE of a confederation or without.
-abbrev pub remarks_on : Option ℕ → ℕ → List Entry → Notes → Bool → VerdictValue → List Remark
-remarks_on connection within entries notes confederation verdict =
+abbrev pub remarks_on : Option ℕ → ℕ → List Entry → Notes → Bool → VerdictValue
+    → Option Unexplained → List Remark
+remarks_on connection within entries notes confederation verdict unexplained =
     some_of (making_remarks connection notes ++ confederation_remark connection confederation
-    ∷ verdict_remark connection within entries verdict ∷ [])
+    ∷ verdict_remark connection within entries verdict unexplained ∷ [])
 
 -- what helps against a refusal, if anything does
 abbrev pub help_by : Cause → Option ℕ → Refusal → Option Remark

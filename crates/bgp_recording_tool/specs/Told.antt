@@ -1,17 +1,32 @@
 -- What is answered of a connection in a recording, its text and its exit status.
 use Rattle.std.specs.Prelude.{ℕ, ◌≡◌, ◌||◌, ◌++◌, List, [], ◌∷◌, Bool, true, false, cond, nat_eq}
+use Rattle.std.specs.Prelude.{Option, None, Some, codes}
+use Rattle.std.specs.Fmt.{decimal}
 use Rattle.bgp_judge.specs.Verdict.{VerdictValue, Yes, No, Unfinished}
 use Rattle.bgp_tool.specs.VerdictText.{yes_text, no_line, unfinished_line}
 use Rattle.bgp_import.specs.Refusals.{refusal_line, cause_of}
 use Rattle.bgp_import.specs.declared.refusal.Cause.{Cause}
 use Rattle.bgp_import.specs.declared.refusal.Cause.TheVariants as causes
 use Rattle.bgp_import.specs.declared.refusal.Refusal.{Refusal}
+use Rattle.bgp_orders.specs.declared.connection.Unexplained.{Unexplained}
 
 pub data Told : Type 0 where
   -- the verdict on the records that are made of it, and what stands after it
   Judged : VerdictValue → List ℕ → Told
+  -- That verdict is a no, and this sent message is the first that no order explains that the
+  -- packets allow. And what stands after it.
+  NoOrder : Unexplained → List ℕ → Told
   -- why none are made or judged
   Refused : Refusal → Told
+
+-- what is told of a verdict, and of the sent message that no order explains, if one is known
+abbrev pub told_of : VerdictValue → Option Unexplained → List ℕ → Told
+told_of verdict None more = Judged verdict more
+told_of verdict (Some u) more = NoOrder u more
+
+-- the verdict is a no
+abbrev pub IsNo : VerdictValue → Type 0
+IsNo verdict = (count : ℕ) × (verdict ≡ No count)
 
 -- ---- its text
 
@@ -20,8 +35,13 @@ value_text (Yes ends) = yes_text ends
 value_text (No count) = no_line count
 value_text Unfinished = unfinished_line
 
+-- a no over all orders: the packet of the message that none explains
+unfoldable pub no_order_line : ℕ → List ℕ
+no_order_line packet = codes "no at packet " ++ (decimal packet ++ codes "\n")
+
 abbrev pub told_text : Told → List ℕ
 told_text (Judged verdict more) = value_text verdict ++ more
+told_text (NoOrder u more) = no_order_line u.packet ++ more
 told_text (Refused refusal) = refusal_line refusal
 
 -- ---- its exit status
@@ -42,6 +62,7 @@ refused_status refusal = cause_status (cause_of refusal)
 
 abbrev pub told_status : Told → ℕ
 told_status (Judged verdict more) = value_status verdict
+told_status (NoOrder u more) = 1
 told_status (Refused refusal) = refused_status refusal
 
 -- ---- the exit status over several connections

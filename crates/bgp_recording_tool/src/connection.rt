@@ -1,7 +1,7 @@
 //! What is reported on one of a recording's connections: the verdict on its records, and why it is
 //! so.
 
-ghost use Rattle.std.specs.Prelude.{◌≡◌, ◌++◌, ℕ, List, Some, length, map, reverse};
+ghost use Rattle.std.specs.Prelude.{◌≡◌, [], ℕ, List, Some, length, map, reverse};
 ghost use Rattle.std.specs.Prelude.{IfNone, IfSome, MatchResult};
 ghost use Rattle.mrt.specs.Reader.{shown_of};
 ghost use Rattle.std.specs.List.{AllByRecursion};
@@ -26,15 +26,18 @@ ghost use Rattle.bgp_recording_tool.specs.Judging.{Puts};
 ghost use Rattle.bgp_recording_tool.specs.Options.{IsOneFamily};
 ghost use Rattle.bgp_recording_tool.specs.Putting.{PutsNothing, PutsReport};
 ghost use Rattle.bgp_recording_tool.specs.Remarks.{AddsTold, IsHelp, notes_of};
-ghost use Rattle.bgp_recording_tool.specs.Told.{refused_status, value_status, value_text};
+ghost use Rattle.bgp_recording_tool.specs.Told.{IsNo, no_order_line, refused_status};
+ghost use Rattle.bgp_recording_tool.specs.Told.{told_of, told_status, told_text};
 
 use crate::judging::{status_of, verdict_status};
+use crate::orders::unexplained_by_all;
 use crate::remark::{Remark, add_help};
 use crate::remarking::add_remarks_on;
 use bgp_explain::{ExplainedRecords, Places, Report, explain_records, put_explained_records};
 use bgp_import::{Gathered, Import, Refusal, put_refusal, records_of, refresh_in};
-use bgp_judge::Tracker;
+use bgp_judge::{Tracker, Verdict};
 use bgp_open::Config;
+use bgp_orders::Unexplained;
 use bgp_parts::some_show_confederations;
 use bgp_prefix::{RouteRefresh, Session};
 use bgp_reason_text::Style;
@@ -104,8 +107,33 @@ fn put_more<A: Allocator + Copy, W: Sink>(
     }
 }
 
-/// Puts the verdict on the records of these entries, and what stands after it, and answers its exit
-/// status.
+/// Puts the line of a no over all orders.
+fn put_no_order<W: Sink>(lines: &mut Lines<'_, W>, packet: u64)
+    ensures { Writes lines.old lines.new (no_order_line packet) }
+{
+    lines.put(b"no at packet ");
+    lines.put_decimal(packet as u128);
+    lines.put(b"\n");
+}
+
+/// Puts the text of the verdict, or the line of the sent message that no order explains, if there
+/// is one.
+fn put_answer<A: Allocator, W: Sink>(
+    lines: &mut Lines<'_, W>,
+    verdict: &Verdict<A>,
+    unexplained: Option<Unexplained>,
+)
+    ensures { Writes lines.old lines.new (told_text
+        (told_of (verdict_value verdict.now) unexplained [])) }
+{
+    match unexplained {
+        None => put_verdict(lines, verdict),
+        Some(unexplained) => put_no_order(lines, unexplained.packet),
+    }
+}
+
+/// Puts the verdict on the records of these entries, or the sent message that no order explains,
+/// and what stands after it, and answers its exit status.
 fn put_report<A: Allocator + Copy, W: Sink>(
     lines: &mut Lines<'_, W>,
     alloc: A,
@@ -113,55 +141,76 @@ fn put_report<A: Allocator + Copy, W: Sink>(
     report: Report,
     entries: &[Entry<'_>],
     explained: &ExplainedRecords<A>,
+    unexplained: Option<Unexplained>,
 ) -> Status
     requires explained { AreExplained config.now (captured.records_of entries.now) explained.now }
     requires can { CanBePutOf config.now.parts.session explained.now.reason }
-    ensures writes { (more : List ℕ)
+    requires is_no { IfSome unexplained (λ u. IsNo (verdict_value explained.now.verdict)) }
+    ensures { (more : List ℕ)
         × IsMore report config.now entries.now (verdict_value explained.now.verdict) more
-        × Writes lines.old lines.new
-        (value_text (verdict_value explained.now.verdict) ++ more) }
-    ensures status { code_of result ≡ value_status (verdict_value explained.now.verdict) }
+        × Writes lines.old lines.new (told_text
+        (told_of (verdict_value explained.now.verdict) unexplained more))
+        × (code_of result
+        ≡ told_status (told_of (verdict_value explained.now.verdict) unexplained more)) }
 {
-    put_verdict(lines, &explained.verdict);
+    put_answer(lines, &explained.verdict, unexplained);
     put_more(lines, alloc, config, report, entries, explained);
     verdict_status(&explained.verdict)
 }
 
 /// Judges the records of a connection, puts what is reported on them, adds what there is to tell of
-/// it, with this number where several are told of, and answers the exit status. Where memory is
-/// refused for the verdict nothing is put or added.
+/// it, with a number where several are told of, and answers the exit status. If they are a no, all
+/// orders are searched, and a sent message that none explains is reported in place of the record. If
+/// memory is refused for the verdict nothing is put or added.
 fn report_made<A: Allocator + Copy, T: Tracker<A>, W: Sink>(
     alloc: A,
     config: &Config,
     report: Report,
-    within: u16,
+    import: &Import,
+    gathered: &Gathered<A>,
+    number: Option<usize>,
     named: Option<usize>,
     made: &Recording<'_, A>,
     lines: &mut Lines<'_, W>,
     remarks: &mut Vec<Remark, A>,
 ) -> Result<Status, AllocError>
+    requires holds { HoldsTaken import.now.selection gathered.now }
     requires records { map shown_of made.now.records.items
         ≡ captured.records_of made.now.entries.items }
     requires can { AllByRecursion (CanBeShown config.now.parts.session)
         made.now.entries.items }
-    ensures { MatchResult result
-        (λ status. PutsReport config.now report named within made.now.entries.items
-        (notes_of made.now) lines.old lines.new remarks.old.items remarks.new.items
-        (code_of status))
+    ensures { (packets : List Recorded) (segments : List Segment)
+        → AreTaken import.now.selection 0 packets segments
+        → HoldsSession (reverse segments) (length packets) gathered.now
+        → MatchResult result
+        (λ status. PutsReport config.now report import.now packets segments number named
+        made.now.entries.items (notes_of made.now) lines.old lines.new remarks.old.items
+        remarks.new.items (code_of status))
         (λ error. PutsNothing lines.old lines.new remarks.old.items remarks.new.items) }
 {
     let entries = made.entries.as_slice();
     let explained = explain_records::<A, T>(alloc, config, &made.records)?;
+    let verdict = &explained.verdict;
+    let unexplained = unexplained_by_all(alloc, config, import, gathered, number, verdict);
     let confederation = some_show_confederations(&made.records);
     add_remarks_on(
         remarks,
         named,
-        within,
+        import.within,
         made,
         confederation,
-        &explained.verdict,
+        verdict,
+        unexplained,
     )?;
-    Ok(put_report(lines, alloc, config, report, entries, &explained))
+    Ok(put_report(
+        lines,
+        alloc,
+        config,
+        report,
+        entries,
+        &explained,
+        unexplained,
+    ))
 }
 
 /// Puts the line of a refusal, adds what helps, and answers its exit status.
@@ -209,8 +258,10 @@ pub(crate) fn report_connection<A: Allocator + Copy, T: Tracker<A>, W: Sink>(
     if let Some(refusal) = refused_refresh(&import.selection.session, &made) {
         return put_refused(lines, remarks, named, refusal);
     }
-    let within = import.within;
-    match report_made::<A, T, W>(alloc, config, report, within, named, &made, lines, remarks) {
+    let reported = report_made::<A, T, W>(
+        alloc, config, report, import, gathered, number, named, &made, lines, remarks,
+    );
+    match reported {
         Ok(status) => status,
         Err(AllocError) => put_refused(lines, remarks, named, gathered.no_memory()),
     }

@@ -1,9 +1,9 @@
-//! The page to show: what judging a recording promises, and what a yes is worth.
+//! The page to show: what judging a recording promises, and what a yes and a no are worth.
 
 ghost use Rattle.std.specs.Prelude.{◌<◌, ◌^◌};
 ghost use Rattle.bgp_recording_tool.specs.Told.{NoIsTold};
 ghost use Rattle.bgp_recording_tool.specs.Headline.{EachEndIsShown, ImportAndJudgeAgree};
-ghost use Rattle.bgp_recording_tool.specs.Headline.{JudgeTellsTheCapture};
+ghost use Rattle.bgp_recording_tool.specs.Headline.{JudgeTellsTheCapture, NoAtPacketIsByNoOrder};
 ghost use Rattle.bgp_recording_tool.specs.Judging.{JudgesRecording};
 
 use crate::judging::{Judged, judge_source, misfit};
@@ -12,6 +12,7 @@ use bgp_explain::Report;
 use bgp_import::{RecordingOptions, recordings_are_made_once};
 use bgp_judge::{Tracker, records_have_just_one_verdict};
 use bgp_open::Config;
+use bgp_orders::no_order_explains_a_no;
 use bgp_recording::made_records_are_read;
 use bgp_text::Lines;
 use bgp_tool::hand_over;
@@ -23,9 +24,12 @@ use std::alloc::Allocator;
 ///
 /// Packets don't tell when the local system read a message, and what came may have waited. So one
 /// order is made in which it may have handled them, and the records of that are judged. What a yes
-/// is worth says [`each_end_is_shown`]; a no is about this one order, and another may be a yes. By
-/// [`import_and_judge_agree`] it is what [`judge_capture`](bgp_tool::judge_capture) answers of the
-/// capture that is imported.
+/// is worth says [`each_end_is_shown`]. If the verdict is a no, all orders that the packets allow
+/// are searched, and a no over all is told by the packet of a sent message
+/// ([`a_no_at_a_packet_is_by_no_order`]). If some order explains all that was sent, or there are too
+/// many to be searched or no memory for it, the no is told by the record of the made order; it is
+/// about this one order, and another may be a yes. By [`import_and_judge_agree`] the capture that is
+/// imported has the verdict of the made order from [`judge_capture`](bgp_tool::judge_capture).
 ///
 /// It judges the connection that is named, or the only one; where there are several and none is
 /// named, each, under a line that names it. It writes the text of each verdict, or `recording
@@ -33,7 +37,9 @@ use std::alloc::Allocator;
 /// 3, 2, 0 that one of them has ([`a_no_is_told`]):
 ///
 /// * 0: `yes`, and each possible end with its routes, and no other.
-/// * 1: `no at record N` of the made records; a remark tells the packet that shows the record.
+/// * 1: `no at packet P`: no order explains the sent message that this packet shows; a remark tells
+///   its number among those sent. Or `no at record N` of the made records; a remark tells the packet
+///   that shows the record.
 /// * 2: `unfinished`: the recording stops within what the local system had to do.
 /// * 3: the recording is refused.
 /// * 4: memory was refused.
@@ -43,7 +49,8 @@ use std::alloc::Allocator;
 ///
 /// If the reason is wanted, it writes after the verdict on each connection:
 ///
-/// * after a no the line of the first impossible of the made records, with the packet that shows
+/// * after a no, in either form, the line of the first impossible of the made records, with the packet
+///   that shows
 ///   it, which of a change is that of the record beside it; the state that the records before it
 ///   tell; the message received last, what it asks for, and the packet by which it was whole; each
 ///   kind of record that could have stood in its place, and no other, with what the record lacks of
@@ -123,12 +130,27 @@ pub fn each_end_is_shown()
     ensures { EachEndIsShown }
 {}
 
+/// Law: what a no over all orders is worth.
+///
+/// If what is printed of a connection begins with `no at packet`, the packet is that of a message
+/// that the local system sent, and no order of the connection's messages that the packets allow has
+/// records that begin a run of the session machine under this configuration, up to and with that
+/// message or any further; whichever state the session begins in, Connect or Active. Some order
+/// explains all that was sent before it. So it is about the router, its settings, or what
+/// [`each_end_is_shown`] rests on, and that the router handled each message within the patience.
+pub fn a_no_at_a_packet_is_by_no_order()
+    ensures { NoAtPacketIsByNoOrder }
+{
+    no_order_explains_a_no();
+}
+
 /// Law: what is imported of a recording is judged as the recording is.
 ///
 /// Whatever is imported of a recording and whatever is judged of it, each by its own contract, are
 /// one list of records ([`recordings_are_made_once`]). The capture that
 /// [`import_recording`](bgp_import::import_recording) writes reads as just these, and whatever
-/// verdict holds of what it reads as is the one that is answered of the recording. A reader refuses
+/// verdict holds of what it reads as is the one that is answered of the recording; a no, if a no
+/// over all orders is answered. A reader refuses
 /// such a capture at its first ROUTE-REFRESH, where the session refuses one, and for nothing else
 /// (7 RouteRefresh); and exactly there is the recording refused for that (18 RouteRefresh). Where
 /// both pass such messages over, none is in the capture.

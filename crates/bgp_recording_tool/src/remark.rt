@@ -36,6 +36,15 @@ pub enum RemarkKind {
         /// How many seconds after it came a received message is handled at the latest.
         within: u16,
     },
+    /// A connection is answered no, over all orders of its messages that the packets allow.
+    NoOrder {
+        /// How many sent messages come before the first that none explains.
+        before: usize,
+        /// The number of the packet that shows that one, counted from 1.
+        packet: u64,
+        /// How many seconds after it came a received message is handled at the latest.
+        within: u16,
+    },
     /// The recording or a connection is refused: what helps.
     Refused(Help),
     /// The session's addresses are of two families, between which no packet goes.
@@ -70,6 +79,16 @@ impl fmt::Display for RemarkKind {
                 "no at record {}: packet {packet} shows it; this is about one order of the \
                  messages that these packets allow if each is handled within {within} s (--within)",
                 u128::from(before) + 1
+            ),
+            RemarkKind::NoOrder {
+                before,
+                packet,
+                within,
+            } => write!(
+                f,
+                "no at packet {packet}: it shows sent message {}; no order that these packets \
+                 allow within {within} s explains it",
+                before as u128 + 1
             ),
             RemarkKind::Refused(help) => write!(f, "{help}"),
             RemarkKind::TwoFamilies => f.write_str(

@@ -2,7 +2,8 @@
 
 ghost use Rattle.std.specs.Prelude.{◌≡◌, ◌++◌, OnErr, OnOk};
 ghost use Rattle.bgp_judge.specs.Verdict.{verdict_value};
-ghost use Rattle.bgp_recording_tool.specs.Remarks.{making_remark, making_remarks, verdict_remark};
+ghost use Rattle.bgp_recording_tool.specs.Remarks.{made_order_remark, making_remark};
+ghost use Rattle.bgp_recording_tool.specs.Remarks.{making_remarks, verdict_remark};
 ghost use Rattle.bgp_recording_tool.specs.Remarks.{confederation_remark, has_sent, notes_of};
 ghost use Rattle.bgp_recording_tool.specs.Remarks.{packet_after, remarks_on};
 ghost use Rattle.bgp_tool.specs.Seen.{is_sent};
@@ -11,6 +12,7 @@ ghost use Rattle.mrt.specs.Reader.{shown_of};
 use crate::remark::{Remark, RemarkKind, add_remarks};
 use bgp_import::{Note, notes_on};
 use bgp_judge::Verdict;
+use bgp_orders::Unexplained;
 use bgp_recording::{Entry, Recording};
 use mrt::Record;
 use std::alloc::{AllocError, Allocator};
@@ -88,15 +90,16 @@ fn confederation_remark(connection: Option<usize>, confederation: bool) -> Optio
     })
 }
 
-/// What there is to tell of a verdict: of a yes, that nothing was sent, where that is so; of a no,
-/// at which record and packet, and how long a message may have waited.
-fn verdict_remark<A: Allocator>(
+/// What there is to tell of a verdict on the made order: of a yes, that nothing was sent, where that
+/// is so; of a no, at which record and packet, and how long a message may have waited.
+fn made_order_remark<A: Allocator>(
     connection: Option<usize>,
     within: u16,
     entries: &[Entry<'_>],
     verdict: &Verdict<A>,
 ) -> Option<Remark>
-    ensures { result ≡ verdict_remark connection within entries.now (verdict_value verdict.now) }
+    ensures { result
+        ≡ made_order_remark connection within entries.now (verdict_value verdict.now) }
 {
     let kind = match verdict {
         Verdict::Yes(_) if has_sent(entries) => return None,
@@ -111,10 +114,35 @@ fn verdict_remark<A: Allocator>(
     Some(Remark { connection, kind })
 }
 
+/// Returns what there is to tell of a verdict, or of the sent message that no order explains, if
+/// there is one.
+fn verdict_remark<A: Allocator>(
+    connection: Option<usize>,
+    within: u16,
+    entries: &[Entry<'_>],
+    verdict: &Verdict<A>,
+    unexplained: Option<Unexplained>,
+) -> Option<Remark>
+    ensures { result
+        ≡ verdict_remark connection within entries.now (verdict_value verdict.now) unexplained }
+{
+    match unexplained {
+        None => made_order_remark(connection, within, entries, verdict),
+        Some(unexplained) => Some(Remark {
+            connection,
+            kind: RemarkKind::NoOrder {
+                before: unexplained.before,
+                packet: unexplained.packet,
+                within,
+            },
+        }),
+    }
+}
+
 /// Adds what there is to tell of a connection: how its records were made; whether they show an
-/// UPDATE of a confederation, as the caller found; of a no at which of them, and in which packet;
-/// of a yes that nothing was sent. It is told with this number, where several connections are.
-/// None of it where a growth is refused.
+/// UPDATE of a confederation, as the caller found; of a no the sent message that no order explains,
+/// or at which of the records it is, and in which packet; of a yes that nothing was sent. It is told
+/// with this number, where several connections are. None of it where a growth is refused.
 pub(crate) fn add_remarks_on<A: Allocator + Copy>(
     remarks: &mut Vec<Remark, A>,
     named: Option<usize>,
@@ -122,10 +150,11 @@ pub(crate) fn add_remarks_on<A: Allocator + Copy>(
     made: &Recording<'_, A>,
     confederation: bool,
     verdict: &Verdict<A>,
+    unexplained: Option<Unexplained>,
 ) -> Result<(), AllocError>
     ensures ok { OnOk result (remarks.new.items ≡ remarks.old.items
         ++ remarks_on named within made.now.entries.items (notes_of made.now) confederation
-        (verdict_value verdict.now)) }
+        (verdict_value verdict.now) unexplained) }
     ensures err { OnErr result (remarks.new.items ≡ remarks.old.items) }
 {
     let [
@@ -136,7 +165,7 @@ pub(crate) fn add_remarks_on<A: Allocator + Copy>(
         put_off,
     ] = making_remarks(named, made);
     let shown = confederation_remark(named, confederation);
-    let judged = verdict_remark(named, within, made.entries.as_slice(), verdict);
+    let judged = verdict_remark(named, within, made.entries.as_slice(), verdict, unexplained);
     add_remarks(
         remarks,
         &[

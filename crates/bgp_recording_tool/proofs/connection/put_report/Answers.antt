@@ -1,12 +1,18 @@
-use Rattle.std.proofs.Common.{List, ℕ, subst}
+use Rattle.std.proofs.Common.{◌∙◌, ℕ, List, subst}
+use Rattle.bgp_judge.specs.Verdict.{verdict_value}
 use Rattle.bgp_text.specs.Lines.{Writes}
 use Rattle.bgp_text.proofs.Pieces.{Joins, and_then}
-use Rattle.bgp_recording_tool.proofs.Texts.{text_same}
+use Rattle.bgp_recording_tool.proofs.Texts.{more_text, same_status}
 use Rattle.bgp_recording_tool.proofs.connection.put_report.Goals as goal
 
-pub returns-clause-writes : goal.returns-clause-writes
-returns-clause-writes g c =
+pub returns : goal.returns
+returns g c =
     let law : Joins g.W.Sink = record { joined = g.met.W.Sink.joined } in
-    let (more, is_more, put) = c.put_more.ensures in
-    let first = subst (λ (t : List ℕ). Writes c.args.lines.now c.put_verdict.new.lines t) (text_same c.args.explained.now.verdict) c.put_verdict.ensures in
-    (more, is_more, and_then law first put)
+    let verdict = verdict_value c.args.explained.now.verdict in
+    let unexplained = c.args.unexplained in
+    let (more, is_more, put) = c.put_more.ensures in (
+      more,
+      is_more,
+      subst (λ (t : List ℕ). Writes c.args.lines.now c.put_more.new.lines t) (more_text verdict unexplained more) (and_then law c.put_answer.ensures put),
+      c.verdict_status.ensures ∙ same_status verdict unexplained more c.requires.is_no,
+    )

@@ -22,8 +22,8 @@ returns-in-Some g c = λ packets segments taken holds.
     c.put_refused-in-Some.new.remarks.items (code_of c.put_refused-in-Some.result) c.in-Some.refusal c.in-Ok.made (rw c.in-Ok.is at (c.records_of.ensures.told packets segments taken holds))
     c.in-Some.ensures.some.0 c.in-Some.ensures.some.1 c.put_refused-in-Some.ensures.writes c.put_refused-in-Some.ensures.status c.put_refused-in-Some.ensures.helps
 
-pub report_made-requires-clause-can : goal.report_made-requires-clause-can
-report_made-requires-clause-can g c =
+pub report_made-reported-requires-clause-can : goal.report_made-reported-requires-clause-can
+report_made-reported-requires-clause-can g c =
     let h = c.requires.holds in
     let tells = rw c.in-Ok.is at (c.records_of.ensures.told h.packets h.segments h.taken h.holds) in
     let session = c.args.config.now.parts.session in
@@ -32,16 +32,16 @@ report_made-requires-clause-can g c =
     (subst (λ (s : Session). IsRecorded (framings_of s) c.args.import.now.within tells.connection c.in-Ok.made.entries.items c.in-Ok.made.received c.in-Ok.made.sent)
     c.requires.session tells.recorded.told)
 
-pub returns-in-Ok-report_made : goal.returns-in-Ok-report_made
-returns-in-Ok-report_made g c = λ packets segments taken holds.
-    was_judged c.args.config.now c.args.report c.args.import.now packets segments c.args.number c.args.named c.args.lines.now c.report_made.new.lines c.args.remarks.now.items
-    c.report_made.new.remarks.items (code_of c.in-Ok-report_made.status) c.in-Ok.made (rw c.in-Ok.is at (c.records_of.ensures.told packets segments taken holds))
-    c.in_default.ensures.none c.in-Ok-report_made.ensures
+pub returns-in-Ok-reported : goal.returns-in-Ok-reported
+returns-in-Ok-reported g c = λ packets segments taken holds.
+    was_judged c.args.config.now c.args.report c.args.import.now packets segments c.args.number c.args.named c.args.lines.now c.report_made-reported.new.lines c.args.remarks.now.items
+    c.report_made-reported.new.remarks.items (code_of c.in-Ok-reported.status) c.in-Ok.made (rw c.in-Ok.is at (c.records_of.ensures.told packets segments taken holds))
+    c.in_default.ensures.none (c.in-Ok-reported.ensures packets segments taken holds)
 
 pub returns : goal.returns
 returns g c = λ packets segments taken holds.
-    let none = c.in-Err-report_made.ensures in
-    let refused = c.put_refused-in-Err-report_made in
+    let none = c.in-Err-reported.ensures packets segments taken holds in
+    let refused = c.put_refused-in-Err-reported in
     was_turned_down c.args.config.now c.args.report c.args.import.now packets segments c.args.number c.args.named c.args.lines.now refused.new.lines c.args.remarks.now.items
     refused.new.remarks.items (code_of refused.result) c.no_memory.result (inr (c.no_memory.ensures (reverse segments) (length packets) holds))
     (rw none.same_lines at refused.ensures.writes) refused.ensures.status

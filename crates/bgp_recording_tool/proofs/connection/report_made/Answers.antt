@@ -1,4 +1,4 @@
-use Rattle.std.proofs.Common.{◌↔◌, IsTrue, ◌≡◌, ◌∙◌, List, ap, map, subst, sym}
+use Rattle.std.proofs.Common.{◌↔◌, IsTrue, ◌∙◌, List, ap, map, subst, sym}
 use Rattle.std.specs.List.{AllByRecursion}
 use Rattle.bgp_prefix.specs.Shown.{ShownRecord}
 use Rattle.mrt.specs.Reader.{shown_of}
@@ -27,22 +27,28 @@ put_report-requires-clause-can g c =
     (entries_can session entries (subst (λ (es : List Entry). AllByRecursion (CanBeShown session) es) (sym c.as_slice-entries.ensures.value) c.requires.can))
     are.reason
 
+pub put_report-requires-clause-is_no : goal.put_report-requires-clause-is_no
+put_report-requires-clause-is_no g c = c.unexplained_by_all-unexplained.ensures.is_no
+
 pub returns : goal.returns
-returns g c =
+returns g c = λ packets segments taken holds.
     let config = c.args.config.now in
     let same = c.as_slice-entries.ensures.value in
     let verdict = verdict_value c.in_ok-explained.explained.verdict in
-    let (more, is_more, wrote) = c.put_report.ensures.writes in
+    let (more, is_more, wrote, tells) = c.put_report.ensures in
     let records = c.requires.records in
     record {
       verdict = verdict;
+      unexplained = c.unexplained_by_all-unexplained.result;
       more = more;
       is = subst (λ (rs : List ShownRecord). HasVerdict config rs verdict) (ap (map shown_of) c.deref.ensures.value ∙ records) c.in_ok-explained.ensures.verdict;
+      is_no = c.unexplained_by_all-unexplained.ensures.is_no;
+      no_order = c.unexplained_by_all-unexplained.ensures.no_order packets segments taken holds;
       is_more = subst (λ (es : List Entry). IsMore c.args.report config es verdict more) same is_more;
       wrote = wrote;
       confederation = c.some_show_confederations-confederation.result;
       shows = subst (λ (rs : List ShownRecord). IsTrue c.some_show_confederations-confederation.result ↔ SomeShowConfederations rs) (ap (map shown_of) c.deref-2.ensures.value ∙ records)
           c.some_show_confederations-confederation.ensures;
       added = c.in_ok-add_remarks_on.ensures.ok;
-      tells = c.put_report.ensures.status;
+      tells = tells;
     }
