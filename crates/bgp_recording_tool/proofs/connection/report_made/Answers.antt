@@ -14,7 +14,7 @@ use Rattle.bgp_recording_tool.proofs.connection.report_made.Goals as goal
 pub put_report-requires-clause-explained : goal.put_report-requires-clause-explained
 put_report-requires-clause-explained g c =
     subst (λ (rs : List ShownRecord). AreExplained c.args.config.now rs c.in_ok-explained.explained)
-    (ap (map shown_of) c.deref.ensures.value ∙ c.requires.records ∙ ap records_of (sym c.as_slice-entries.ensures.value)) c.in_ok-explained.ensures
+    (ap (map shown_of) c.deref.ensures.value ∙ c.requires.records ∙ ap records_of (sym c.as_slice-entries.ensures.value)) c.in_ok-explained.ensures.explained
 
 pub put_report-requires-clause-can : goal.put_report-requires-clause-can
 put_report-requires-clause-can g c =
@@ -41,7 +41,7 @@ returns g c = λ packets segments taken holds.
       verdict = verdict;
       unexplained = c.unexplained_by_all-unexplained.result;
       more = more;
-      is = subst (λ (rs : List ShownRecord). HasVerdict config rs verdict) (ap (map shown_of) c.deref.ensures.value ∙ records) c.in_ok-explained.ensures.verdict;
+      is = subst (λ (rs : List ShownRecord). HasVerdict config rs verdict) (ap (map shown_of) c.deref.ensures.value ∙ records) c.in_ok-explained.ensures.explained.verdict;
       is_no = c.unexplained_by_all-unexplained.ensures.is_no;
       no_order = c.unexplained_by_all-unexplained.ensures.no_order packets segments taken holds;
       is_more = subst (λ (es : List Entry). IsMore c.args.report config es verdict more) same is_more;
