@@ -1,0 +1,7 @@
+use Rattle.std.proofs.Common.{codes, refl}
+use Rattle.bgp_names.specs.Capabilities.{capability_names}
+use Rattle.bgp_names.proofs.OneName.{one_name}
+use Rattle.bgp_names.proofs.laws.each_capability_has_its_name.Goals as goal
+
+pub returns : goal.returns
+returns c = one_name (codes "capability ") capability_names refl

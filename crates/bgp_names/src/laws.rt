@@ -1,0 +1,45 @@
+//! Laws of names, each on a function that does nothing: what is different has different names.
+
+ghost use Rattle.std.specs.Prelude.{ℕ};
+ghost use Rattle.bgp_names.specs.Naming.{NamesDiffer, NamesOfTwoDiffer};
+ghost use Rattle.bgp_names.specs.Errors.{code_name, error_name, subcode_name};
+ghost use Rattle.bgp_names.specs.States.{state_name};
+ghost use Rattle.bgp_names.specs.Families.{afi_name, family_name};
+ghost use Rattle.bgp_names.specs.Capabilities.{capability_name};
+ghost use Rattle.bgp_names.specs.Attributes.{attribute_name, attribute_word};
+ghost use Rattle.bgp_names.specs.Messages.{type_text};
+
+/// States that two error codes have different names, that two subcodes of one code have, and that
+/// two pairs of a code and a subcode have.
+pub fn each_error_has_its_name()
+    ensures codes { NamesDiffer code_name }
+    ensures subcodes { (code : ℕ) → NamesDiffer (subcode_name code) }
+    ensures errors { NamesOfTwoDiffer error_name }
+{}
+
+/// States that two states have different names.
+pub fn each_state_has_its_name()
+    ensures { NamesDiffer state_name }
+{}
+
+/// States that two families have different names, and two Address Family Identifiers.
+pub fn each_family_has_its_name()
+    ensures families { NamesOfTwoDiffer family_name }
+    ensures afis { NamesDiffer afi_name }
+{}
+
+/// States that two capabilities have different names.
+pub fn each_capability_has_its_name()
+    ensures { NamesDiffer capability_name }
+{}
+
+/// States that two attributes have different names, and different words.
+pub fn each_attribute_has_its_name()
+    ensures names { NamesDiffer attribute_name }
+    ensures words { NamesDiffer attribute_word }
+{}
+
+/// States that two message types have different texts.
+pub fn each_message_type_has_its_name()
+    ensures { NamesDiffer type_text }
+{}
