@@ -129,8 +129,8 @@ ImportAndJudgeAgree =
     → (notes ≡ told) × (records_of entries ≡ records_of judged) × Agrees config judged octets
 
 -- What is told of a connection is what these octets read as: a verdict, where they spell records
--- that have it; of a no over all orders a no, too; 18 RouteRefresh, where a reader refuses them by 7
--- RouteRefresh; or memory was refused.
+-- that have it, and a no, where no order explains a message; 18 RouteRefresh, where a reader
+-- refuses them by 7 RouteRefresh; or memory was refused.
 abbrev pub TellsAs : Config → List ℕ → Told → Type 0
 TellsAs config octets (Judged verdict more) =
     (records : List ShownRecord) × Spells config.parts.session octets records

@@ -160,8 +160,8 @@ fn put_report<A: Allocator + Copy, W: Sink>(
 
 /// Judges the records of a connection, puts what is reported on them, adds what there is to tell of
 /// it, with a number where several are told of, and answers the exit status. If they are a no, all
-/// orders are searched, and a sent message that none explains is reported in place of the record. If
-/// memory is refused for the verdict nothing is put or added.
+/// orders are searched, and a sent message that none explains is reported in place of the record.
+/// If memory is refused for the verdict nothing is put or added.
 fn report_made<A: Allocator + Copy, T: Tracker<A>, W: Sink>(
     alloc: A,
     config: &Config,

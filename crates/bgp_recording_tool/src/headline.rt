@@ -25,11 +25,12 @@ use std::alloc::Allocator;
 /// Packets don't tell when the local system read a message, and what came may have waited. So one
 /// order is made in which it may have handled them, and the records of that are judged. What a yes
 /// is worth says [`each_end_is_shown`]. If the verdict is a no, all orders that the packets allow
-/// are searched, and a no over all is told by the packet of a sent message
-/// ([`a_no_at_a_packet_is_by_no_order`]). If some order explains all that was sent, or there are too
-/// many to be searched or no memory for it, the no is told by the record of the made order; it is
-/// about this one order, and another may be a yes. By [`import_and_judge_agree`] the capture that is
-/// imported has the verdict of the made order from [`judge_capture`](bgp_tool::judge_capture).
+/// are searched, and a no over all names the packet of a sent message: what it is worth says
+/// [`a_no_at_a_packet_is_by_no_order`]. If some order explains all that was sent, if there are too
+/// many orders to be searched, or if memory is refused for that, the no names the record of the
+/// made order. Then it is about this one order, and another may be a yes. By
+/// [`import_and_judge_agree`] the capture that is imported gets the verdict on the made order from
+/// [`judge_capture`](bgp_tool::judge_capture).
 ///
 /// It judges the connection that is named, or the only one; where there are several and none is
 /// named, each, under a line that names it. It writes the text of each verdict, or `recording
@@ -37,9 +38,9 @@ use std::alloc::Allocator;
 /// 3, 2, 0 that one of them has ([`a_no_is_told`]):
 ///
 /// * 0: `yes`, and each possible end with its routes, and no other.
-/// * 1: `no at packet P`: no order explains the sent message that this packet shows; a remark tells
-///   its number among those sent. Or `no at record N` of the made records; a remark tells the packet
-///   that shows the record.
+/// * 1: `no at packet P`: no order explains the sent message that this packet shows; a remark has
+///   its number among those sent. Or `no at record N` of the made records; a remark tells the
+///   packet that shows the record.
 /// * 2: `unfinished`: the recording stops within what the local system had to do.
 /// * 3: the recording is refused.
 /// * 4: memory was refused.
@@ -49,12 +50,11 @@ use std::alloc::Allocator;
 ///
 /// If the reason is wanted, it writes after the verdict on each connection:
 ///
-/// * after a no, in either form, the line of the first impossible of the made records, with the packet
-///   that shows
-///   it, which of a change is that of the record beside it; the state that the records before it
-///   tell; the message received last, what it asks for, and the packet by which it was whole; each
-///   kind of record that could have stood in its place, and no other, with what the record lacks of
-///   it; and each note whose condition holds, as
+/// * after a no, in either form, the line of the first impossible of the made records, with the
+///   packet that shows it, which of a change is that of the record beside it; the state that the
+///   records before it tell; the message received last, what it asks for, and the packet by which
+///   it was whole; each kind of record that could have stood in its place, and no other, with what
+///   the record lacks of it; and each note whose condition holds, as
 ///   [`explain_capture`](bgp_explain::explain_capture) has them.
 /// * after an unfinished the same, of what may follow all records.
 /// * after a yes how many records there are, and of which kinds.

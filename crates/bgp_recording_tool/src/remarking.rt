@@ -90,8 +90,8 @@ fn confederation_remark(connection: Option<usize>, confederation: bool) -> Optio
     })
 }
 
-/// What there is to tell of a verdict on the made order: of a yes, that nothing was sent, where that
-/// is so; of a no, at which record and packet, and how long a message may have waited.
+/// What there is to tell of a verdict on the made order: of a yes, that nothing was sent, where
+/// that is so; of a no, at which record and packet, and how long a message may have waited.
 fn made_order_remark<A: Allocator>(
     connection: Option<usize>,
     within: u16,
@@ -141,8 +141,8 @@ fn verdict_remark<A: Allocator>(
 
 /// Adds what there is to tell of a connection: how its records were made; whether they show an
 /// UPDATE of a confederation, as the caller found; of a no the sent message that no order explains,
-/// or at which of the records it is, and in which packet; of a yes that nothing was sent. It is told
-/// with this number, where several connections are. None of it where a growth is refused.
+/// or at which of the records it is, and in which packet; of a yes that nothing was sent. It is
+/// told with this number, where several connections are. None of it where a growth is refused.
 pub(crate) fn add_remarks_on<A: Allocator + Copy>(
     remarks: &mut Vec<Remark, A>,
     named: Option<usize>,

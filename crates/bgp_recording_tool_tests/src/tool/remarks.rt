@@ -1,5 +1,6 @@
-//! Remarks that no recording leads to: a record whose number is the greatest, a connection that is
-//! refused for its link, and memory. (The others are notes of cases of `real_recordings`.)
+//! Remarks that no recording leads to: a record and a sent message whose number is the greatest, a
+//! connection that is refused for its link, and memory. (The others are notes of cases of
+//! `real_recordings`.)
 
 use bgp_import::{Help, Refusal};
 use bgp_recording_tool::{Remark, RemarkKind};
@@ -7,7 +8,7 @@ use segments::PacketFault;
 use std::alloc::Global;
 
 /// What there is to tell, with its sentence.
-static REMARKS: [(Option<usize>, RemarkKind, &str); 3] = [
+static REMARKS: [(Option<usize>, RemarkKind, &str); 4] = [
     (
         Some(2),
         RemarkKind::No {
@@ -18,6 +19,16 @@ static REMARKS: [(Option<usize>, RemarkKind, &str); 3] = [
         "connection 2: no at record 18446744073709551616: packet 18446744073709551615 shows it; \
          this is about one order of the messages that these packets allow if each is handled \
          within 1 s (--within)",
+    ),
+    (
+        Some(2),
+        RemarkKind::NoOrder {
+            before: usize::MAX,
+            packet: u64::MAX,
+            within: 1,
+        },
+        "connection 2: no at packet 18446744073709551615: it shows sent message \
+         18446744073709551616; no order that these packets allow within 1 s explains it",
     ),
     (
         Some(2),
