@@ -7,6 +7,8 @@ tcpdump writes them, of one session between 192.0.2.1 (port 179, AS 65001) and 1
     recordings.py octets COUNT      as `updates`, until the recording has so many octets
     recordings.py lost COUNT        the same, and the first packet of UPDATEs isn't in it
     recordings.py others COUNT      one UPDATE, after so many octets of other hosts' packets
+    recordings.py both COUNT RATE   both announce so many prefixes, in an UPDATE each and so many in
+                                    a second; then the local system sends an OPEN again
 
 It is written to standard output."""
 import struct
@@ -35,9 +37,10 @@ def open_message(number, identifier, extended):
     return message(1, body)
 
 
-def update(index):
+def update(index, number=65002, hop=PEER):
     """An UPDATE that announces the prefix of this number, of 24 bits and of 10.0.0.0/8 on."""
-    attributes = bytes.fromhex('400101004002060201' '0000fdea' '400304' 'c0000202')
+    attributes = (bytes.fromhex('400101004002060201') + struct.pack('>I', number)
+                  + bytes.fromhex('400304') + hop)
     prefix = struct.pack('>I', (10 << 16) + index)[1:]
     return message(2, struct.pack('>HH', 0, len(attributes)) + attributes + b'\x18' + prefix)
 
@@ -85,6 +88,20 @@ class Session:
         self.sends(LOCAL, ACK)
 
 
+def both(count, rate):
+    """UPDATEs of both systems, and an OPEN that the local system can't send in Established."""
+    session = Session()
+    session.begins(False)
+    for first in range(0, count, rate):
+        session.second += 1
+        several = range(first, min(first + rate, count))
+        for source, number in ((PEER, 65002), (LOCAL, 65001)):
+            octets = b''.join(update(index, number, source) for index in several)
+            for at in range(0, len(octets), ROOM):
+                session.sends(source, ACK, octets[at:at + ROOM])
+    session.sends(LOCAL, ACK, open_message(65001, LOCAL, False))
+
+
 def others(octets):
     """Packets between two other hosts, and of the session's hosts on another port."""
     made = []
@@ -97,8 +114,11 @@ def others(octets):
         write(block)
 
 
-def main(kind, count):
+def main(kind, count, rate=0):
     write(struct.pack('<IHHiIII', 0xa1b2c3d4, 2, 4, 0, 0, 262144, 101))
+    if kind == 'both':
+        both(count, rate)
+        return
     if kind == 'others':
         others(count)
         count = 1
@@ -115,4 +135,4 @@ def main(kind, count):
         index += len(several)
 
 
-main(sys.argv[1], int(sys.argv[2]))
+main(sys.argv[1], *map(int, sys.argv[2:]))

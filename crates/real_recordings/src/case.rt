@@ -14,6 +14,15 @@ pub(crate) struct Case<'a> {
     pub(crate) words: &'a str,
     pub(crate) file: &'a [u8],
     pub(crate) answer: &'a str,
+    pub(crate) shows: Shows,
+}
+
+/// Which lines that are printed the answer shows.
+#[derive(Clone, Copy, PartialEq, Eq)]
+pub(crate) enum Shows {
+    All,
+    /// Those that aren't indented.
+    FirstColumn,
 }
 
 /// What is answered where a table is malformed.
@@ -47,6 +56,23 @@ fn told<'a>(text: &'a str, word: &str) -> io::Result<(&'a str, &'a str)> {
 /// `octets` and the file; and then the lines of the answer: `status` and a number, `refusal` and
 /// its text, `note` and a sentence, `capture` and its octets, `>` and a line that is printed.
 pub(crate) fn compare_case<R: Print + AllocGlobal>(rt: &R, block: &str) -> io::Result<Option<u64>> {
+    compare_shown(rt, block, Shows::All)
+}
+
+/// The same of a block without the lines that are indented, as the details of a verdict are.
+pub(crate) fn compare_first_column<R: Print + AllocGlobal>(
+    rt: &R,
+    block: &str,
+) -> io::Result<Option<u64>> {
+    compare_shown(rt, block, Shows::FirstColumn)
+}
+
+/// Compares the case of a block of lines that has such lines of what is printed.
+fn compare_shown<R: Print + AllocGlobal>(
+    rt: &R,
+    block: &str,
+    shows: Shows,
+) -> io::Result<Option<u64>> {
     let (name, rest) = told(block, "case")?;
     let (words, rest) = told(rest, "args")?;
     let (digits, answer) = told(rest, "octets")?;
@@ -56,6 +82,7 @@ pub(crate) fn compare_case<R: Print + AllocGlobal>(rt: &R, block: &str) -> io::R
         words,
         file: file.as_slice(),
         answer,
+        shows,
     };
     compare(rt, &case)
 }
@@ -77,7 +104,7 @@ pub(crate) fn compare<R: Print + AllocGlobal>(rt: &R, case: &Case<'_>) -> io::Re
 /// Prints a case if it is not so, whose file is read like this. Answers whether it is so.
 fn is_so<R: Print + AllocGlobal>(rt: &R, case: &Case<'_>, file: &File<'_>) -> io::Result<bool> {
     let answer = answer_to(rt.alloc(), case.words, file)?;
-    if answer.as_str() == case.answer {
+    if is_shown(answer.as_str(), case) {
         return Ok(true);
     }
     let Case {
@@ -88,4 +115,20 @@ fn is_so<R: Print + AllocGlobal>(rt: &R, case: &Case<'_>, file: &File<'_>) -> io
     } = *case;
     println!(rt; "case {name} is not so: {words}\n{answer}\nand not\n{known}\n")?;
     Ok(false)
+}
+
+/// Whether an answer is the case's, in the lines that this shows.
+fn is_shown(answer: &str, case: &Case<'_>) -> bool {
+    match case.shows {
+        Shows::All => answer == case.answer,
+        Shows::FirstColumn => {
+            let mut known = case.answer.lines();
+            for line in answer.lines().filter(|line| !line.starts_with(">   ")) {
+                if known.next() != Some(line) {
+                    return false;
+                }
+            }
+            known.next().is_none()
+        }
+    }
 }

@@ -1,6 +1,6 @@
 //! Recordings of real sessions, listed, judged from both ends, and explained.
 
-use crate::case::{Case, compare};
+use crate::case::{Case, Shows, compare};
 use crate::explained::compare_explained;
 use crate::told::Told;
 use std::alloc::Global;
@@ -96,6 +96,7 @@ fn compare_list<R: Files + Print + AllocGlobal>(
         words: "list",
         file: recording,
         answer: answer.as_str(),
+        shows: Shows::All,
     };
     Ok(compare(rt, &case)?.is_some())
 }
@@ -122,6 +123,7 @@ fn compare_end<R: Files + Print + AllocGlobal>(
         words: words.as_str(),
         file: recording,
         answer: answer.as_str(),
+        shows: Shows::All,
     };
     if compare(rt, &case)?.is_none() {
         return Ok(None);

@@ -1,7 +1,7 @@
 //! Tables of cases and of command lines: blocks of lines, with an empty line between two.
 
 use crate::announced::compare_announced;
-use crate::case::compare_case;
+use crate::case::{compare_case, compare_first_column};
 use crate::spelled::compare_line;
 use std::rt::Files;
 use std::{fs, io};
@@ -10,11 +10,13 @@ use std::{fs, io};
 #[derive(Clone, Copy)]
 enum Kind {
     Cases,
+    /// Cases of which lines that are indented are left out.
+    FirstColumn,
     CommandLines,
     Prefixes,
 }
 
-static TABLES: [(&str, Kind); 11] = [
+static TABLES: [(&str, Kind); 12] = [
     ("cases.txt", Kind::Cases),
     ("judged.txt", Kind::Cases),
     ("explained.txt", Kind::Cases),
@@ -23,6 +25,7 @@ static TABLES: [(&str, Kind); 11] = [
     ("captures.txt", Kind::Cases),
     ("forms.txt", Kind::Cases),
     ("slow.txt", Kind::Cases),
+    ("orders.txt", Kind::FirstColumn),
     ("options.txt", Kind::Cases),
     ("words.txt", Kind::CommandLines),
     ("announced.txt", Kind::Prefixes),
@@ -72,6 +75,7 @@ fn compare_block<R: Print + AllocGlobal>(
 ) -> io::Result<Option<u64>> {
     match kind {
         Kind::Cases => compare_case(rt, block),
+        Kind::FirstColumn => compare_first_column(rt, block),
         Kind::CommandLines => compare_line(rt, block),
         Kind::Prefixes => compare_announced(rt, block),
     }
@@ -85,7 +89,7 @@ fn print_counts<R: Print>(
     verdicts: u64,
 ) -> io::Result<()> {
     let what = match kind {
-        Kind::Cases => "cases",
+        Kind::Cases | Kind::FirstColumn => "cases",
         Kind::CommandLines => "command lines",
         Kind::Prefixes => "prefixes",
     };
