@@ -1,7 +1,9 @@
--- The list of a recording is what is told of it without the lines of its ends.
-use Rattle.std.proofs.Common.{◌≡◌, ◌∙◌, ◌++◌, ℕ, Bool, List, [], ◌∷◌, codes, inl, inr, refl, sym, ap, append_assoc, append-nil}
-use Rattle.std.specs.List.{AllByRecursion, flat_map}
+-- The list of a recording is what is printed of it without the lines of its ends.
+use Rattle.std.proofs.Common.{◌≡◌, ◌∙◌, ◌++◌, ℕ, Bool, List, [], ◌∷◌, codes, inl, inr, refl, sym, ap, append_assoc, append-nil, subst}
+use Rattle.std.specs.List.{AllByRecursion, Contains, flat_map}
+use Rattle.std.specs.List.Sorted.{IsStrictlySortedBy}
 use Rattle.std.specs.Map.{keys_of}
+use Rattle.std.specs.Ordering.{nat_cmp}
 use Rattle.packets.specs.Packet.{Recorded}
 use Rattle.bgp_import.specs.ListText.{octets_text, opening_text, refused_text}
 use Rattle.bgp_list.specs.Lines.{IsLineAt, line_text}
@@ -9,8 +11,11 @@ use Rattle.bgp_list.specs.declared.line.Line.{Line}
 use Rattle.bgp_check_tool.specs.declared.options.CheckOptions.{CheckOptions}
 use Rattle.bgp_check_tool.specs.Blocks.{AllRefused, Block, BothEnds, OneEnd, Refused, block_text, neither_text, session_text, turned_down_text}
 use Rattle.bgp_check_tool.specs.Checking.{blocks_text}
-use Rattle.bgp_check_tool.specs.Headings.{HasMemory, ListIsWithoutEnds, end_lines, heading, headings}
+use Rattle.bgp_list.specs.Recording.{lines_text}
+use Rattle.bgp_import.specs.Places.{HasAll}
+use Rattle.bgp_check_tool.specs.Headings.{HasMemory, HeadingsAreTheList, IsList, ListIsWithoutEnds, end_lines, heading, headings}
 use Rattle.bgp_check_tool.specs.Places.{IsToldAt}
+use Rattle.bgp_check_tool.proofs.OneList.{one_list}
 
 -- ---- the text
 
@@ -84,3 +89,17 @@ without_ends options packets last_packet blocks told has = record {
   are_lines = all_lines options packets last_packet blocks told has;
   are_places = same_places blocks;
 }
+
+pub the_list : HeadingsAreTheList
+the_list options packets last_packet blocks known told has rise all =
+    let is : IsList options.port packets last_packet (headings blocks) = record {
+      are_lines = all_lines options packets last_packet blocks told has;
+      rise = subst (λ (places : List ℕ). IsStrictlySortedBy nat_cmp places) (sym (same_places blocks)) rise;
+      all = subst (λ (places : List ℕ). HasAll options.port packets (Contains places)) (sym (same_places blocks)) all;
+    } in
+    record {
+      is_list = is;
+      is_only = λ others other.
+          let same = one_list options.port last_packet packets known others (headings blocks) other is in
+          (same, ap lines_text same);
+    }

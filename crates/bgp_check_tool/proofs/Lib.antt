@@ -7,4 +7,5 @@ pub mod Repeated
 pub mod Texts
 pub mod Alone
 pub mod Printed
+pub mod OneList
 pub mod Headings

@@ -1,11 +1,16 @@
--- What is told of a recording, without the lines of its ends: its list.
+-- What is printed of a recording, without the lines of its ends: its list.
 use Rattle.std.specs.Prelude.{◌≡◌, ◌≢◌, ◌++◌, ℕ, Bool, List, [], map}
-use Rattle.std.specs.List.{AllByRecursion, flat_map}
+use Rattle.std.specs.List.{AllByRecursion, Contains, flat_map}
+use Rattle.std.specs.List.Sorted.{IsStrictlySortedBy}
 use Rattle.std.specs.Map.{keys_of}
+use Rattle.std.specs.Ordering.{nat_cmp}
 use Rattle.packets.specs.Packet.{Recorded}
 use Rattle.bgp_import.specs.ListText.{end_of, other_side}
+use Rattle.bgp_import.specs.Places.{HasAll}
+use Rattle.bgp_import.specs.Reading.{AreKnown}
 use Rattle.bgp_import.specs.declared.refusal.Refusal.TheVariants as refusals
 use Rattle.bgp_list.specs.Lines.{IsLineAt, line_text}
+use Rattle.bgp_list.specs.Recording.{lines_text}
 use Rattle.bgp_list.specs.declared.line.Line.{Line}
 use Rattle.bgp_list.specs.declared.line.Line.TheVariants as lines
 use Rattle.bgp_check_tool.specs.declared.options.CheckOptions.{CheckOptions}
@@ -43,11 +48,29 @@ HasMemory last_packet (OneEnd session opening first second) = Unit {0}
 HasMemory last_packet (Refused session opening refusal) = refusal ≢ refusals.Memory last_packet
 HasMemory last_packet (AllRefused addresses refusal) = Unit {0}
 
--- ---- the law
+-- ---- a list
 
--- What is told of a recording are these lines, block by block. And each first line is one that a
--- list of it has, at the same place.
-pub record TellsTheList (routes : Bool) (port : ℕ) (packets : List Recorded) (last_packet : ℕ)
+-- These lines are a list of the recording: one at each packet at which there is something to list,
+-- in the order of the packets. `bgp list` prints such a list, if memory isn't refused.
+pub record IsList (port : ℕ) (packets : List Recorded) (last_packet : ℕ)
+    (lines : List (ℕ × Line)) : Type 0 where
+  pub are_lines : AllByRecursion
+      (λ (l : ℕ × Line). IsLineAt port packets last_packet l.0 l.1) lines
+  pub rise : IsStrictlySortedBy nat_cmp (keys_of lines)
+  pub all : HasAll port packets (Contains (keys_of lines))
+
+-- And they are the only one: each list of the recording has these lines, and their text.
+pub record IsTheList (port : ℕ) (packets : List Recorded) (last_packet : ℕ)
+    (lines : List (ℕ × Line)) : Type 0 where
+  pub is_list : IsList port packets last_packet lines
+  pub is_only : (others : List (ℕ × Line)) → IsList port packets last_packet others
+      → (others ≡ lines) × (lines_text others ≡ lines_text lines)
+
+-- ---- the laws
+
+-- What is printed of a recording are these lines, block by block. And each first line is one that a
+-- list of the recording has, at the same place.
+pub record PrintsListLines (routes : Bool) (port : ℕ) (packets : List Recorded) (last_packet : ℕ)
     (blocks : List (ℕ × Block)) : Type 0 where
   pub is_text : blocks_text routes blocks
       ≡ flat_map (λ (b : ℕ × Block). line_text (heading b.1) ++ end_lines routes b.1) blocks
@@ -62,4 +85,17 @@ ListIsWithoutEnds =
     → AllByRecursion
     (λ (b : ℕ × Block). IsToldAt options packets last_packet b.0 b.1) blocks
     → AllByRecursion (λ (b : ℕ × Block). HasMemory last_packet b.1) blocks
-    → TellsTheList options.routes options.port packets last_packet blocks
+    → PrintsListLines options.routes options.port packets last_packet blocks
+
+-- The first lines are the list of the recording, if the blocks stand at all packets at which there
+-- is something to list, in their order.
+abbrev pub HeadingsAreTheList : Type 0
+HeadingsAreTheList =
+    (options : CheckOptions) (packets : List Recorded) (last_packet : ℕ)
+    (blocks : List (ℕ × Block)) → AreKnown packets
+    → AllByRecursion
+    (λ (b : ℕ × Block). IsToldAt options packets last_packet b.0 b.1) blocks
+    → AllByRecursion (λ (b : ℕ × Block). HasMemory last_packet b.1) blocks
+    → IsStrictlySortedBy nat_cmp (keys_of blocks)
+    → HasAll options.port packets (Contains (keys_of blocks))
+    → IsTheList options.port packets last_packet (headings blocks)

@@ -3,7 +3,7 @@
 ghost use Rattle.bgp_check_tool.specs.Alone.{EachConnectionIsTold, EachRefusalIsTold};
 ghost use Rattle.bgp_check_tool.specs.Headline.{NoConfigurationHasARun, NothingIsVacuous};
 ghost use Rattle.bgp_check_tool.specs.Headline.{ToldNoHasNoRun, VerdictIsOverAll};
-ghost use Rattle.bgp_check_tool.specs.Headings.{ListIsWithoutEnds};
+ghost use Rattle.bgp_check_tool.specs.Headings.{HeadingsAreTheList, ListIsWithoutEnds};
 ghost use Rattle.bgp_check_tool.specs.Repeated.{LineGivesTheVerdict};
 
 use bgp_check::{a_verdict_holds_under_its_configuration, no_configuration_explains_a_no};
@@ -38,13 +38,15 @@ pub fn each_of_them_is_told()
     ensures refused { EachRefusalIsTold }
 {}
 
-/// Without the lines of its ends, what [`check_recording`](crate::check_recording) prints of a
-/// connection is a line of `bgp list`, at the same packet; and so it is of two addresses none of
-/// whose connections can be read. That none is left out is said by `check_recording` itself. Of what
-/// follows the connections (that the file is cut short, how many ends there are) nothing is said,
-/// nor if memory was refused.
+/// States that without the lines of its ends, what [`check_recording`](crate::check_recording)
+/// prints of the connections is the list of the recording: each connection, and each pair of
+/// addresses whose packets can't be read, has just the line that `bgp list` has of it, in the same
+/// order, and there are no others. So it is if memory isn't refused for anything. What
+/// `check_recording` prints after the connections (that the file is cut short, how many ends there
+/// are) is no part of this.
 pub fn without_its_ends_it_is_the_list()
-    ensures { ListIsWithoutEnds }
+    ensures lines { ListIsWithoutEnds }
+    ensures all { HeadingsAreTheList }
 {}
 
 /// The line with the options of `bgp judge` gives the verdict that is told before it: framed as
