@@ -2,6 +2,8 @@ pub mod OtherEnd
 pub mod OneMore
 pub mod AllTold
 pub mod Stretch
+pub mod WayRecords
+pub mod NoOrder
 pub mod Verdicts
 pub mod Repeated
 pub mod Texts

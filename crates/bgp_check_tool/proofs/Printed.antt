@@ -1,5 +1,5 @@
 -- What the lines of an end are worth.
-use Rattle.std.proofs.Common.{◌≡◌, ◌∙◌, ◌+◌, ◌<◌, ◌++◌, ℕ, zero, suc, Bool, List, [], ◌∷◌, Option, None, Some, codes, option_map, refl, reverse, sym, ap, append_assoc, subst, arith, length, map, take}
+use Rattle.std.proofs.Common.{◌≡◌, ◌∙◌, ◌+◌, ◌<◌, ◌++◌, ◌⊎◌, inl, inr, ℕ, zero, suc, Bool, List, [], ◌∷◌, Option, None, Some, codes, option_map, refl, reverse, sym, ap, append_assoc, subst, arith, length, map, take}
 use Rattle.std.specs.List.{AllByRecursion, slice_get}
 use Rattle.packets.specs.Packet.{Recorded}
 use Rattle.bgp_prefix.specs.Shown.{ShownRecord}
@@ -19,19 +19,21 @@ use Rattle.bgp_import.specs.declared.refusal.Refusal.{Refusal as WhyRefused}
 use Rattle.bgp_check.specs.Answered.{AnswerValue, HasFault, HasItsVerdict, IsAnswerTo, IsJudged, JudgedAs, NoConfigurationExplains, Unjudged}
 use Rattle.bgp_check.specs.declared.not_judged.NotJudged.{NotJudged}
 use Rattle.bgp_check.specs.declared.peer_as.PeerAs.{PeerAs}
-use Rattle.bgp_check_text.specs.Text.{as_text, no_text, peer_text}
+use Rattle.std.specs.Fmt.{decimal}
+use Rattle.bgp_check_text.specs.Text.{as_text, no_text, packet_text, peer_text}
 use Rattle.bgp_parts.proofs.OneOwnOpen.{one_own}
 use Rattle.bgp_parts.specs.Opens.{HasOwnOpen}
 use Rattle.bgp_check_text.specs.Asked.{asked_of}
 use Rattle.bgp_check_text.specs.declared.options.Asked.{Asked}
 use Rattle.bgp_check_tool.specs.declared.options.CheckOptions.{CheckOptions}
 use Rattle.bgp_check_tool.specs.Blocks.{AllRefused, Block, BothEnds, OneEnd, Refused, TellsBoth}
-use Rattle.bgp_check_tool.specs.Headline.{IsToldOfSide}
+use Rattle.bgp_check_tool.specs.Headline.{IsToldOfSide, NoOrderHasARun}
 use Rattle.bgp_check_tool.specs.Judging.{options_by}
 use Rattle.bgp_check_tool.specs.Places.{IsToldAt, IsToldOfOne}
-use Rattle.bgp_check_tool.specs.Printed.{BeginsWithNo, HasRecords, IsTrueNo, NoesAreTrue, ToldNoesAreTrue, ToldVerdictIsOverAll}
+use Rattle.bgp_check_tool.specs.Printed.{BeginWith, HasRecords, HasTrueNoes, IsTrueNo, IsTrueOverall, NoesAreTrue, ToldNoesAreTrue, ToldVerdictIsOverAll}
+use Rattle.bgp_orders.specs.declared.connection.Unexplained.{Unexplained}
 use Rattle.bgp_check_tool.specs.Seen.{seen_from, session_from}
-use Rattle.bgp_check_tool.specs.Text.{answer_text, not_judged_line, told_lines, verdict_text, whose_text}
+use Rattle.bgp_check_tool.specs.Text.{answer_text, not_judged_line, place_text, told_lines, unexplained_text, verdict_text, whose_text}
 use Rattle.bgp_check_tool.specs.Told.{EndTold, IsEndTold, packet_of}
 use Rattle.bgp_check_tool.proofs.Verdicts.{no_run, over_all, side_told}
 
@@ -47,6 +49,33 @@ third [] = 0
 third (x ∷ []) = 0
 third (x ∷ y ∷ []) = 0
 third (x ∷ y ∷ z ∷ xs) = z
+
+-- its seventh one, which tells `no at record` and `no at packet` apart
+seventh : List ℕ → ℕ
+seventh [] = 0
+seventh (a ∷ []) = 0
+seventh (a ∷ b ∷ []) = 0
+seventh (a ∷ b ∷ c ∷ []) = 0
+seventh (a ∷ b ∷ c ∷ d ∷ []) = 0
+seventh (a ∷ b ∷ c ∷ d ∷ e ∷ []) = 0
+seventh (a ∷ b ∷ c ∷ d ∷ e ∷ f ∷ []) = 0
+seventh (a ∷ b ∷ c ∷ d ∷ e ∷ f ∷ g ∷ xs) = g
+
+record_seventh : (rest : List ℕ) → seventh (codes "no at record " ++ rest) ≡ 114
+unfolding seventh
+record_seventh rest = refl
+
+packet_seventh : (rest : List ℕ) → seventh (codes "no at packet " ++ rest) ≡ 112
+unfolding seventh
+packet_seventh rest = refl
+
+no_text_seventh : (count : ℕ) (packet : Option ℕ) (rest : List ℕ) → seventh (no_text count packet ++ rest) ≡ 114
+unfolding seventh no_text
+no_text_seventh count packet rest = refl
+
+unexplained_seventh : (packet : ℕ) (rest : List ℕ) → seventh (unexplained_text packet ++ rest) ≡ 112
+unfolding seventh unexplained_text
+unexplained_seventh packet rest = refl
 
 -- it is a no
 record IsNo (answer : AnswerValue) : Type 0 where
@@ -98,27 +127,62 @@ stands_at (entry ∷ entries) (suc count) within =
     let later = stands_at entries count (omega (arith, within)) in
     record { impossible = later.impossible; is = later.is }
 
--- the text of a no begins with its record and its packet, and then the end
-record Names (text : List ℕ) (count : ℕ) (packet : Option ℕ) (end : Endpoint) : Type 0 where
+-- the text of a no begins with its place, and then the end
+record Names (text place : List ℕ) (end : Endpoint) : Type 0 where
   pub rest : List ℕ
-  pub named : text ≡ no_text count packet ++ (codes ": " ++ (end_text end ++ rest))
+  pub named : text ≡ place ++ (codes ": " ++ (end_text end ++ rest))
 
-names : (count : ℕ) (packet : Option ℕ) (end : Endpoint) (number : Option ℕ) (peer : PeerAs) (rest : List ℕ) → Names (no_text count packet ++ (whose_text end number peer ++ rest)) count packet end
+names : (place : List ℕ) (end : Endpoint) (number : Option ℕ) (peer : PeerAs) (rest : List ℕ) → Names (place ++ (whose_text end number peer ++ rest)) place end
 unfolding whose_text
-names count packet end number peer rest =
+names place end number peer rest =
     let tail = as_text number ++ (codes ", peer as " ++ (peer_text peer ++ codes "\n")) in
     record {
       rest = tail ++ rest;
-      named = ap (λ (text : List ℕ). no_text count packet ++ (codes ": " ++ text)) (append_assoc (end_text end) tail rest);
+      named = ap (λ (text : List ℕ). place ++ (codes ": " ++ text)) (append_assoc (end_text end) tail rest);
     }
 
-no_names : (routes : Bool) (told : EndTold) (number : Option ℕ) (peer : PeerAs) (count : ℕ) → Names (verdict_text routes told number peer (No count)) count told.packet told.end
-no_names routes told number peer count = names count told.packet told.end number peer _
+no_names : (routes : Bool) (told : EndTold) (number : Option ℕ) (peer : PeerAs) (count : ℕ)
+    → Names (verdict_text routes told number peer (No count)) (place_text count told.packet told.unexplained) told.end
+no_names routes told number peer count = names (place_text count told.packet told.unexplained) told.end number peer _
 
 told_names : (routes : Bool) (told : EndTold) (number : Option ℕ) (peer : PeerAs) (under : Config) (count : ℕ) → told.answer ≡ JudgedAs number peer under (No count)
-    → Names (told_lines routes told) count told.packet told.end
+    → Names (told_lines routes told) (place_text count told.packet told.unexplained) told.end
 told_names routes told number peer under count is =
-    subst (λ (a : AnswerValue). Names (answer_text routes told a) count told.packet told.end) (sym is) (no_names routes told number peer count)
+    subst (λ (a : AnswerValue). Names (answer_text routes told a) (place_text count told.packet told.unexplained) told.end) (sym is) (no_names routes told number peer count)
+
+-- ---- at a record, or at a packet
+
+not_at_packet : (text : List ℕ) (packet : ℕ) (rest more : List ℕ) → text ≡ unexplained_text packet ++ rest → text ≡ codes "no at record " ++ more → ⊥
+not_at_packet text packet rest more one other =
+    let differs : 112 ≡ 114 = sym (unexplained_seventh packet rest) ∙ ap seventh (sym one ∙ other) ∙ record_seventh more in omega (arith, differs)
+
+not_at_record : (text : List ℕ) (count : ℕ) (packet : Option ℕ) (rest more : List ℕ) → text ≡ no_text count packet ++ rest → text ≡ codes "no at packet " ++ more → ⊥
+not_at_record text count packet rest more one other =
+    let differs : 114 ≡ 112 = sym (no_text_seventh count packet rest) ∙ ap seventh (sym one ∙ other) ∙ packet_seventh more in omega (arith, differs)
+
+as_record : (routes : Bool) (told : EndTold) (count : ℕ) (packet : Option ℕ) (rest : List ℕ) → told_lines routes told ≡ no_text count packet ++ rest → BeginWith (codes "no at record ") routes told
+unfolding no_text
+as_record routes told count packet rest is = (_, is ∙ append_assoc (codes "no at record ") (decimal (count + 1) ++ packet_text packet) rest)
+
+as_packet : (routes : Bool) (told : EndTold) (packet : ℕ) (rest : List ℕ) → told_lines routes told ≡ unexplained_text packet ++ rest → BeginWith (codes "no at packet ") routes told
+unfolding unexplained_text
+as_packet routes told packet rest is = (_, is ∙ append_assoc (codes "no at packet ") (decimal packet) rest)
+
+-- each of the words begins with `no`
+record_is_no : (routes : Bool) (told : EndTold) → BeginWith (codes "no at record ") routes told → BeginWith (codes "no ") routes told
+record_is_no routes told begins = (codes "at record " ++ begins.0, begins.1)
+
+packet_is_no : (routes : Bool) (told : EndTold) → BeginWith (codes "no at packet ") routes told → BeginWith (codes "no ") routes told
+packet_is_no routes told begins = (codes "at packet " ++ begins.0, begins.1)
+
+-- the place is a packet where a message is found, and else a record
+record IsFound (found : Option Unexplained) : Type 0 where
+  pub unexplained : Unexplained
+  pub is : found ≡ Some unexplained
+
+found_or_not : (found : Option Unexplained) → (found ≡ None) ⊎ IsFound found
+found_or_not None = inl refl
+found_or_not (Some unexplained) = inr record { unexplained = unexplained; is = refl }
 
 -- ---- the records of an end that is told
 
@@ -150,20 +214,77 @@ module _ (options : CheckOptions) (packets : List Recorded) (last_packet place :
     };
   }
 
+  abbrev NamesPlace : EndTold → ℕ → Option Unexplained → Type 0
+  NamesPlace told count found = Names (told_lines options.routes told) (place_text count told.packet found) told.end
+
+  -- where a no is in the text, if it is at a record
+  at_record : (told : EndTold) (count : ℕ) → NamesPlace told count told.unexplained → BeginWith (codes "no at record ") options.routes told → Names (told_lines options.routes told) (no_text count told.packet) told.end
+  at_record told count names begins = elim (found_or_not told.unexplained) [
+    | inl none ↦ subst (λ (o : Option Unexplained). NamesPlace told count o) none names
+    | inr found ↦
+        let so : NamesPlace told count (Some found.unexplained) = subst (λ (o : Option Unexplained). NamesPlace told count o) found.is names in
+        absurd (not_at_packet (told_lines options.routes told) found.unexplained.packet _ begins.0 so.named begins.1)
+  ]
+
+  -- or at a packet
+  record StandsAtPacket (told : EndTold) : Type 0 where
+    pub unexplained : Unexplained
+    pub is : told.unexplained ≡ Some unexplained
+    pub names : Names (told_lines options.routes told) (unexplained_text unexplained.packet) told.end
+
+  at_packet : (told : EndTold) (count : ℕ) → NamesPlace told count told.unexplained → BeginWith (codes "no at packet ") options.routes told → StandsAtPacket told
+  at_packet told count names begins = elim (found_or_not told.unexplained) [
+    | inl none ↦
+        let so : NamesPlace told count None = subst (λ (o : Option Unexplained). NamesPlace told count o) none names in
+        absurd (not_at_record (told_lines options.routes told) count told.packet _ begins.0 so.named begins.1)
+    | inr found ↦
+        let so : NamesPlace told count (Some found.unexplained) = subst (λ (o : Option Unexplained). NamesPlace told count o) found.is names in
+        record { unexplained = found.unexplained; is = found.is; names = so }
+  ]
+
+  no_other : (told : EndTold) → BeginWith (codes "no ") options.routes told → BeginWith (codes "no at record ") options.routes told ⊎ BeginWith (codes "no at packet ") options.routes told
+  no_other told begins =
+      let no = no_by_text options.routes told told.answer begins.0 begins.1 in
+      let names = told_names options.routes told no.number no.peer no.under no.count no.is in
+      elim (found_or_not told.unexplained) [
+        | inl none ↦
+            let so : NamesPlace told no.count None = subst (λ (o : Option Unexplained). NamesPlace told no.count o) none names in
+            inl (as_record options.routes told no.count told.packet _ so.named)
+        | inr found ↦
+            let so : NamesPlace told no.count (Some found.unexplained) = subst (λ (o : Option Unexplained). NamesPlace told no.count o) found.is names in
+            inr (as_packet options.routes told found.unexplained.packet _ so.named)
+      ]
+
+  true_overall : NoOrderHasARun → (side : Side) (told : EndTold) → IsEndTold options (asked side) session opening both.connection side told
+      → BeginWith (codes "no at packet ") options.routes told → IsTrueOverall options packets last_packet session opening side told
+  unfolding records_so
+  true_overall law side told end begins =
+      let no = no_by_text options.routes told told.answer (packet_is_no options.routes told begins).0 (packet_is_no options.routes told begins).1 in
+      let stands = at_packet told no.count (told_names options.routes told no.number no.peer no.under no.count no.is) begins in
+      let named = subst (λ (e : Endpoint). Names (told_lines options.routes told) (unexplained_text stands.unexplained.packet) e) end.is_end stands.names in
+      record {
+        entries = end.entries;
+        has_records = records_so side told end;
+        unexplained = stands.unexplained;
+        rest = named.rest;
+        named = named.named;
+        no_order = law options (asked side) session opening both.connection side told stands.unexplained end stands.is;
+      }
+
   true_no : NoConfigurationExplains → HasItsVerdict → (side : Side) (told : EndTold) → IsEndTold options (asked side) session opening both.connection side told
-      → BeginsWithNo options.routes told → IsTrueNo options packets last_packet session opening side told
+      → BeginWith (codes "no at record ") options.routes told → IsTrueNo options packets last_packet session opening side told
   true_no explains has_verdict side told end begins =
       let its = session_from side session in
       let records = records_of end.entries in
-      let no = no_by_text options.routes told told.answer begins.0 begins.1 in
+      let no = no_by_text options.routes told told.answer (record_is_no options.routes told begins).0 (record_is_no options.routes told begins).1 in
       let answer : IsJudged its records no.number no.peer no.under (No no.count) = subst (λ (a : AnswerValue). IsAnswerTo its records a) no.is end.answers in
       let holds : HasVerdict no.under records (No no.count) = (has_verdict its records no.number no.peer no.under (No no.count) answer).0 in
       let stands = stands_at end.entries no.count holds.0 in
       let packet : told.packet ≡ Some stands.impossible.packet =
       end.is_packet ∙ ap (λ (a : AnswerValue). packet_of a end.entries) no.is ∙ ap (λ (e : Option Entry). option_map (λ (entry : Entry). entry.packet) e) stands.is in
-      let names = told_names options.routes told no.number no.peer no.under no.count no.is in
-      let named = subst (λ (e : Endpoint). Names (told_lines options.routes told) no.count (Some stands.impossible.packet) e) end.is_end
-      (subst (λ (p : Option ℕ). Names (told_lines options.routes told) no.count p told.end) packet names) in
+      let names = at_record told no.count (told_names options.routes told no.number no.peer no.under no.count no.is) begins in
+      let named = subst (λ (e : Endpoint). Names (told_lines options.routes told) (no_text no.count (Some stands.impossible.packet)) e) end.is_end
+      (subst (λ (p : Option ℕ). Names (told_lines options.routes told) (no_text no.count p) told.end) packet names) in
       record {
         entries = end.entries;
         has_records = records_so side told end;
@@ -179,16 +300,24 @@ module _ (options : CheckOptions) (packets : List Recorded) (last_packet place :
             answer.by_open fault (subst (λ (o : Option (List ℕ)). HasFault o fault) same is_fault) n (subst (λ (o : Option (List ℕ)). HasOwnOpen (take n records) o) same within);
       }
 
-pub noes_are_true : NoConfigurationExplains → HasItsVerdict → ToldNoesAreTrue
-noes_are_true explains has_verdict options last_packet place packets (BothEnds session opening first_octets second_octets opener other) it =
+  true_noes : NoConfigurationExplains → HasItsVerdict → NoOrderHasARun → (side : Side) (told : EndTold) → IsEndTold options (asked side) session opening both.connection side told
+      → HasTrueNoes options packets last_packet session opening side told
+  true_noes explains has_verdict law side told end = record {
+    at_record = true_no explains has_verdict side told end;
+    at_packet = true_overall law side told end;
+    no_other = no_other told;
+  }
+
+pub noes_are_true : NoConfigurationExplains → HasItsVerdict → NoOrderHasARun → ToldNoesAreTrue
+noes_are_true explains has_verdict law options last_packet place packets (BothEnds session opening first_octets second_octets opener other) it =
     let both = it.is_block.2 in
     let block = BothEnds session opening first_octets second_octets opener other in (
-      true_no options packets last_packet place session opening block it first_octets second_octets opener other both explains has_verdict opening.opened_by opener both.is_opener,
-      true_no options packets last_packet place session opening block it first_octets second_octets opener other both explains has_verdict (other_side opening.opened_by) other both.is_other,
+      true_noes options packets last_packet place session opening block it first_octets second_octets opener other both explains has_verdict law opening.opened_by opener both.is_opener,
+      true_noes options packets last_packet place session opening block it first_octets second_octets opener other both explains has_verdict law (other_side opening.opened_by) other both.is_other,
     )
-noes_are_true explains has_verdict options last_packet place packets (OneEnd session opening first_octets second_octets) it = tt
-noes_are_true explains has_verdict options last_packet place packets (Refused session opening refusal) it = tt
-noes_are_true explains has_verdict options last_packet place packets (AllRefused addresses refusal) it = tt
+noes_are_true explains has_verdict law options last_packet place packets (OneEnd session opening first_octets second_octets) it = tt
+noes_are_true explains has_verdict law options last_packet place packets (Refused session opening refusal) it = tt
+noes_are_true explains has_verdict law options last_packet place packets (AllRefused addresses refusal) it = tt
 
 pub verdict_over_all : ToldVerdictIsOverAll
 verdict_over_all options last_packet place packets session opening first_octets second_octets opener other told side number peer under verdict it of_side is =
@@ -203,11 +332,11 @@ verdict_over_all options last_packet place packets session opening first_octets 
 
 -- ---- of all blocks
 
-pub all_true : NoConfigurationExplains → HasItsVerdict → (options : CheckOptions) (packets : List Recorded) (last_packet : ℕ) (blocks : List (ℕ × Block))
+pub all_true : NoConfigurationExplains → HasItsVerdict → NoOrderHasARun → (options : CheckOptions) (packets : List Recorded) (last_packet : ℕ) (blocks : List (ℕ × Block))
     → AllByRecursion (λ (b : ℕ × Block). IsToldAt options packets last_packet b.0 b.1) blocks → AllByRecursion (λ (b : ℕ × Block). NoesAreTrue options packets last_packet b.1) blocks
-all_true explains has_verdict options packets last_packet [] all = tt
-all_true explains has_verdict options packets last_packet (b ∷ blocks) all =
-    (noes_are_true explains has_verdict options last_packet b.0 packets b.1 all.0, all_true explains has_verdict options packets last_packet blocks all.1)
+all_true explains has_verdict law options packets last_packet [] all = tt
+all_true explains has_verdict law options packets last_packet (b ∷ blocks) all =
+    (noes_are_true explains has_verdict law options last_packet b.0 packets b.1 all.0, all_true explains has_verdict law options packets last_packet blocks all.1)
 
 -- ---- whether the options of `judge` are told plays no part
 
@@ -238,11 +367,31 @@ true_as stopped options packets last_packet session opening side told it = recor
   by_open = it.by_open;
 }
 
+overall_as : (stopped : Option WhyRefused) (options : CheckOptions) (packets : List Recorded) (last_packet : ℕ) (session : Session) (opening : Opening) (side : Side) (told : EndTold)
+    → IsTrueOverall (options_by stopped options) packets last_packet session opening side told → IsTrueOverall options packets last_packet session opening side told
+unfolding records_as
+overall_as stopped options packets last_packet session opening side told it = record {
+  entries = it.entries;
+  has_records = records_as stopped options packets last_packet session opening side it.entries it.has_records;
+  unexplained = it.unexplained;
+  rest = it.rest;
+  named = it.named;
+  no_order = it.no_order;
+}
+
+have_as : (stopped : Option WhyRefused) (options : CheckOptions) (packets : List Recorded) (last_packet : ℕ) (session : Session) (opening : Opening) (side : Side) (told : EndTold)
+    → HasTrueNoes (options_by stopped options) packets last_packet session opening side told → HasTrueNoes options packets last_packet session opening side told
+have_as stopped options packets last_packet session opening side told it = record {
+  at_record = λ begins. true_as stopped options packets last_packet session opening side told (it.at_record begins);
+  at_packet = λ begins. overall_as stopped options packets last_packet session opening side told (it.at_packet begins);
+  no_other = it.no_other;
+}
+
 noes_as : (stopped : Option WhyRefused) (options : CheckOptions) (packets : List Recorded) (last_packet : ℕ) (block : Block)
     → NoesAreTrue (options_by stopped options) packets last_packet block → NoesAreTrue options packets last_packet block
 noes_as stopped options packets last_packet (BothEnds session opening first_octets second_octets opener other) noes = (
-  λ begins. true_as stopped options packets last_packet session opening opening.opened_by opener (noes.0 begins),
-  λ begins. true_as stopped options packets last_packet session opening (other_side opening.opened_by) other (noes.1 begins),
+  have_as stopped options packets last_packet session opening opening.opened_by opener noes.0,
+  have_as stopped options packets last_packet session opening (other_side opening.opened_by) other noes.1,
 )
 noes_as stopped options packets last_packet (OneEnd session opening first_octets second_octets) noes = tt
 noes_as stopped options packets last_packet (Refused session opening refusal) noes = tt

@@ -32,7 +32,7 @@ not_idle packet second state (Some led) some = (λ leaves. some leaves.0, tt)
 
 -- ---- the changes to which messages and the end lead
 
-by_received : (packet second : ℕ) (state : State) (kind : Option MessageType) (answered : Bool)
+pub by_received : (packet second : ℕ) (state : State) (kind : Option MessageType) (answered : Bool)
     → Each (λ n. ¬ LeavesIdle n.shown) (change packet second state (led_by_received state kind answered))
 by_received packet second Idle kind answered = tt
 by_received packet second Connect kind answered = not_idle packet second Connect (led_by_received Connect kind answered) (λ e. omega (arith, e))
@@ -41,7 +41,7 @@ by_received packet second OpenSent kind answered = not_idle packet second OpenSe
 by_received packet second OpenConfirm kind answered = not_idle packet second OpenConfirm (led_by_received OpenConfirm kind answered) (λ e. omega (arith, e))
 by_received packet second Established kind answered = not_idle packet second Established (led_by_received Established kind answered) (λ e. omega (arith, e))
 
-by_sent : (packet second : ℕ) (state : State) (kind : Option MessageType) (before : Before)
+pub by_sent : (packet second : ℕ) (state : State) (kind : Option MessageType) (before : Before)
     → Each (λ n. ¬ LeavesIdle n.shown) (change packet second state (led_by_sent state kind before))
 by_sent packet second Idle kind before = tt
 by_sent packet second Connect kind before = not_idle packet second Connect (led_by_sent Connect kind before) (λ e. omega (arith, e))
@@ -50,7 +50,7 @@ by_sent packet second OpenSent kind before = not_idle packet second OpenSent (le
 by_sent packet second OpenConfirm kind before = not_idle packet second OpenConfirm (led_by_sent OpenConfirm kind before) (λ e. omega (arith, e))
 by_sent packet second Established kind before = not_idle packet second Established (led_by_sent Established kind before) (λ e. omega (arith, e))
 
-by_end : (packet second : ℕ) (state : State) → Each (λ n. ¬ LeavesIdle n.shown) (change packet second state (led_by_end state))
+pub by_end : (packet second : ℕ) (state : State) → Each (λ n. ¬ LeavesIdle n.shown) (change packet second state (led_by_end state))
 by_end packet second Idle = tt
 by_end packet second Connect = not_idle packet second Connect (led_by_end Connect) (λ e. omega (arith, e))
 by_end packet second Active = not_idle packet second Active (led_by_end Active) (λ e. omega (arith, e))
@@ -58,7 +58,7 @@ by_end packet second OpenSent = not_idle packet second OpenSent (led_by_end Open
 by_end packet second OpenConfirm = not_idle packet second OpenConfirm (led_by_end OpenConfirm) (λ e. omega (arith, e))
 by_end packet second Established = not_idle packet second Established (led_by_end Established) (λ e. omega (arith, e))
 
-by_left : (packet second : ℕ) (state : State) (left : Bool)
+pub by_left : (packet second : ℕ) (state : State) (left : Bool)
     → Each (λ n. ¬ LeavesIdle n.shown) (change packet second (state_then state (led_by_end state)) (led_by_left state left))
 by_left packet second Idle left = tt
 by_left packet second Connect left = tt

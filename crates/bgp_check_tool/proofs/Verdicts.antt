@@ -1,15 +1,16 @@
 -- What a verdict on an end is worth.
-use Rattle.std.proofs.Common.{◌≡◌, Bool, true, false, IsTrue, ℕ, List, Option, None, option_map, inl, inr, refl, reverse, sym, subst}
+use Rattle.std.proofs.Common.{◌≡◌, Bool, true, false, IsTrue, ℕ, List, Option, None, Some, IfSome, option_map, inl, inr, refl, reverse, sym, subst}
 use Rattle.bgp_prefix.specs.Shown.{ShownRecord}
 use Rattle.bgp_prefix.specs.declared.session.Session.{Session}
 use Rattle.bgp_open.specs.Open.{OpenFields, open_of}
 use Rattle.streams.specs.declared.connection.Connection.{Connection}
 use Rattle.streams.specs.declared.connection.Opening.{Opening}
 use Rattle.streams.specs.declared.passed.Side.{Side}
-use Rattle.bgp_judge.specs.Verdict.{No}
+use Rattle.bgp_judge.specs.Verdict.{No, Unfinished, Yes}
+use Rattle.bgp_recording.specs.declared.framing.Framings.{Framings}
 use Rattle.bgp_recording.specs.Captured.{records_of}
 use Rattle.bgp_import.specs.ListText.{other_side}
-use Rattle.bgp_check.specs.Answered.{AnswerValue, IsAnswerTo, JudgedAs, NoConfigurationExplains}
+use Rattle.bgp_check.specs.Answered.{AnswerValue, IsAnswerTo, JudgedAs, NoConfigurationExplains, Unjudged}
 use Rattle.bgp_check.specs.Configurations.{IsOf}
 use Rattle.bgp_check.specs.NotJudged.{IsWhyNot, SendsSome, why_not}
 use Rattle.bgp_check.specs.Over.{HasVerdictOver}
@@ -19,7 +20,9 @@ use Rattle.bgp_check_text.specs.Asked.{asked_of}
 use Rattle.bgp_check_text.specs.declared.options.Asked.{Asked}
 use Rattle.streams.specs.Connections.{numbered}
 use Rattle.bgp_check_tool.specs.declared.options.CheckOptions.{CheckOptions}
-use Rattle.bgp_check_tool.specs.Headline.{IsToldOfSide, NoConfigurationHasARun, NothingIsVacuous, ToldNoHasNoRun, VerdictIsOverAll}
+use Rattle.bgp_check_tool.specs.Headline.{IsToldOfSide, NoConfigurationHasARun, NoOrderHasARun, NothingIsVacuous, ToldNoHasNoRun, VerdictIsOverAll}
+use Rattle.bgp_check_tool.specs.Orders.{IsFoundTo, IsUnexplained, UnexplainedByAll}
+use Rattle.bgp_orders.specs.declared.connection.Unexplained.{Unexplained}
 use Rattle.bgp_check_tool.specs.Seen.{seen_from, session_from}
 use Rattle.bgp_check_tool.specs.Told.{EndTold, IsEndTold}
 use Rattle.bgp_check_tool.proofs.Stretch.{stretch_of}
@@ -41,6 +44,25 @@ no_run law options asked session opening connection side told number peer under 
     let answer : IsAnswerTo its records (JudgedAs number peer under (No count)) = subst (λ (a : AnswerValue). IsAnswerTo its records a) is end.answers in
     let stretch = stretch_of end.framings options.within (seen_from side connection) end.entries end.received_unshown end.sent_unshown end.made.recorded.told in
     law its records number peer under count own config stretch answer has of
+
+-- ---- a sent message that no order explains
+
+none_found : (unexplained : Unexplained) (found : Option Unexplained) → found ≡ Some unexplained → found ≡ None → ⊥
+none_found unexplained found some none = cc
+
+found_is : (session : Session) (within : ℕ) (framings : Framings) (connection : Connection) (answer : AnswerValue) (found : Option Unexplained) (unexplained : Unexplained)
+    → found ≡ Some unexplained → IsFoundTo session within framings connection answer found → IsUnexplained session within framings connection unexplained
+found_is session within framings connection (Unjudged why) found unexplained some none = absurd (none_found unexplained found some none)
+found_is session within framings connection (JudgedAs number peer under (Yes ends)) found unexplained some none = absurd (none_found unexplained found some none)
+found_is session within framings connection (JudgedAs number peer under (No count)) found unexplained some is =
+    subst (λ (o : Option Unexplained). IfSome o (IsUnexplained session within framings connection)) some is
+found_is session within framings connection (JudgedAs number peer under Unfinished) found unexplained some none = absurd (none_found unexplained found some none)
+
+pub no_order : UnexplainedByAll → NoOrderHasARun
+no_order law options asked session opening connection side told unexplained end some =
+    let its = session_from side session in
+    let seen = seen_from side connection in
+    law its options.within end.framings seen unexplained (found_is its options.within end.framings seen told.answer told.unexplained unexplained some end.is_found)
 
 sends_by : (sends extended : Bool) (own told : Option OpenFields) (confederated : Bool) → None ≡ why_not sends extended own told confederated → IsTrue sends
 sends_by false extended own told confederated is = let k : ⊥ = cc in absurd k

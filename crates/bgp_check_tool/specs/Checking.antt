@@ -68,8 +68,8 @@ pub record PutsBlocks {T : Type 0} {sink : sinks.Ghosts T} (options : CheckOptio
   pub added : firsts' ≡ firsts_after firsts (refusals_in blocks)
 
 -- The blocks of these packets were put, in the order of their places; or none, where there was no
--- memory for a list of them: that memory was refused is no answer beside a block, nor where there is
--- nothing to tell of.
+-- memory for a list of them: that memory was refused is no answer beside a block, nor where there
+-- is nothing to tell of.
 pub record PutsAll {T : Type 0} {sink : sinks.Ghosts T} (options : CheckOptions)
     {Z : Type 0} (packets : List Recorded) (talks : Talks Z) (last_packet : ℕ)
     (lines lines' : Lines T sink) (tally tally' : Tally) (firsts firsts' : List (Option Refusal))

@@ -29,6 +29,8 @@ use Rattle.bgp_check_text.specs.declared.options.Asked.{Asked}
 use Rattle.bgp_check_tool.specs.declared.options.CheckOptions.{CheckOptions}
 use Rattle.bgp_check_tool.specs.Blocks.{BothEnds}
 use Rattle.bgp_check_tool.specs.Made.{IsMade}
+use Rattle.bgp_check_tool.specs.Orders.{NoOrderExplains}
+use Rattle.bgp_orders.specs.declared.connection.Unexplained.{Unexplained}
 use Rattle.bgp_import.specs.Pairs.{session_of}
 use Rattle.bgp_import.specs.Places.{HasConnection}
 use Rattle.bgp_check_tool.specs.Places.{IsToldAt}
@@ -59,6 +61,17 @@ NoConfigurationHasARun =
     → HasOwnOpen (records_of end.entries) own → IsOf (session_from side session) own config
     → (¬ Begins config (take (count + 1) (records_of end.entries)))
     × (¬ Begins config (records_of end.entries))
+
+-- A no at a packet says that no order that the packets allow explains the sent message that the
+-- packet is the first to show.
+abbrev pub NoOrderHasARun : Type 0
+NoOrderHasARun =
+    (options : CheckOptions) (asked : Asked) (session : Session) (opening : Opening)
+    (connection : Connection) (side : Side) (told : EndTold) (unexplained : Unexplained)
+    (end : IsEndTold options asked session opening connection side told)
+    → told.unexplained ≡ Some unexplained
+    → NoOrderExplains (session_from side session) options.within end.framings
+    (seen_from side connection) unexplained
 
 -- A verdict is told only of records with a sent message, the first of which leaves Idle.
 abbrev pub NothingIsVacuous : Type 0

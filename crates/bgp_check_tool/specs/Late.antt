@@ -1,5 +1,5 @@
--- What a verdict on an end that isn't a yes becomes, where each message may be handled as late as it
--- can be said: it is judged once more, of records that are made so.
+-- What a verdict on an end that isn't a yes becomes, where each message may be handled as late as
+-- it can be said: it is judged once more, of records that are made so.
 use Rattle.std.specs.Prelude.{◌≡◌, ◌++◌, ℕ, List, [], Option, None, Some, codes}
 use Rattle.std.specs.Fmt.{decimal}
 use Rattle.bgp_prefix.specs.declared.session.Session.{Session}

@@ -2,6 +2,7 @@ pub mod Seen
 pub mod Made
 pub mod Late
 pub mod Judging
+pub mod Orders
 pub mod Told
 pub mod Text
 pub mod Blocks

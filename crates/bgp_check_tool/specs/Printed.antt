@@ -1,5 +1,6 @@
 -- What the lines of an end are worth: a verdict that is printed of a recording.
-use Rattle.std.specs.Prelude.{◌≡◌, ◌<◌, ◌+◌, ◌++◌, ℕ, Bool, List, Option, Some, codes, reverse, take}
+use Rattle.std.specs.Prelude.{◌≡◌, ◌<◌, ◌+◌, ◌++◌, ◌⊎◌, ℕ, Bool, List, Option, Some, codes}
+use Rattle.std.specs.Prelude.{reverse, take}
 use Rattle.std.specs.List.{AllByRecursion, slice_get}
 use Rattle.packets.specs.Packet.{Recorded}
 use Rattle.bgp_prefix.specs.declared.session.Session.{Session}
@@ -40,10 +41,12 @@ use Rattle.bgp_check_tool.specs.Blocks.{AllRefused, Block, BothEnds, OneEnd, Ref
 use Rattle.bgp_check_tool.specs.Checking.{blocks_text, cut_note, file_text, nothing_text}
 use Rattle.bgp_check_tool.specs.Headline.{IsToldOfSide}
 use Rattle.bgp_check_tool.specs.Judging.{options_by}
+use Rattle.bgp_check_tool.specs.Orders.{NoOrderExplains}
+use Rattle.bgp_orders.specs.declared.connection.Unexplained.{Unexplained}
 use Rattle.bgp_check_tool.specs.Made.{AreOffered, with_both_offers}
 use Rattle.bgp_check_tool.specs.Places.{IsToldAt}
 use Rattle.bgp_check_tool.specs.Seen.{seen_from, session_from}
-use Rattle.bgp_check_tool.specs.Text.{told_lines}
+use Rattle.bgp_check_tool.specs.Text.{told_lines, unexplained_text}
 use Rattle.bgp_check_tool.specs.Told.{EndTold}
 
 -- ---- the records of an end
@@ -79,8 +82,8 @@ pub record HasRecords (options : CheckOptions) (packets : List Recorded) (last_p
 -- ---- a line that begins with the word `no`
 
 -- the lines of an end begin so
-abbrev pub BeginsWithNo : Bool → EndTold → Type 0
-BeginsWithNo routes told = (rest : List ℕ) × (told_lines routes told ≡ codes "no " ++ rest)
+abbrev pub BeginWith : List ℕ → Bool → EndTold → Type 0
+BeginWith word routes told = (rest : List ℕ) × (told_lines routes told ≡ word ++ rest)
 
 -- They name this end, a record of it, and the packet that shows that record. No run under a
 -- configuration under which the OPEN that the end sent is its own shows the records up to that one;
@@ -108,13 +111,39 @@ pub record IsTrueNo (options : CheckOptions) (packets : List Recorded) (last_pac
   pub by_open : (own : Option (List ℕ)) (fault : OwnFault) → HasOwnOpen (records_of entries) own
       → HasFault own fault → (n : ℕ) → HasOwnOpen (take n (records_of entries)) own → count < n
 
--- so it is of both ends of a connection, if their lines begin so
+-- They name this end, and the first packet that shows a message that the end sent. In no order
+-- that the packets allow a run explains that message and all before it, under no configuration
+-- under which the OPEN that the end sent is its own. In some such order a run explains those before
+-- it, under one of these configurations, if there is one. If there is none, for a fault of the
+-- OPEN, the message is that OPEN at the latest.
+pub record IsTrueOverall (options : CheckOptions) (packets : List Recorded) (last_packet : ℕ)
+    (session : Session) (opening : Opening) (side : Side) (told : EndTold) : Type 0 where
+  pub entries : List Entry
+  pub has_records : HasRecords options packets last_packet session opening side entries
+  pub unexplained : Unexplained
+  pub rest : List ℕ
+  pub named : told_lines options.routes told
+      ≡ unexplained_text unexplained.packet
+      ++ (codes ": " ++ (end_text (end_of side session opening) ++ rest))
+  pub no_order : NoOrderExplains (session_from side session) options.within
+      has_records.are_records.framings (seen_from side has_records.connection) unexplained
+
+-- Each line of an end that begins with the word `no` is one of these two, and true.
+pub record HasTrueNoes (options : CheckOptions) (packets : List Recorded) (last_packet : ℕ)
+    (session : Session) (opening : Opening) (side : Side) (told : EndTold) : Type 0 where
+  pub at_record : BeginWith (codes "no at record ") options.routes told
+      → IsTrueNo options packets last_packet session opening side told
+  pub at_packet : BeginWith (codes "no at packet ") options.routes told
+      → IsTrueOverall options packets last_packet session opening side told
+  pub no_other : BeginWith (codes "no ") options.routes told
+      → BeginWith (codes "no at record ") options.routes told
+      ⊎ BeginWith (codes "no at packet ") options.routes told
+
+-- so it is of both ends of a connection
 abbrev pub NoesAreTrue : CheckOptions → List Recorded → ℕ → Block → Type 0
 NoesAreTrue options packets last_packet (BothEnds session opening first second opener other) =
-    (BeginsWithNo options.routes opener
-    → IsTrueNo options packets last_packet session opening opening.opened_by opener)
-    × (BeginsWithNo options.routes other
-    → IsTrueNo options packets last_packet session opening (other_side opening.opened_by) other)
+    HasTrueNoes options packets last_packet session opening opening.opened_by opener
+    × HasTrueNoes options packets last_packet session opening (other_side opening.opened_by) other
 NoesAreTrue options packets last_packet (OneEnd session opening first second) = Unit {0}
 NoesAreTrue options packets last_packet (Refused session opening refusal) = Unit {0}
 NoesAreTrue options packets last_packet (AllRefused addresses refusal) = Unit {0}
@@ -145,7 +174,8 @@ pub record PrintsTrueNoes {S T : Type 0} (gives : S → S → List ℕ → Type 
 
 -- ---- the laws
 
--- The lines of an end of a recording begin with `no` only if no run shows its records.
+-- The lines of an end of a recording begin with `no` only if no run shows its records: those of one
+-- order, or those of any.
 abbrev pub ToldNoesAreTrue : Type 0
 ToldNoesAreTrue =
     (options : CheckOptions) (last_packet place : ℕ) (packets : List Recorded) (block : Block)

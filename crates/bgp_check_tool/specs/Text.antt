@@ -1,5 +1,5 @@
 -- The lines of an end.
-use Rattle.std.specs.Prelude.{◌++◌, Bool, ℕ, List, Option, codes}
+use Rattle.std.specs.Prelude.{◌++◌, Bool, ℕ, List, [], Option, None, Some, codes}
 use Rattle.std.specs.Fmt.{decimal}
 use Rattle.std.specs.List.{flat_map}
 use Rattle.bgp_judge.specs.Verdict.{No, Unfinished, VerdictValue, Yes}
@@ -13,6 +13,7 @@ use Rattle.bgp_check_text.specs.Text.{as_text, ending_text, no_text, peer_text, 
 use Rattle.bgp_check_tool.specs.Judging.{judge_text}
 use Rattle.bgp_check_tool.specs.Late.{late_text}
 use Rattle.bgp_check_tool.specs.Told.{EndTold}
+use Rattle.bgp_orders.specs.declared.connection.Unexplained.{Unexplained}
 
 -- ---- an end that isn't judged
 
@@ -32,10 +33,24 @@ whose_text end number peer = codes ": " ++ (end_text end ++ (as_text number
 
 -- ---- a no, and what is unfinished
 
+-- where a no is: at the packet of the first sent message that no order explains, if one is known;
+-- or else at a record of the order that is judged
+unfoldable pub unexplained_text : ℕ → List ℕ
+unexplained_text packet = codes "no at packet " ++ decimal packet
+
+abbrev pub place_text : ℕ → Option ℕ → Option Unexplained → List ℕ
+place_text count packet None = no_text count packet
+place_text count packet (Some unexplained) = unexplained_text unexplained.packet
+
 unfoldable pub note_line : ℕ → List ℕ
 note_line count =
     codes "  note judged in one order that the packets allow; received messages put off: "
     ++ (decimal count ++ codes "\n")
+
+-- a no in all orders has no such line
+abbrev pub order_text : ℕ → Option Unexplained → List ℕ
+order_text count None = note_line count
+order_text count (Some unexplained) = []
 
 -- ---- all of it
 
@@ -45,9 +60,10 @@ verdict_text routes told number peer (Yes ends) =
     ++ (flat_map (ending_text routes told.highest) ends
     ++ (unshown_notes told.received told.sent ++ judge_text told.judge)))
 verdict_text routes told number peer (No count) =
-    no_text count told.packet ++ (whose_text told.end number peer
+    place_text count told.packet told.unexplained ++ (whose_text told.end number peer
     ++ (told.reason ++ (unshown_notes told.received told.sent
-    ++ (note_line told.put_off ++ (late_text told.within told.late ++ judge_text told.judge)))))
+    ++ (order_text told.put_off told.unexplained
+    ++ (late_text told.within told.late ++ judge_text told.judge)))))
 verdict_text routes told number peer Unfinished =
     codes "unfinished" ++ (whose_text told.end number peer
     ++ (told.reason ++ (unshown_notes told.received told.sent

@@ -25,6 +25,8 @@ use Rattle.bgp_check_tool.specs.Judging.{AreOptionsTo}
 use Rattle.bgp_check_tool.specs.Late.{IsLate}
 use Rattle.bgp_check_tool.specs.declared.late.Late.{Late}
 use Rattle.bgp_check_tool.specs.Made.{IsMade}
+use Rattle.bgp_check_tool.specs.Orders.{IsFoundTo}
+use Rattle.bgp_orders.specs.declared.connection.Unexplained.{Unexplained}
 use Rattle.bgp_check_tool.specs.Seen.{seen_from, session_from}
 
 -- what is told, its answer as a value
@@ -33,6 +35,8 @@ pub record EndTold : Type 0 where
   pub answer : AnswerValue
   -- the packet that shows the first impossible record, of a no
   pub packet : Option ℕ
+  -- the first sent message that no order explains, of a no, if one is known
+  pub unexplained : Option Unexplained
   -- how many received messages are put off in the order that is judged
   pub put_off : ℕ
   -- within how many seconds a message is handled in that order
@@ -54,6 +58,7 @@ told_value told = record {
   end = told.end;
   answer = answer_value told.answer;
   packet = told.packet;
+  unexplained = told.unexplained;
   put_off = told.put_off;
   within = told.within;
   late = told.late;
@@ -76,9 +81,10 @@ packet_of (Unjudged why) entries = None
 packet_of (JudgedAs number peer under verdict) entries = packet_by verdict entries
 
 -- This is told of that end of the connection: what is answered of the records that are made of it
--- as this end has it, and why; what that becomes, where a message may be handled as late as it can
--- be said; the line of a message that it sent goes by the limit of its receiver. And how `bgp
--- judge` gives it, where the connection is asked for so.
+-- as this end has it, and why; of a no the first sent message that no order explains, if one is
+-- known; what the answer becomes, where a message may be handled as late as it can be said; the
+-- line of a message that it sent goes by the limit of its receiver. And how `bgp judge` gives it,
+-- where the connection is asked for so.
 pub record IsEndTold (options : CheckOptions) (asked : Asked) (session : Session)
     (opening : Opening) (connection : Connection) (side : Side) (told : EndTold) : Type 0 where
   pub entries : List Entry
@@ -90,6 +96,8 @@ pub record IsEndTold (options : CheckOptions) (asked : Asked) (session : Session
   pub is_end : told.end ≡ end_of side session opening
   pub answers : IsAnswerTo (session_from side session) (records_of entries) told.answer
   pub is_packet : told.packet ≡ packet_of told.answer entries
+  pub is_found : IsFoundTo (session_from side session) options.within framings
+      (seen_from side connection) told.answer told.unexplained
   pub is_put_off : told.put_off ≡ put_off 0 entries
   pub is_within : told.within ≡ options.within
   pub is_late : IsLate (session_from side session) (seen_from side connection) told.answer

@@ -12,17 +12,20 @@ ghost use Rattle.bgp_recording.specs.Recorded.{IsRecordedInOrder};
 ghost use Rattle.bgp_check_text.specs.Highest.{highest_state};
 ghost use Rattle.bgp_check_tool.specs.Judging.{AreOptionsTo};
 ghost use Rattle.bgp_check_tool.specs.Late.{IsLate};
+ghost use Rattle.bgp_check_tool.specs.Orders.{IsFoundTo};
 ghost use Rattle.bgp_check_tool.specs.Told.{packet_of};
 
 use crate::judging::options_to;
 use crate::late::{Late, late_of};
 use crate::making::Made;
 use crate::options::CheckOptions;
+use crate::orders::unexplained_of;
 use bgp_check::{Answer, check_end};
 use bgp_check_text::{Asked, JudgeOptions, Reason, highest_state, reason_of};
 use bgp_explain::Places;
 use bgp_import::notes_on;
 use bgp_judge::{Tracker, Verdict};
+use bgp_orders::Unexplained;
 use bgp_prefix::Session;
 use bgp_recording::{Entry, Unshown};
 use segments::Endpoint;
@@ -52,6 +55,8 @@ pub(crate) struct Told<A: Allocator> {
     pub(crate) answer: Answer<A>,
     /// The packet that shows the first impossible record, of a no.
     pub(crate) packet: Option<u64>,
+    /// The first sent message that no order explains, of a no, if one is known.
+    pub(crate) unexplained: Option<Unexplained>,
     /// How many received messages are put off in the order that is judged.
     pub(crate) put_off: usize,
     /// Within how many seconds a message is handled in that order.
@@ -100,6 +105,9 @@ pub(crate) fn told_by<A: Allocator + Copy, T: Tracker<A>>(
         (records_of made.now.recording.entries.items) (answer_value told.answer)) }
     ensures packet { IfOk result (λ told. told.packet
         ≡ packet_of (answer_value told.answer) made.now.recording.entries.items) }
+    ensures unexplained { IfOk result (λ told. IsClocked viewed.now.connection → IsFoundTo
+        viewed.now.session viewed.now.options.within made.now.framings viewed.now.connection
+        (answer_value told.answer) told.unexplained) }
     ensures put_off { IfOk result (λ told. told.put_off
         ≡ put_off 0 made.now.recording.entries.items) }
     ensures within { IfOk result (λ told. told.within ≡ viewed.now.options.within) }
@@ -126,6 +134,7 @@ pub(crate) fn told_by<A: Allocator + Copy, T: Tracker<A>>(
     let entries = recording.entries.as_slice();
     let records = recording.records.as_slice();
     let answer = check_end::<A, T>(alloc, session, records)?;
+    let unexplained = unexplained_of(alloc, viewed, made.framings, &answer);
     let late = late_of::<A, T>(alloc, viewed, &answer)?;
     let places = Places::Shown(entries);
     let reason = reason_of::<A, T>(alloc, sent, places, records, &answer)?;
@@ -134,6 +143,7 @@ pub(crate) fn told_by<A: Allocator + Copy, T: Tracker<A>>(
         end: viewed.end,
         packet: packet_of(&answer, entries),
         answer,
+        unexplained,
         put_off: notes_on(recording).put_off,
         within: viewed.options.within,
         late,

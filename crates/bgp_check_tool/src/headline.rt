@@ -5,6 +5,7 @@ ghost use Rattle.bgp_check_tool.specs.Checking.{ChecksRecording};
 ghost use Rattle.bgp_check_tool.specs.Printed.{PrintsTrueNoes, ToldVerdictIsOverAll};
 
 use crate::checking::{self, CheckedRecording};
+use crate::laws::no_order_has_a_run;
 use crate::options::CheckOptions;
 use bgp_check::{a_verdict_holds_under_its_configuration, no_configuration_explains_a_no};
 use bgp_judge::Tracker;
@@ -15,20 +16,25 @@ use std::alloc::Allocator;
 /// this one: whether its messages are those of a run of the session machine (RFC 4271, 8.2.2) under
 /// some configuration under which the OPEN that it sent is its own.
 ///
-/// **The sentence.** Where the lines of an end begin with `no at record N, packet P`, no
-/// configuration under which that end's OPEN is its own has a run that shows the first N of its
-/// records, in one order that the packets allow if each message is handled within D seconds after it
-/// came (`--within`); the last of these is shown by packet P. Some such configuration has a run that
-/// shows those before it, if the OPEN is any configuration's own. That is the clause `no`. All that is
-/// printed is tied to the packets, so that no other line passes for one of these.
+/// **The sentence.** If the lines of an end begin with `no at packet P`, no order that the packets
+/// allow has a run that explains the first message that packet P shows as sent, and all that the
+/// end sent before it. That is so under every configuration under which the end's OPEN is its own,
+/// and if each message is handled within D seconds after it came (`--within`).
 ///
-/// It writes a line for each connection, in the order of their first packets, and after it what is
-/// told of both ends, first of that which opened it: the verdict, for which AS number of its peer
-/// it is told, of a yes each possible end, of a no and an unfinished why it is so, and with which
-/// options `bgp judge` gives the verdict; or why it isn't judged. Then why the file can't be read
-/// on, if it can't, that memory was refused for a list of the connections, if it was, and that the
-/// file was cut short, if it was; last how many ends there are of each verdict. It answers the exit
-/// status over all ends, the first of 5, 4, 1, 3, 2, 0 for which there is something:
+/// If they begin with `no at record N, packet P`, the same is known of one of these orders: no such
+/// configuration has a run that shows the first N of the end's records in it, the last of which is
+/// shown by packet P. In both cases some such configuration has a run that explains what comes
+/// before, if the OPEN is any configuration's own. That is the clause `no`. All that is printed is
+/// tied to the packets, so that no other line passes for one of these.
+///
+/// It writes a line for each connection, in the order of their first packets. After it come the
+/// reports on both ends, first on the one that opened the connection: the verdict and for which AS
+/// number of its peer it holds; for a yes each possible end; for a no and an unfinished why it is
+/// so; and with which options `bgp judge` gives the verdict. Or the report says why the end isn't
+/// judged. Then it writes why the file can't be read on, if it can't, that memory was refused for a
+/// list of the connections, if it was, and that the file was cut short, if it was; last how many
+/// ends there are of each verdict. It answers the exit status over all ends, the first of 5, 4, 1,
+/// 3, 2, 0 for which there is something:
 ///
 /// * 0: a yes.
 /// * 1: a no.
@@ -58,6 +64,7 @@ pub fn check_recording<A: Allocator + Copy, T: Tracker<A>, R: Source, W: Sink>(
 {
     no_configuration_explains_a_no();
     a_verdict_holds_under_its_configuration();
+    no_order_has_a_run();
     checking::check_recording::<A, T, R, W>(alloc, options, source, sink)
 }
 

@@ -1,12 +1,18 @@
 //! Laws of what is told of an end, each on a function that does nothing.
 
 ghost use Rattle.bgp_check_tool.specs.Alone.{EachConnectionIsTold, EachRefusalIsTold};
-ghost use Rattle.bgp_check_tool.specs.Headline.{NoConfigurationHasARun, NothingIsVacuous};
-ghost use Rattle.bgp_check_tool.specs.Headline.{ToldNoHasNoRun, VerdictIsOverAll};
+ghost use Rattle.bgp_check_tool.specs.Headline.{NoConfigurationHasARun, NoOrderHasARun};
+ghost use Rattle.bgp_check_tool.specs.Headline.{NothingIsVacuous, ToldNoHasNoRun};
+ghost use Rattle.bgp_check_tool.specs.Headline.{VerdictIsOverAll};
 ghost use Rattle.bgp_check_tool.specs.Headings.{HeadingsAreTheList, ListIsWithoutEnds};
+ghost use Rattle.bgp_check_tool.specs.Orders.{UnexplainedByAll};
 ghost use Rattle.bgp_check_tool.specs.Repeated.{LineGivesTheVerdict};
 
-use bgp_check::{a_verdict_holds_under_its_configuration, no_configuration_explains_a_no};
+use bgp_check::{
+    a_verdict_holds_under_its_configuration, no_configuration_explains_a_no, own_faults_are_all,
+    widest_configurations_are_enough, widest_configurations_without_open_are_enough,
+    widest_settings_are_widest,
+};
 
 /// A no of [`check_recording`](crate::check_recording) says that no configuration under which the
 /// router's OPEN is its own has a run that shows these records: none shows even those before the
@@ -16,6 +22,21 @@ pub fn no_configuration_has_a_run()
     ensures told { ToldNoHasNoRun }
 {
     no_configuration_explains_a_no();
+}
+
+/// States what a no at a packet says: under no configuration under which the OPEN that the end sent
+/// is its own, and in no order that the packets allow, a run of the session machine explains the
+/// first sent message that this packet shows, and all before it. If the OPEN is any configuration's
+/// own, under one of them a run explains those before it, in some such order. If it isn't, the
+/// message is that OPEN at the latest.
+pub fn no_order_has_a_run()
+    ensures found { UnexplainedByAll }
+    ensures end { NoOrderHasARun }
+{
+    own_faults_are_all();
+    widest_configurations_are_enough();
+    widest_configurations_without_open_are_enough();
+    widest_settings_are_widest();
 }
 
 /// The verdict that is told of an end is the one over all configurations under which the OPEN that

@@ -22,6 +22,7 @@ mod lines;
 mod making;
 mod nothing;
 mod options;
+mod orders;
 mod seen;
 
 pub use bgp_check_text::Settings;
@@ -29,7 +30,8 @@ pub use checking::CheckedRecording;
 pub use headline::{a_printed_verdict_is_over_all_configurations, check_recording};
 pub use laws::{
     a_judge_line_gives_the_verdict, a_verdict_is_over_all_configurations, each_of_them_is_told,
-    no_configuration_has_a_run, no_verdict_is_vacuous, without_its_ends_it_is_the_list,
+    no_configuration_has_a_run, no_order_has_a_run, no_verdict_is_vacuous,
+    without_its_ends_it_is_the_list,
 };
 pub use nothing::NothingJudged;
 pub use options::CheckOptions;

@@ -6,8 +6,9 @@ ghost use Rattle.bgp_judge.specs.Ends.{end_value};
 ghost use Rattle.bgp_judge.specs.Verdict.{verdict_value};
 ghost use Rattle.bgp_text.specs.Lines.{Writes};
 ghost use Rattle.bgp_check_text.specs.Text.{as_text, ending_text, no_text, peer_text, why_text};
-ghost use Rattle.bgp_check_tool.specs.Text.{not_judged_line, note_line, one_end_line};
-ghost use Rattle.bgp_check_tool.specs.Text.{told_lines, verdict_text, whose_text};
+ghost use Rattle.bgp_check_tool.specs.Text.{not_judged_line, note_line, one_end_line, order_text};
+ghost use Rattle.bgp_check_tool.specs.Text.{place_text, told_lines, unexplained_text};
+ghost use Rattle.bgp_check_tool.specs.Text.{verdict_text, whose_text};
 ghost use Rattle.bgp_check_tool.specs.Told.{told_value};
 
 use crate::ending::Told;
@@ -17,6 +18,7 @@ use bgp_check::{Answer, Judged, NotJudged, PeerAs};
 use bgp_check_text::{put_as, put_endings, put_no, put_peer, put_reason, put_unshown, put_why};
 use bgp_import::put_end;
 use bgp_judge::Verdict;
+use bgp_orders::Unexplained;
 use bgp_text::Lines;
 use mrt::Sink;
 use segments::Endpoint;
@@ -54,6 +56,30 @@ fn put_whose<W: Sink>(lines: &mut Lines<'_, W>, end: Endpoint, number: Option<u3
     lines.put(b"\n");
 }
 
+/// Puts where a no is that holds in all orders: at the packet of a sent message.
+fn put_unexplained<W: Sink>(lines: &mut Lines<'_, W>, packet: u64)
+    ensures { Writes lines.old lines.new (unexplained_text packet) }
+{
+    lines.put(b"no at packet ");
+    lines.put_decimal(packet);
+}
+
+/// Puts where a no is: at the first sent message that no order explains, if one is known; else at a
+/// record of the order that is judged.
+fn put_place<W: Sink>(
+    lines: &mut Lines<'_, W>,
+    count: u64,
+    packet: Option<u64>,
+    unexplained: Option<Unexplained>,
+)
+    ensures { Writes lines.old lines.new (place_text count packet unexplained) }
+{
+    match unexplained {
+        Some(unexplained) => put_unexplained(lines, unexplained.packet),
+        None => put_no(lines, count, packet),
+    }
+}
+
 /// That one order was judged, of several that the packets may allow.
 fn put_note<W: Sink>(lines: &mut Lines<'_, W>, put_off: usize)
     ensures { Writes lines.old lines.new (note_line put_off) }
@@ -61,6 +87,16 @@ fn put_note<W: Sink>(lines: &mut Lines<'_, W>, put_off: usize)
     lines.put(b"  note judged in one order that the packets allow; received messages put off: ");
     lines.put_decimal(put_off);
     lines.put(b"\n");
+}
+
+/// Puts that, of a no that isn't known to hold in all orders.
+fn put_order<W: Sink>(lines: &mut Lines<'_, W>, put_off: usize, unexplained: Option<Unexplained>)
+    ensures { Writes lines.old lines.new (order_text put_off unexplained) }
+{
+    match unexplained {
+        Some(_) => lines.put(b""),
+        None => put_note(lines, put_off),
+    }
 }
 
 /// The lines of an end's verdict.
@@ -82,11 +118,11 @@ fn put_verdict<W: Sink, A: Allocator>(
             put_judge(lines, told.judge);
         }
         Verdict::No(count) => {
-            put_no(lines, *count, told.packet);
+            put_place(lines, *count, told.packet, told.unexplained);
             put_whose(lines, told.end, judged.as_number, judged.peer_as);
             put_reason(lines, &told.reason);
             put_unshown(lines, told.received, told.sent);
-            put_note(lines, told.put_off);
+            put_order(lines, told.put_off, told.unexplained);
             put_late(lines, told.within, told.late);
             put_judge(lines, told.judge);
         }

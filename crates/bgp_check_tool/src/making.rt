@@ -73,8 +73,8 @@ pub(crate) struct Made<'a, A: Allocator> {
     pub(crate) framings: Framings,
 }
 
-/// The records that tell a connection, either direction framed by what its receiver offers. They are
-/// made once, unless something occurs that one of both doesn't offer.
+/// The records that tell a connection, either direction framed by what its receiver offers. They
+/// are made once, unless something occurs that one of both doesn't offer.
 pub(crate) fn made_of<'a, A: Allocator + Copy>(
     alloc: A,
     connection: &Connection<'a>,

@@ -9,6 +9,7 @@ use Rattle.bgp_explain.specs.Places.{shown_places}
 use Rattle.bgp_check_tool.specs.Judging.{AreOptionsTo}
 use Rattle.bgp_check_tool.specs.Late.{IsLate}
 use Rattle.bgp_check_tool.specs.Made.{IsMade}
+use Rattle.bgp_check_tool.specs.Orders.{IsFoundTo}
 use Rattle.bgp_check_tool.specs.Seen.{session_from}
 use Rattle.bgp_check_tool.proofs.OtherEnd.{clocked}
 use Rattle.bgp_check_tool.proofs.connection.check_side.Goals as goal
@@ -32,6 +33,8 @@ returns g c = λ clock.
       is_end = is.end ∙ c.end_of.ensures;
       answers = subst (λ (v : Session). IsAnswerTo v (records_of made.entries.items) (answer_value told.answer)) c.session_from.ensures is.answers;
       is_packet = is.packet;
+      is_found = subst (λ (v : Connection). IsFoundTo session options.within framings v (answer_value told.answer) told.unexplained) c.seen_from.ensures
+          (subst (λ (v : Session). IsFoundTo v options.within framings seen (answer_value told.answer) told.unexplained) c.session_from.ensures (is.unexplained its_clock));
       is_put_off = is.put_off;
       is_within = is.within;
       is_late = subst (λ (v : Connection). IsLate session v (answer_value told.answer) told.late) c.seen_from.ensures

@@ -14,7 +14,7 @@ returns-clause-no g c =
       blocks = checks.blocks;
       told = checks.told;
       noes = all_as checks.stopped options checks.packets (looked_at checks.packets checks.stopped) checks.blocks
-          (all_true c.no_configuration_explains_a_no.ensures c.a_verdict_holds_under_its_configuration.ensures (options_by checks.stopped options) checks.packets
+          (all_true c.no_configuration_explains_a_no.ensures c.a_verdict_holds_under_its_configuration.ensures c.no_order_has_a_run.ensures.end (options_by checks.stopped options) checks.packets
           (looked_at checks.packets checks.stopped) checks.blocks checks.told);
       lacking = checks.lacking;
       tally = checks.tally;

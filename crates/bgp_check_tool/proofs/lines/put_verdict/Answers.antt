@@ -11,11 +11,11 @@ pub returns-in-No : goal.returns-in-No
 returns-in-No g c =
     let law : Joins g.W.Sink = record { joined = g.met.W.Sink.joined } in
     rw c.in-No.is
-    (and_then law c.put_no.ensures (and_then law c.put_whose-in-No.ensures (and_then law c.put_reason.ensures (and_then law c.put_unshown-in-No.ensures (and_then law c.put_note.ensures (and_then law c.put_late.ensures c.put_judge-in-No.ensures))))))
+    (and_then law c.put_place.ensures (and_then law c.put_whose-in-No.ensures (and_then law c.put_reason.ensures (and_then law c.put_unshown-in-No.ensures (and_then law c.put_order.ensures (and_then law c.put_late.ensures c.put_judge-in-No.ensures))))))
 
 pub returns-in-Unfinished : goal.returns-in-Unfinished
 returns-in-Unfinished g c =
     let law : Joins g.W.Sink = record { joined = g.met.W.Sink.joined } in
     rw c.in-Unfinished.is
     (and_then law c.put-in-Unfinished.ensures (and_then law c.put_whose-in-Unfinished.ensures (and_then law c.put_reason-in-Unfinished.ensures
-    (and_then law c.put_unshown-in-Unfinished.ensures (and_then law c.put_note-in-Unfinished.ensures (and_then law c.put_late-in-Unfinished.ensures c.put_judge-in-Unfinished.ensures))))))
+    (and_then law c.put_unshown-in-Unfinished.ensures (and_then law c.put_note.ensures (and_then law c.put_late-in-Unfinished.ensures c.put_judge-in-Unfinished.ensures))))))

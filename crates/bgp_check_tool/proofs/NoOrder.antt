@@ -1,0 +1,248 @@
+-- What it says that no order explains a message.
+use Rattle.std.proofs.Common.{◌≡◌, ◌∙◌, ◌+◌, ◌<◌, ◌≤◌, ◌++◌, ◌⊎◌, ℕ, suc, List, [], ◌∷◌, Option, None, Some, inl, inr, refl, sym, ap, subst, arith, length, take, drop, max, option_map}
+use Rattle.std.proofs.Math.Nat.{le-max_left, le-max_right, max-eq_left, max-eq_right}
+use Rattle.std.proofs.lemmas.Bool.{cases_lt}
+use Rattle.std.proofs.lemmas.List.{take-append-drop, take-append-le}
+use Rattle.bgp_prefix.specs.Shown as shown
+use Rattle.bgp_prefix.specs.Shown.{ShownRecord}
+use Rattle.bgp_prefix.specs.declared.session.Session.{Session}
+use Rattle.bgp_open.specs.Open.{OpenFields}
+use Rattle.bgp_open.specs.OpenFault.{IsWellFormed}
+use Rattle.bgp_open.specs.OwnOpen.{IsOwnOpen}
+use Rattle.bgp_open.specs.declared.config.Config.{Config}
+use Rattle.bgp_machine.specs.Lists.{Each, Has}
+use Rattle.bgp_machine.specs.Run.{Begins}
+use Rattle.bgp_recording.specs.Allowed.{received_in, sent_in}
+use Rattle.bgp_recording.specs.Tells.{Event, items_in}
+use Rattle.bgp_recording.specs.declared.message.Message.{Message}
+use Rattle.bgp_recording.specs.declared.ordering.Exchange.{Exchange}
+use Rattle.bgp_recording.specs.declared.standing.Before.TheVariants.{Other}
+use Rattle.bgp_orders.specs.Explained.{HasVerdictOver, IsExplained, No}
+use Rattle.bgp_orders.specs.Rows.{IsAnswer}
+use Rattle.bgp_orders.specs.Ways.{records_of_front}
+use Rattle.bgp_orders.specs.declared.explained.Explained.{Explained}
+use Rattle.bgp_orders.specs.declared.explained.Explained.TheVariants as answers
+use Rattle.bgp_orders.proofs.Over.{at_most_explained}
+use Rattle.bgp_parts.specs.Opens.{FirstSent, HasOwnOpen, HasPeersOpen, IsOpenMessage, SendsNoOpen}
+use Rattle.bgp_parts.proofs.OneOwnOpen.{one_own}
+use Rattle.bgp_check.specs.Another.{CanBeTold, WantsAnother}
+use Rattle.bgp_check.specs.Answered.{HasFault}
+use Rattle.bgp_check.specs.Configurations.{IsOf}
+use Rattle.bgp_check.specs.OwnFaults.{SentOpenIsOwn}
+use Rattle.bgp_check.specs.Stretch.{IsStretch}
+use Rattle.bgp_check.specs.Widest.{AreWidestWith, WidestBegins}
+use Rattle.bgp_check.specs.WidestMade.{IsFaultless, WidestAreMade, both_of, configurations_of}
+use Rattle.bgp_check.specs.Without.{AreWidest, AreWidestWithout, WithoutBegins}
+use Rattle.bgp_check.specs.declared.own_fault.OwnFault.{OwnFault}
+use Rattle.bgp_check.proofs.OwnSettings.{none_if_own}
+use Rattle.bgp_check_tool.specs.Orders.{AreExplained, AreExplainedOver, UnexplainedByAll, explained_by, records_received, records_sent}
+use Rattle.bgp_check_tool.proofs.WayRecords.{front_is_stretch, front_sends_none, items_joined, none_sent_before, received_before, received_first, received_joined, sent_first, sent_joined, sent_within}
+
+-- ---- lists of configurations
+
+weaker : {X : Type 0} (P Q : X → Type 0) (xs : List X) → ((x : X) → P x → Q x) → Has P xs → Has Q xs
+weaker P Q [] f none = absurd none
+weaker P Q (x ∷ xs) f (inl this) = inl (f x this)
+weaker P Q (x ∷ xs) f (inr later) = inr (weaker P Q xs f later)
+
+with_both : {X : Type 0} (P Q : X → Type 0) (xs : List X) → Each P xs → Has Q xs → (x : X) × P x × Q x
+with_both P Q [] each none = absurd none
+with_both P Q (x ∷ xs) each (inl this) = (x, each.0, this)
+with_both P Q (x ∷ xs) each (inr later) = with_both P Q xs each.1 later
+
+none_has : {X : Type 0} (P : X → Type 0) (xs : List X) → Each (λ x. ¬ P x) xs → Has P xs → ⊥
+none_has P [] each none = none
+none_has P (x ∷ xs) each (inl this) = each.0 this
+none_has P (x ∷ xs) each (inr later) = none_has P xs each.1 later
+
+-- ---- widest configurations, while the peer's OPEN isn't received yet
+
+with_none : (session : Session) (own : List ℕ) (peers : Option (List ℕ)) (widest : List Config) → AreWidestWith session own peers widest → AreWidestWith session own None widest
+with_none session own peers widest are = record {
+  each = are.each;
+  first = λ config of wants. absurd wants;
+  another = weaker _ _ widest (λ b is. (tt, λ told. absurd told)) are.another;
+}
+
+without_none : (session : Session) (peers : Option (List ℕ)) (widest : List Config) → AreWidestWithout session peers widest → AreWidestWithout session None widest
+without_none session peers widest are = record {
+  each = are.each;
+  takes = λ config of takes. absurd takes;
+  faults = weaker _ _ widest (λ b is. tt) are.faults;
+}
+
+-- records that begin a run under some configuration begin one under a widest one
+widest_begins : WidestBegins → WithoutBegins → (session : Session) (own peers : Option (List ℕ)) (widest : List Config) (records : List ShownRecord) (config : Config)
+    → AreWidest session own peers widest → IsStretch records → (own ≡ None → Each SendsNoOpen records) → HasPeersOpen records peers ⊎ HasPeersOpen records None
+    → IsOf session own config → Begins config records → Has (λ c. Begins c records) widest
+widest_begins enough without session (Some own) peers widest records config are stretch sends (inl has) of begins =
+    (enough session own peers widest records are stretch has).0 (config, of, begins)
+widest_begins enough without session (Some own) peers widest records config are stretch sends (inr none) of begins =
+    (enough session own None widest records (with_none session own peers widest are) stretch none).0 (config, of, begins)
+widest_begins enough without session None peers widest records config are stretch sends (inl has) of begins =
+    (without session peers widest records are stretch (sends refl) has).0 (config, of, begins)
+widest_begins enough without session None peers widest records config are stretch sends (inr none) of begins =
+    (without session None widest records (without_none session peers widest are) stretch (sends refl) none).0 (config, of, begins)
+
+-- ---- the messages of a front are those that stand first
+
+module _ (within : ℕ) (exchange : Exchange) (config : Config) (count : ℕ) (x : IsExplained config within exchange count) where
+  abbrev its_records : List ShownRecord
+  its_records = records_of_front exchange.second x.start x.front x.later
+
+  received_are : exchange.received.now ≡ received_in (items_in x.front) ++ received_in (items_in x.later)
+  received_are = sym x.way.allowed.of_received ∙ ap received_in (items_joined x.front x.later) ∙ received_joined (items_in x.front) (items_in x.later)
+
+  sent_are : exchange.sent.now ≡ sent_in (items_in x.front) ++ sent_in (items_in x.later)
+  sent_are = sym x.way.allowed.of_sent ∙ ap sent_in (items_joined x.front x.later) ∙ sent_joined (items_in x.front) (items_in x.later)
+
+  has_peers : (peers : Option (List ℕ)) → HasPeersOpen (records_received exchange.received.now) peers → HasPeersOpen its_records peers ⊎ HasPeersOpen its_records None
+  has_peers peers has =
+      elim (received_before IsOpenMessage (received_in (items_in x.front)) (received_in (items_in x.later)) peers
+      (subst (λ (ms : List Message). HasPeersOpen (records_received ms) peers) received_are has)) [
+        | inl same ↦ inl (received_first IsOpenMessage x.start Other x.front x.later peers same)
+        | inr none ↦ inr (received_first IsOpenMessage x.start Other x.front x.later None none)
+      ]
+
+  sends_none : HasOwnOpen (records_sent exchange.sent.now) None → Each SendsNoOpen its_records
+  sends_none has =
+      front_sends_none exchange.second x.start x.front x.later
+      (none_sent_before IsWellFormed (sent_in (items_in x.front)) (sent_in (items_in x.later))
+      (subst (λ (ms : List Message). HasOwnOpen (records_sent ms) None) sent_are has))
+
+  -- the own OPEN is among the first so many messages, and these are in the front
+  shows_own : (own : List ℕ) (n : ℕ) → n ≤ count → HasOwnOpen (records_sent (take n exchange.sent.now)) (Some own) → HasOwnOpen its_records (Some own)
+  shows_own own n few has =
+      let front = sent_in (items_in x.front) in
+      let taken : take n exchange.sent.now ≡ take n front =
+      ap (λ (ms : List Message). take n ms) sent_are ∙ take-append-le n front (sent_in (items_in x.later)) (omega (arith, few, x.counts)) in
+      let among : HasOwnOpen (records_sent (take n front)) (Some own) = subst (λ (ms : List Message). HasOwnOpen (records_sent ms) (Some own)) taken has in
+      let all : HasOwnOpen (records_sent front) (Some own) =
+      subst (λ (ms : List Message). HasOwnOpen (records_sent ms) (Some own)) (take-append-drop n front) (sent_within IsWellFormed (take n front) (drop n front) own among) in
+      sent_first IsWellFormed x.start Other x.front x.later (Some own) all
+
+-- ---- what some configuration explains, a widest one does
+
+some_widest : WidestBegins → WithoutBegins → (session : Session) (within : ℕ) (exchange : Exchange) (own peers : Option (List ℕ)) (widest : List Config) (config : Config) (count : ℕ)
+    → AreWidest session own peers widest → HasOwnOpen (records_sent exchange.sent.now) own → HasPeersOpen (records_received exchange.received.now) peers
+    → IsOf session own config → IsExplained config within exchange count → Has (λ c. IsExplained c within exchange count) widest
+some_widest enough without session within exchange own peers widest config count are has_own is_peers of x =
+    let records = its_records within exchange config count x in
+    weaker (λ c. Begins c records) (λ c. IsExplained c within exchange count) widest
+    (λ c begins. record { start = x.start; front = x.front; later = x.later; way = x.way; counts = x.counts; begins = begins })
+    (widest_begins enough without session own peers widest records config are (front_is_stretch exchange.second x.start x.front x.later x.way.starts.0)
+    (λ none. sends_none within exchange config count x (subst (λ (o : Option (List ℕ)). HasOwnOpen (records_sent exchange.sent.now) o) none has_own))
+    (has_peers within exchange config count x peers is_peers) of x.begins)
+
+-- ---- the search
+
+some_none : (count : ℕ) → Some count ≡ None → ⊥
+some_none count e = cc
+
+count_is : (count other : ℕ) → Some count ≡ Some other → other ≡ count
+count_is count other e = cc
+
+no_by : (config : Config) (within : ℕ) (exchange : Exchange) (count : ℕ) (explained : Explained) → Some count ≡ explained_by explained → IsAnswer config within exchange explained
+    → HasVerdictOver config within exchange (No count)
+no_by config within exchange count (answers.All is_whole) is answer = absurd (some_none count is)
+no_by config within exchange count (answers.Only other) is answer = subst (λ (n : ℕ). HasVerdictOver config within exchange (No n)) (count_is count other is) answer
+no_by config within exchange count answers.TooMany is answer = absurd (some_none count is)
+
+is_no : (config : Config) (within : ℕ) (exchange : Exchange) (count : ℕ) → AreExplained config within exchange (Some count) → HasVerdictOver config within exchange (No count)
+is_no config within exchange count are = no_by config within exchange count are.explained are.is are.is_answer
+
+not_beyond : (config : Config) (within : ℕ) (exchange : Exchange) (count before : ℕ) → AreExplained config within exchange (Some count) → count ≤ before
+    → ¬ IsExplained config within exchange (before + 1)
+not_beyond config within exchange count before are less explained =
+    (is_no config within exchange count are).2 (at_most_explained config within exchange (count + 1) (before + 1) (omega (arith, less)) explained)
+
+either : (a b : ℕ) → (max a b ≡ a) ⊎ (max a b ≡ b)
+either a b = elim (cases_lt a b) [
+  | inl lt ↦ inr (max-eq_right (omega (arith, lt)))
+  | inr le ↦ inl (max-eq_left le)
+]
+
+none_explains : (wanting : Option Config) (another : Config) (within : ℕ) (exchange : Exchange) (before : ℕ) → AreExplainedOver wanting another within exchange (Some before)
+    → Each (λ c. ¬ IsExplained c within exchange (before + 1)) (both_of wanting another)
+none_explains None another within exchange before are = (not_beyond another within exchange before before are (omega arith), tt)
+none_explains (Some wanting) another within exchange before (one, other, first, second, is) =
+    let left : one ≤ max one other = le-max_left one other in
+    let right : other ≤ max one other = le-max_right one other in
+    (not_beyond wanting within exchange one before first (omega (arith, left, is)), (not_beyond another within exchange other before second (omega (arith, right, is)), tt))
+
+one_explains : (wanting : Option Config) (another : Config) (within : ℕ) (exchange : Exchange) (before : ℕ) → AreExplainedOver wanting another within exchange (Some before)
+    → Has (λ c. IsExplained c within exchange before) (both_of wanting another)
+one_explains None another within exchange before are = inl (is_no another within exchange before are).1
+one_explains (Some wanting) another within exchange before (one, other, first, second, is) = elim (either one other) [
+  | inl same ↦ inl (subst (λ (n : ℕ). IsExplained wanting within exchange n) (sym (is ∙ same)) (is_no wanting within exchange one first).1)
+  | inr same ↦ inr (inl (subst (λ (n : ℕ). IsExplained another within exchange n) (sym (is ∙ same)) (is_no another within exchange other second).1))
+]
+
+-- ---- the own OPEN
+
+none_some : (own : List ℕ) → None ≡ Some own → ⊥
+none_some own e = cc
+
+own_is : (own other : List ℕ) → Some own ≡ Some other → other ≡ own
+own_is own other e = cc
+
+well_formed : (records : List ShownRecord) (own : List ℕ) → HasOwnOpen records (Some own) → IsWellFormed own
+well_formed [] own has = absurd (none_some own (sym has))
+well_formed (shown.Received t octets ∷ records) own has = well_formed records own has
+well_formed (shown.Sent t octets ∷ records) own (inl this) = subst IsWellFormed (own_is own octets this.1) this.0
+well_formed (shown.Sent t octets ∷ records) own (inr later) = well_formed records own later.1
+well_formed (shown.Changed t old new ∷ records) own has = well_formed records own has
+
+-- under a configuration of which it is the own one it has no own fault
+is_faultless : (session : Session) (own : Option (List ℕ)) (records : List ShownRecord) (config : Config) → HasOwnOpen records own → IsOf session own config → IsFaultless own
+is_faultless session None records config has of = tt
+is_faultless session (Some own) records config has of = (well_formed records own has, none_if_own config own of.1)
+
+firsts : {X : Type 0} (P Q : X → Type 0) (xs : List X) → Each (λ x. P x × Q x) xs → Each P xs
+firsts P Q [] each = tt
+firsts P Q (x ∷ xs) each = (each.0.0, firsts P Q xs each.1)
+
+each_is_of : (session : Session) (own peers : Option (List ℕ)) (widest : List Config) → AreWidest session own peers widest → Each (λ config. IsOf session own config) widest
+each_is_of session (Some own) peers widest are = firsts _ _ widest are.each
+each_is_of session None peers widest are = firsts _ _ widest are.each
+
+-- with an own fault no run shows it
+not_shown : SentOpenIsOwn → (within : ℕ) (exchange : Exchange) (own : Option (List ℕ)) (fault : OwnFault) (config : Config) (count n : ℕ) → HasFault own fault
+    → IsExplained config within exchange count → HasOwnOpen (records_sent (take n exchange.sent.now)) own → n ≤ count → ⊥
+not_shown sent within exchange None fault config count n is_fault x has few = absurd is_fault
+not_shown sent within exchange (Some own) fault config count n is_fault x has few =
+    let shows = shows_own within exchange config count x own n few has in
+    none_if_own config own (sent config (its_records within exchange config count x) own x.begins shows) fault is_fault
+
+any : {X : Type 0} (P : X → Type 0) (xs : List X) → Has P xs → (x : X) × P x
+any P [] none = absurd none
+any P (x ∷ xs) (inl this) = (x, this)
+any P (x ∷ xs) (inr later) = any P xs later
+
+-- ---- what follows
+
+pub unexplained_by_all : WidestBegins → WithoutBegins → WidestAreMade → SentOpenIsOwn → UnexplainedByAll
+unexplained_by_all enough without made sent session within framings connection unexplained un =
+    let records = records_sent un.exchange.sent.now in
+    let before = unexplained.before in
+    let configs = configurations_of un.widest in
+    let of_own : (own : Option (List ℕ)) → HasOwnOpen records own → IsFaultless own → AreWidest session own un.peers configs = λ own has faultless.
+    subst (λ (o : Option (List ℕ)). AreWidest session o un.peers configs) (one_own records un.own own un.has_own has)
+    (made session un.own un.peers un.told un.widest (subst (λ (o : Option (List ℕ)). IsFaultless o) (one_own records own un.own has un.has_own) faultless) un.are_told un.made) in
+    let some = one_explains un.widest.wanting un.widest.another within un.exchange before un.explained in
+    record {
+      exchange = un.exchange;
+      tells = un.tells;
+      is_packet = un.is_packet;
+      none = λ own config has of explained.
+          none_has (λ c. IsExplained c within un.exchange (before + 1)) configs (none_explains un.widest.wanting un.widest.another within un.exchange before un.explained)
+          (some_widest enough without session within un.exchange own un.peers configs config (before + 1) (of_own own has (is_faultless session own records config has of)) has un.has_peers of explained);
+      possible = λ own has faultless.
+          with_both (λ c. IsOf session own c) (λ c. IsExplained c within un.exchange before) configs (each_is_of session own un.peers configs (of_own own has faultless)) some;
+      by_open = λ own fault has is_fault n shows. elim (cases_lt before n) [
+        | inl less ↦ less
+        | inr few ↦
+            let one = any (λ c. IsExplained c within un.exchange before) configs some in
+            absurd (not_shown sent within un.exchange own fault one.0 before n is_fault one.1 shows few)
+      ];
+    }
