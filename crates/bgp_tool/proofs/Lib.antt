@@ -11,3 +11,4 @@ pub mod SeenSoFar
 pub mod ToldCapture
 pub mod OneVerdict
 pub mod Fronts
+pub mod ShownAnswers

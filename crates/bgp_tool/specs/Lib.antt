@@ -11,3 +11,4 @@ pub mod OpenedCapture
 pub mod Answer
 pub mod Judging
 pub mod NothingFound
+pub mod Shown

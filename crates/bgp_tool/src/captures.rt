@@ -9,6 +9,8 @@ ghost use Rattle.bgp_tool.specs.Status.{code_of};
 ghost use Rattle.bgp_tool.specs.CaptureDecoding.{status_by, PutsRecords, Finishes};
 ghost use Rattle.bgp_tool.specs.CaptureDecoding.{DecodesCapture, DecodesWith};
 
+use crate::ready::Ready;
+use crate::shown::{Lent, Shown};
 use crate::status::Status;
 use bgp_prefix::Session;
 use bgp_text::{Lines, put_record, put_refused};
@@ -17,25 +19,25 @@ use std::alloc::Allocator;
 
 /// Writes the line of each record of the session, to the end of the capture or to its first fault.
 /// It reads no further once the sink has failed.
-fn put_records<R: Source, W: Sink, A: Allocator + Copy>(
+fn put_records<S: Source + Ready, W: Sink, A: Allocator + Copy>(
     reader: &mut Reader<A>,
     session: &Session,
-    source: &mut R,
-    lines: &mut Lines<'_, W>,
+    printed: &mut Shown<'_, S, W>,
 ) -> Result<(), CaptureFault>
     requires fresh { reader.old ≡ fresh_reader }
-    requires failures { R.failures source.old < u64.MAX }
-    ensures puts { PutsRecords R.gives R.has_ended session.now source.old source.new
-        lines.old lines.new reader.new result }
-    ensures failures { R.failures source.new ≡ R.failures source.old + failures_of result }
+    requires failures { S.failures printed.old.source < u64.MAX }
+    ensures puts { PutsRecords S.gives S.has_ended session.now printed.old.source
+        printed.new.source printed.old.lines printed.new.lines reader.new result }
+    ensures failures { S.failures printed.new.source
+        ≡ S.failures printed.old.source + failures_of result }
 {
     loop {
-        match reader.next_record(source, session) {
-            Ok(Some(shown)) => put_record(lines, session, &shown),
+        match reader.next_record(printed, session) {
+            Ok(Some(shown)) => put_record(&mut printed.lines, session, &shown),
             Ok(None) => return Ok(()),
             Err(fault) => return Err(fault),
         }
-        if lines.has_failed() {
+        if printed.lines.has_failed() {
             return Ok(());
         }
     }
@@ -89,7 +91,8 @@ pub fn hand_over<W: Sink>(lines: &mut Lines<'_, W>, status: Status) -> Status
 /// (bgp_text's `specs/Capture.antt`), and a last one where the capture is refused.
 ///
 /// It reads with a reader that has read nothing, which tells afterwards whether it found a record
-/// of the session; it takes no memory but the reader's.
+/// of the session; it takes no memory but the reader's. Before a read that may wait, the lines of
+/// what came are handed over.
 ///
 /// Answers the exit status:
 ///
@@ -98,7 +101,7 @@ pub fn hand_over<W: Sink>(lines: &mut Lines<'_, W>, status: Status) -> Status
 /// * 4: the reader's buffer couldn't be made; the last line says so too.
 /// * 5: a device failed. Where it is the source, the last line says so too, and else a beginning of
 ///   the text is written.
-pub fn decode_capture<R: Source, W: Sink, A: Allocator + Copy>(
+pub fn decode_capture<R: Source + Ready, W: Sink, A: Allocator + Copy>(
     reader: &mut Reader<A>,
     session: &Session,
     source: &mut R,
@@ -110,12 +113,21 @@ pub fn decode_capture<R: Source, W: Sink, A: Allocator + Copy>(
     ensures { DecodesCapture R.gives R.has_ended W.takes R.failures W.failures session.now
         source.old source.new sink.old sink.new reader.new result }
 {
-    decode_with(reader, session, source, sink).status
+    let lent = Lent::new(source);
+    let Decoded {
+        source,
+        status,
+        refused: _,
+    } = decode_with(reader, session, lent, sink);
+    // No effect: it ends the loan of the source.
+    source.into_source();
+    status
 }
 
 /// How decoding a capture ended.
-#[derive(Clone, Copy)]
-pub(crate) struct Decoded {
+pub(crate) struct Decoded<S> {
+    /// The source, as the last read left it.
+    pub(crate) source: S,
     /// The exit status.
     pub(crate) status: u8,
     /// Why the capture is refused, if it is.
@@ -123,24 +135,27 @@ pub(crate) struct Decoded {
 }
 
 /// Decodes a capture of one session, and says besides the status why the capture is refused.
-pub(crate) fn decode_with<R: Source, W: Sink, A: Allocator + Copy>(
+pub(crate) fn decode_with<S: Source + Ready, W: Sink, A: Allocator + Copy>(
     reader: &mut Reader<A>,
     session: &Session,
-    source: &mut R,
+    source: S,
     sink: &mut W,
-) -> Decoded
+) -> Decoded<S>
     requires fresh { reader.old ≡ fresh_reader }
-    requires source { R.failures source.old < 2 ^ 63 }
+    requires source { S.failures source < 2 ^ 63 }
     requires sink { W.failures sink.old < 2 ^ 63 }
-    ensures { DecodesWith R.gives R.has_ended W.takes R.failures W.failures session.now
-        source.old source.new sink.old sink.new reader.new result.status result.refused }
+    ensures { DecodesWith S.gives S.has_ended W.takes S.failures W.failures session.now
+        source result.source sink.old sink.new reader.new result.status result.refused }
 {
-    let mut lines = Lines::new(sink);
-    let read = put_records(reader, session, source, &mut lines);
-    let status = finish(&mut lines, read).code();
+    let lines = Lines::new(sink);
+    let mut printed = Shown { source, lines };
+    let read = put_records(reader, session, &mut printed);
+    let status = finish(&mut printed.lines, read).code();
+    let Shown { source, lines } = printed;
     // No effect: it ends the loan of the sink.
     lines.into_sink();
     Decoded {
+        source,
         status,
         refused: refused_by(&read),
     }

@@ -4,6 +4,7 @@ ghost use Rattle.std.specs.Prelude.{◌≡◌, ◌≤◌, ◌<◌, ◌^◌, ◌+
 ghost use Rattle.bgp_tool.specs.Front.{kept};
 ghost use Rattle.bgp_tool.specs.Front as spec;
 
+use crate::ready::Ready;
 use arrayvec::ArrayVec;
 use mrt::{Failed, Source};
 
@@ -129,6 +130,14 @@ impl<S: Source> Source for WithFront<S> {
 
     fn failures(&self) -> u64 {
         self.source.failures()
+    }
+}
+
+impl<S: Source + Ready> Ready for WithFront<S> {
+    ghost is_ready = { λ a. S.is_ready a.source };
+
+    fn is_ready(&self) -> bool {
+        self.source.is_ready()
     }
 }
 

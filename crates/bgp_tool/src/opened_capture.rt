@@ -11,10 +11,11 @@ ghost use Rattle.bgp_tool.specs.OpenedCapture.{told_by, unmet_by, unless_met, ma
 ghost use Rattle.bgp_tool.specs.OpenedCapture.{refuses_of_session};
 ghost use Rattle.bgp_tool.specs.OpenedCapture.{DecodesOpened};
 
-use crate::captures::decode_with;
+use crate::captures::{Decoded, decode_with};
 use crate::front::{Form, WithFront, no_capture};
 use crate::note::{CaptureCommand, Note, Unmet};
 use crate::opened::{Outcome, unopened, unwritten};
+use crate::ready::Ready;
 use crate::seen::Seen;
 use bgp_prefix::Session;
 use mrt::{CaptureFault, Endpoints, FaultKind, FromRead, FromWrite, Reader, Sink};
@@ -29,7 +30,7 @@ use std::io::{Read, Write};
 /// failed, too, the writer's failure is told.
 ///
 /// The reader is asked for few octets at a time: put a buffer before a file.
-pub fn decode_opened_capture<'a, R: Read + Drop, W: Write, A: Allocator + Copy>(
+pub fn decode_opened_capture<'a, R: Read + Ready + Drop, W: Write, A: Allocator + Copy>(
     alloc: A,
     session: &Session,
     file: &'a str,
@@ -50,7 +51,7 @@ pub fn decode_opened_capture<'a, R: Read + Drop, W: Write, A: Allocator + Copy>(
 }
 
 /// Decodes what a reader gives.
-fn decode_reader<'a, R: Read + Drop, W: Write, A: Allocator + Copy>(
+fn decode_reader<'a, R: Read + Ready + Drop, W: Write, A: Allocator + Copy>(
     alloc: A,
     session: &Session,
     file: &'a str,
@@ -62,25 +63,21 @@ fn decode_reader<'a, R: Read + Drop, W: Write, A: Allocator + Copy>(
         (writer_state sink.old) (writer_state sink.new) result }
     ensures statuses { result.status ≤ 5 }
 {
-    let mut source = WithFront::new(FromRead::new(reader));
+    let source = WithFront::new(FromRead::new(reader));
     let mut records = Reader::new(alloc);
     let failures = sink.failures();
-    let decoded = decode_with(&mut records, session, &mut source, sink);
-    let status = decoded.status;
+    let decoded = decode_with(&mut records, session, source, sink);
+    let Decoded {
+        source,
+        status,
+        refused,
+    } = decoded;
     let skipped = records.skipped();
     let note = if sink.failures() > failures {
         unwritten(sink)
     } else {
         let command = CaptureCommand::Decode;
-        note_of(
-            command,
-            status,
-            file,
-            &source,
-            &records,
-            decoded.refused,
-            None,
-        )
+        note_of(command, status, file, &source, &records, refused, None)
     };
     Outcome {
         status,

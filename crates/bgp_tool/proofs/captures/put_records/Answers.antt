@@ -1,8 +1,11 @@
 use Rattle.std.proofs.Common.{◌++◌, ℕ, List, [], refl, sym, ap, subst, append-nil, inl, inr, arith, rules}
 use Rattle.mrt.specs.Capture.{joined}
 use Rattle.mrt.specs.Reader.{ReaderState}
-use Rattle.bgp_text.proofs.Pieces.{Joins, nothing_yet, and_then}
-use Rattle.bgp_tool.proofs.CaptureLines.{nothing_read, answer_of, allowed_answer, answered, less_left, stops_at_end, stops_at_fault}
+use Rattle.bgp_text.proofs.Pieces.{Joins, nothing_yet, and_then, and_nothing}
+use Rattle.bgp_tool.proofs.CaptureLines.{nothing_read, allowed_answer, answered, less_left, stops_at_end, stops_at_fault}
+use Rattle.bgp_tool.specs.declared.shown.Shown.{Shown}
+use Rattle.bgp_tool.specs.Shown.{GivesShown}
+use Rattle.bgp_tool.proofs.ShownAnswers.{printed_answer}
 use Rattle.bgp_tool.proofs.captures.put_records.Goals as goal
 
 pub loop-shown-init : goal.loop-shown-init
@@ -10,9 +13,9 @@ loop-shown-init g c =
     let passed = ap (λ (s : ReaderState). s.passed) c.requires.fresh in record {
       so_far = (
         [],
-        nothing_read g.R.Source.gives g.R.Source.has_ended g.met.R.Source.joined g.R.Source.given_count g.met.R.Source.counted c.args.session.now c.args.source.now c.args.reader.now c.requires.fresh
-            (g.met.R.Source.nothing c.args.source.now),
-        nothing_yet g.W.Sink g.met.W.Sink.nothing c.args.lines.now.outlet c.args.lines.now.held.items,
+        nothing_read g.S.Source.gives g.S.Source.has_ended g.met.S.Source.joined g.S.Source.given_count g.met.S.Source.counted c.args.session.now c.args.printed.now.source c.args.reader.now c.requires.fresh
+            (g.met.S.Source.nothing c.args.printed.now.source),
+        nothing_yet g.W.Sink g.met.W.Sink.nothing c.args.printed.now.lines.outlet c.args.printed.now.lines.held.items,
       );
       one_source = omega arith;
       calm = refl;
@@ -21,32 +24,35 @@ loop-shown-init g c =
 pub put_record-requires : goal.put_record-requires
 put_record-requires g c =
     let (text, so, wrote) = c.loop-shown.invariant.so_far in
-    let answer = answer_of g.R.Source.gives g.R.Source.has_ended g.met.R.Source.joined g.R.Source.given_count g.met.R.Source.counted c.args.session.now c.args.source.now c.loop-shown.source c.next_record.new.source
+    let next = printed_answer (λ (s : Shown g.row.S.Denot g.row.W.Denot g.W.Sink). s.source) (λ a b. GivesShown g.S.Source.gives a.source b.source a.lines b.lines)
+    g.S.Source.gives g.S.Source.has_ended (λ a b xs given. given.gave) c.args.session.now c.loop-shown.printed c.next_record.new.source
     c.loop-shown.reader c.next_record.follows.lender-at-none c.next_record.result so.calm so.going c.next_record.follows.holds-at-none.0 in
-    let is = rw (c.in-Ok-Some.is, c.in-Ok-Some.field-0-is) at answer in
-    allowed_answer g.R.Source.gives g.R.Source.has_ended g.met.R.Source.joined g.R.Source.given_count g.met.R.Source.counted c.args.session.now c.args.source.now _ _ _ _ _ is
+    let is = rw (c.in-Ok-Some.is, c.in-Ok-Some.field-0-is) at next.0 in
+    allowed_answer g.S.Source.gives g.S.Source.has_ended g.met.S.Source.joined g.S.Source.given_count g.met.S.Source.counted c.args.session.now c.args.printed.now.source _ _ _ _ _ is
 
 pub loop-shown-smaller : goal.loop-shown-smaller
 loop-shown-smaller g c =
     let (text, so, wrote) = c.loop-shown.invariant.so_far in
-    let answer = answer_of g.R.Source.gives g.R.Source.has_ended g.met.R.Source.joined g.R.Source.given_count g.met.R.Source.counted c.args.session.now c.args.source.now c.loop-shown.source c.next_record.new.source
+    let next = printed_answer (λ (s : Shown g.row.S.Denot g.row.W.Denot g.W.Sink). s.source) (λ a b. GivesShown g.S.Source.gives a.source b.source a.lines b.lines)
+    g.S.Source.gives g.S.Source.has_ended (λ a b xs given. given.gave) c.args.session.now c.loop-shown.printed c.next_record.new.source
     c.loop-shown.reader c.next_record.follows.lender-at-none c.next_record.result so.calm so.going c.next_record.follows.holds-at-none.0 in
-    let is = rw (c.in-Ok-Some.is, c.in-Ok-Some.field-0-is) at answer in
-    less_left g.R.Source.gives g.R.Source.has_ended g.met.R.Source.joined g.R.Source.given_count g.met.R.Source.counted c.args.session.now c.args.source.now _ _ _ _ _ is (g.met.R.Source.below c.next_record.new.source)
+    let is = rw (c.in-Ok-Some.is, c.in-Ok-Some.field-0-is) at next.0 in
+    less_left g.S.Source.gives g.S.Source.has_ended g.met.S.Source.joined g.S.Source.given_count g.met.S.Source.counted c.args.session.now c.args.printed.now.source _ _ _ _ _ is (g.met.S.Source.below c.next_record.new.source.source)
 
 pub loop-shown-preserved : goal.loop-shown-preserved
 loop-shown-preserved g c =
     let law : Joins g.W.Sink = record { joined = g.met.W.Sink.joined } in
     let (text, so, wrote) = c.loop-shown.invariant.so_far in
     let (line, is_line, put) = c.put_record.ensures in
-    let answer = answer_of g.R.Source.gives g.R.Source.has_ended g.met.R.Source.joined g.R.Source.given_count g.met.R.Source.counted c.args.session.now c.args.source.now c.loop-shown.source c.next_record.new.source
+    let next = printed_answer (λ (s : Shown g.row.S.Denot g.row.W.Denot g.W.Sink). s.source) (λ a b. GivesShown g.S.Source.gives a.source b.source a.lines b.lines)
+    g.S.Source.gives g.S.Source.has_ended (λ a b xs given. given.gave) c.args.session.now c.loop-shown.printed c.next_record.new.source
     c.loop-shown.reader c.next_record.follows.lender-at-none c.next_record.result so.calm so.going c.next_record.follows.holds-at-none.0 in
-    let is = rw (c.in-Ok-Some.is, c.in-Ok-Some.field-0-is) at answer in
+    let is = rw (c.in-Ok-Some.is, c.in-Ok-Some.field-0-is) at next.0 in
     let failures = rw (c.in-Ok-Some.is) at c.next_record.ensures.failures in record {
       so_far = (
         text ++ line,
-        answered g.R.Source.gives g.R.Source.has_ended g.met.R.Source.joined g.R.Source.given_count g.met.R.Source.counted c.args.session.now c.args.source.now _ _ _ _ text line _ so is is_line,
-        and_then law wrote put,
+        answered g.S.Source.gives g.S.Source.has_ended g.met.S.Source.joined g.S.Source.given_count g.met.S.Source.counted c.args.session.now c.args.printed.now.source _ _ _ _ text line _ so is is_line,
+        and_then law (and_nothing law wrote next.2.kept) put,
       );
       one_source = c.next_record.follows.holds-at-none.1;
       calm = omega (arith, c.loop-shown.invariant.calm);
@@ -54,11 +60,13 @@ loop-shown-preserved g c =
 
 pub returns-in-Ok-None-clause-puts : goal.returns-in-Ok-None-clause-puts
 returns-in-Ok-None-clause-puts g c =
+    let law : Joins g.W.Sink = record { joined = g.met.W.Sink.joined } in
     let (text, so, wrote) = c.loop-shown.invariant.so_far in
-    let answer = answer_of g.R.Source.gives g.R.Source.has_ended g.met.R.Source.joined g.R.Source.given_count g.met.R.Source.counted c.args.session.now c.args.source.now c.loop-shown.source c.next_record.new.source
+    let next = printed_answer (λ (s : Shown g.row.S.Denot g.row.W.Denot g.W.Sink). s.source) (λ a b. GivesShown g.S.Source.gives a.source b.source a.lines b.lines)
+    g.S.Source.gives g.S.Source.has_ended (λ a b xs given. given.gave) c.args.session.now c.loop-shown.printed c.next_record.new.source
     c.loop-shown.reader c.next_record.follows.lender-at-none c.next_record.result so.calm so.going c.next_record.follows.holds-at-none.0 in
-    let is = rw (c.in-Ok-None.is, c.in-Ok-None.field-0-is) at answer in
-    let stops = stops_at_end g.R.Source.gives g.R.Source.has_ended g.met.R.Source.joined g.R.Source.given_count g.met.R.Source.counted c.args.session.now c.args.source.now {X = Unit {0}} (tt {0}) _ _ _ _ text so is in record {
+    let is = rw (c.in-Ok-None.is, c.in-Ok-None.field-0-is) at next.0 in
+    let stops = stops_at_end g.S.Source.gives g.S.Source.has_ended g.met.S.Source.joined g.S.Source.given_count g.met.S.Source.counted c.args.session.now c.args.printed.now.source {X = Unit {0}} (tt {0}) _ _ _ _ text so is in record {
       pieces = stops.pieces;
       rest = stops.rest;
       knows = stops.knows;
@@ -67,16 +75,18 @@ returns-in-Ok-None-clause-puts g c =
       each = stops.each;
       ends = inl stops.ends;
       are_lines = stops.are_lines;
-      wrote = wrote;
+      wrote = and_nothing law wrote next.2.kept;
     }
 
 pub returns-in-Err-clause-puts : goal.returns-in-Err-clause-puts
 returns-in-Err-clause-puts g c =
+    let law : Joins g.W.Sink = record { joined = g.met.W.Sink.joined } in
     let (text, so, wrote) = c.loop-shown.invariant.so_far in
-    let answer = answer_of g.R.Source.gives g.R.Source.has_ended g.met.R.Source.joined g.R.Source.given_count g.met.R.Source.counted c.args.session.now c.args.source.now c.loop-shown.source c.next_record.new.source
+    let next = printed_answer (λ (s : Shown g.row.S.Denot g.row.W.Denot g.W.Sink). s.source) (λ a b. GivesShown g.S.Source.gives a.source b.source a.lines b.lines)
+    g.S.Source.gives g.S.Source.has_ended (λ a b xs given. given.gave) c.args.session.now c.loop-shown.printed c.next_record.new.source
     c.loop-shown.reader c.next_record.follows.lender-at-none c.next_record.result so.calm so.going c.next_record.follows.holds-at-none.0 in
-    let is = rw (c.in-Err.is) at answer in
-    let stops = stops_at_fault g.R.Source.gives g.R.Source.has_ended g.met.R.Source.joined g.R.Source.given_count g.met.R.Source.counted c.args.session.now c.args.source.now {X = Unit {0}} _ _ _ _ text c.in-Err.fault so is in record {
+    let is = rw (c.in-Err.is) at next.0 in
+    let stops = stops_at_fault g.S.Source.gives g.S.Source.has_ended g.met.S.Source.joined g.S.Source.given_count g.met.S.Source.counted c.args.session.now c.args.printed.now.source {X = Unit {0}} _ _ _ _ text c.in-Err.fault so is in record {
       pieces = stops.pieces;
       rest = stops.rest;
       knows = stops.knows;
@@ -85,7 +95,7 @@ returns-in-Err-clause-puts g c =
       each = stops.each;
       ends = inl stops.ends;
       are_lines = stops.are_lines;
-      wrote = wrote;
+      wrote = and_nothing law wrote next.2.kept;
     }
 
 pub returns-then-has_failed-clause-puts : goal.returns-then-has_failed-clause-puts
@@ -93,17 +103,18 @@ returns-then-has_failed-clause-puts g c =
     let law : Joins g.W.Sink = record { joined = g.met.W.Sink.joined } in
     let (text, so, wrote) = c.loop-shown.invariant.so_far in
     let (line, is_line, put) = c.put_record.ensures in
-    let answer = answer_of g.R.Source.gives g.R.Source.has_ended g.met.R.Source.joined g.R.Source.given_count g.met.R.Source.counted c.args.session.now c.args.source.now c.loop-shown.source c.next_record.new.source
+    let next = printed_answer (λ (s : Shown g.row.S.Denot g.row.W.Denot g.W.Sink). s.source) (λ a b. GivesShown g.S.Source.gives a.source b.source a.lines b.lines)
+    g.S.Source.gives g.S.Source.has_ended (λ a b xs given. given.gave) c.args.session.now c.loop-shown.printed c.next_record.new.source
     c.loop-shown.reader c.next_record.follows.lender-at-none c.next_record.result so.calm so.going c.next_record.follows.holds-at-none.0 in
-    let is = rw (c.in-Ok-Some.is, c.in-Ok-Some.field-0-is) at answer in
-    let done = answered g.R.Source.gives g.R.Source.has_ended g.met.R.Source.joined g.R.Source.given_count g.met.R.Source.counted c.args.session.now c.args.source.now _ _ _ _ text line _ so is is_line in record {
+    let is = rw (c.in-Ok-Some.is, c.in-Ok-Some.field-0-is) at next.0 in
+    let done = answered g.S.Source.gives g.S.Source.has_ended g.met.S.Source.joined g.S.Source.given_count g.met.S.Source.counted c.args.session.now c.args.printed.now.source _ _ _ _ text line _ so is is_line in record {
       pieces = done.pieces;
       rest = [];
       knows = (done.last, done.other, done.skipped);
       text = text ++ line;
-      gave = subst (λ (o : List ℕ). g.R.Source.gives c.args.source.now c.next_record.new.source o) (sym (append-nil (joined done.pieces))) done.gave;
+      gave = subst (λ (o : List ℕ). g.S.Source.gives c.args.printed.now.source c.next_record.new.source.source o) (sym (append-nil (joined done.pieces))) done.gave;
       each = done.each;
       ends = inr (refl, search rules);
       are_lines = done.are_lines;
-      wrote = and_then law wrote put;
+      wrote = and_then law (and_nothing law wrote next.2.kept) put;
     }

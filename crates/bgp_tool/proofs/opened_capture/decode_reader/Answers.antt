@@ -18,12 +18,12 @@ returns-clause-decoded g c =
     let found = c.decode_with-decoded.new.reader in
     let status = c.decode_with-decoded.result.status in
     let octets = joined decoded.pieces ++ decoded.rest in
-    let last = reader_state c.decode_with-decoded.new.source.source in
+    let last = reader_state c.decode_with-decoded.result.source.source in
     let old = writer_state c.args.sink.now in
     let new = writer_state c.decode_with-decoded.new.sink in
     let fresh : reader_state c.new-source.result.source ≡ fresh_reader c.args.reader =
     ap reader_state c.new-source.ensures.source ∙ c.new.ensures in
-    let front : c.decode_with-decoded.new.source.front.items ≡ kept octets =
+    let front : c.decode_with-decoded.result.source.front.items ≡ kept octets =
     decoded.gave.1 ∙ ap (λ (o : List ℕ). kept (o ++ octets)) c.new-source.ensures.front in record {
       source = last;
       found = found;
