@@ -23,7 +23,7 @@ use bgp_judge::Tracker;
 use bgp_open::Config;
 use bgp_prefix::Session;
 use bgp_recording_tool::{FileOutcome, decode_file, judge_file};
-use bgp_tool::{Outcome, decode_opened, unopened};
+use bgp_tool::{Outcome, Ready, decode_opened, unopened};
 use bgp_wire::Limit;
 use bgp_words::Command;
 use mrt::FromWrite;
@@ -79,7 +79,7 @@ fn is_one_name(command: &Command<'_>) -> bool
 ///
 /// Each command is one call, with just the options that it names (`specs/Answers.antt`). The reader
 /// is asked for few octets at a time: put a buffer before a file.
-pub fn answer_to<'a, T: Tracker<Global>, R: Read + Drop, W: Write>(
+pub fn answer_to<'a, T: Tracker<Global>, R: Read + Ready + Drop, W: Write>(
     alloc: Global,
     command: &Command<'a>,
     opened: io::Result<R>,
@@ -102,7 +102,7 @@ pub fn answer_to<'a, T: Tracker<Global>, R: Read + Drop, W: Write>(
 
 /// Answers a command that reads a file, as [`answer_to`] does, says all that there is to say of the
 /// answer, and returns its exit status.
-pub fn run_over<T: Tracker<Global>, R: Read + Drop, W: Write, V: Voice>(
+pub fn run_over<T: Tracker<Global>, R: Read + Ready + Drop, W: Write, V: Voice>(
     alloc: Global,
     command: &Command<'_>,
     opened: io::Result<R>,
@@ -122,7 +122,7 @@ pub fn run_over<T: Tracker<Global>, R: Read + Drop, W: Write, V: Voice>(
 }
 
 /// Answers a command that reads a file, which could be opened.
-fn answer_from<'a, T: Tracker<Global>, R: Read + Drop, W: Write>(
+fn answer_from<'a, T: Tracker<Global>, R: Read + Ready + Drop, W: Write>(
     alloc: Global,
     command: &Command<'a>,
     reader: R,
@@ -194,7 +194,7 @@ fn decode<'a, R: Read + Drop, W: Write>(
 }
 
 /// Decodes the records of one session.
-fn decode_session<'a, R: Read + Drop, W: Write>(
+fn decode_session<'a, R: Read + Ready + Drop, W: Write>(
     alloc: Global,
     session: &Session,
     recording: &RecordingOptions,

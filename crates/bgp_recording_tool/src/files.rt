@@ -18,7 +18,7 @@ use bgp_import::{CutShort, RecordingOptions};
 use bgp_judge::Tracker;
 use bgp_open::Config;
 use bgp_prefix::Session;
-use bgp_tool::{Note, Outcome, decode_opened_capture, unopened, unwritten};
+use bgp_tool::{Note, Outcome, Ready, decode_opened_capture, unopened, unwritten};
 use mrt::{FromRead, FromWrite, Sink, SkippedRecords};
 use std::alloc::Allocator;
 use std::io;
@@ -167,7 +167,7 @@ pub fn judge_file<'a, A: Allocator + Copy, T: Tracker<A>, R: Read + Drop, W: Wri
 /// which it is. A closed pipe is status 5 and not told.
 ///
 /// The reader is asked for few octets at a time: put a buffer before a file.
-pub fn decode_file<'a, A: Allocator + Copy, R: Read + Drop, W: Write>(
+pub fn decode_file<'a, A: Allocator + Copy, R: Read + Ready + Drop, W: Write>(
     alloc: A,
     session: &Session,
     options: &RecordingOptions,

@@ -3,6 +3,7 @@
 ghost use Rattle.std.specs.Prelude.{◌≡◌};
 
 use arrayvec::ArrayVec;
+use bgp_tool::Ready;
 use std::io;
 use std::io::Read;
 
@@ -78,5 +79,15 @@ impl<R: Read> Read for Peeked<R> {
             Some(error) => Err(error),
             None => self.reader.read(buf),
         }
+    }
+}
+
+impl<R: Read + Ready> Ready for Peeked<R> {
+    ghost use Rattle.std.specs.Prelude.{◌||◌, ◌<◌, length, nat_lt};
+
+    ghost is_ready = { λ a. nat_lt 0 (length a.front.items) || R.is_ready a.reader };
+
+    fn is_ready(&self) -> bool {
+        !self.front.is_empty() || self.reader.is_ready()
     }
 }

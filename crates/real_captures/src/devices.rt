@@ -1,5 +1,6 @@
 //! A reader that fails or gives little at a time, and a writer that has little room.
 
+use bgp_tool::Ready;
 use std::alloc::Global;
 use std::io::{self, ErrorKind, Read, Write};
 
@@ -20,6 +21,17 @@ impl Read for Given<'_> {
                 self.octets.read(&mut buffer[..most])
             }
         }
+    }
+}
+
+/// It may wait before each octet, so that text is handed over before each read.
+impl Ready for Given<'_> {
+    ghost use Rattle.std.specs.Prelude.{false};
+
+    ghost is_ready = { λ _. false };
+
+    fn is_ready(&self) -> bool {
+        false
     }
 }
 

@@ -3,6 +3,7 @@
 ghost use Rattle.std.specs.Prelude.{◌<◌, ◌^◌, IfOk};
 
 use bgp_recording_tool::Peeked;
+use bgp_tool::Ready;
 use mrt::MemSource;
 use std::alloc::Global;
 use std::io;
@@ -66,5 +67,16 @@ impl Read for Pieces<'_> {
     fn read(&mut self, buffer: &mut [u8]) -> io::Result<usize> {
         let count = buffer.len().min(self.most.get());
         self.octets.read(&mut buffer[..count])
+    }
+}
+
+/// It may wait before each octet, so that text is handed over before each read.
+impl Ready for Pieces<'_> {
+    ghost use Rattle.std.specs.Prelude.{false};
+
+    ghost is_ready = { λ _. false };
+
+    fn is_ready(&self) -> bool {
+        false
     }
 }

@@ -3,7 +3,7 @@
 use super::*;
 use crate::two_connections::front;
 use bgp_recording_tool::{decode_file, judge_file};
-use bgp_tool::Note;
+use bgp_tool::{Note, Ready};
 use mrt::FromWrite;
 use std::io::{self, ErrorKind, Read};
 
@@ -23,6 +23,17 @@ impl Read for Given<'_> {
                 self.octets.read(&mut buffer[..most])
             }
         }
+    }
+}
+
+/// It may wait before each octet, so that text is handed over before each read.
+impl Ready for Given<'_> {
+    ghost use Rattle.std.specs.Prelude.{false};
+
+    ghost is_ready = { λ _. false };
+
+    fn is_ready(&self) -> bool {
+        false
     }
 }
 
