@@ -4,6 +4,7 @@ pub mod Judgings
 pub mod Numbers
 pub mod Outcomes
 pub mod Puttings
+mod Searchings
 mod SomeRemarks
 pub mod Statuses
 pub mod Texts

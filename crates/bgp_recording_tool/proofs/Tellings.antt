@@ -7,7 +7,6 @@ use Rattle.mrt.specs.declared.sink.Sink as sinks
 use Rattle.bgp_prefix.specs.declared.session.RouteRefresh.TheVariants as refreshes
 use Rattle.bgp_open.specs.declared.config.Config.{Config}
 use Rattle.bgp_judge.specs.Verdict.{VerdictValue}
-use Rattle.bgp_orders.specs.declared.connection.Unexplained.{Unexplained}
 use Rattle.bgp_text.specs.Lines.{Writes}
 use Rattle.bgp_text.specs.declared.lines.Lines.{Lines}
 use Rattle.bgp_recording.specs.Captured.{IsNoRefresh, records_of}
@@ -21,20 +20,21 @@ use Rattle.bgp_recording_tool.specs.declared.remark.Remark.{Remark}
 use Rattle.bgp_recording_tool.specs.Judging.{Puts}
 use Rattle.bgp_recording_tool.specs.Remarks.{AddsTold, IsHelp, notes_of, remarks_on}
 use Rattle.bgp_explain.specs.declared.report.Report.{Report}
-use Rattle.bgp_recording_tool.specs.Told.{Refused, IsNo, refused_status, told_of, told_text}
+use Rattle.bgp_recording_tool.specs.Found.{Found, Nothing, ByNone, ByAnother}
+use Rattle.bgp_recording_tool.specs.Told.{Refused, refused_status, told_text, told_with}
 use Rattle.bgp_recording_tool.proofs.Judgings.{is_made}
 use Rattle.bgp_recording_tool.specs.Connections.{IsReported, IsTold, IsToldAs}
 use Rattle.bgp_recording_tool.specs.Putting.{PutsReport}
 
 module _ {T : Type 0} {sink : sinks.Ghosts T} (config : Config) (report : Report) (wanted : Import) (packets : List Recorded) (segments : List Segment) (number named : Option ℕ)
     (a b : Lines T sink) (old new : List Remark) (status : ℕ) where
-  -- what is told of a verdict, or of the sent message that no order explains
-  reported_so : (verdict : VerdictValue) (unexplained : Option Unexplained) (more : List ℕ) (remarks : List Remark) → IfSome unexplained (λ u. IsNo verdict)
-      → IsReported config report wanted packets segments number named verdict unexplained more remarks
-      → IsTold config report wanted packets segments number named (told_of verdict unexplained more) remarks
-  reported_so verdict None more remarks is reported = reported
-  reported_so verdict (Some u) more remarks (count, is) reported =
-      (count, subst (λ (v : VerdictValue). IsReported config report wanted packets segments number named v (Some u) more remarks) is reported)
+  -- what is told of a verdict, and of what is found over all orders
+  reported_so : (verdict : VerdictValue) (found : Found) (more : List ℕ) (remarks : List Remark)
+      → IsReported config report wanted packets segments number named verdict found more remarks
+      → IsTold config report wanted packets segments number named (told_with verdict found more) remarks
+  reported_so verdict Nothing more remarks reported = reported
+  reported_so verdict (ByNone u) more remarks reported = (verdict, reported)
+  reported_so verdict (ByAnother ends) more remarks reported = (verdict, reported)
 
   -- it was judged
   pub was_judged : {Z : Type 0} (made : Recording Z) → TellsOne wanted number packets segments made
@@ -42,8 +42,8 @@ module _ {T : Type 0} {sink : sinks.Ghosts T} (config : Config) (report : Report
       → PutsReport config report wanted packets segments number named made.entries.items (notes_of made) a b old new status
       → Puts a b old new status (IsToldAs config report wanted packets segments number named)
   was_judged made tells without puts =
-      let own = remarks_on named wanted.within made.entries.items (notes_of made) puts.confederation puts.verdict puts.unexplained in
-      let reported : IsReported config report wanted packets segments number named puts.verdict puts.unexplained puts.more own =
+      let own = remarks_on named wanted.within made.entries.items (notes_of made) puts.confederation puts.verdict puts.found in
+      let reported : IsReported config report wanted packets segments number named puts.verdict puts.found puts.more own =
       record {
         judged = record {
           connection = tells.connection;
@@ -53,7 +53,8 @@ module _ {T : Type 0} {sink : sinks.Ghosts T} (config : Config) (report : Report
           made = is_made wanted number packets segments made tells;
           without = without;
           is = puts.is;
-          no_order = puts.no_order;
+          others = puts.others;
+          is_found = puts.is_found;
           confederation = puts.confederation;
           shows = puts.shows;
           remarked = refl;
@@ -61,13 +62,13 @@ module _ {T : Type 0} {sink : sinks.Ghosts T} (config : Config) (report : Report
         is_more = puts.is_more;
       } in
       record {
-        text = told_text (told_of puts.verdict puts.unexplained puts.more);
+        text = told_text (told_with puts.verdict puts.found puts.more);
         own = own;
         wrote = puts.wrote;
         added = puts.added;
         holds = record {
-          told = told_of puts.verdict puts.unexplained puts.more;
-          is_told = reported_so puts.verdict puts.unexplained puts.more own puts.is_no reported;
+          told = told_with puts.verdict puts.found puts.more;
+          is_told = reported_so puts.verdict puts.found puts.more own reported;
           prints = refl;
           tells = puts.tells;
         };

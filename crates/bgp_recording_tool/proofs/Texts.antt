@@ -5,7 +5,8 @@ use Rattle.bgp_judge.specs.declared.verdict.Verdict.{Verdict}
 use Rattle.bgp_judge.specs.declared.verdict.Verdict.TheVariants.{Yes, No, Unfinished}
 use Rattle.bgp_tool.specs.VerdictText.{verdict_text}
 use Rattle.bgp_orders.specs.declared.connection.Unexplained.{Unexplained}
-use Rattle.bgp_recording_tool.specs.Told.{IsNo, no_order_line, told_of, told_status, told_text, value_status, value_text}
+use Rattle.bgp_recording_tool.specs.Found.{IsNo}
+use Rattle.bgp_recording_tool.specs.Told.{no_order_line, told_of, told_status, told_text, value_status, value_text}
 
 pub text_same : {X : Type 0} (verdict : Verdict X) → verdict_text verdict ≡ value_text (verdict_value verdict)
 text_same (Yes ends) = refl

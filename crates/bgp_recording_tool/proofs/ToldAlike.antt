@@ -19,7 +19,6 @@ use Rattle.mrt.specs.Capture.{Spells}
 use Rattle.bgp_recording.specs.Captured.{CanBeNamed, IsNoRefresh, records_of}
 use Rattle.bgp_recording.specs.declared.entry.Entry.{Entry}
 use Rattle.bgp_recording.specs.declared.framing.Rest.{Rest}
-use Rattle.bgp_orders.specs.declared.connection.Unexplained.{Unexplained}
 use Rattle.bgp_import.specs.Captures.{IsCapture, shown_message}
 use Rattle.bgp_import.specs.Importing.{IsMadeOf}
 use Rattle.bgp_import.specs.Selecting.{AreTaken}
@@ -32,7 +31,8 @@ use Rattle.bgp_import.specs.Refusals.{refusal_number, refusal_packet}
 use Rattle.bgp_import.specs.declared.refusal.Refusal.{Refusal}
 use Rattle.bgp_recording_tool.specs.Headline.{IsFirstRefresh, ImportAndJudgeAgree, JudgeTellsTheCapture}
 use Rattle.bgp_recording_tool.specs.Connections.{IsJudged}
-use Rattle.bgp_recording_tool.specs.Told.{Judged, NoOrder, Refused}
+use Rattle.bgp_recording_tool.specs.Found.{Found, Nothing, ByNone, ByAnother}
+use Rattle.bgp_recording_tool.specs.Told.{Judged, NoOrder, InAnotherOrder, Refused}
 use Rattle.bgp_recording_tool.specs.declared.remark.Remark.{Remark}
 use Rattle.bgp_recording_tool.proofs.FirstRefresh.{first_or_none}
 
@@ -114,9 +114,9 @@ module _ (agree : ImportAndJudgeAgree) (config : Config) (imports judges : Impor
     (mean : MeanTheSame imports judges) (taken : AreTaken imports.selection 0 packets segments) (also : AreTaken judges.selection 0 packets segments)
     (answered : IsAnswered number (length packets) (numbered (reverse segments)) connection) (made : IsMadeOf imports connection entries notes)
     (capture : IsCapture imports.selection.session entries octets) where
-  reads_so : (verdict : VerdictValue) (unexplained : Option Unexplained) (remarks : List Remark) → IsJudged config judges packets segments number named verdict unexplained remarks
+  reads_so : (verdict : VerdictValue) (found : Found) (remarks : List Remark) → IsJudged config judges packets segments number named verdict found remarks
       → (records : List ShownRecord) × Spells config.parts.session octets records × HasVerdict config records verdict
-  reads_so verdict unexplained remarks judged =
+  reads_so verdict found remarks judged =
       let theirs : IsMadeOfPackets imports number packets entries notes = record { segments = segments; connection = connection; taken = taken; answered = answered; made = made } in
       let own : IsMadeOfPackets judges number packets judged.entries judged.notes =
       record { segments = segments; connection = judged.connection; taken = also; answered = judged.chosen; made = judged.made } in
@@ -125,10 +125,14 @@ module _ (agree : ImportAndJudgeAgree) (config : Config) (imports judges : Impor
 
 pub tells_as : ImportAndJudgeAgree → JudgeTellsTheCapture
 tells_as agree config report imports judges number packets segments connection entries notes octets named (Judged verdict more) remarks can session mean taken also answered made capture told =
-    reads_so agree config imports judges number named packets segments connection entries notes octets can session mean taken also answered made capture verdict None remarks told.judged
-tells_as agree config report imports judges number packets segments connection entries notes octets named (NoOrder u more) remarks can session mean taken also answered made capture (count, told) =
+    reads_so agree config imports judges number named packets segments connection entries notes octets can session mean taken also answered made capture verdict Nothing remarks told.judged
+tells_as agree config report imports judges number packets segments connection entries notes octets named (NoOrder u more) remarks can session mean taken also answered made capture (verdict, told) =
     let (records, spells, is) = reads_so agree config imports judges number named packets segments connection entries notes octets can session mean taken also answered made capture
-    (No count) (Some u) remarks told.judged in (records, spells, count, is)
+    verdict (ByNone u) remarks told.judged in
+    let (count, same) = told.judged.is_found.0 in (records, spells, count, subst (λ (v : VerdictValue). HasVerdict config records v) same is)
+tells_as agree config report imports judges number packets segments connection entries notes octets named (InAnotherOrder ends more) remarks can session mean taken also answered made capture (verdict, told) =
+    let (records, spells, is) = reads_so agree config imports judges number named packets segments connection entries notes octets can session mean taken also answered made capture
+    verdict (ByAnother ends) remarks told.judged in (records, spells, verdict, told.judged.is_found.0, is)
 tells_as agree config report imports judges number packets segments connection entries notes octets named (Refused refusal) remarks can session mean taken also answered made capture told =
     elim told.why [
       | inl (inl not) ↦ absurd (not_unchosen number (length packets) (reverse segments) connection refusal answered not)

@@ -27,7 +27,8 @@ use Rattle.bgp_import.specs.Once.{RecordingsAreMadeOnce, calm_session}
 use Rattle.bgp_import.specs.declared.importing.Import.{Import}
 use Rattle.bgp_import.specs.declared.note.Notes.{Notes}
 use Rattle.bgp_import.specs.declared.selection.Selection.{Selection}
-use Rattle.bgp_recording_tool.specs.Headline.{Agrees, IsFirstRefresh, EachEndIsShown, ImportAndJudgeAgree}
+use Rattle.bgp_orders.specs.Entries.{RunsOfEntriesAreWhole}
+use Rattle.bgp_recording_tool.specs.Headline.{Agrees, IsFirstRefresh, EachEndIsShown, EachEndOfAnotherIsShown, ImportAndJudgeAgree}
 use Rattle.mrt.specs.RefreshLaws.{without_refresh}
 use Rattle.bgp_import.proofs.Once.{framed_calmly}
 use Rattle.bgp_recording_tool.proofs.Calm.{spells_same, written_same}
@@ -44,6 +45,21 @@ each_end config wanted connection entries notes ends e same made lists has = rec
   complete = of_each (IsComplete config (records_of entries)) ends e lists.each has;
   recorded = subst (λ (s : Session). IsRecorded (framings_of s) wanted.within connection entries notes.received notes.sent) same made.recorded.told;
 }
+
+-- and so is each end that is listed of another order
+pub each_of_another : RunsOfEntriesAreWhole → EachEndOfAnotherIsShown
+each_of_another law config report wanted packets segments number named ends more remarks e (verdict, told) has =
+    let another = told.judged.is_found.1 in
+    let entries = told.judged.others in
+    let way = another.yes.of in record {
+      connection = another.connection;
+      chosen = another.chosen;
+      ended = record {
+        exchange = way.exchange;
+        tells = way.tells;
+        whole = law config wanted.within way.exchange entries e way.of (of_each (IsComplete config (records_of entries)) ends e another.yes.is.1.each has);
+      };
+    }
 
 -- ---- the capture
 

@@ -1,6 +1,6 @@
 -- What judging tells of the connections of a session, in a recording that was read to its end.
 use Rattle.std.specs.Prelude.{◌↔◌, ◌≡◌, ◌<◌, ◌⊎◌, ◌++◌, ℕ, zero, suc, Bool, List, [], ◌∷◌}
-use Rattle.std.specs.Prelude.{IsTrue, Option, None, Some, IfSome, length, reverse, codes}
+use Rattle.std.specs.Prelude.{IsTrue, Option, None, Some, length, reverse, codes}
 use Rattle.std.specs.List.{AllByRecursion}
 use Rattle.packets.specs.Packet.{Recorded}
 use Rattle.streams.specs.Choice.{IsAnswered, OpensAs, numbered_one}
@@ -11,11 +11,15 @@ use Rattle.streams.specs.declared.connection.Opening.{Opening}
 use Rattle.bgp_prefix.specs.declared.session.RouteRefresh.TheVariants as refreshes
 use Rattle.bgp_parts.specs.Confederations.{SomeShowConfederations}
 use Rattle.bgp_open.specs.declared.config.Config.{Config}
-use Rattle.bgp_judge.specs.Verdict.{VerdictValue, No, HasVerdict}
+use Rattle.bgp_judge.specs.Verdict.{VerdictValue, Yes, HasVerdict}
 use Rattle.bgp_recording.specs.Captured.{IsNoRefresh, records_of}
 use Rattle.bgp_recording.specs.Pieces.{framings_of}
 use Rattle.bgp_recording.specs.declared.entry.Entry.{Entry}
+use Rattle.bgp_recording.specs.declared.framing.Framings.{Framings}
+use Rattle.bgp_recording.specs.declared.framing.Unshown.{Unshown}
+use Rattle.bgp_machine.specs.Run.{End}
 use Rattle.bgp_orders.specs.Connections.{IsOverOrders}
+use Rattle.bgp_orders.specs.WholeWays.{AreOfAWayOver}
 use Rattle.bgp_orders.specs.declared.connection.OverOrders.TheVariants as over
 use Rattle.bgp_orders.specs.declared.connection.Unexplained.{Unexplained}
 use Rattle.bgp_import.specs.Importing.{IsMadeOf}
@@ -31,7 +35,8 @@ use Rattle.bgp_explain.specs.declared.report.Report.{Report}
 use Rattle.bgp_explain.specs.declared.report.Report.TheVariants.{VerdictAlone, WithReason}
 use Rattle.bgp_recording_tool.specs.declared.remark.Remark.{Remark}
 use Rattle.bgp_recording_tool.specs.Remarks.{IsHelp, remarks_on}
-use Rattle.bgp_recording_tool.specs.Told.{Told, Judged, NoOrder, Refused}
+use Rattle.bgp_recording_tool.specs.Found.{Found, Nothing, ByNone, ByAnother, IsNo, IsNoYes}
+use Rattle.bgp_recording_tool.specs.Told.{Told, Judged, NoOrder, InAnotherOrder, Refused}
 use Rattle.bgp_recording_tool.specs.Told.{told_text, told_status}
 use Rattle.bgp_recording_tool.specs.Told.{status_over}
 
@@ -54,6 +59,24 @@ pub record HasOneMore (Before : List ℕ → List ℕ → List Remark → Type 0
   pub tells : statuses ≡ told_status told ∷ before_it
   pub remarked : remarks ≡ others ++ own
 
+-- These entries are those of an order of the connection's messages that the packets allow within
+-- the patience: of a way. A yes with these ends is the verdict on their records.
+pub record IsYesOver (config : Config) (within : ℕ) (framings : Framings)
+    (connection : Connection) (entries : List Entry) (ends : List End) : Type 0 where
+  pub received : Unshown
+  pub sent : Unshown
+  pub of : AreOfAWayOver framings within connection entries received sent
+  pub is : HasVerdict config (records_of entries) (Yes ends)
+
+-- This is found over all orders of the connection's messages that the packets allow. If another
+-- order is a yes, these are its entries.
+abbrev pub IsFoundOver : Config → ℕ → Framings → Connection → List Entry → Found → Type 0
+IsFoundOver config within framings connection others Nothing = Unit {0}
+IsFoundOver config within framings connection others (ByNone u) =
+    IsOverOrders config within framings connection (over.No u)
+IsFoundOver config within framings connection others (ByAnother ends) =
+    IsYesOver config within framings connection others ends
+
 -- The session's packets have these segments, none of which is refused.
 module _ (config : Config) (wanted : Import) (packets : List Recorded) (segments : List Segment)
   where
@@ -65,12 +88,30 @@ module _ (config : Config) (wanted : Import) (packets : List Recorded) (segments
       pub over_all : IsOverOrders config wanted.within (framings_of wanted.selection.session)
           connection (over.No u)
 
+    -- These entries are those of an order of the connection with this number, or of the only one,
+    -- that the packets allow within the patience. A yes with these ends is the verdict on their
+    -- records.
+    pub record IsYesOfAnother (number : Option ℕ) (entries : List Entry) (ends : List End)
+        : Type 0 where
+      pub connection : Connection
+      pub chosen : IsAnswered number (length packets) (numbered (reverse segments)) connection
+      pub yes : IsYesOver config wanted.within (framings_of wanted.selection.session) connection
+          entries ends
+
+    -- This is found over all orders, where this is the verdict on the made one. If another order is
+    -- a yes, these are its entries.
+    abbrev pub IsFound : Option ℕ → VerdictValue → List Entry → Found → Type 0
+    IsFound number verdict others Nothing = Unit {0}
+    IsFound number verdict others (ByNone u) = IsNo verdict × IsNoOrder number u
+    IsFound number verdict others (ByAnother ends) =
+        IsNoYes verdict × IsYesOfAnother number others ends
+
     -- These entries are made of the connection with this number, or of the only one, and this is
     -- the verdict on their records. None of them is a ROUTE-REFRESH, where the session refuses
-    -- one. If a sent message is told, no order explains it. It is remarked if one of the records
-    -- shows an UPDATE of a confederation.
-    pub record IsJudged (number named : Option ℕ) (verdict : VerdictValue)
-        (unexplained : Option Unexplained) (remarks : List Remark) : Type 0 where
+    -- one. And this is found over all orders. It is remarked if one of the records shows an UPDATE
+    -- of a confederation.
+    pub record IsJudged (number named : Option ℕ) (verdict : VerdictValue) (found : Found)
+        (remarks : List Remark) : Type 0 where
       pub connection : Connection
       pub entries : List Entry
       pub notes : Notes
@@ -79,11 +120,12 @@ module _ (config : Config) (wanted : Import) (packets : List Recorded) (segments
       pub without : wanted.selection.session.refresh ≡ refreshes.Refused
           → AllByRecursion IsNoRefresh (records_of entries)
       pub is : HasVerdict config (records_of entries) verdict
-      pub no_order : IfSome unexplained (IsNoOrder number)
+      pub others : List Entry
+      pub is_found : IsFound number verdict others found
       pub confederation : Bool
       pub shows : IsTrue confederation ↔ SomeShowConfederations (records_of entries)
       pub remarked : remarks ≡ remarks_on named wanted.within entries notes confederation verdict
-          unexplained
+          found
 
     -- the session refuses a ROUTE-REFRESH, and there is one
     pub record HasRefresh (number : Option ℕ) (refusal : Refusal) : Type 0 where
@@ -118,22 +160,34 @@ IsMore VerdictAlone config entries verdict more = more ≡ []
 IsMore WithReason config entries verdict more =
     SaysOrNot config config.parts.session (shown_places entries) (records_of entries) verdict more
 
+-- And where this is found over all orders: if another order is a yes, it is about the entries of
+-- that, and else about the made ones.
+abbrev pub IsMoreOf : Report → Config → List Entry → List Entry → VerdictValue → Found → List ℕ
+    → Type 0
+IsMoreOf report config made others verdict Nothing more = IsMore report config made verdict more
+IsMoreOf report config made others verdict (ByNone u) more =
+    IsMore report config made verdict more
+IsMoreOf report config made others verdict (ByAnother ends) more =
+    IsMore report config others (Yes ends) more
+
 -- And this is reported of the session's connections.
 module _ (config : Config) (report : Report) (wanted : Import) (packets : List Recorded)
     (segments : List Segment) where
   -- It is judged, and this stands after the verdict.
-  pub record IsReported (number named : Option ℕ) (verdict : VerdictValue)
-      (unexplained : Option Unexplained) (more : List ℕ) (remarks : List Remark) : Type 0 where
-    pub judged : IsJudged config wanted packets segments number named verdict unexplained remarks
-    pub is_more : IsMore report config judged.entries verdict more
+  pub record IsReported (number named : Option ℕ) (verdict : VerdictValue) (found : Found)
+      (more : List ℕ) (remarks : List Remark) : Type 0 where
+    pub judged : IsJudged config wanted packets segments number named verdict found remarks
+    pub is_more : IsMoreOf report config judged.entries judged.others verdict found more
 
   -- What is told of the connection with this number, or of the only one. What is remarked names it
   -- where several are told of.
   abbrev pub IsTold : Option ℕ → Option ℕ → Told → List Remark → Type 0
   IsTold number named (Judged verdict more) remarks =
-      IsReported number named verdict None more remarks
+      IsReported number named verdict Nothing more remarks
   IsTold number named (NoOrder u more) remarks =
-      (count : ℕ) × IsReported number named (No count) (Some u) more remarks
+      (verdict : VerdictValue) × IsReported number named verdict (ByNone u) more remarks
+  IsTold number named (InAnotherOrder ends more) remarks =
+      (verdict : VerdictValue) × IsReported number named verdict (ByAnother ends) more remarks
   IsTold number named (Refused refusal) remarks =
       IsNotJudged config wanted packets segments number named refusal remarks
 

@@ -24,6 +24,7 @@ use Rattle.bgp_recording.specs.declared.entry.Entry.{Entry}
 use Rattle.bgp_recording.specs.declared.ordering.Exchange.{Exchange}
 use Rattle.bgp_orders.specs.Connections.{IsPacketOf, NoWayExplains, TellsConnection}
 use Rattle.bgp_orders.specs.Explained.{IsExplained}
+use Rattle.bgp_orders.specs.WholeWays.{CanHaveEnded}
 use Rattle.bgp_orders.specs.declared.connection.Unexplained.{Unexplained}
 use Rattle.bgp_explain.specs.declared.report.Report.{Report}
 use Rattle.bgp_import.specs.Captures.{IsCapture}
@@ -34,7 +35,9 @@ use Rattle.bgp_import.specs.Refusals.{refusal_number}
 use Rattle.bgp_import.specs.Selecting.{AreTaken}
 use Rattle.bgp_import.specs.declared.note.Notes.{Notes}
 use Rattle.bgp_recording_tool.specs.Connections.{IsTold, IsToldAs}
-use Rattle.bgp_recording_tool.specs.Told.{Told, Judged, NoOrder, Refused, no_order_line}
+use Rattle.bgp_recording_tool.specs.Found.{IsNoYes}
+use Rattle.bgp_recording_tool.specs.Told.{Told, Judged, NoOrder, InAnotherOrder, Refused}
+use Rattle.bgp_recording_tool.specs.Told.{no_order_line}
 use Rattle.bgp_recording_tool.specs.declared.remark.Remark.{Remark}
 
 -- Some run of the session machine ends so and shows just the records of these entries, and they
@@ -56,6 +59,25 @@ EachEndIsShown =
     → IsMadeOf wanted connection entries notes
     → ListsEnds config (records_of entries) ends → Has (λ x. x ≡ e) ends
     → IsShownWithin config wanted connection entries notes e
+
+-- The session of the connection with this number, or of the only one, can have ended so: some run
+-- of the session machine ends so and shows just the records of a way of the connection's messages,
+-- in an order that the packets allow within the patience.
+pub record IsShownByAWay (config : Config) (wanted : Import) (packets : List Recorded)
+    (segments : List Segment) (number : Option ℕ) (e : End) : Type 0 where
+  pub connection : Connection
+  pub chosen : IsAnswered number (length packets) (numbered (reverse segments)) connection
+  pub ended : CanHaveEnded config wanted.within (framings_of wanted.selection.session) connection e
+
+-- Whatever ends are told of another order than the made one, each is one that such a run has.
+abbrev pub EachEndOfAnotherIsShown : Type 0
+EachEndOfAnotherIsShown =
+    (config : Config) (report : Report) (wanted : Import) (packets : List Recorded)
+    (segments : List Segment) (number named : Option ℕ) (ends : List End) (more : List ℕ)
+    (remarks : List Remark) (e : End)
+    → IsTold config report wanted packets segments number named (InAnotherOrder ends more) remarks
+    → Has (λ x. x ≡ e) ends
+    → IsShownByAWay config wanted packets segments number e
 
 -- What packets tell of the connection with this number, or of the only one: this sent message has
 -- the packet that is told; some order that they allow explains all sent ones before it, and none
@@ -129,8 +151,8 @@ ImportAndJudgeAgree =
     → (notes ≡ told) × (records_of entries ≡ records_of judged) × Agrees config judged octets
 
 -- What is told of a connection is what these octets read as: a verdict, where they spell records
--- that have it, and a no, where no order explains a message; 18 RouteRefresh, where a reader
--- refuses them by 7 RouteRefresh; or memory was refused.
+-- that have it; of a no over all orders a no, too; of a yes of another order none that is a yes; 18
+-- RouteRefresh, where a reader refuses them by 7 RouteRefresh; or memory was refused.
 abbrev pub TellsAs : Config → List ℕ → Told → Type 0
 TellsAs config octets (Judged verdict more) =
     (records : List ShownRecord) × Spells config.parts.session octets records
@@ -138,6 +160,9 @@ TellsAs config octets (Judged verdict more) =
 TellsAs config octets (NoOrder u more) =
     (records : List ShownRecord) × Spells config.parts.session octets records
     × (count : ℕ) × HasVerdict config records (No count)
+TellsAs config octets (InAnotherOrder ends more) =
+    (records : List ShownRecord) × Spells config.parts.session octets records
+    × (verdict : VerdictValue) × IsNoYes verdict × HasVerdict config records verdict
 TellsAs config octets (Refused refusal) =
     ((refusal_number refusal ≡ 18) × (front : List ShownRecord) × (offset : ℕ)
     × IsFirstFault config.parts.session octets front kinds.RouteRefresh offset)

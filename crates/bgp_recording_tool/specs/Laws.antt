@@ -7,12 +7,12 @@ use Rattle.bgp_open.specs.declared.config.Config.{Config}
 use Rattle.bgp_judge.specs.Verdict.{VerdictValue, No}
 use Rattle.bgp_import.specs.Selecting.{AreTaken}
 use Rattle.bgp_import.specs.declared.importing.Import.{Import}
-use Rattle.bgp_orders.specs.declared.connection.Unexplained.{Unexplained}
 use Rattle.bgp_recording.specs.Captured.{records_of}
 use Rattle.bgp_reason.specs.declared.kinds.Possible.{Possible}
 use Rattle.bgp_reason.specs.Possible.{ArePossible}
 use Rattle.bgp_recording_tool.specs.declared.remark.Remark.{Remark}
 use Rattle.bgp_recording_tool.specs.Connections.{IsJudged, IsReported}
+use Rattle.bgp_recording_tool.specs.Found.{Found}
 use Rattle.bgp_explain.specs.Laws.{CouldStand}
 use Rattle.bgp_explain.specs.declared.report.Report.TheVariants.{WithReason}
 
@@ -22,21 +22,21 @@ use Rattle.bgp_explain.specs.declared.report.Report.TheVariants.{WithReason}
 abbrev pub MadeCouldHaveStood : Type 0
 MadeCouldHaveStood =
     (config : Config) (wanted : Import) (packets : List Recorded) (segments : List Segment)
-    (number named : Option ℕ) (count : ℕ) (unexplained : Option Unexplained) (more : List ℕ)
+    (number named : Option ℕ) (count : ℕ) (found : Found) (more : List ℕ)
     (remarks : List Remark) (possible : Possible)
-    → (told : IsReported config WithReason wanted packets segments number named (No count)
-    unexplained more remarks)
+    → (told : IsReported config WithReason wanted packets segments number named (No count) found
+    more remarks)
     → ArePossible config (take count (records_of told.judged.entries)) possible
     → CouldStand config (records_of told.judged.entries) count possible
 
--- The verdict that is explained of a connection is the one that is told of it without a reason.
+-- The verdict that is explained of a connection's made order is the one that is told of it without
+-- a reason.
 abbrev pub RecordingsAreExplainedAsJudged : Type 0
 RecordingsAreExplainedAsJudged =
     (config : Config) (wanted : Import) (packets : List Recorded) (segments : List Segment)
     (number named other : Option ℕ) (verdict judged : VerdictValue)
-    (unexplained found : Option Unexplained) (more : List ℕ) (remarks others : List Remark)
+    (found also : Found) (more : List ℕ) (remarks others : List Remark)
     → AreTaken wanted.selection 0 packets segments
-    → IsReported config WithReason wanted packets segments number named verdict unexplained more
-    remarks
-    → IsJudged config wanted packets segments number other judged found others
+    → IsReported config WithReason wanted packets segments number named verdict found more remarks
+    → IsJudged config wanted packets segments number other judged also others
     → verdict ≡ judged

@@ -1,4 +1,5 @@
 -- In reading order.
+pub mod Found
 pub mod Told
 pub mod Remarks
 pub mod Options

@@ -37,6 +37,7 @@ IsMisfitFor wanted kinds.NothingSent = ⊥
 IsMisfitFor wanted kinds.Confederation = ⊥
 IsMisfitFor wanted (kinds.No before packet within) = ⊥
 IsMisfitFor wanted (kinds.NoOrder before packet within) = ⊥
+IsMisfitFor wanted kinds.AnotherOrder = ⊥
 IsMisfitFor wanted (kinds.Refused help) = ⊥
 IsMisfitFor wanted kinds.TwoFamilies = ¬ IsOneFamily wanted.selection.session
 IsMisfitFor wanted kinds.OneAddress =

@@ -1,5 +1,5 @@
 -- What is put of one connection whose records are judged, and what there is to tell of it besides.
-use Rattle.std.specs.Prelude.{◌↔◌, ◌≡◌, ◌++◌, ℕ, Bool, IsTrue, List, Option, IfSome}
+use Rattle.std.specs.Prelude.{◌↔◌, ◌≡◌, ◌++◌, ℕ, Bool, IsTrue, List, Option}
 use Rattle.packets.specs.Packet.{Recorded}
 use Rattle.streams.specs.Passed.{Segment}
 use Rattle.mrt.specs.declared.sink.Sink as sinks
@@ -12,32 +12,33 @@ use Rattle.bgp_import.specs.declared.importing.Import.{Import}
 use Rattle.bgp_import.specs.declared.note.Notes.{Notes}
 use Rattle.bgp_recording.specs.Captured.{records_of}
 use Rattle.bgp_recording.specs.declared.entry.Entry.{Entry}
-use Rattle.bgp_orders.specs.declared.connection.Unexplained.{Unexplained}
 use Rattle.bgp_explain.specs.declared.report.Report.{Report}
 use Rattle.bgp_recording_tool.specs.declared.remark.Remark.{Remark}
-use Rattle.bgp_recording_tool.specs.Connections.{IsMore, IsNoOrder}
+use Rattle.bgp_recording_tool.specs.Connections.{IsFound, IsMoreOf}
+use Rattle.bgp_recording_tool.specs.Found.{Found}
 use Rattle.bgp_recording_tool.specs.Remarks.{remarks_on}
-use Rattle.bgp_recording_tool.specs.Told.{IsNo, told_of, told_status, told_text}
+use Rattle.bgp_recording_tool.specs.Told.{told_status, told_text, told_with}
 
--- The verdict on the records of these entries, or of a no the sent message of the connection with
--- this number that no order explains; and what stands after it, with this exit status.
+-- The verdict on the records of these entries, or what is found over all orders of the connection
+-- with this number: of a no the sent message that none explains, or the ends of another that is a
+-- yes; and what stands after it, with this exit status.
 pub record PutsReport {T : Type 0} {sink : sinks.Ghosts T} (config : Config) (report : Report)
     (wanted : Import) (packets : List Recorded) (segments : List Segment)
     (number named : Option ℕ) (entries : List Entry) (notes : Notes)
     (lines lines' : Lines T sink) (remarks remarks' : List Remark) (status : ℕ) : Type 0 where
   pub verdict : VerdictValue
-  pub unexplained : Option Unexplained
+  pub found : Found
+  pub others : List Entry
   pub more : List ℕ
   pub is : HasVerdict config (records_of entries) verdict
-  pub is_no : IfSome unexplained (λ u. IsNo verdict)
-  pub no_order : IfSome unexplained (IsNoOrder config wanted packets segments number)
-  pub is_more : IsMore report config entries verdict more
-  pub wrote : Writes lines lines' (told_text (told_of verdict unexplained more))
+  pub is_found : IsFound config wanted packets segments number verdict others found
+  pub is_more : IsMoreOf report config entries others verdict found more
+  pub wrote : Writes lines lines' (told_text (told_with verdict found more))
   pub confederation : Bool
   pub shows : IsTrue confederation ↔ SomeShowConfederations (records_of entries)
   pub added : remarks' ≡ remarks
-      ++ remarks_on named wanted.within entries notes confederation verdict unexplained
-  pub tells : status ≡ told_status (told_of verdict unexplained more)
+      ++ remarks_on named wanted.within entries notes confederation verdict found
+  pub tells : status ≡ told_status (told_with verdict found more)
 
 -- nothing is put or added
 pub record PutsNothing {T : Type 0} {sink : sinks.Ghosts T} (lines lines' : Lines T sink)

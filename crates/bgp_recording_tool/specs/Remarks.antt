@@ -8,7 +8,6 @@ use Rattle.bgp_tool.specs.Seen.{is_sent}
 use Rattle.bgp_judge.specs.Verdict.{VerdictValue, Yes, No, Unfinished}
 use Rattle.bgp_recording.specs.declared.entry.Entry.{Entry}
 use Rattle.bgp_recording.specs.declared.making.Recording.{Recording}
-use Rattle.bgp_orders.specs.declared.connection.Unexplained.{Unexplained}
 use Rattle.bgp_import.specs.Captures.{put_off}
 use Rattle.bgp_import.specs.Notes.{notes_in_order}
 use Rattle.bgp_import.specs.Refusals.{cause_of}
@@ -17,6 +16,7 @@ use Rattle.bgp_import.specs.declared.refusal.Cause.TheVariants as causes
 use Rattle.bgp_import.specs.declared.refusal.Refusal.{Refusal}
 use Rattle.bgp_import.specs.declared.note.Note.{Note}
 use Rattle.bgp_import.specs.declared.note.Notes.{Notes}
+use Rattle.bgp_recording_tool.specs.Found.{Found, Nothing, ByNone, ByAnother}
 use Rattle.bgp_recording_tool.specs.declared.remark.Remark.{Remark}
 use Rattle.bgp_recording_tool.specs.declared.remark.RemarkKind.{RemarkKind}
 use Rattle.bgp_recording_tool.specs.declared.remark.RemarkKind.TheVariants as kinds
@@ -63,31 +63,44 @@ abbrev pub confederation_remark : Option ℕ → Bool → Option Remark
 confederation_remark connection true = Some (remark_on connection kinds.Confederation)
 confederation_remark connection false = None
 
+-- that nothing was sent, where that is so
+abbrev pub unsent_remark : Option ℕ → List Entry → Option Remark
+unsent_remark connection entries =
+    if has_sent entries then None else Some (remark_on connection kinds.NothingSent)
+
 -- Of a yes, that nothing was sent, where that is so; of a no, how many records come before the
 -- first impossible one, the packet that shows that, and how long a message may have waited.
 abbrev pub made_order_remark : Option ℕ → ℕ → List Entry → VerdictValue → Option Remark
-made_order_remark connection within entries (Yes ends) =
-    if has_sent entries then None else Some (remark_on connection kinds.NothingSent)
+made_order_remark connection within entries (Yes ends) = unsent_remark connection entries
 made_order_remark connection within entries (No count) =
     Some (remark_on connection (kinds.No count (packet_after entries count) within))
 made_order_remark connection within entries Unfinished = None
 
 -- If a sent message is known that no order explains, it is told in place of the record of a no: how
--- many come before it, its packet, and how long a message may have waited.
-abbrev pub verdict_remark : Option ℕ → ℕ → List Entry → VerdictValue → Option Unexplained
-    → Option Remark
-verdict_remark connection within entries verdict None =
+-- many come before it, its packet, and how long a message may have waited. If another order is a
+-- yes, that nothing was sent is told as of each yes.
+abbrev pub verdict_remark : Option ℕ → ℕ → List Entry → VerdictValue → Found → Option Remark
+verdict_remark connection within entries verdict Nothing =
     made_order_remark connection within entries verdict
-verdict_remark connection within entries verdict (Some u) =
+verdict_remark connection within entries verdict (ByNone u) =
     Some (remark_on connection (kinds.NoOrder u.before u.packet within))
+verdict_remark connection within entries verdict (ByAnother ends) =
+    unsent_remark connection entries
+
+-- that the yes is that of another order, if it is
+abbrev pub another_remark : Option ℕ → Found → Option Remark
+another_remark connection Nothing = None
+another_remark connection (ByNone u) = None
+another_remark connection (ByAnother ends) = Some (remark_on connection kinds.AnotherOrder)
 
 -- All that is told of a connection of which these entries are made: with this patience, and with
 -- an UPDATE of a confederation or without.
-abbrev pub remarks_on : Option ℕ → ℕ → List Entry → Notes → Bool → VerdictValue
-    → Option Unexplained → List Remark
-remarks_on connection within entries notes confederation verdict unexplained =
+abbrev pub remarks_on : Option ℕ → ℕ → List Entry → Notes → Bool → VerdictValue → Found
+    → List Remark
+remarks_on connection within entries notes confederation verdict found =
     some_of (making_remarks connection notes ++ confederation_remark connection confederation
-    ∷ verdict_remark connection within entries verdict unexplained ∷ [])
+    ∷ another_remark connection found
+    ∷ verdict_remark connection within entries verdict found ∷ [])
 
 -- what helps against a refusal, if anything does
 abbrev pub help_by : Cause → Option ℕ → Refusal → Option Remark

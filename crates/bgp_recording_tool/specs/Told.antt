@@ -2,6 +2,7 @@
 use Rattle.std.specs.Prelude.{ℕ, ◌≡◌, ◌||◌, ◌++◌, List, [], ◌∷◌, Bool, true, false, cond, nat_eq}
 use Rattle.std.specs.Prelude.{Option, None, Some, codes}
 use Rattle.std.specs.Fmt.{decimal}
+use Rattle.bgp_machine.specs.Run.{End}
 use Rattle.bgp_judge.specs.Verdict.{VerdictValue, Yes, No, Unfinished}
 use Rattle.bgp_tool.specs.VerdictText.{yes_text, no_line, unfinished_line}
 use Rattle.bgp_import.specs.Refusals.{refusal_line, cause_of}
@@ -9,6 +10,7 @@ use Rattle.bgp_import.specs.declared.refusal.Cause.{Cause}
 use Rattle.bgp_import.specs.declared.refusal.Cause.TheVariants as causes
 use Rattle.bgp_import.specs.declared.refusal.Refusal.{Refusal}
 use Rattle.bgp_orders.specs.declared.connection.Unexplained.{Unexplained}
+use Rattle.bgp_recording_tool.specs.Found.{Found, Nothing, ByNone, ByAnother}
 
 pub data Told : Type 0 where
   -- the verdict on the records that are made of it, and what stands after it
@@ -16,6 +18,9 @@ pub data Told : Type 0 where
   -- That verdict is a no, and this sent message is the first that no order explains that the
   -- packets allow. And what stands after it.
   NoOrder : Unexplained → List ℕ → Told
+  -- That verdict isn't a yes, and another order that the packets allow is one, with these ends.
+  -- And what stands after it.
+  InAnotherOrder : List End → List ℕ → Told
   -- why none are made or judged
   Refused : Refusal → Told
 
@@ -24,9 +29,11 @@ abbrev pub told_of : VerdictValue → Option Unexplained → List ℕ → Told
 told_of verdict None more = Judged verdict more
 told_of verdict (Some u) more = NoOrder u more
 
--- the verdict is a no
-abbrev pub IsNo : VerdictValue → Type 0
-IsNo verdict = (count : ℕ) × (verdict ≡ No count)
+-- what is told of a verdict on the made order, and of what is found over all orders
+abbrev pub told_with : VerdictValue → Found → List ℕ → Told
+told_with verdict Nothing more = told_of verdict None more
+told_with verdict (ByNone u) more = told_of verdict (Some u) more
+told_with verdict (ByAnother ends) more = InAnotherOrder ends more
 
 -- ---- its text
 
@@ -42,6 +49,7 @@ no_order_line packet = codes "no at packet " ++ (decimal packet ++ codes "\n")
 abbrev pub told_text : Told → List ℕ
 told_text (Judged verdict more) = value_text verdict ++ more
 told_text (NoOrder u more) = no_order_line u.packet ++ more
+told_text (InAnotherOrder ends more) = yes_text ends ++ more
 told_text (Refused refusal) = refusal_line refusal
 
 -- ---- its exit status
@@ -63,6 +71,7 @@ refused_status refusal = cause_status (cause_of refusal)
 abbrev pub told_status : Told → ℕ
 told_status (Judged verdict more) = value_status verdict
 told_status (NoOrder u more) = 1
+told_status (InAnotherOrder ends more) = 0
 told_status (Refused refusal) = refused_status refusal
 
 -- ---- the exit status over several connections

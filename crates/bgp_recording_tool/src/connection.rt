@@ -21,16 +21,17 @@ ghost use Rattle.bgp_recording.specs.Captured.{IsNoRefresh};
 ghost use Rattle.bgp_explain.specs.Places.{shown_places};
 ghost use Rattle.bgp_explain.specs.Records.{AreExplained, CanBeShown, SaysOrNot};
 ghost use Rattle.bgp_explain.specs.Text.{CanBePutOf};
-ghost use Rattle.bgp_recording_tool.specs.Connections.{IsMore, IsToldAs};
+ghost use Rattle.bgp_recording_tool.specs.Connections.{IsMore, IsMoreOf, IsToldAs};
+ghost use Rattle.bgp_recording_tool.specs.Found.{IsNo, IsSought, entries_of, found_of};
 ghost use Rattle.bgp_recording_tool.specs.Judging.{Puts};
 ghost use Rattle.bgp_recording_tool.specs.Options.{IsOneFamily};
 ghost use Rattle.bgp_recording_tool.specs.Putting.{PutsNothing, PutsReport};
 ghost use Rattle.bgp_recording_tool.specs.Remarks.{AddsTold, IsHelp, notes_of};
-ghost use Rattle.bgp_recording_tool.specs.Told.{IsNo, no_order_line, refused_status};
-ghost use Rattle.bgp_recording_tool.specs.Told.{told_of, told_status, told_text};
+ghost use Rattle.bgp_recording_tool.specs.Told.{no_order_line, refused_status};
+ghost use Rattle.bgp_recording_tool.specs.Told.{told_of, told_status, told_text, told_with};
 
 use crate::judging::{status_of, verdict_status};
-use crate::orders::unexplained_by_all;
+use crate::orders::{Searched, search_orders};
 use crate::remark::{Remark, add_help};
 use crate::remarking::add_remarks_on;
 use bgp_explain::{ExplainedRecords, Places, Report, explain_records, put_explained_records};
@@ -158,10 +159,62 @@ fn put_report<A: Allocator + Copy, W: Sink>(
     verdict_status(&explained.verdict)
 }
 
+/// Puts what is reported on the records of these entries, or on those of another order that is a
+/// yes, and answers its exit status.
+fn put_searched<A: Allocator + Copy, W: Sink>(
+    lines: &mut Lines<'_, W>,
+    alloc: A,
+    config: &Config,
+    report: Report,
+    entries: &[Entry<'_>],
+    explained: &ExplainedRecords<A>,
+    searched: &Searched<'_, A>,
+) -> Status
+    requires explained { AreExplained config.now (captured.records_of entries.now) explained.now }
+    requires can { CanBePutOf config.now.parts.session explained.now.reason }
+    requires sought { IsSought config.now (verdict_value explained.now.verdict) searched.now }
+    ensures { (more : List ℕ)
+        × IsMoreOf report config.now entries.now (entries_of searched.now)
+        (verdict_value explained.now.verdict) (found_of searched.now) more
+        × Writes lines.old lines.new (told_text
+        (told_with (verdict_value explained.now.verdict) (found_of searched.now) more))
+        × (code_of result ≡ told_status
+        (told_with (verdict_value explained.now.verdict) (found_of searched.now) more)) }
+{
+    match searched {
+        Searched::Nothing => put_report(lines, alloc, config, report, entries, explained, None),
+        Searched::NoOrder(unexplained) => {
+            let unexplained = Some(*unexplained);
+            put_report(
+                lines,
+                alloc,
+                config,
+                report,
+                entries,
+                explained,
+                unexplained,
+            )
+        }
+        Searched::Another(another) => {
+            let entries = another.recording.entries.as_slice();
+            put_report(
+                lines,
+                alloc,
+                config,
+                report,
+                entries,
+                &another.explained,
+                None,
+            )
+        }
+    }
+}
+
 /// Judges the records of a connection, puts what is reported on them, adds what there is to tell of
-/// it, with a number where several are told of, and answers the exit status. If they are a no, all
-/// orders are searched, and a sent message that none explains is reported in place of the record.
-/// If memory is refused for the verdict nothing is put or added.
+/// it, with a number where several are told of, and answers the exit status. If they aren't a yes,
+/// all orders are searched: another that is one is reported in place of the made one, and of a no a
+/// sent message that none explains in place of the record. If memory is refused for the verdict
+/// nothing is put or added.
 fn report_made<A: Allocator + Copy, T: Tracker<A>, W: Sink>(
     alloc: A,
     config: &Config,
@@ -191,7 +244,7 @@ fn report_made<A: Allocator + Copy, T: Tracker<A>, W: Sink>(
     let entries = made.entries.as_slice();
     let explained = explain_records::<A, T>(alloc, config, &made.records)?;
     let verdict = &explained.verdict;
-    let unexplained = unexplained_by_all(alloc, config, import, gathered, number, verdict);
+    let searched = search_orders::<A, T>(alloc, config, import, gathered, number, verdict);
     let confederation = some_show_confederations(&made.records);
     add_remarks_on(
         remarks,
@@ -200,17 +253,9 @@ fn report_made<A: Allocator + Copy, T: Tracker<A>, W: Sink>(
         made,
         confederation,
         verdict,
-        unexplained,
+        &searched,
     )?;
-    Ok(put_report(
-        lines,
-        alloc,
-        config,
-        report,
-        entries,
-        &explained,
-        unexplained,
-    ))
+    Ok(put_searched(lines, alloc, config, report, entries, &explained, &searched))
 }
 
 /// Puts the line of a refusal, adds what helps, and answers its exit status.

@@ -2,7 +2,8 @@
 
 ghost use Rattle.std.specs.Prelude.{◌<◌, ◌^◌};
 ghost use Rattle.bgp_recording_tool.specs.Told.{NoIsTold};
-ghost use Rattle.bgp_recording_tool.specs.Headline.{EachEndIsShown, ImportAndJudgeAgree};
+ghost use Rattle.bgp_recording_tool.specs.Headline.{EachEndIsShown, EachEndOfAnotherIsShown};
+ghost use Rattle.bgp_recording_tool.specs.Headline.{ImportAndJudgeAgree};
 ghost use Rattle.bgp_recording_tool.specs.Headline.{JudgeTellsTheCapture, NoAtPacketIsByNoOrder};
 ghost use Rattle.bgp_recording_tool.specs.Judging.{JudgesRecording};
 
@@ -12,7 +13,7 @@ use bgp_explain::Report;
 use bgp_import::{RecordingOptions, recordings_are_made_once};
 use bgp_judge::{Tracker, records_have_just_one_verdict};
 use bgp_open::Config;
-use bgp_orders::no_order_explains_a_no;
+use bgp_orders::{no_order_explains_a_no, runs_of_entries_are_whole};
 use bgp_recording::made_records_are_read;
 use bgp_text::Lines;
 use bgp_tool::hand_over;
@@ -24,23 +25,24 @@ use std::alloc::Allocator;
 ///
 /// Packets don't tell when the local system read a message, and what came may have waited. So one
 /// order is made in which it may have handled them, and the records of that are judged. What a yes
-/// is worth says [`each_end_is_shown`]. If the verdict is a no, all orders that the packets allow
-/// are searched, and a no over all names the packet of a sent message: what it is worth says
-/// [`a_no_at_a_packet_is_by_no_order`]. If some order explains all that was sent, if there are too
-/// many orders to be searched, or if memory is refused for that, the no names the record of the
-/// made order. Then it is about this one order, and another may be a yes. By
-/// [`import_and_judge_agree`] the capture that is imported gets the verdict on the made order from
-/// [`judge_capture`](bgp_tool::judge_capture).
+/// is worth says [`each_end_is_shown`]. If the verdict isn't a yes, all orders that the packets
+/// allow are searched. If another is a yes, that yes is reported, and a remark says so. A no over all
+/// is reported by the packet of a sent message ([`a_no_at_a_packet_is_by_no_order`]). If some order
+/// explains all that was sent and none is a yes, or there are too many to be searched or no memory
+/// for it, the verdict on the made order is reported: a no by its record, which is about this one
+/// order, and another may be a yes. By [`import_and_judge_agree`] the capture that is imported has
+/// the verdict of the made order from [`judge_capture`](bgp_tool::judge_capture).
 ///
 /// It judges the connection that is named, or the only one; where there are several and none is
 /// named, each, under a line that names it. It writes the text of each verdict, or `recording
 /// refused: NUMBER NAME at packet N`, and answers its exit status, of several the first of 5, 4, 1,
 /// 3, 2, 0 that one of them has ([`a_no_is_told`]):
 ///
-/// * 0: `yes`, and each possible end with its routes, and no other.
+/// * 0: `yes`, and each possible end with its routes, and no other: of the made order, or of the
+///   other one that is a yes.
 /// * 1: `no at packet P`: no order explains the sent message that this packet shows; a remark has
-///   its number among those sent. Or `no at record N` of the made records; a remark tells the
-///   packet that shows the record.
+///   its number among those sent. Or `no at record N` of the made records; a remark has the packet
+///   that shows the record.
 /// * 2: `unfinished`: the recording stops within what the local system had to do.
 /// * 3: the recording is refused.
 /// * 4: memory was refused.
@@ -57,7 +59,7 @@ use std::alloc::Allocator;
 ///   the record lacks of it; and each note whose condition holds, as
 ///   [`explain_capture`](bgp_explain::explain_capture) has them.
 /// * after an unfinished the same, of what may follow all records.
-/// * after a yes how many records there are, and of which kinds.
+/// * after a yes how many records there are, and of which kinds; of another order its own.
 ///
 /// After a refusal it writes nothing more. Where memory is refused for the reason of a connection,
 /// `note no memory for the reason` stands in its place, and the verdict is told all the same. By
@@ -124,11 +126,18 @@ pub fn judge_recording<A: Allocator + Copy, T: Tracker<A>, R: Source, W: Sink>(
 /// others that keep to these limits the law is the same, and only a no or an unfinished could
 /// become a yes, or the other way round.
 ///
+/// A yes of another order than the made one is worth the same: some run shows just the records of an
+/// order of the connection's messages that the packets allow within the patience, and ends so. The
+/// session may begin in Connect or in Active then, whoever opened the connection.
+///
 /// It rests on the packets: that the recorder missed none, that the file has them in the order in
 /// which they passed, by a clock that is right, and that what was recorded is what arrived.
 pub fn each_end_is_shown()
-    ensures { EachEndIsShown }
-{}
+    ensures made { EachEndIsShown }
+    ensures other { EachEndOfAnotherIsShown }
+{
+    runs_of_entries_are_whole();
+}
 
 /// Law: what a no over all orders is worth.
 ///
@@ -150,8 +159,8 @@ pub fn a_no_at_a_packet_is_by_no_order()
 /// one list of records ([`recordings_are_made_once`]). The capture that
 /// [`import_recording`](bgp_import::import_recording) writes reads as just these, and whatever
 /// verdict holds of what it reads as is the one that is answered of the recording; a no, if a no
-/// over all orders is answered. A reader refuses
-/// such a capture at its first ROUTE-REFRESH, where the session refuses one, and for nothing else
+/// over all orders is answered; and no yes, if the yes of another order is. A reader refuses such a
+/// capture at its first ROUTE-REFRESH, where the session refuses one, and for nothing else
 /// (7 RouteRefresh); and exactly there is the recording refused for that (18 RouteRefresh). Where
 /// both pass such messages over, none is in the capture.
 pub fn import_and_judge_agree()

@@ -15,8 +15,8 @@ pub fn made_records_could_have_stood()
     what_could_have_stood_is_told();
 }
 
-/// The verdict that is explained of a connection is the one that
-/// [`judge_recording`](crate::judge_recording) tells of it without a reason.
+/// The verdict that is explained of a connection's made order is the one that
+/// [`judge_recording`](crate::judge_recording) has of it without a reason.
 pub fn recordings_are_explained_as_judged()
     ensures { RecordingsAreExplainedAsJudged }
 {

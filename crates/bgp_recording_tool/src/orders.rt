@@ -1,66 +1,154 @@
-//! The verdict over all orders on one of a recording's connections.
+//! What all orders of one of a recording's connections say, beside the made one.
 
-ghost use Rattle.std.specs.Prelude.{List, IfSome, length, reverse};
+ghost use Rattle.std.specs.Prelude.{List, IfSome, IsFalse, IsTrue, length, reverse};
 ghost use Rattle.packets.specs.Packet.{Recorded};
 ghost use Rattle.streams.specs.Passed.{Segment};
 ghost use Rattle.bgp_judge.specs.Verdict.{verdict_value};
 ghost use Rattle.bgp_import.specs.Gathers.{HoldsSession};
 ghost use Rattle.bgp_import.specs.Making.{HoldsTaken};
 ghost use Rattle.bgp_import.specs.Selecting.{AreTaken};
-ghost use Rattle.bgp_recording_tool.specs.Connections.{IsNoOrder};
-ghost use Rattle.bgp_recording_tool.specs.Told.{IsNo};
+ghost use Rattle.bgp_recording.specs.Captured.{records_of};
+ghost use Rattle.bgp_recording.specs.Gathered.{IsClocked, IsCovered};
+ghost use Rattle.bgp_explain.specs.Records.{AreExplained};
+ghost use Rattle.bgp_recording_tool.specs.Connections.{IsFound, IsFoundOver, IsYesOver};
+ghost use Rattle.bgp_recording_tool.specs.Found.{IsNo, IsNoYes, IsSought, IsYes};
+ghost use Rattle.bgp_recording_tool.specs.Found.{ends_of, entries_of, found_of};
 
+use bgp_explain::{ExplainedRecords, explain_records};
 use bgp_import::{Gathered, Import};
-use bgp_judge::Verdict;
+use bgp_judge::{Tracker, Verdict};
 use bgp_open::Config;
-use bgp_orders::{OverOrders, Unexplained, verdict_over_orders};
-use bgp_recording::Framings;
+use bgp_orders::{OverOrders, Unexplained, record_whole_way, verdict_over_orders};
+use bgp_recording::{Framings, Recording};
 use std::alloc::Allocator;
+use streams::Connection;
 
-/// Returns the first sent message of the connection of this number, or of the only one, that no
-/// order explains which the packets allow, if there is one.
-fn unexplained_in<A: Allocator + Copy>(
-    alloc: A,
-    config: &Config,
-    import: &Import,
-    gathered: &Gathered<A>,
-    number: Option<usize>,
-) -> Option<Unexplained>
-    requires holds { HoldsTaken import.now.selection gathered.now }
-    ensures { (packets : List Recorded) (segments : List Segment)
-        → AreTaken import.now.selection 0 packets segments
-        → HoldsSession (reverse segments) (length packets) gathered.now
-        → IfSome result (IsNoOrder config.now import.now packets segments number) }
+/// Another order than the made one, whose records are a yes.
+#[derive(Drop)]
+pub(crate) struct AnotherOrder<'a, A: Allocator> {
+    /// Its records, and what is left of the streams.
+    pub(crate) recording: Recording<'a, A>,
+    /// What judging them answers.
+    pub(crate) explained: ExplainedRecords<A>,
+}
+
+/// What the search of all orders finds that is reported in place of the verdict on the made one.
+#[derive(Drop)]
+pub(crate) enum Searched<'a, A: Allocator> {
+    /// Nothing: that verdict is reported.
+    Nothing,
+    /// No order explains this sent message.
+    NoOrder(Unexplained),
+    /// Another order is a yes.
+    Another(AnotherOrder<'a, A>),
+}
+
+/// Whether the verdict is a no.
+fn is_no<A: Allocator>(verdict: &Verdict<A>) -> bool
+    ensures { IsTrue result → IsNo (verdict_value verdict.now) }
 {
-    let Ok(connection) = gathered.choose(number) else {
-        return None;
-    };
-    let framings = Framings::of_session(&import.selection.session);
-    match verdict_over_orders(alloc, config, &connection, framings, import.within) {
-        Ok(OverOrders::No(unexplained)) => Some(unexplained),
-        // Some order explains all, or it isn't known: the verdict on the made order is told.
-        Ok(_) | Err(_) => None,
+    match verdict {
+        Verdict::No(_) => true,
+        Verdict::Yes(_) | Verdict::Unfinished => false,
     }
 }
 
-/// Returns the same, if the verdict on the made order is a no. Else nothing is searched.
-pub(crate) fn unexplained_by_all<A: Allocator + Copy>(
+/// Whether the verdict is a yes.
+fn is_yes<A: Allocator>(verdict: &Verdict<A>) -> bool
+    ensures yes { IsTrue result → IsYes (verdict_value verdict.now) }
+    ensures no { IsFalse result → IsNoYes (verdict_value verdict.now) }
+{
+    match verdict {
+        Verdict::Yes(_) => true,
+        Verdict::No(_) | Verdict::Unfinished => false,
+    }
+}
+
+/// Returns the records of a whole way of the connection's messages, if judging them answers yes.
+fn another_yes<'a, A: Allocator + Copy, T: Tracker<A>>(
+    alloc: A,
+    config: &Config,
+    connection: &Connection<'a>,
+    framings: Framings,
+    within: u16,
+) -> Option<AnotherOrder<'a, A>>
+    requires received { IsCovered connection.now.received }
+    requires sent { IsCovered connection.now.sent }
+    ensures explained { IfSome result (λ another.
+        AreExplained config.now (records_of another.recording.entries.items) another.explained
+        × IsYes (verdict_value another.explained.verdict)) }
+    ensures yes { IfSome result (λ another. IsClocked connection.now
+        → IsYesOver config.now within framings connection.now another.recording.entries.items
+        (ends_of (verdict_value another.explained.verdict))) }
+{
+    let Ok(Some(recording)) = record_whole_way(alloc, config, connection, framings, within) else {
+        return None;
+    };
+    let Ok(explained) = explain_records::<A, T>(alloc, config, &recording.records) else {
+        return None;
+    };
+    if !is_yes(&explained.verdict) {
+        return None;
+    }
+    Some(AnotherOrder {
+        recording,
+        explained,
+    })
+}
+
+/// Returns what is found over all orders of the connection's messages, if this is the verdict on the
+/// made one.
+fn search_connection<'a, A: Allocator + Copy, T: Tracker<A>>(
+    alloc: A,
+    config: &Config,
+    connection: &Connection<'a>,
+    framings: Framings,
+    within: u16,
+    verdict: &Verdict<A>,
+) -> Searched<'a, A>
+    requires received { IsCovered connection.now.received }
+    requires sent { IsCovered connection.now.sent }
+    ensures sought { IsSought config.now (verdict_value verdict.now) result }
+    ensures found { IsClocked connection.now → IsFoundOver config.now within framings
+        connection.now (entries_of result) (found_of result) }
+{
+    match verdict_over_orders(alloc, config, connection, framings, within) {
+        Ok(OverOrders::No(unexplained)) if is_no(verdict) => Searched::NoOrder(unexplained),
+        Ok(OverOrders::Yes) => {
+            match another_yes::<A, T>(alloc, config, connection, framings, within) {
+                Some(another) => Searched::Another(another),
+                None => Searched::Nothing,
+            }
+        }
+        // Some order explains all that was sent and none is a yes, or it isn't known.
+        Ok(_) | Err(_) => Searched::Nothing,
+    }
+}
+
+/// Returns what is found over all orders of the connection of this number, or of the only one, if
+/// the verdict on the made one isn't a yes. Else nothing is searched.
+pub(crate) fn search_orders<'a, A: Allocator + Copy, T: Tracker<A>>(
     alloc: A,
     config: &Config,
     import: &Import,
-    gathered: &Gathered<A>,
+    gathered: &'a Gathered<A>,
     number: Option<usize>,
     verdict: &Verdict<A>,
-) -> Option<Unexplained>
+) -> Searched<'a, A>
     requires holds { HoldsTaken import.now.selection gathered.now }
-    ensures is_no { IfSome result (λ u. IsNo (verdict_value verdict.now)) }
-    ensures no_order { (packets : List Recorded) (segments : List Segment)
+    ensures sought { IsSought config.now (verdict_value verdict.now) result }
+    ensures found { (packets : List Recorded) (segments : List Segment)
         → AreTaken import.now.selection 0 packets segments
         → HoldsSession (reverse segments) (length packets) gathered.now
-        → IfSome result (IsNoOrder config.now import.now packets segments number) }
+        → IsFound config.now import.now packets segments number (verdict_value verdict.now)
+        (entries_of result) (found_of result) }
 {
-    match verdict {
-        Verdict::No(_) => unexplained_in(alloc, config, import, gathered, number),
-        Verdict::Yes(_) | Verdict::Unfinished => None,
+    if is_yes(verdict) {
+        return Searched::Nothing;
     }
+    let Ok(connection) = gathered.choose(number) else {
+        return Searched::Nothing;
+    };
+    let framings = Framings::of_session(&import.selection.session);
+    search_connection::<A, T>(alloc, config, &connection, framings, import.within, verdict)
 }

@@ -45,6 +45,9 @@ pub enum RemarkKind {
         /// How many seconds after it came a received message is handled at the latest.
         within: u16,
     },
+    /// A connection is answered yes, and the order that is made isn't one: another order of its
+    /// messages that the packets allow is.
+    AnotherOrder,
     /// The recording or a connection is refused: what helps.
     Refused(Help),
     /// The session's addresses are of two families, between which no packet goes.
@@ -89,6 +92,9 @@ impl fmt::Display for RemarkKind {
                 "no at packet {packet}: it shows sent message {}; no order that these packets \
                  allow within {within} s explains it",
                 before as u128 + 1
+            ),
+            RemarkKind::AnotherOrder => f.write_str(
+                "the order that bgp import makes isn't a yes: another that these packets allow is",
             ),
             RemarkKind::Refused(help) => write!(f, "{help}"),
             RemarkKind::TwoFamilies => f.write_str(

@@ -5,14 +5,16 @@ ghost use Rattle.bgp_judge.specs.Verdict.{verdict_value};
 ghost use Rattle.bgp_recording_tool.specs.Remarks.{made_order_remark, making_remark};
 ghost use Rattle.bgp_recording_tool.specs.Remarks.{making_remarks, verdict_remark};
 ghost use Rattle.bgp_recording_tool.specs.Remarks.{confederation_remark, has_sent, notes_of};
-ghost use Rattle.bgp_recording_tool.specs.Remarks.{packet_after, remarks_on};
+ghost use Rattle.bgp_recording_tool.specs.Found.{found_of};
+ghost use Rattle.bgp_recording_tool.specs.Remarks.{another_remark, packet_after, remarks_on};
+ghost use Rattle.bgp_recording_tool.specs.Remarks.{unsent_remark};
 ghost use Rattle.bgp_tool.specs.Seen.{is_sent};
 ghost use Rattle.mrt.specs.Reader.{shown_of};
 
+use crate::orders::Searched;
 use crate::remark::{Remark, RemarkKind, add_remarks};
 use bgp_import::{Note, notes_on};
 use bgp_judge::Verdict;
-use bgp_orders::Unexplained;
 use bgp_recording::{Entry, Recording};
 use mrt::Record;
 use std::alloc::{AllocError, Allocator};
@@ -90,8 +92,21 @@ fn confederation_remark(connection: Option<usize>, confederation: bool) -> Optio
     })
 }
 
-/// What there is to tell of a verdict on the made order: of a yes, that nothing was sent, where
-/// that is so; of a no, at which record and packet, and how long a message may have waited.
+/// That nothing was sent, where that is so.
+fn unsent_remark(connection: Option<usize>, entries: &[Entry<'_>]) -> Option<Remark>
+    ensures { result ≡ unsent_remark connection entries.now }
+{
+    if has_sent(entries) {
+        return None;
+    }
+    Some(Remark {
+        connection,
+        kind: RemarkKind::NothingSent,
+    })
+}
+
+/// What there is to tell of a verdict on the made order: of a yes, that nothing was sent, where that
+/// is so; of a no, at which record and packet, and how long a message may have waited.
 fn made_order_remark<A: Allocator>(
     connection: Option<usize>,
     within: u16,
@@ -102,8 +117,7 @@ fn made_order_remark<A: Allocator>(
         ≡ made_order_remark connection within entries.now (verdict_value verdict.now) }
 {
     let kind = match verdict {
-        Verdict::Yes(_) if has_sent(entries) => return None,
-        Verdict::Yes(_) => RemarkKind::NothingSent,
+        Verdict::Yes(_) => return unsent_remark(connection, entries),
         Verdict::No(count) => RemarkKind::No {
             before: *count,
             packet: packet_after(entries, *count),
@@ -115,20 +129,20 @@ fn made_order_remark<A: Allocator>(
 }
 
 /// Returns what there is to tell of a verdict, or of the sent message that no order explains, if
-/// there is one.
+/// there is one; of the yes of another order, that nothing was sent, where that is so.
 fn verdict_remark<A: Allocator>(
     connection: Option<usize>,
     within: u16,
     entries: &[Entry<'_>],
     verdict: &Verdict<A>,
-    unexplained: Option<Unexplained>,
+    searched: &Searched<'_, A>,
 ) -> Option<Remark>
-    ensures { result
-        ≡ verdict_remark connection within entries.now (verdict_value verdict.now) unexplained }
+    ensures { result ≡ verdict_remark connection within entries.now (verdict_value verdict.now)
+        (found_of searched.now) }
 {
-    match unexplained {
-        None => made_order_remark(connection, within, entries, verdict),
-        Some(unexplained) => Some(Remark {
+    match searched {
+        Searched::Nothing => made_order_remark(connection, within, entries, verdict),
+        Searched::NoOrder(unexplained) => Some(Remark {
             connection,
             kind: RemarkKind::NoOrder {
                 before: unexplained.before,
@@ -136,13 +150,31 @@ fn verdict_remark<A: Allocator>(
                 within,
             },
         }),
+        Searched::Another(_) => unsent_remark(connection, entries),
+    }
+}
+
+/// That the yes is that of another order than the made one, if it is.
+fn another_remark<A: Allocator>(
+    connection: Option<usize>,
+    searched: &Searched<'_, A>,
+) -> Option<Remark>
+    ensures { result ≡ another_remark connection (found_of searched.now) }
+{
+    match searched {
+        Searched::Nothing | Searched::NoOrder(_) => None,
+        Searched::Another(_) => Some(Remark {
+            connection,
+            kind: RemarkKind::AnotherOrder,
+        }),
     }
 }
 
 /// Adds what there is to tell of a connection: how its records were made; whether they show an
 /// UPDATE of a confederation, as the caller found; of a no the sent message that no order explains,
-/// or at which of the records it is, and in which packet; of a yes that nothing was sent. It is
-/// told with this number, where several connections are. None of it where a growth is refused.
+/// or at which of the records it is, and in which packet; of a yes that it is that of another order,
+/// if it is, and that nothing was sent. It is told with this number, where several connections are.
+/// None of it where a growth is refused.
 pub(crate) fn add_remarks_on<A: Allocator + Copy>(
     remarks: &mut Vec<Remark, A>,
     named: Option<usize>,
@@ -150,11 +182,11 @@ pub(crate) fn add_remarks_on<A: Allocator + Copy>(
     made: &Recording<'_, A>,
     confederation: bool,
     verdict: &Verdict<A>,
-    unexplained: Option<Unexplained>,
+    searched: &Searched<'_, A>,
 ) -> Result<(), AllocError>
     ensures ok { OnOk result (remarks.new.items ≡ remarks.old.items
         ++ remarks_on named within made.now.entries.items (notes_of made.now) confederation
-        (verdict_value verdict.now) unexplained) }
+        (verdict_value verdict.now) (found_of searched.now)) }
     ensures err { OnErr result (remarks.new.items ≡ remarks.old.items) }
 {
     let [
@@ -165,7 +197,8 @@ pub(crate) fn add_remarks_on<A: Allocator + Copy>(
         put_off,
     ] = making_remarks(named, made);
     let shown = confederation_remark(named, confederation);
-    let judged = verdict_remark(named, within, made.entries.as_slice(), verdict, unexplained);
+    let another = another_remark(named, searched);
+    let judged = verdict_remark(named, within, made.entries.as_slice(), verdict, searched);
     add_remarks(
         remarks,
         &[
@@ -175,6 +208,7 @@ pub(crate) fn add_remarks_on<A: Allocator + Copy>(
             sent_left,
             put_off,
             shown,
+            another,
             judged,
         ],
     )

@@ -8,43 +8,44 @@ use Rattle.bgp_recording.specs.declared.entry.Entry.{Entry}
 use Rattle.bgp_parts.specs.Confederations.{SomeShowConfederations}
 use Rattle.bgp_explain.specs.Records.{AreExplained, CanBeShown}
 use Rattle.bgp_explain.proofs.NextRecord.{can_of, entries_can}
-use Rattle.bgp_recording_tool.specs.Connections.{IsMore}
+use Rattle.bgp_recording_tool.specs.Connections.{IsMoreOf}
+use Rattle.bgp_recording_tool.specs.Found.{entries_of, found_of}
 use Rattle.bgp_recording_tool.proofs.connection.report_made.Goals as goal
 
-pub put_report-requires-clause-explained : goal.put_report-requires-clause-explained
-put_report-requires-clause-explained g c =
+pub put_searched-requires-clause-explained : goal.put_searched-requires-clause-explained
+put_searched-requires-clause-explained g c =
     subst (λ (rs : List ShownRecord). AreExplained c.args.config.now rs c.in_ok-explained.explained)
     (ap (map shown_of) c.deref.ensures.value ∙ c.requires.records ∙ ap records_of (sym c.as_slice-entries.ensures.value)) c.in_ok-explained.ensures.explained
 
-pub put_report-requires-clause-can : goal.put_report-requires-clause-can
-put_report-requires-clause-can g c =
+pub put_searched-requires-clause-can : goal.put_searched-requires-clause-can
+put_searched-requires-clause-can g c =
     let config = c.args.config.now in
     let session = config.parts.session in
     let entries = c.as_slice-entries.result.now in
     let explained = c.in_ok-explained.explained in
-    let are : AreExplained config (records_of entries) explained = put_report-requires-clause-explained g c in
+    let are : AreExplained config (records_of entries) explained = put_searched-requires-clause-explained g c in
     can_of session config (records_of entries) explained.verdict explained.reason
     (entries_can session entries (subst (λ (es : List Entry). AllByRecursion (CanBeShown session) es) (sym c.as_slice-entries.ensures.value) c.requires.can))
     are.reason
 
-pub put_report-requires-clause-is_no : goal.put_report-requires-clause-is_no
-put_report-requires-clause-is_no g c = c.unexplained_by_all-unexplained.ensures.is_no
+pub put_searched-requires-clause-sought : goal.put_searched-requires-clause-sought
+put_searched-requires-clause-sought g c = c.search_orders-searched.ensures.sought
 
 pub returns : goal.returns
 returns g c = λ packets segments taken holds.
     let config = c.args.config.now in
     let same = c.as_slice-entries.ensures.value in
     let verdict = verdict_value c.in_ok-explained.explained.verdict in
-    let (more, is_more, wrote, tells) = c.put_report.ensures in
+    let (more, is_more, wrote, tells) = c.put_searched.ensures in
     let records = c.requires.records in
     record {
       verdict = verdict;
-      unexplained = c.unexplained_by_all-unexplained.result;
+      found = found_of c.search_orders-searched.result;
+      others = entries_of c.search_orders-searched.result;
       more = more;
       is = subst (λ (rs : List ShownRecord). HasVerdict config rs verdict) (ap (map shown_of) c.deref.ensures.value ∙ records) c.in_ok-explained.ensures.explained.verdict;
-      is_no = c.unexplained_by_all-unexplained.ensures.is_no;
-      no_order = c.unexplained_by_all-unexplained.ensures.no_order packets segments taken holds;
-      is_more = subst (λ (es : List Entry). IsMore c.args.report config es verdict more) same is_more;
+      is_found = c.search_orders-searched.ensures.found packets segments taken holds;
+      is_more = subst (λ (es : List Entry). IsMoreOf c.args.report config es (entries_of c.search_orders-searched.result) verdict (found_of c.search_orders-searched.result) more) same is_more;
       wrote = wrote;
       confederation = c.some_show_confederations-confederation.result;
       shows = subst (λ (rs : List ShownRecord). IsTrue c.some_show_confederations-confederation.result ↔ SomeShowConfederations rs) (ap (map shown_of) c.deref-2.ensures.value ∙ records)

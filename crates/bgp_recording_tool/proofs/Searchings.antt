@@ -1,0 +1,44 @@
+-- What the search of all orders finds, of a connection that is chosen; and what is put of it.
+use Rattle.std.proofs.Common.{◌≡◌, ℕ, List, Option, Some, IfSome, length, reverse, sym, subst}
+use Rattle.packets.specs.Packet.{Recorded}
+use Rattle.streams.specs.Choice.{IsAnswered}
+use Rattle.streams.specs.Connections.{numbered}
+use Rattle.streams.specs.Passed.{Segment}
+use Rattle.streams.specs.declared.connection.Connection.{Connection}
+use Rattle.bgp_prefix.specs.Shown.{ShownRecord}
+use Rattle.bgp_prefix.specs.declared.session.Session.{Session}
+use Rattle.bgp_open.specs.declared.config.Config.{Config}
+use Rattle.bgp_judge.specs.Verdict.{VerdictValue, Yes, No, Unfinished, HasVerdict, verdict_value}
+use Rattle.bgp_judge.specs.declared.verdict.Verdict.{Verdict}
+use Rattle.bgp_judge.specs.declared.verdict.Verdict.TheVariants as verdicts
+use Rattle.bgp_recording.specs.Pieces.{framings_of}
+use Rattle.bgp_explain.specs.Reason.{HasReason}
+use Rattle.bgp_explain.specs.Text.{CanBePutOf}
+use Rattle.bgp_explain.specs.declared.explained.Reason.{Reason}
+use Rattle.bgp_import.specs.declared.importing.Import.{Import}
+use Rattle.bgp_recording_tool.specs.Connections.{IsFound, IsFoundOver}
+use Rattle.bgp_recording_tool.specs.Found.{IsNoYes, IsSought, IsYes, ends_of, entries_of, found_of}
+use Rattle.bgp_recording_tool.specs.declared.orders.Searched.{Searched}
+use Rattle.bgp_recording_tool.specs.declared.orders.Searched.TheVariants as searches
+
+-- what is found over all orders of the connection is found of the chosen one
+pub found_so : {X : Type 0} (config : Config) (wanted : Import) (packets : List Recorded) (segments : List Segment) (number : Option ℕ) (connection : Connection) (verdict : VerdictValue)
+    (searched : Searched X) → IsAnswered number (length packets) (numbered (reverse segments)) connection → IsNoYes verdict → IsSought config verdict searched
+    → IsFoundOver config wanted.within (framings_of wanted.selection.session) connection (entries_of searched) (found_of searched)
+    → IsFound config wanted packets segments number verdict (entries_of searched) (found_of searched)
+found_so config wanted packets segments number connection verdict searches.Nothing answered other sought over = tt
+found_so config wanted packets segments number connection verdict (searches.NoOrder u) answered other sought over =
+    (sought, record { connection = connection; chosen = answered; over_all = over })
+found_so config wanted packets segments number connection verdict (searches.Another another) answered other sought over =
+    (other, record { connection = connection; chosen = answered; yes = over })
+
+-- the reason of a yes can be put, since it has none
+pub yes_can : {X Y : Type 0} (session : Session) (config : Config) (records : List ShownRecord) (verdict : Verdict X) (reason : Option (Reason Y)) → IsYes (verdict_value verdict)
+    → HasReason config records verdict reason → CanBePutOf session reason
+yes_can session config records (verdicts.Yes ends) reason is has = subst (λ (w : Option (Reason _)). CanBePutOf session w) (sym has) tt
+yes_can session config records (verdicts.No count) reason is has = absurd (let never = is in cc)
+yes_can session config records verdicts.Unfinished reason is has = absurd (let never = is in cc)
+
+-- what holds of the value that there is
+pub some_is : {X : Type 0} (o : Option X) (x : X) (P : X → Type 0) → o ≡ Some x → IfSome o P → P x
+some_is o x P is h = rw is at h
