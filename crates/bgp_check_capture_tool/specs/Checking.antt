@@ -29,7 +29,7 @@ use Rattle.bgp_check_capture_tool.specs.declared.telling.Telling.{Telling}
 
 -- ---- the blocks, one a session
 
--- what is told of a session, and why not all of its records are read, if they aren't
+-- what is printed of a session, and why not all of its records are read, if they aren't
 pub record Block : Type 0 where
   pub addresses : Addresses
   pub ends : List End
@@ -74,8 +74,8 @@ pub record PutsBlocks {T : Type 0} {sink : sinks.Ghosts T} (telling : Telling)
 
 -- ---- the file
 
--- what is told besides of the sessions of a file that isn't read on for this, if it isn't: no
--- record of it is too long for a session without extended messages, or one is
+-- what else the blocks go by, of a file that isn't read on for this, if it isn't: whether no record
+-- of it is too long for a session without extended messages
 abbrev pub telling_of : CaptureOptions → Bool → Option CaptureFault → Telling
 telling_of options plain fault = telling_where fault record {
   routes = options.routes;
@@ -83,8 +83,8 @@ telling_of options plain fault = telling_where fault record {
   is_plain = plain;
 }
 
--- The sessions whose records these octets have are told, in the order of their first ones, and
--- then why the file isn't read to its end, if it isn't.
+-- A block is printed for each session whose records these octets have, in the order of their first
+-- ones, and then why the file isn't read to its end, if it isn't.
 pub record TellsAll (options : CaptureOptions) (octets : List ℕ) (ending : Ending) (text : List ℕ)
     (tally : Tally) (firsts : List (Option CaptureFault)) (fault : Option CaptureFault) : Type 0
   where
@@ -101,7 +101,8 @@ pub record TellsAll (options : CaptureOptions) (octets : List ℕ) (ending : End
     pub are_firsts : firsts ≡ firsts_after [] (faults_in blocks)
     pub is_fault : fault ≡ fault_by ending refusal offset
 
--- So many sessions are told; or none, and only that there was no memory for a list of the records.
+-- So many sessions are printed; or none, and only that there was no memory for a list of the
+-- records.
 abbrev pub Tells : CaptureOptions → List ℕ → Ending → List ℕ → Tally → List (Option CaptureFault)
     → ℕ → Option CaptureFault → Type 0
 Tells options octets ending text tally firsts count fault =
@@ -117,13 +118,13 @@ pub record PutsFile {T : Type 0} {sink : sinks.Ghosts T} (options : CaptureOptio
   pub wrote : Writes lines lines' text
   pub tells : Tells options octets ending text tally firsts count fault
 
--- that there is no session, where nothing was told
+-- that there is no session, if nothing else is printed
 abbrev pub nothing_text : Tally → List ℕ
 nothing_text tally =
     if is_empty tally then codes "not judged: no record of a session\n" else []
 
--- that no end is judged is told where the file was read to its end, and whether more could be, if
--- more were recorded
+-- that no end is judged is said if the file was read to its end, and whether more could be, if more
+-- were recorded
 abbrev pub nothing_where : Bool → Bool → Option CaptureFault → Option NothingJudged
 nothing_where true incomplete fault = None
 nothing_where false incomplete (Some fault) = None
@@ -132,9 +133,10 @@ nothing_where false incomplete None = Some (record { is_incomplete = incomplete 
 abbrev pub nothing_by : Tally → Option CaptureFault → Option NothingJudged
 nothing_by tally fault = nothing_where (has_verdict tally) (is_incomplete tally) fault
 
--- A source is held, and its sessions are told, so many, and why it isn't read to its end; then that
--- there is none, if so, and last how many ends there are of each verdict. All of that was written, if the
--- sink didn't fail. Of all refusals those are answered that are the first of their number.
+-- A source is held, and its sessions are printed, so many, and why it isn't read to its end; then
+-- that there is none, if so, and last how many ends there are of each verdict. All of that was
+-- written, if the sink didn't fail. Of all refusals those are answered that are the first of their
+-- number.
 pub record ChecksCapture {S T : Type 0} (gives : S → S → List ℕ → Type 0) (has_ended : S → Bool)
     (takes : T → T → List ℕ → Type 0) (source_failures : S → ℕ) (failures : T → ℕ)
     (options : CaptureOptions) (source source' : S) (sink sink' : T) (status : ℕ)

@@ -50,8 +50,8 @@ pub struct CheckedCapture {
 
 impl CheckedCapture {
     /// Returns what to say of the file, which begins with these octets, if it has no session: what
-    /// it is, as far as that is known ([`without_records`]). Else its refusals and `nothing` are what
-    /// there is to say.
+    /// it is, as far as that is known ([`without_records`]). Else its refusals and `nothing` are
+    /// what there is to say.
     pub fn file_note<'a>(&self, file: &'a str, front: &[u8]) -> Option<Note<'a>>
         ensures some { 0 < self.now.sessions → result ≡ None }
         ensures none { self.now.sessions ≡ 0 → result
@@ -210,8 +210,8 @@ fn nothing_by(tally: Tally, fault: Option<CaptureFault>) -> Option<NothingJudged
     }
 }
 
-/// Holds the capture, and checks all sessions in it: what [`check_capture`](crate::check_capture) is
-/// made of, on whose page its sentence stands.
+/// Holds the capture, and checks all sessions in it: what [`check_capture`](crate::check_capture)
+/// is made of, on whose page its sentence stands.
 pub(crate) fn check_capture<A: Allocator + Copy, T: Tracker<A>, R: Source, W: Sink>(
     alloc: A,
     options: &CaptureOptions,
