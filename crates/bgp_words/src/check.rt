@@ -73,7 +73,7 @@ static WORDS: [Word<'static>; 5] = [
     Word::Flag("routes", "Prints the routes of each possible end"),
     Word::Flag(
         "settings",
-        "Prints the options with which judge says the same of an end, after a yes too",
+        "Prints the options with which judge says the same of an end, after yes too",
     ),
 ];
 
@@ -84,7 +84,8 @@ pub(crate) fn check_words<'a>(alloc: Global) -> Result<clap::Command<'a>, AllocE
 {
     let check = clap::Command::new(alloc, "check")
         .about("Says whether the ends of each session in a file kept to the standard")
-        .after_help(CHECKED);
+        .after_help(CHECKED)
+        .display_order(0);
     with_words(alloc, check, &WORDS)
 }
 

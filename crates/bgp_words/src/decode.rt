@@ -67,7 +67,7 @@ static WORDS: [Word<'static>; 5] = [
     READ,
     Word::Flag(
         "mrt",
-        "FILE is a capture of MRT records, or a recording: prints the records of one session",
+        "Prints the records of one session: FILE is an MRT or pcap file",
     ),
     Word::Option("peer", "The address of the session's peer, with --mrt"),
     Word::Option(

@@ -19,6 +19,7 @@ mod recording;
 mod settings;
 mod speak;
 mod texts;
+mod usage;
 mod values;
 mod words;
 

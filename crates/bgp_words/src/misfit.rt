@@ -53,6 +53,58 @@ impl Display for Wanted {
 pub(crate) enum Misfit<'a> {
     /// None was named.
     NoCommand,
+    /// The word after the program's name is none.
+    UnknownCommand {
+        /// The word.
+        word: &'a str,
+        /// The command that is most like it, if one is like it.
+        near: Option<&'a str>,
+    },
+    /// A word is written as an option, and the command has no such option.
+    UnknownOption {
+        /// The word.
+        word: &'a str,
+        /// The command.
+        command: &'a str,
+        /// The option that is most like it, if one is like it.
+        near: Option<&'a str>,
+    },
+    /// There are more words than the command has files.
+    ExtraWord {
+        /// The first of them.
+        word: &'a str,
+        /// The command.
+        command: &'a str,
+    },
+    /// An option has no value.
+    NoValue {
+        /// The option's name.
+        name: &'a str,
+    },
+    /// A flag has a value.
+    NoFlag {
+        /// The flag's name.
+        name: &'a str,
+    },
+    /// An option is given twice.
+    Twice {
+        /// The option's name.
+        name: &'a str,
+    },
+    /// An option that has to be given isn't.
+    Lacking {
+        /// The option's name.
+        name: &'a str,
+        /// The command.
+        command: &'a str,
+    },
+    /// No file is named.
+    NoFile {
+        /// The command.
+        command: &'a str,
+    },
+    /// `import` names no file to write.
+    NoOut,
     /// An option is missing beside others.
     Missing {
         /// The option's name.
@@ -84,7 +136,33 @@ pub(crate) enum Misfit<'a> {
 impl Display for Misfit<'_> {
     fn fmt<W: fmt::Write>(&self, f: &mut fmt::Formatter<W>) -> fmt::Result {
         match *self {
-            Misfit::NoCommand => f.write_str("no command is named"),
+            Misfit::NoCommand => {
+                f.write_str("no command is named, as in `bgp check FILE`: `bgp help` lists them")
+            }
+            Misfit::UnknownCommand { word, near } => put_unknown_command(f, word, near),
+            Misfit::UnknownOption {
+                word,
+                command,
+                near,
+            } => put_unknown_option(f, word, command, near),
+            Misfit::ExtraWord { word, command } => write!(
+                f,
+                "{word:?} is one word too many: `bgp help {command}` has the words of the command"
+            ),
+            Misfit::NoValue { name } => write!(f, "--{name} wants a value after it"),
+            Misfit::NoFlag { name } => write!(f, "--{name} takes no value"),
+            Misfit::Twice { name } => write!(f, "--{name} is given twice"),
+            Misfit::Lacking { name, command } => write!(
+                f,
+                "--{name} is missing: `bgp help {command}` says what it is"
+            ),
+            Misfit::NoFile { command } => write!(
+                f,
+                "FILE is missing, as in `bgp {command} FILE`: `-` is standard input"
+            ),
+            Misfit::NoOut => f.write_str(
+                "OUT is missing, the MRT file to write: `-` is standard output",
+            ),
             Misfit::Missing { name } => write!(
                 f,
                 "--{name} is missing: --mrt, --peer and --local go together"
@@ -113,5 +191,36 @@ impl Display for Misfit<'_> {
                 "where --local and --peer are one address, --local-port is wanted too",
             ),
         }
+    }
+}
+
+/// The sentence on a word that is no command, and the command that is most like it.
+fn put_unknown_command<W: fmt::Write>(
+    f: &mut fmt::Formatter<W>,
+    word: &str,
+    near: Option<&str>,
+) -> fmt::Result {
+    match near {
+        Some(name) => write!(f, "{word:?} is no command: did you mean `bgp {name}`?"),
+        None => write!(f, "{word:?} is no command: `bgp help` lists them"),
+    }
+}
+
+/// The sentence on a word that is no option, and the option that is most like it.
+fn put_unknown_option<W: fmt::Write>(
+    f: &mut fmt::Formatter<W>,
+    word: &str,
+    command: &str,
+    near: Option<&str>,
+) -> fmt::Result {
+    match near {
+        Some(name) => write!(
+            f,
+            "{word:?} is no option of `bgp {command}`: did you mean --{name}?"
+        ),
+        None => write!(
+            f,
+            "{word:?} is no option of `bgp {command}`: `bgp help {command}` lists them"
+        ),
     }
 }

@@ -26,7 +26,7 @@ pub(crate) const PORT: Word<'static> = Word::Default(
 pub(crate) const WITHIN: Word<'static> = Word::Default(
     "within",
     "10",
-    "How many seconds a received message of a recording may wait: 0 to 65535",
+    "Seconds a message of a recording may wait: 0 to 65535",
 );
 
 /// The words of a session that is read: four that are for recordings alone, and one that isn't.
@@ -34,11 +34,11 @@ static WORDS: [Word<'static>; 5] = [
     PORT,
     Word::Option(
         "local-port",
-        "The local system's port in a recording: only its connections there are meant",
+        "The local system's port in a recording: only connections there",
     ),
     Word::Option(
         "connection",
-        "The number of the connection in a recording that is meant, as bgp list prints it",
+        "The connection in a recording, by its number in bgp list",
     ),
     WITHIN,
     Word::Flag(

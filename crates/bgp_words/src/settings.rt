@@ -37,7 +37,7 @@ static CHOICES: [Word<'static>; 7] = [
     Word::Default(
         "hold",
         "90",
-        "The Hold Time that the local system offers, in seconds: 0, or 3 to 65535",
+        "The Hold Time that it offers: 0, or 3 to 65535 seconds",
     ),
     Word::Default(
         "families",
@@ -54,7 +54,7 @@ static CHOICES: [Word<'static>; 7] = [
     Word::Default(
         "large-hold",
         "240",
-        "How many seconds it waits for the peer's OPEN: 1 to 4294967295",
+        "Seconds it waits for the peer's OPEN: 1 to 4294967295",
     ),
 ];
 

@@ -60,7 +60,7 @@ const CAPTURE: Word<'static> = Word::File("FILE", "The capture to write; - is a 
 static WORDS: [Word<'static>; 7] = [
     Word::Option(
         "connect",
-        "Connects to this port of 127.0.0.1: 1 to 65535; this or --listen is wanted",
+        "Connects to this port of 127.0.0.1: 1 to 65535; or --listen",
     ),
     Word::Option(
         "listen",
@@ -81,7 +81,7 @@ static WORDS: [Word<'static>; 7] = [
     Word::Default(
         "turns",
         "100",
-        "How many turns it takes at most: fewer than 2 to the 63rd",
+        "Turns it takes at most: fewer than 2 to the 63rd",
     ),
     Word::Flag("quiet", "Says nothing on standard error while it speaks"),
 ];

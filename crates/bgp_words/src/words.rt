@@ -1,7 +1,9 @@
 //! The words of the command line, as a command.
 
 ghost use Rattle.std.specs.Prelude.{◌≡◌, ◌≢◌, ◌∷◌, ℕ, Bool, List, All, map, IfOk, IfErr, IsErr};
+ghost use Rattle.std.specs.Prelude.{true};
 ghost use Rattle.clap.specs.Words.{app_of, kind_of, subcommand_rows_of, IsAmong};
+ghost use Rattle.clap.specs.Words.{FailsBy, HasMatchesOf, fault_of, is_simple_and_free};
 ghost use Rattle.bgp_open.specs.declared.config.Config.{Config as Configured};
 ghost use Rattle.bgp_words.specs.Words.{program_words, with_readers, with_speakers};
 ghost use Rattle.bgp_words.specs.Decode.{IsDecode};
@@ -21,6 +23,7 @@ use crate::list::{list_of, list_words};
 use crate::misfit::Misfit;
 use crate::pair::{pair_of, pair_words};
 use crate::speak::{speak_of, speak_words};
+use crate::usage::plain;
 use bgp_import::RecordingOptions;
 use bgp_open::Config;
 use bgp_prefix::Session;
@@ -137,6 +140,8 @@ fn program<'a>(alloc: Global) -> Result<clap::Command<'a>, AllocError>
         .about("Reads BGP-4 messages, captures and recordings, judges sessions, and speaks in one")
         .after_help(STATUSES)
         .subcommand_required(true);
+    // Whatever its file is named.
+    let program = program.bin_name("bgp")?;
     let program = with_readers(alloc, program)?;
     with_speakers(alloc, program)
 }
@@ -195,10 +200,30 @@ pub fn command_line<'a, S: AsStr>(alloc: Global, words: &'a [S]) -> Result<Comma
     ensures values { (name : List ℕ) → All (λ row. map S.text words.entry.now ≡ name ∷ row →
         IsFault ErrorKind.ValueValidation result) value_rows }
 {
-    let matches = program(alloc)?.try_get_matches_from(words)?;
+    let program = program(alloc)?;
+    let matches = matches_of(alloc, program, words)?;
     match named(&matches) {
         Ok(command) => Ok(command),
         Err(misfit) => Err(usage(alloc, &matches, misfit)?),
+    }
+}
+
+/// What a parse of the words finds. An `Err` says in a sentence what is wrong with them.
+fn matches_of<'a, S: AsStr>(
+    alloc: Global,
+    program: clap::Command<'a>,
+    words: &'a [S],
+) -> Result<ArgMatches<'a>, Error>
+    ensures matches { IfOk result (HasMatchesOf (app_of program.entry) (map S.text words.entry.now)) }
+    ensures kinds { is_simple_and_free (app_of program.entry) ≡ true
+        → FailsBy (fault_of (app_of program.entry) (map S.text words.entry.now)) result }
+{
+    match program.try_get_matches_from(words) {
+        Ok(matches) => Ok(matches),
+        Err(error) => {
+            let program = crate::words::program(alloc)?;
+            Err(plain(alloc, program, words, error)?)
+        }
     }
 }
 
