@@ -2,8 +2,9 @@
 
 ghost use Rattle.std.specs.Prelude.{◌≡◌, ◌+◌, ◌%◌};
 ghost use Rattle.bgp_text.specs.Lines.{Writes};
-ghost use Rattle.bgp_clock.specs.When.{clock_text, date_text, fraction_text, micro_text, short_text};
-ghost use Rattle.bgp_clock.specs.When.{time_text, when_text, two_digits, four_digits, six_digits};
+ghost use Rattle.bgp_clock.specs.When.{clock_text, date_text, fraction_text, micro_text};
+ghost use Rattle.bgp_clock.specs.When.{short_text, time_text, when_text};
+ghost use Rattle.bgp_clock.specs.When.{two_digits, four_digits, six_digits};
 
 use crate::civil::{month_of, year_of};
 use bgp_prefix::Seconds;

@@ -1,5 +1,5 @@
--- The names of path attributes, as IANA's registry "BGP Path Attributes" has them, each as one word;
--- the words by which lines call them; and the names of what two of them say.
+-- The names of path attributes, as IANA's registry "BGP Path Attributes" has them, each as one
+-- word; the words by which lines call them; and the names of what two of them say.
 use Rattle.std.specs.Prelude.{ℕ, List, [], ◌∷◌, codes}
 use Rattle.bgp_names.specs.Naming.{named}
 

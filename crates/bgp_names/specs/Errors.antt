@@ -1,5 +1,5 @@
--- The names of what a NOTIFICATION says, as IANA's registry "BGP Error (Notification) Codes" and its
--- registries of subcodes have them.
+-- The names of what a NOTIFICATION says, as IANA's registry "BGP Error (Notification) Codes" and
+-- its registries of subcodes have them.
 use Rattle.std.specs.Prelude.{◌++◌, ◌==◌, ◌||◌, not, ℕ, Bool, List, [], ◌∷◌, codes, is_some}
 use Rattle.std.specs.Prelude.{if◌then◌else◌}
 use Rattle.bgp_names.specs.Naming.{name_in, named}

@@ -1,6 +1,6 @@
 -- Names of numbers, by tables, and what is printed of a number that a table doesn't have.
-use Rattle.std.specs.Prelude.{◌≡◌, ◌<◌, ◌^◌, ◌++◌, ◌==◌, ◌&&◌, ℕ, List, [], ◌∷◌, Option, None, Some}
-use Rattle.std.specs.Prelude.{if◌then◌else◌}
+use Rattle.std.specs.Prelude.{◌≡◌, ◌<◌, ◌^◌, ◌++◌, ◌==◌, ◌&&◌, not, ℕ, Bool, true, List, [], ◌∷◌}
+use Rattle.std.specs.Prelude.{Option, None, Some, if◌then◌else◌, nat_le}
 use Rattle.std.specs.Fmt.{decimal}
 
 -- the name that a table has for this number, if it has one
@@ -33,3 +33,21 @@ abbrev pub NamesOfTwoDiffer : (ℕ → ℕ → List ℕ) → Type 0
 NamesOfTwoDiffer name =
     (k l m n : ℕ) → k < 2 ^ 64 → l < 2 ^ 64 → m < 2 ^ 64 → n < 2 ^ 64 → name k l ≡ name m n
     → (k ≡ m) × (l ≡ n)
+
+-- an octet that stands in a line, and between quotation marks, as it is: one of ASCII from the blank
+-- on, but for the quotation mark and the backslash
+abbrev pub is_plain_octet : ℕ → Bool
+is_plain_octet octet =
+    (nat_le 32 octet && nat_le octet 126) && (not (octet == 34) && not (octet == 92))
+
+abbrev pub is_plain : List ℕ → Bool
+is_plain [] = true
+is_plain (octet ∷ text) = is_plain_octet octet && is_plain text
+
+-- each number's name is plain
+abbrev pub NamesArePlain : (ℕ → List ℕ) → Type 0
+NamesArePlain name = (n : ℕ) → n < 2 ^ 64 → is_plain (name n) ≡ true
+
+abbrev pub NamesOfTwoArePlain : (ℕ → ℕ → List ℕ) → Type 0
+NamesOfTwoArePlain name =
+    (m n : ℕ) → m < 2 ^ 64 → n < 2 ^ 64 → is_plain (name m n) ≡ true

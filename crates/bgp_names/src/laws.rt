@@ -1,8 +1,10 @@
-//! Laws of names, each on a function that does nothing: what is different has different names.
+//! Laws of names, each on a function that does nothing: what is different has different names, and
+//! a name has no octet that a line or a text of JSON would have to spell otherwise.
 
 ghost use Rattle.std.specs.Prelude.{ℕ};
 ghost use Rattle.bgp_names.specs.Naming.{NamesDiffer, NamesOfTwoDiffer};
-ghost use Rattle.bgp_names.specs.Errors.{code_name, error_name, subcode_name};
+ghost use Rattle.bgp_names.specs.Naming.{NamesArePlain, NamesOfTwoArePlain};
+ghost use Rattle.bgp_names.specs.Errors.{code_name, error_name, short_error_name, subcode_name};
 ghost use Rattle.bgp_names.specs.States.{state_name};
 ghost use Rattle.bgp_names.specs.Families.{afi_name, family_name};
 ghost use Rattle.bgp_names.specs.Capabilities.{capability_name};
@@ -42,4 +44,20 @@ pub fn each_attribute_has_its_name()
 /// States that two message types have different texts.
 pub fn each_message_type_has_its_name()
     ensures { NamesDiffer type_text }
+{}
+
+/// States that names have no control characters, no quotation marks, no backslashes and nothing
+/// beyond ASCII.
+pub fn each_name_is_plain()
+    ensures codes { NamesArePlain code_name }
+    ensures subcodes { (code : ℕ) → NamesArePlain (subcode_name code) }
+    ensures errors { NamesOfTwoArePlain error_name }
+    ensures short_errors { NamesOfTwoArePlain short_error_name }
+    ensures states { NamesArePlain state_name }
+    ensures families { NamesOfTwoArePlain family_name }
+    ensures afis { NamesArePlain afi_name }
+    ensures capabilities { NamesArePlain capability_name }
+    ensures attributes { NamesArePlain attribute_name }
+    ensures words { NamesArePlain attribute_word }
+    ensures types { NamesArePlain type_text }
 {}

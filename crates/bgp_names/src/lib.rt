@@ -26,7 +26,8 @@ pub use errors::{put_code_name, put_error_name, put_short_error_name, put_subcod
 pub use families::{families_name, put_afi_name, put_family_name};
 pub use laws::{
     each_attribute_has_its_name, each_capability_has_its_name, each_error_has_its_name,
-    each_family_has_its_name, each_message_type_has_its_name, each_state_has_its_name,
+    each_family_has_its_name, each_message_type_has_its_name, each_name_is_plain,
+    each_state_has_its_name,
 };
 pub use messages::put_type_text;
 pub use states::put_state_name;
