@@ -93,8 +93,8 @@ module _ (session : Session) (within : ℕ) (framings : Framings) (connection : 
 
 -- ---- what it says
 
--- No order explains a sent message, the first of this packet. The OPEN that the end sent is the
--- first well-formed one among the messages that it sent.
+-- No order explains a sent message, which this packet is the first to show. The OPEN that the end
+-- sent is the first well-formed one among the messages that it sent.
 module _ (session : Session) (within : ℕ) (framings : Framings) (connection : Connection) where
   pub record NoOrderExplains (unexplained : Unexplained) : Type 0 where
     pub exchange : Exchange

@@ -16,10 +16,11 @@ use std::alloc::Allocator;
 /// this one: whether its messages are those of a run of the session machine (RFC 4271, 8.2.2) under
 /// some configuration under which the OPEN that it sent is its own.
 ///
-/// **The sentence.** If the lines of an end begin with `no at packet P`, no order that the packets
-/// allow has a run that explains the first message that packet P shows as sent, and all that the
-/// end sent before it. That is so under every configuration under which the end's OPEN is its own,
-/// and if each message is handled within D seconds after it came (`--within`).
+/// **The sentence.** If the lines of an end begin with `no at packet P`, packet P is the first that
+/// shows some message of the end's, and no order that the packets allow has a run that explains
+/// this message and all that the end sent before it. That is so under every configuration under
+/// which the end's OPEN is its own, and if each message is handled within D seconds after it came
+/// (`--within`).
 ///
 /// If they begin with `no at record N, packet P`, the same is known of one of these orders: no such
 /// configuration has a run that shows the first N of the end's records in it, the last of which is

@@ -25,10 +25,10 @@ pub fn no_configuration_has_a_run()
 }
 
 /// States what a no at a packet says: under no configuration under which the OPEN that the end sent
-/// is its own, and in no order that the packets allow, a run of the session machine explains the
-/// first sent message that this packet shows, and all before it. If the OPEN is any configuration's
-/// own, under one of them a run explains those before it, in some such order. If it isn't, the
-/// message is that OPEN at the latest.
+/// is its own, and in no order that the packets allow, a run of the session machine explains a sent
+/// message that this packet is the first to show, and all before it. If the OPEN is any
+/// configuration's own, under one of them a run explains those before it, in some such order. If it
+/// isn't, the message is that OPEN at the latest.
 pub fn no_order_has_a_run()
     ensures found { UnexplainedByAll }
     ensures end { NoOrderHasARun }

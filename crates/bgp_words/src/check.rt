@@ -29,8 +29,11 @@ Of each connection at --port in a recording:
                         all is allowed, for a peer of that AS number, for another than a number, or
                         for any; and then where it may have ended, and the highest state before:
     end Idle disabled - routes 0 reached Established
+  no at packet 8: 192.0.2.2 40000 as 65002, peer as 65001
+                        no configuration that its OPEN allows explains a message that this packet
+                        shows as sent, in no order that the packets allow within --within
   no at record 9, packet 8: 192.0.2.2 40000 as 65002, peer as 65001
-                        no configuration that its OPEN allows explains this record
+                        the same of one order: another explains all, or there are too many
   unfinished: 192.0.2.2 40000 as 65002, peer as 65001
                         it still owes something
   not judged: 192.0.2.1 179, no sent message
@@ -50,9 +53,8 @@ it; and after these, and with --settings after a yes too, a line
 with options for which judge says the same of FILE, where there are such. They are the widest
 configuration that the OPEN allows, and not the router's own.
 
-A no of a recording is about one order of the messages that the packets allow. ROUTE-REFRESH
-messages that their receiver's OPEN offers to read are passed over, and a note counts them. Where a
-connection, a session or the file can't be read, a line says so, as those of bgp list do.
+ROUTE-REFRESH messages that their receiver's OPEN offers to read are passed over, and a note counts
+them. If a connection, a session or the file can't be read, a line says so, as those of bgp list do.
 
 Exit status, the first of 5, 4, 1, 3, 2, 0 for which there is something:
   0   a yes; or help was asked for

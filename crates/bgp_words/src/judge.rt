@@ -57,9 +57,13 @@ A capture is refused for one of these reasons:
   10 Memory             memory was refused
 
 Of a recording each connection between --local and --peer at --port is judged, in one order in which
-the router may have worked, as bgp import makes it; a no is about that one order, which standard
-error says. Where there are several and --connection names none, a line before each answer says
-which it is of, and the status is the first of 5, 4, 1, 3, 2, 0 that one of them has:
+the router may have worked, as bgp import makes it. If that isn't a yes, all orders are looked at:
+  no at packet 8        in no order that the packets allow within --within it can have sent a
+                        message that this packet shows
+  yes                   another order is one, as standard error says then
+Else the answer is about the one order. If there are several connections, and --connection names
+none, a line before each answer says which it is of, and the status is the first of 5, 4, 1, 3, 2, 0
+that one of them has:
   connection 2 from 192.0.2.2 40001 to 192.0.2.1 179 at 1500000060
                         who opened it, to whom, and the second of its first packet
   recording refused: 14 Missing at packet 7 received octet 49
