@@ -158,7 +158,7 @@ impl Display for Misfit<'_> {
             ),
             Misfit::NoFile { command } => write!(
                 f,
-                "FILE is missing, as in `bgp {command} FILE`: `-` is standard input"
+                "FILE is missing, as in `bgp {command} FILE`: `bgp help {command}` says what it is"
             ),
             Misfit::NoOut => f.write_str(
                 "OUT is missing, the MRT file to write: `-` is standard output",
