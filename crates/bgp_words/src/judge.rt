@@ -18,6 +18,10 @@ use crate::words::Command;
 use clap::ArgMatches;
 use std::alloc::{AllocError, Global};
 
+/// The usage line of `judge`, which would be wider than a terminal with each word in full.
+const USAGE: &str = "bgp judge [OPTIONS] --local-as <N> --peer-as <N> --local-id <A> --local <A> \
+                     --peer <A> <FILE>";
+
 /// What help says after the words of `judge`: the verdicts with an example each, why a capture is
 /// refused, when to believe an answer, and the statuses.
 const VERDICTS: &str = "\
@@ -50,8 +54,8 @@ A capture is refused for one of these reasons:
   4 BadState            a change of state names one that RFC 6396 doesn't have; FRR writes 7 and 8
   5 NotAMessage         a record doesn't hold one whole message
   6 TimeBack            a record's second is below that of the session's record before it
-  7 RouteRefresh        a ROUTE-REFRESH isn't judged; --skip-refresh passes over it; --no-refresh if
-                        the router didn't offer it
+  7 RouteRefresh        a ROUTE-REFRESH isn't judged; --skip-refresh passes over a whole one;
+                        --no-refresh if the router didn't offer it
   8 AddPath             a record has additional paths (RFC 8050), which aren't read
   9 Device              a read failed; standard error says why
   10 Memory             memory was refused
@@ -99,6 +103,7 @@ pub(crate) fn judge_words<'a>(alloc: Global) -> Result<clap::Command<'a>, AllocE
 {
     let judge = clap::Command::new(alloc, "judge")
         .about("Says whether a router that keeps to the standard can have done what FILE shows")
+        .override_usage(USAGE)
         .after_help(VERDICTS);
     let judge = with_word(alloc, judge, READ)?;
     let judge = with_settings(alloc, judge)?;

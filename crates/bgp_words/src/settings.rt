@@ -37,7 +37,7 @@ static CHOICES: [Word<'static>; 7] = [
     Word::Default(
         "hold",
         "90",
-        "The Hold Time that it offers: 0, or 3 to 65535 seconds",
+        "Hold Time that it offers: 0, or 3 to 65535 seconds",
     ),
     Word::Default(
         "families",
@@ -54,7 +54,7 @@ static CHOICES: [Word<'static>; 7] = [
     Word::Default(
         "large-hold",
         "240",
-        "Seconds it waits for the peer's OPEN: 1 to 4294967295",
+        "Seconds to wait for the peer's OPEN: 1 to 4294967295",
     ),
 ];
 

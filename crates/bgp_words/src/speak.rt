@@ -23,6 +23,11 @@ use bgp_talk::{Speaking, Start};
 use clap::ArgMatches;
 use std::alloc::{AllocError, Global};
 
+/// The usage line of `speak`, in two lines.
+const USAGE: &str = "\
+bgp speak [OPTIONS] --local-as <N> --peer-as <N> --local-id <A> --local <A> --peer <A>
+                 --next-hop <A> --next-hop6 <A> (--connect <N> | --listen <N>) <FILE>";
+
 /// What help says after the words of `speak`: what it does, what it prints, an example and the
 /// statuses.
 const SPOKEN: &str = "\
@@ -93,6 +98,7 @@ pub(crate) fn speak_words<'a>(alloc: Global) -> Result<clap::Command<'a>, AllocE
 {
     let speak = clap::Command::new(alloc, "speak")
         .about("Speaks with a peer over TCP, and writes down the session as a capture")
+        .override_usage(USAGE)
         .after_help(SPOKEN);
     let speak = with_word(alloc, speak, CAPTURE)?;
     let speak = with_settings(alloc, speak)?;

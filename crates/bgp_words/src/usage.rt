@@ -4,6 +4,7 @@ ghost use Rattle.std.specs.Prelude.{◌≡◌, IfOk};
 ghost use Rattle.clap.specs.Words.{kind_of};
 
 use crate::misfit::Misfit;
+use crate::words::words_named;
 use clap::error::ErrorKind;
 use clap::{Arg, ArgAction, Command, Error};
 use std::alloc::{AllocError, Global};
@@ -13,8 +14,9 @@ use strsim::osa_distance;
 /// How many letters a word may differ in from the name that it is taken for.
 const NEAR: usize = 2;
 
-/// Says in a sentence what is wrong with words in which a parse found a fault, the program's own name
-/// first. `program` is what they may be. A request for help or for the version stays as it is.
+/// Says in a sentence what is wrong with words in which a parse found a fault, and the usage of the
+/// command that they name behind the program's own name. `program` is what they may be. A request
+/// for help or for the version stays as it is.
 pub(crate) fn plain<'a, S: AsStr>(
     alloc: Global,
     program: Command<'a>,
@@ -33,7 +35,7 @@ pub(crate) fn plain<'a, S: AsStr>(
 /// Says what is wrong with words that have a fault of this kind.
 fn of_program<'a, S: AsStr>(
     alloc: Global,
-    mut program: Command<'a>,
+    program: Command<'a>,
     words: &'a [S],
     kind: ErrorKind,
 ) -> Result<Error, AllocError>
@@ -41,7 +43,16 @@ fn of_program<'a, S: AsStr>(
 {
     let misfit = program_misfit(alloc, &program, words)?;
     let sentence = format!(in alloc; "{misfit}")?;
-    program.error(kind, sentence.as_str())
+    let mut command = words_named(alloc, command_name(words))?;
+    command.error(kind, sentence.as_str())
+}
+
+/// The word that names the command, behind the program's own name.
+fn command_name<S: AsStr>(words: &[S]) -> Option<&str> {
+    match words {
+        [_, name, ..] => Some(name.as_str()),
+        _ => None,
+    }
 }
 
 /// The command of this name.

@@ -267,13 +267,16 @@ fn usage(alloc: Global, matches: &ArgMatches<'_>, misfit: Misfit<'_>) -> Result<
     ensures { IfOk result (λ error. kind_of error ≡ ErrorKind.ValueValidation) }
 {
     let sentence = format!(in alloc; "{misfit}")?;
-    let mut command = words_of(alloc, matches)?;
+    let mut command = words_named(alloc, matches.subcommand_name())?;
     command.error(ErrorKind::ValueValidation, sentence.as_str())
 }
 
-/// What the words of the command that was named may be, or the program's where none was.
-fn words_of<'a>(alloc: Global, matches: &ArgMatches<'_>) -> Result<clap::Command<'a>, AllocError> {
-    match matches.subcommand_name() {
+/// What the words of the command of this name may be, or the program's if there is none.
+pub(crate) fn words_named<'a>(
+    alloc: Global,
+    name: Option<&str>,
+) -> Result<clap::Command<'a>, AllocError> {
+    match name {
         Some("decode") => decode_words(alloc)?.bin_name("bgp decode"),
         Some("judge") => judge_words(alloc)?.bin_name("bgp judge"),
         Some("import") => import_words(alloc)?.bin_name("bgp import"),
