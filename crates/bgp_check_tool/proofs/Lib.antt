@@ -1,9 +1,12 @@
+pub mod Asking
 pub mod OtherEnd
 pub mod OneMore
 pub mod AllTold
 pub mod Stretch
 pub mod WayRecords
+pub mod SaidOver
 pub mod NoOrder
+pub mod TellingEnd
 pub mod Verdicts
 pub mod Repeated
 pub mod Texts

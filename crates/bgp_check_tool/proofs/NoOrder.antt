@@ -1,6 +1,5 @@
 -- What it says that no order explains a message.
-use Rattle.std.proofs.Common.{◌≡◌, ◌∙◌, ◌+◌, ◌<◌, ◌≤◌, ◌++◌, ◌⊎◌, ℕ, suc, List, [], ◌∷◌, Option, None, Some, inl, inr, refl, sym, ap, subst, arith, length, take, drop, max, option_map}
-use Rattle.std.proofs.Math.Nat.{le-max_left, le-max_right, max-eq_left, max-eq_right}
+use Rattle.std.proofs.Common.{◌≡◌, ◌∙◌, ◌+◌, ◌<◌, ◌≤◌, ◌++◌, ◌⊎◌, Bool, true, false, ℕ, List, [], ◌∷◌, Option, None, Some, inl, inr, refl, sym, ap, subst, arith, length, take, drop, option_map}
 use Rattle.std.proofs.lemmas.Bool.{cases_lt}
 use Rattle.std.proofs.lemmas.List.{take-append-drop, take-append-le}
 use Rattle.bgp_prefix.specs.Shown as shown
@@ -17,16 +16,13 @@ use Rattle.bgp_recording.specs.Tells.{Event, items_in}
 use Rattle.bgp_recording.specs.declared.message.Message.{Message}
 use Rattle.bgp_recording.specs.declared.ordering.Exchange.{Exchange}
 use Rattle.bgp_recording.specs.declared.standing.Before.TheVariants.{Other}
-use Rattle.bgp_orders.specs.Explained.{HasVerdictOver, IsExplained, No}
-use Rattle.bgp_orders.specs.Rows.{IsAnswer}
+use Rattle.bgp_orders.specs.Explained.{IsExplained}
 use Rattle.bgp_orders.specs.Ways.{records_of_front}
-use Rattle.bgp_orders.specs.declared.explained.Explained.{Explained}
-use Rattle.bgp_orders.specs.declared.explained.Explained.TheVariants as answers
-use Rattle.bgp_orders.proofs.Over.{at_most_explained}
 use Rattle.bgp_parts.specs.Opens.{FirstSent, HasOwnOpen, HasPeersOpen, IsOpenMessage, SendsNoOpen}
 use Rattle.bgp_parts.proofs.OneOwnOpen.{one_own}
 use Rattle.bgp_check.specs.Another.{CanBeTold, WantsAnother}
 use Rattle.bgp_check.specs.Answered.{HasFault}
+use Rattle.bgp_check.specs.Checked.{IsUnder}
 use Rattle.bgp_check.specs.Configurations.{IsOf}
 use Rattle.bgp_check.specs.OwnFaults.{SentOpenIsOwn}
 use Rattle.bgp_check.specs.Stretch.{IsStretch}
@@ -34,8 +30,9 @@ use Rattle.bgp_check.specs.Widest.{AreWidestWith, WidestBegins}
 use Rattle.bgp_check.specs.WidestMade.{IsFaultless, WidestAreMade, both_of, configurations_of}
 use Rattle.bgp_check.specs.Without.{AreWidest, AreWidestWithout, WithoutBegins}
 use Rattle.bgp_check.specs.declared.own_fault.OwnFault.{OwnFault}
+use Rattle.bgp_check.specs.declared.widest.Widest.{Widest}
 use Rattle.bgp_check.proofs.OwnSettings.{none_if_own}
-use Rattle.bgp_check_tool.specs.Orders.{AreExplained, AreExplainedOver, UnexplainedByAll, explained_by, records_received, records_sent}
+use Rattle.bgp_check_tool.specs.Orders.{UnexplainedByAll, records_received, records_sent}
 use Rattle.bgp_check_tool.proofs.WayRecords.{front_is_stretch, front_sends_none, items_joined, none_sent_before, received_before, received_first, received_joined, sent_first, sent_joined, sent_within}
 
 -- ---- lists of configurations
@@ -134,49 +131,21 @@ some_widest enough without session within exchange own peers widest config count
     (λ none. sends_none within exchange config count x (subst (λ (o : Option (List ℕ)). HasOwnOpen (records_sent exchange.sent.now) o) none has_own))
     (has_peers within exchange config count x peers is_peers) of x.begins)
 
--- ---- the search
+-- ---- the verdict over all orders
 
-some_none : (count : ℕ) → Some count ≡ None → ⊥
-some_none count e = cc
+under_is : (wanting under : Config) → Some wanting ≡ Some under → under ≡ wanting
+under_is wanting under e = cc
 
-count_is : (count other : ℕ) → Some count ≡ Some other → other ≡ count
-count_is count other e = cc
+abbrev the_widest : Option Config → Config → Widest
+the_widest wanting another = record { wanting = wanting; another = another }
 
-no_by : (config : Config) (within : ℕ) (exchange : Exchange) (count : ℕ) (explained : Explained) → Some count ≡ explained_by explained → IsAnswer config within exchange explained
-    → HasVerdictOver config within exchange (No count)
-no_by config within exchange count (answers.All is_whole) is answer = absurd (some_none count is)
-no_by config within exchange count (answers.Only other) is answer = subst (λ (n : ℕ). HasVerdictOver config within exchange (No n)) (count_is count other is) answer
-no_by config within exchange count answers.TooMany is answer = absurd (some_none count is)
-
-is_no : (config : Config) (within : ℕ) (exchange : Exchange) (count : ℕ) → AreExplained config within exchange (Some count) → HasVerdictOver config within exchange (No count)
-is_no config within exchange count are = no_by config within exchange count are.explained are.is are.is_answer
-
-not_beyond : (config : Config) (within : ℕ) (exchange : Exchange) (count before : ℕ) → AreExplained config within exchange (Some count) → count ≤ before
-    → ¬ IsExplained config within exchange (before + 1)
-not_beyond config within exchange count before are less explained =
-    (is_no config within exchange count are).2 (at_most_explained config within exchange (count + 1) (before + 1) (omega (arith, less)) explained)
-
-either : (a b : ℕ) → (max a b ≡ a) ⊎ (max a b ≡ b)
-either a b = elim (cases_lt a b) [
-  | inl lt ↦ inr (max-eq_right (omega (arith, lt)))
-  | inr le ↦ inl (max-eq_left le)
-]
-
-none_explains : (wanting : Option Config) (another : Config) (within : ℕ) (exchange : Exchange) (before : ℕ) → AreExplainedOver wanting another within exchange (Some before)
-    → Each (λ c. ¬ IsExplained c within exchange (before + 1)) (both_of wanting another)
-none_explains None another within exchange before are = (not_beyond another within exchange before before are (omega arith), tt)
-none_explains (Some wanting) another within exchange before (one, other, first, second, is) =
-    let left : one ≤ max one other = le-max_left one other in
-    let right : other ≤ max one other = le-max_right one other in
-    (not_beyond wanting within exchange one before first (omega (arith, left, is)), (not_beyond another within exchange other before second (omega (arith, right, is)), tt))
-
-one_explains : (wanting : Option Config) (another : Config) (within : ℕ) (exchange : Exchange) (before : ℕ) → AreExplainedOver wanting another within exchange (Some before)
-    → Has (λ c. IsExplained c within exchange before) (both_of wanting another)
-one_explains None another within exchange before are = inl (is_no another within exchange before are).1
-one_explains (Some wanting) another within exchange before (one, other, first, second, is) = elim (either one other) [
-  | inl same ↦ inl (subst (λ (n : ℕ). IsExplained wanting within exchange n) (sym (is ∙ same)) (is_no wanting within exchange one first).1)
-  | inr same ↦ inr (inl (subst (λ (n : ℕ). IsExplained another within exchange n) (sym (is ∙ same)) (is_no another within exchange other second).1))
-]
+-- the one under which it is told is among the widest
+among : (P : Config → Type 0) (wanting : Option Config) (another under : Config) (wants : Bool) → IsUnder (the_widest wanting another) wants under → P under
+    → Has P (both_of wanting another)
+among P None another under true is p = absurd (let k : ⊥ = cc in k)
+among P None another under false is p = inl (subst P (sym is) p)
+among P (Some wanting) another under true is p = inl (subst P (under_is wanting under is) p)
+among P (Some wanting) another under false is p = inr (inl (subst P (sym is) p))
 
 -- ---- the own OPEN
 
@@ -186,7 +155,7 @@ none_some own e = cc
 own_is : (own other : List ℕ) → Some own ≡ Some other → other ≡ own
 own_is own other e = cc
 
-well_formed : (records : List ShownRecord) (own : List ℕ) → HasOwnOpen records (Some own) → IsWellFormed own
+pub well_formed : (records : List ShownRecord) (own : List ℕ) → HasOwnOpen records (Some own) → IsWellFormed own
 well_formed [] own has = absurd (none_some own (sym has))
 well_formed (shown.Received t octets ∷ records) own has = well_formed records own has
 well_formed (shown.Sent t octets ∷ records) own (inl this) = subst IsWellFormed (own_is own octets this.1) this.0
@@ -223,26 +192,27 @@ any P (x ∷ xs) (inr later) = any P xs later
 
 pub unexplained_by_all : WidestBegins → WithoutBegins → WidestAreMade → SentOpenIsOwn → UnexplainedByAll
 unexplained_by_all enough without made sent session within framings connection unexplained un =
-    let records = records_sent un.exchange.sent.now in
+    let over = un.over in
+    let records = records_sent over.exchange.sent.now in
     let before = unexplained.before in
-    let configs = configurations_of un.widest in
-    let of_own : (own : Option (List ℕ)) → HasOwnOpen records own → IsFaultless own → AreWidest session own un.peers configs = λ own has faultless.
-    subst (λ (o : Option (List ℕ)). AreWidest session o un.peers configs) (one_own records un.own own un.has_own has)
-    (made session un.own un.peers un.told un.widest (subst (λ (o : Option (List ℕ)). IsFaultless o) (one_own records own un.own has un.has_own) faultless) un.are_told un.made) in
-    let some = one_explains un.widest.wanting un.widest.another within un.exchange before un.explained in
+    let configs = configurations_of over.widest in
+    let of_own : (own : Option (List ℕ)) → HasOwnOpen records own → IsFaultless own → AreWidest session own over.peers configs = λ own has faultless.
+    subst (λ (o : Option (List ℕ)). AreWidest session o over.peers configs) (one_own records over.own own over.has_own has)
+    (made session over.own over.peers over.told over.widest (subst (λ (o : Option (List ℕ)). IsFaultless o) (one_own records own over.own has over.has_own) faultless) over.are_told over.made) in
+    let some = among (λ c. IsExplained c within over.exchange before) over.widest.wanting over.widest.another over.under over.wants over.is_told.is_under over.is_told.holds.1 in
     record {
-      exchange = un.exchange;
-      tells = un.tells;
+      exchange = over.exchange;
+      tells = over.tells;
       is_packet = un.is_packet;
       none = λ own config has of explained.
-          none_has (λ c. IsExplained c within un.exchange (before + 1)) configs (none_explains un.widest.wanting un.widest.another within un.exchange before un.explained)
-          (some_widest enough without session within un.exchange own un.peers configs config (before + 1) (of_own own has (is_faultless session own records config has of)) has un.has_peers of explained);
+          none_has (λ c. IsExplained c within over.exchange (before + 1)) configs over.is_told.best
+          (some_widest enough without session within over.exchange own over.peers configs config (before + 1) (of_own own has (is_faultless session own records config has of)) has over.has_peers of explained);
       possible = λ own has faultless.
-          with_both (λ c. IsOf session own c) (λ c. IsExplained c within un.exchange before) configs (each_is_of session own un.peers configs (of_own own has faultless)) some;
+          with_both (λ c. IsOf session own c) (λ c. IsExplained c within over.exchange before) configs (each_is_of session own over.peers configs (of_own own has faultless)) some;
       by_open = λ own fault has is_fault n shows. elim (cases_lt before n) [
         | inl less ↦ less
         | inr few ↦
-            let one = any (λ c. IsExplained c within un.exchange before) configs some in
-            absurd (not_shown sent within un.exchange own fault one.0 before n is_fault one.1 shows few)
+            let one = any (λ c. IsExplained c within over.exchange before) configs some in
+            absurd (not_shown sent within over.exchange own fault one.0 before n is_fault one.1 shows few)
       ];
     }

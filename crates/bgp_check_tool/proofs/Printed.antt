@@ -1,6 +1,6 @@
 -- What the lines of an end are worth.
 use Rattle.std.proofs.Common.{◌≡◌, ◌∙◌, ◌+◌, ◌<◌, ◌++◌, ◌⊎◌, inl, inr, ℕ, zero, suc, Bool, List, [], ◌∷◌, Option, None, Some, codes, option_map, refl, reverse, sym, ap, append_assoc, subst, arith, length, map, take}
-use Rattle.std.specs.List.{AllByRecursion, slice_get}
+use Rattle.std.specs.List.{AllByRecursion, flat_map, slice_get}
 use Rattle.packets.specs.Packet.{Recorded}
 use Rattle.bgp_prefix.specs.Shown.{ShownRecord}
 use Rattle.bgp_prefix.specs.declared.session.Session.{Session}
@@ -11,6 +11,11 @@ use Rattle.streams.specs.declared.connection.Connection.{Connection}
 use Rattle.streams.specs.declared.connection.Opening.{Opening}
 use Rattle.streams.specs.declared.passed.Side.{Side}
 use Rattle.segments.specs.declared.found.Endpoint.{Endpoint}
+use Rattle.bgp_machine.specs.Run.{End}
+use Rattle.bgp_check.specs.Configurations.{IsOf}
+use Rattle.bgp_check.specs.Over.{HasVerdictOver}
+use Rattle.bgp_check.specs.WidestMade.{IsFaultless}
+use Rattle.bgp_check.specs.declared.own_fault.OwnFault.{OwnFault}
 use Rattle.bgp_judge.specs.Verdict.{HasVerdict, No, Unfinished, VerdictValue, Yes}
 use Rattle.bgp_recording.specs.Captured.{records_of}
 use Rattle.bgp_recording.specs.declared.entry.Entry.{Entry}
@@ -20,7 +25,8 @@ use Rattle.bgp_check.specs.Answered.{AnswerValue, HasFault, HasItsVerdict, IsAns
 use Rattle.bgp_check.specs.declared.not_judged.NotJudged.{NotJudged}
 use Rattle.bgp_check.specs.declared.peer_as.PeerAs.{PeerAs}
 use Rattle.std.specs.Fmt.{decimal}
-use Rattle.bgp_check_text.specs.Text.{as_text, no_text, packet_text, peer_text}
+use Rattle.bgp_check_text.specs.Text.{as_text, ending_text, no_text, packet_text, peer_text}
+use Rattle.bgp_check_text.specs.Unshown.{unshown_notes}
 use Rattle.bgp_parts.proofs.OneOwnOpen.{one_own}
 use Rattle.bgp_parts.specs.Opens.{HasOwnOpen}
 use Rattle.bgp_check_text.specs.Asked.{asked_of}
@@ -28,13 +34,17 @@ use Rattle.bgp_check_text.specs.declared.options.Asked.{Asked}
 use Rattle.bgp_check_tool.specs.declared.options.CheckOptions.{CheckOptions}
 use Rattle.bgp_check_tool.specs.Blocks.{AllRefused, Block, BothEnds, OneEnd, Refused, TellsBoth}
 use Rattle.bgp_check_tool.specs.Headline.{IsToldOfSide, NoOrderHasARun}
-use Rattle.bgp_check_tool.specs.Judging.{options_by}
+use Rattle.bgp_check_tool.specs.declared.another.Order.{Order}
+use Rattle.bgp_check_tool.specs.declared.another.Order.TheVariants as orders
+use Rattle.bgp_check_tool.specs.Judging.{judge_text, options_by}
 use Rattle.bgp_check_tool.specs.Places.{IsToldAt, IsToldOfOne}
-use Rattle.bgp_check_tool.specs.Printed.{BeginWith, HasRecords, HasTrueNoes, IsTrueNo, IsTrueOverall, NoesAreTrue, ToldNoesAreTrue, ToldVerdictIsOverAll}
+use Rattle.bgp_check_tool.specs.Printed.{AreRecordsOf, AreRecordsOfAWay, BeginWith, HasRecords, HasRecordsIn, HasRecordsSo, HasRecordsWith, HasTrueNoes, HasTrueYes, IsTrueNo, IsTrueOverall, IsTrueYes, NoesAreTrue, ToldNoesAreTrue, ToldVerdictIsOverAll, ToldYesesAreTrue, YesesAreTrue}
 use Rattle.bgp_orders.specs.declared.connection.Unexplained.{Unexplained}
 use Rattle.bgp_check_tool.specs.Seen.{seen_from, session_from}
-use Rattle.bgp_check_tool.specs.Text.{answer_text, not_judged_line, place_text, told_lines, unexplained_text, verdict_text, whose_text}
-use Rattle.bgp_check_tool.specs.Told.{EndTold, IsEndTold, packet_of}
+use Rattle.bgp_check_tool.specs.Text.{another_text, answer_text, not_judged_line, place_text, told_lines, unexplained_text, verdict_text, whose_text}
+use Rattle.bgp_check_tool.specs.Told.{EndTold, IsEndTold, IsOfAnother, IsOfMade, packet_of}
+use Rattle.bgp_check_tool.proofs.NoOrder.{well_formed}
+use Rattle.bgp_check_tool.proofs.TellingEnd.{no_of_made, unfinished_of_made}
 use Rattle.bgp_check_tool.proofs.Verdicts.{no_run, over_all, side_told}
 
 -- ---- which lines begin with `no`
@@ -114,6 +124,52 @@ no_by_text routes told (JudgedAs number peer under (No count)) rest is = record 
 no_by_text routes told (JudgedAs number peer under Unfinished) rest is =
     let differs : 117 ≡ 110 = sym (unfinished_first _) ∙ ap first is ∙ no_first rest in absurd (omega (arith, differs))
 
+-- it is a yes
+record IsYes (answer : AnswerValue) : Type 0 where
+  pub number : Option ℕ
+  pub peer : PeerAs
+  pub under : Config
+  pub ends : List End
+  pub is : answer ≡ JudgedAs number peer under (Yes ends)
+
+unjudged_first : (end : Endpoint) (why : NotJudged) → first (not_judged_line end why) ≡ 110
+unfolding first not_judged_line
+unjudged_first end why = refl
+
+no_text_first : (count : ℕ) (packet : Option ℕ) (rest : List ℕ) → first (no_text count packet ++ rest) ≡ 110
+unfolding first no_text
+no_text_first count packet rest = refl
+
+unexplained_first : (packet : ℕ) (rest : List ℕ) → first (unexplained_text packet ++ rest) ≡ 110
+unfolding first unexplained_text
+unexplained_first packet rest = refl
+
+place_first : (count : ℕ) (packet : Option ℕ) (found : Option Unexplained) (rest : List ℕ) → first (place_text count packet found ++ rest) ≡ 110
+place_first count packet None rest = no_text_first count packet rest
+place_first count packet (Some unexplained) rest = unexplained_first unexplained.packet rest
+
+yes_by_text : (routes : Bool) (told : EndTold) (answer : AnswerValue) (rest : List ℕ) → answer_text routes told answer ≡ codes "yes" ++ rest → IsYes answer
+yes_by_text routes told (Unjudged why) rest is =
+    let differs : 110 ≡ 121 = sym (unjudged_first told.end why) ∙ ap first is ∙ yes_first rest in absurd (omega (arith, differs))
+yes_by_text routes told (JudgedAs number peer under (Yes ends)) rest is = record { number = number; peer = peer; under = under; ends = ends; is = refl }
+yes_by_text routes told (JudgedAs number peer under (No count)) rest is =
+    let differs : 110 ≡ 121 = sym (place_first count told.packet told.unexplained _) ∙ ap first is ∙ yes_first rest in absurd (omega (arith, differs))
+yes_by_text routes told (JudgedAs number peer under Unfinished) rest is =
+    let differs : 117 ≡ 121 = sym (unfinished_first _) ∙ ap first is ∙ yes_first rest in absurd (omega (arith, differs))
+
+-- the text of one
+yes_text : Bool → EndTold → Endpoint → Option ℕ → PeerAs → List End → List ℕ
+yes_text routes told end number peer ends =
+    codes "yes" ++ (whose_text end number peer
+    ++ (flat_map (ending_text routes told.highest) ends
+    ++ (unshown_notes told.received told.sent
+    ++ (another_text told.order ++ judge_text told.judge))))
+
+-- where a run shows it the OPEN has no own fault
+faultless_by : (own : Option (List ℕ)) (records : List ShownRecord) → HasOwnOpen records own → ((fault : OwnFault) → HasFault own fault → ⊥) → IsFaultless own
+faultless_by None records has none = tt
+faultless_by (Some own) records has none = (well_formed records own has, none)
+
 -- ---- the record that is named
 
 record Stands (entries : List Entry) (count : ℕ) : Type 0 where
@@ -192,27 +248,73 @@ module _ (options : CheckOptions) (packets : List Recorded) (last_packet place :
   abbrev asked : Side → Asked
   asked side = asked_of options.port options.within session (numbered (reverse it.segments)) opening side
 
-  records_so : (side : Side) (told : EndTold) (end : IsEndTold options (asked side) session opening both.connection side told)
-      → HasRecords options packets last_packet session opening side end.entries
-  records_so side told end = record {
-    addresses = it.addresses;
-    segments = it.segments;
-    has = it.has;
-    is_session = it.is_session;
-    connection = both.connection;
-    chosen = both.chosen;
-    are_records = record {
-      framings = end.framings;
-      received_unshown = end.received_unshown;
-      sent_unshown = end.sent_unshown;
-      recorded = end.made.recorded.told;
-      looked_in = end.made.looked_in;
-      looked_in_received = end.made.looked_in_received;
-      looked_in_sent = end.made.looked_in_sent;
-      is_looked_in = end.made.is_looked_in.told;
-      are_offered = end.made.are_offered;
-    };
-  }
+  module _ (side : Side) (told : EndTold) (end : IsEndTold options (asked side) session opening both.connection side told) where
+    abbrev seen : Connection
+    seen = seen_from side both.connection
+
+    abbrev its : Session
+    its = session_from side session
+
+    -- the records of the made order
+    records_so : IsOfMade options (asked side) its seen end.framings end.entries end.received_unshown end.sent_unshown told
+        → HasRecords options packets last_packet session opening side end.entries
+    records_so of = record {
+      addresses = it.addresses;
+      segments = it.segments;
+      has = it.has;
+      is_session = it.is_session;
+      connection = both.connection;
+      chosen = both.chosen;
+      are_records = record {
+        framings = end.framings;
+        received_unshown = end.received_unshown;
+        sent_unshown = end.sent_unshown;
+        recorded = of.made.recorded.told;
+        looked_in = of.made.looked_in;
+        looked_in_received = of.made.looked_in_received;
+        looked_in_sent = of.made.looked_in_sent;
+        is_looked_in = of.made.is_looked_in.told;
+        are_offered = of.made.are_offered;
+      };
+    }
+
+    -- those of another order
+    way_records : IsOfAnother options (asked side) its seen end.framings end.entries end.received_unshown end.sent_unshown told
+        → HasRecordsSo AreRecordsOfAWay options packets last_packet session opening side end.entries
+    way_records of = record {
+      addresses = it.addresses;
+      segments = it.segments;
+      has = it.has;
+      is_session = it.is_session;
+      connection = both.connection;
+      chosen = both.chosen;
+      are_records = record {
+        framings = end.framings;
+        received_unshown = end.received_unshown;
+        sent_unshown = end.sent_unshown;
+        way = of.way;
+        looked_in = of.made.looked_in;
+        looked_in_received = of.made.looked_in_received;
+        looked_in_sent = of.made.looked_in_sent;
+        is_looked_in = of.made.is_looked_in.told;
+        are_offered = of.made.are_offered;
+      };
+    }
+
+    records_in : HasRecordsIn told.order options packets last_packet session opening side end.entries
+    records_in = elim end.are_of [
+      | inl of ↦ subst (λ (o : Order). HasRecordsIn o options packets last_packet session opening side end.entries) (sym of.is_order) (records_so of)
+      | inr of ↦ subst (λ (o : Order). HasRecordsIn o options packets last_packet session opening side end.entries) (sym of.is_order) (way_records of)
+    ]
+
+    records_with : (number : Option ℕ) (peer : PeerAs) (under : Config) (verdict : VerdictValue) → told.answer ≡ JudgedAs number peer under verdict
+        → HasRecordsWith verdict told.order options packets last_packet session opening side end.entries
+    records_with number peer under (Yes ends) is = records_in
+    records_with number peer under (No count) is = records_so (no_of_made options (asked side) (end_of side session opening) its seen told end number peer under count is)
+    records_with number peer under Unfinished is = records_so (unfinished_of_made options (asked side) (end_of side session opening) its seen told end number peer under is)
+
+    no_records : (is : IsNo told.answer) → HasRecords options packets last_packet session opening side end.entries
+    no_records is = records_so (no_of_made options (asked side) (end_of side session opening) its seen told end is.number is.peer is.under is.count is.is)
 
   abbrev NamesPlace : EndTold → ℕ → Option Unexplained → Type 0
   NamesPlace told count found = Names (told_lines options.routes told) (place_text count told.packet found) told.end
@@ -257,14 +359,14 @@ module _ (options : CheckOptions) (packets : List Recorded) (last_packet place :
 
   true_overall : NoOrderHasARun → (side : Side) (told : EndTold) → IsEndTold options (asked side) session opening both.connection side told
       → BeginWith (codes "no at packet ") options.routes told → IsTrueOverall options packets last_packet session opening side told
-  unfolding records_so
+  unfolding no_records records_so
   true_overall law side told end begins =
       let no = no_by_text options.routes told told.answer (packet_is_no options.routes told begins).0 (packet_is_no options.routes told begins).1 in
       let stands = at_packet told no.count (told_names options.routes told no.number no.peer no.under no.count no.is) begins in
       let named = subst (λ (e : Endpoint). Names (told_lines options.routes told) (unexplained_text stands.unexplained.packet) e) end.is_end stands.names in
       record {
         entries = end.entries;
-        has_records = records_so side told end;
+        has_records = no_records side told end no;
         unexplained = stands.unexplained;
         rest = named.rest;
         named = named.named;
@@ -287,7 +389,7 @@ module _ (options : CheckOptions) (packets : List Recorded) (last_packet place :
       (subst (λ (p : Option ℕ). Names (told_lines options.routes told) (no_text no.count p) told.end) packet names) in
       record {
         entries = end.entries;
-        has_records = records_so side told end;
+        has_records = no_records side told end no;
         count = no.count;
         impossible = stands.impossible;
         stands = stands.is;
@@ -308,6 +410,43 @@ module _ (options : CheckOptions) (packets : List Recorded) (last_packet place :
     no_other = no_other told;
   }
 
+  -- ---- a yes
+
+  true_yes : (side : Side) (told : EndTold) → IsEndTold options (asked side) session opening both.connection side told → HasTrueYes options packets last_packet session opening side told
+  unfolding yes_text
+  true_yes side told end begins =
+      let its = session_from side session in
+      let records = records_of end.entries in
+      let yes = yes_by_text options.routes told told.answer begins.0 begins.1 in
+      let answer : IsJudged its records yes.number yes.peer yes.under (Yes yes.ends) = subst (λ (a : AnswerValue). IsAnswerTo its records a) yes.is end.answers in
+      let over : HasVerdictOver (IsOf its answer.own) records (Yes yes.ends) =
+      over_all options (asked side) session opening both.connection side told yes.number yes.peer yes.under (Yes yes.ends) answer.own end yes.is answer.has_own
+      (faultless_by answer.own records answer.has_own (λ fault has. answer.by_open fault has)) in
+      record {
+        entries = end.entries;
+        has_records = records_in side told end;
+        number = yes.number;
+        peer = yes.peer;
+        ends = yes.ends;
+        named = subst (λ (e : Endpoint). told_lines options.routes told ≡ yes_text options.routes told e yes.number yes.peer yes.ends) end.is_end
+            (ap (λ (a : AnswerValue). answer_text options.routes told a) yes.is);
+        own = answer.own;
+        has_own = answer.has_own;
+        some = over.0;
+        lists = over.1;
+      }
+
+pub yeses_are_true : ToldYesesAreTrue
+yeses_are_true options last_packet place packets (BothEnds session opening first_octets second_octets opener other) it =
+    let both = it.is_block.2 in
+    let block = BothEnds session opening first_octets second_octets opener other in (
+      true_yes options packets last_packet place session opening block it first_octets second_octets opener other both opening.opened_by opener both.is_opener,
+      true_yes options packets last_packet place session opening block it first_octets second_octets opener other both (other_side opening.opened_by) other both.is_other,
+    )
+yeses_are_true options last_packet place packets (OneEnd session opening first_octets second_octets) it = tt
+yeses_are_true options last_packet place packets (Refused session opening refusal) it = tt
+yeses_are_true options last_packet place packets (AllRefused addresses refusal) it = tt
+
 pub noes_are_true : NoConfigurationExplains → HasItsVerdict → NoOrderHasARun → ToldNoesAreTrue
 noes_are_true explains has_verdict law options last_packet place packets (BothEnds session opening first_octets second_octets opener other) it =
     let both = it.is_block.2 in
@@ -326,7 +465,7 @@ verdict_over_all options last_packet place packets session opening first_octets 
     let end = side_told options asked session opening both.connection opener other told side both.is_opener both.is_other of_side in
     record {
       entries = end.entries;
-      has_records = records_so options packets last_packet place session opening (BothEnds session opening first_octets second_octets opener other) it first_octets second_octets opener other both side told end;
+      has_records = records_with options packets last_packet place session opening (BothEnds session opening first_octets second_octets opener other) it first_octets second_octets opener other both side told end number peer under verdict is;
       over_all = λ own has faultless. over_all options (asked side) session opening both.connection side told number peer under verdict own end is has faultless;
     }
 
@@ -338,11 +477,16 @@ all_true explains has_verdict law options packets last_packet [] all = tt
 all_true explains has_verdict law options packets last_packet (b ∷ blocks) all =
     (noes_are_true explains has_verdict law options last_packet b.0 packets b.1 all.0, all_true explains has_verdict law options packets last_packet blocks all.1)
 
+pub all_yeses : (options : CheckOptions) (packets : List Recorded) (last_packet : ℕ) (blocks : List (ℕ × Block))
+    → AllByRecursion (λ (b : ℕ × Block). IsToldAt options packets last_packet b.0 b.1) blocks → AllByRecursion (λ (b : ℕ × Block). YesesAreTrue options packets last_packet b.1) blocks
+all_yeses options packets last_packet [] all = tt
+all_yeses options packets last_packet (b ∷ blocks) all = (yeses_are_true options last_packet b.0 packets b.1 all.0, all_yeses options packets last_packet blocks all.1)
+
 -- ---- whether the options of `judge` are told plays no part
 
-records_as : (stopped : Option WhyRefused) (options : CheckOptions) (packets : List Recorded) (last_packet : ℕ) (session : Session) (opening : Opening) (side : Side) (entries : List Entry)
-    → HasRecords (options_by stopped options) packets last_packet session opening side entries → HasRecords options packets last_packet session opening side entries
-records_as stopped options packets last_packet session opening side entries h = record {
+records_as : (Are : ℕ → Connection → List Entry → Type 0) (stopped : Option WhyRefused) (options : CheckOptions) (packets : List Recorded) (last_packet : ℕ) (session : Session) (opening : Opening) (side : Side) (entries : List Entry)
+    → HasRecordsSo Are (options_by stopped options) packets last_packet session opening side entries → HasRecordsSo Are options packets last_packet session opening side entries
+records_as Are stopped options packets last_packet session opening side entries h = record {
   addresses = h.addresses;
   segments = h.segments;
   has = h.has;
@@ -352,11 +496,16 @@ records_as stopped options packets last_packet session opening side entries h = 
   are_records = h.are_records;
 }
 
+records_in_as : (order : Order) (stopped : Option WhyRefused) (options : CheckOptions) (packets : List Recorded) (last_packet : ℕ) (session : Session) (opening : Opening) (side : Side) (entries : List Entry)
+    → HasRecordsIn order (options_by stopped options) packets last_packet session opening side entries → HasRecordsIn order options packets last_packet session opening side entries
+records_in_as orders.Made stopped options packets last_packet session opening side entries h = records_as AreRecordsOf stopped options packets last_packet session opening side entries h
+records_in_as orders.Another stopped options packets last_packet session opening side entries h = records_as AreRecordsOfAWay stopped options packets last_packet session opening side entries h
+
 true_as : (stopped : Option WhyRefused) (options : CheckOptions) (packets : List Recorded) (last_packet : ℕ) (session : Session) (opening : Opening) (side : Side) (told : EndTold)
     → IsTrueNo (options_by stopped options) packets last_packet session opening side told → IsTrueNo options packets last_packet session opening side told
 true_as stopped options packets last_packet session opening side told it = record {
   entries = it.entries;
-  has_records = records_as stopped options packets last_packet session opening side it.entries it.has_records;
+  has_records = records_as AreRecordsOf stopped options packets last_packet session opening side it.entries it.has_records;
   count = it.count;
   impossible = it.impossible;
   stands = it.stands;
@@ -372,7 +521,7 @@ overall_as : (stopped : Option WhyRefused) (options : CheckOptions) (packets : L
 unfolding records_as
 overall_as stopped options packets last_packet session opening side told it = record {
   entries = it.entries;
-  has_records = records_as stopped options packets last_packet session opening side it.entries it.has_records;
+  has_records = records_as AreRecordsOf stopped options packets last_packet session opening side it.entries it.has_records;
   unexplained = it.unexplained;
   rest = it.rest;
   named = it.named;
@@ -403,3 +552,37 @@ pub all_as : (stopped : Option WhyRefused) (options : CheckOptions) (packets : L
 all_as stopped options packets last_packet [] all = tt
 all_as stopped options packets last_packet (b ∷ blocks) all =
     (noes_as stopped options packets last_packet b.1 all.0, all_as stopped options packets last_packet blocks all.1)
+
+yes_as : (stopped : Option WhyRefused) (options : CheckOptions) (packets : List Recorded) (last_packet : ℕ) (session : Session) (opening : Opening) (side : Side) (told : EndTold)
+    → HasTrueYes (options_by stopped options) packets last_packet session opening side told → HasTrueYes options packets last_packet session opening side told
+yes_as stopped options packets last_packet session opening side told has begins =
+    let it = has begins in
+    record {
+      entries = it.entries;
+      has_records = records_in_as told.order stopped options packets last_packet session opening side it.entries it.has_records;
+      number = it.number;
+      peer = it.peer;
+      ends = it.ends;
+      named = it.named;
+      own = it.own;
+      has_own = it.has_own;
+      some = it.some;
+      lists = it.lists;
+    }
+
+yeses_as : (stopped : Option WhyRefused) (options : CheckOptions) (packets : List Recorded) (last_packet : ℕ) (block : Block)
+    → YesesAreTrue (options_by stopped options) packets last_packet block → YesesAreTrue options packets last_packet block
+yeses_as stopped options packets last_packet (BothEnds session opening first_octets second_octets opener other) yeses = (
+  yes_as stopped options packets last_packet session opening opening.opened_by opener yeses.0,
+  yes_as stopped options packets last_packet session opening (other_side opening.opened_by) other yeses.1,
+)
+yeses_as stopped options packets last_packet (OneEnd session opening first_octets second_octets) yeses = tt
+yeses_as stopped options packets last_packet (Refused session opening refusal) yeses = tt
+yeses_as stopped options packets last_packet (AllRefused addresses refusal) yeses = tt
+
+pub all_yeses_as : (stopped : Option WhyRefused) (options : CheckOptions) (packets : List Recorded) (last_packet : ℕ) (blocks : List (ℕ × Block))
+    → AllByRecursion (λ (b : ℕ × Block). YesesAreTrue (options_by stopped options) packets last_packet b.1) blocks
+    → AllByRecursion (λ (b : ℕ × Block). YesesAreTrue options packets last_packet b.1) blocks
+all_yeses_as stopped options packets last_packet [] all = tt
+all_yeses_as stopped options packets last_packet (b ∷ blocks) all =
+    (yeses_as stopped options packets last_packet b.1 all.0, all_yeses_as stopped options packets last_packet blocks all.1)

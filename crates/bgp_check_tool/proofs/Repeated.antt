@@ -13,7 +13,9 @@ use Rattle.bgp_check_text.specs.declared.options.JudgeOptions.{JudgeOptions}
 use Rattle.bgp_check_text.specs.Settings.{are_told}
 use Rattle.bgp_check_tool.specs.Judging.{AreOptionsFor, AreOptionsTo}
 use Rattle.bgp_check_tool.specs.Repeated.{LineGivesTheVerdict}
+use Rattle.bgp_import.specs.ListText.{end_of}
 use Rattle.bgp_check_tool.specs.Seen.{seen_from, session_from}
+use Rattle.bgp_check_tool.proofs.TellingEnd.{line_of_made}
 
 module _ (within : ℕ) (asked : Asked) (connection : Connection) (entries : List Entry) (received sent : Unshown) (under : Config) (line : JudgeOptions) where
   record IsUnder (config : Config) : Type 0 where
@@ -33,8 +35,9 @@ gives_the_verdict law options asked session opening connection side told number 
     let seen = seen_from side connection in
     let records = records_of end.entries in
     let judged : IsJudged its records number peer under verdict = subst (λ (a : AnswerValue). IsAnswerTo its records a) is end.answers in
+    let of = line_of_made options asked (end_of side session opening) its seen told end line there in
     let line_told = subst (λ (j : Option JudgeOptions).
-    AreOptionsTo options.within asked seen end.entries end.received_unshown end.sent_unshown options.settings told.answer j) there end.judges in
+    AreOptionsTo options.within asked seen end.entries end.received_unshown end.sent_unshown options.settings told.answer j) there of.judges in
     let for_it = subst (λ (a : AnswerValue).
     AreOptionsTo options.within asked seen end.entries end.received_unshown end.sent_unshown options.settings a (Some line)) is line_told in
     let (config, so) = of_told options.within asked seen end.entries end.received_unshown end.sent_unshown under line (are_told options.settings verdict) for_it in (

@@ -9,7 +9,7 @@ use Rattle.streams.specs.declared.passed.Side.{Side}
 use Rattle.bgp_judge.specs.Verdict.{No, Unfinished, Yes}
 use Rattle.bgp_recording.specs.declared.framing.Framings.{Framings}
 use Rattle.bgp_recording.specs.Captured.{records_of}
-use Rattle.bgp_import.specs.ListText.{other_side}
+use Rattle.bgp_import.specs.ListText.{end_of, other_side}
 use Rattle.bgp_check.specs.Answered.{AnswerValue, IsAnswerTo, JudgedAs, NoConfigurationExplains, Unjudged}
 use Rattle.bgp_check.specs.Configurations.{IsOf}
 use Rattle.bgp_check.specs.NotJudged.{IsWhyNot, SendsSome, why_not}
@@ -25,14 +25,14 @@ use Rattle.bgp_check_tool.specs.Orders.{IsFoundTo, IsUnexplained, UnexplainedByA
 use Rattle.bgp_orders.specs.declared.connection.Unexplained.{Unexplained}
 use Rattle.bgp_check_tool.specs.Seen.{seen_from, session_from}
 use Rattle.bgp_check_tool.specs.Told.{EndTold, IsEndTold}
-use Rattle.bgp_check_tool.proofs.Stretch.{stretch_of}
+use Rattle.bgp_check_tool.proofs.TellingEnd.{no_of_made, told_stretch}
 
 pub over_all : VerdictIsOverAll
 over_all options asked session opening connection side told number peer under verdict own end is has faultless =
     let its = session_from side session in
     let records = records_of end.entries in
     let answer : IsAnswerTo its records (JudgedAs number peer under verdict) = subst (λ (a : AnswerValue). IsAnswerTo its records a) is end.answers in
-    let stretch = stretch_of end.framings options.within (seen_from side connection) end.entries end.received_unshown end.sent_unshown end.made.recorded.told in
+    let stretch = told_stretch options asked (end_of side session opening) its (seen_from side connection) told end in
     let same = one_own records own answer.own has answer.has_own in
     subst (λ (o : Option (List ℕ)). HasVerdictOver (IsOf its o) records verdict) (sym same)
     (answer.over stretch (subst (λ (o : Option (List ℕ)). IsFaultless o) same faultless))
@@ -42,7 +42,7 @@ no_run law options asked session opening connection side told number peer under 
     let its = session_from side session in
     let records = records_of end.entries in
     let answer : IsAnswerTo its records (JudgedAs number peer under (No count)) = subst (λ (a : AnswerValue). IsAnswerTo its records a) is end.answers in
-    let stretch = stretch_of end.framings options.within (seen_from side connection) end.entries end.received_unshown end.sent_unshown end.made.recorded.told in
+    let stretch = told_stretch options asked (end_of side session opening) its (seen_from side connection) told end in
     law its records number peer under count own config stretch answer has of
 
 -- ---- a sent message that no order explains
@@ -76,7 +76,7 @@ not_vacuous options asked session opening connection side told number peer under
     let its = session_from side session in
     let records = records_of end.entries in
     let answer : IsAnswerTo its records (JudgedAs number peer under verdict) = subst (λ (a : AnswerValue). IsAnswerTo its records a) is end.answers in (
-      stretch_of end.framings options.within (seen_from side connection) end.entries end.received_unshown end.sent_unshown end.made.recorded.told,
+      told_stretch options asked (end_of side session opening) its (seen_from side connection) told end,
       sends_some records answer.none,
     )
 
@@ -109,6 +109,6 @@ told_no law options last_packet place packets session opening first second opene
       framings = end.framings;
       received_unshown = end.received_unshown;
       sent_unshown = end.sent_unshown;
-      made = end.made;
+      made = (no_of_made options (asked side) (end_of side session opening) (session_from side session) (seen_from side both.connection) told end number peer under count is).made;
       none = λ own config has of. (no_run law options (asked side) session opening both.connection side told number peer under count own config end is has of).0;
     }

@@ -3,6 +3,7 @@ pub mod Made
 pub mod Late
 pub mod Judging
 pub mod Orders
+pub mod Another
 pub mod Told
 pub mod Text
 pub mod Blocks

@@ -1,30 +1,36 @@
--- A no in all orders that the packets allow, of an end whose verdict in the made order is a no: the
--- first sent message that no order explains, under the widest configurations of the end.
-use Rattle.std.specs.Prelude.{◌≡◌, ◌+◌, ◌⊎◌, ◌<◌, ℕ, List, Option, None, Some, IfSome, map}
-use Rattle.std.specs.Prelude.{max, option_map, take}
+-- What all orders say that the packets allow, of an end whose verdict in the made order isn't a
+-- yes: the verdict over all of them, under the widest configurations of the end.
+use Rattle.std.specs.Prelude.{◌≡◌, ◌+◌, ◌<◌, ℕ, Bool, true, false, List, Option, None, Some}
+use Rattle.std.specs.Prelude.{IfSome, map, nat_lt, option_map, take}
 use Rattle.bgp_prefix.specs.Shown as shown
 use Rattle.bgp_prefix.specs.Shown.{ShownRecord}
 use Rattle.bgp_prefix.specs.declared.session.Session.{Session}
 use Rattle.streams.specs.declared.connection.Connection.{Connection}
 use Rattle.bgp_open.specs.declared.config.Config.{Config}
 use Rattle.bgp_open.specs.Open.{OpenFields, open_of}
-use Rattle.bgp_judge.specs.Verdict.{No, Unfinished, VerdictValue, Yes}
+use Rattle.bgp_machine.specs.Lists.{Each}
+use Rattle.bgp_machine.specs.Run.{End}
+use Rattle.bgp_judge.specs.Verdict as verdicts
+use Rattle.bgp_judge.specs.Verdict.{VerdictValue}
 use Rattle.bgp_recording.specs.declared.framing.Framings.{Framings}
 use Rattle.bgp_recording.specs.declared.message.Message.{Message}
 use Rattle.bgp_recording.specs.declared.ordering.Exchange.{Exchange}
 use Rattle.bgp_orders.specs.Connections.{IsPacketOf, TellsConnection}
-use Rattle.bgp_orders.specs.Explained.{IsExplained}
-use Rattle.bgp_orders.specs.Rows.{IsAnswer}
+use Rattle.bgp_orders.specs.Explained.{HasVerdictOver, IsExplained, IsWhole, VerdictOver}
+use Rattle.bgp_orders.specs.Explained.{Yes, No, Unfinished}
 use Rattle.bgp_orders.specs.declared.connection.Unexplained.{Unexplained}
 use Rattle.bgp_orders.specs.declared.explained.Explained.{Explained}
 use Rattle.bgp_orders.specs.declared.explained.Explained.TheVariants as answers
 use Rattle.bgp_parts.specs.Opens.{HasOwnOpen, HasPeersOpen}
 use Rattle.bgp_check.specs.Answered.{AnswerValue, HasFault, JudgedAs, Unjudged}
+use Rattle.bgp_check.specs.Checked.{IsUnder}
 use Rattle.bgp_check.specs.Configurations.{IsOf}
-use Rattle.bgp_check.specs.WidestMade.{IsFaultless}
+use Rattle.bgp_check.specs.WidestMade.{IsFaultless, configurations_of}
 use Rattle.bgp_check.specs.WidestOf.{AreTold, parts_of, widest_of}
 use Rattle.bgp_check.specs.declared.own_fault.OwnFault.{OwnFault}
 use Rattle.bgp_check.specs.declared.widest.Widest.{Widest}
+use Rattle.bgp_check_tool.specs.declared.orders.Said.{Said}
+use Rattle.bgp_check_tool.specs.declared.orders.Said.TheVariants as said
 
 -- ---- messages
 
@@ -36,37 +42,60 @@ records_received messages =
 abbrev pub records_sent : List Message → List ShownRecord
 records_sent messages = map (λ (m : Message). shown.Sent m.second m.octets.now) messages
 
--- ---- the search
+-- ---- the verdict over all orders, under the widest configurations
 
--- how many sent messages some way explains, if it isn't all of them and that is known
-abbrev pub explained_by : Explained → Option ℕ
-explained_by (answers.All is_whole) = None
-explained_by (answers.Only count) = Some count
-explained_by answers.TooMany = None
+-- under this configuration there is no better verdict over all orders than this one
+abbrev pub IsNoBetter : ℕ → Exchange → VerdictOver → Config → Type 0
+IsNoBetter within exchange Yes config = Unit {0}
+IsNoBetter within exchange Unfinished config = (e : End) → ¬ IsWhole config within exchange e
+IsNoBetter within exchange (No count) config = ¬ IsExplained config within exchange (count + 1)
 
--- so many are explained under this configuration, and the next one isn't; or that isn't known
-pub record AreExplained (config : Config) (within : ℕ) (exchange : Exchange) (count : Option ℕ)
-    : Type 0 where
-  pub explained : Explained
-  pub is_answer : IsAnswer config within exchange explained
-  pub is : count ≡ explained_by explained
+-- It holds under this one of the widest configurations, and none of them has a better one. It is
+-- told under the one that wants the AS number of the peer's OPEN, if it holds under that, and else
+-- under the other.
+pub record IsToldOver (widest : Widest) (within : ℕ) (exchange : Exchange) (wants : Bool)
+    (under : Config) (verdict : VerdictOver) : Type 0 where
+  pub is_under : IsUnder widest wants under
+  pub holds : HasVerdictOver under within exchange verdict
+  pub best : Each (IsNoBetter within exchange verdict) (configurations_of widest)
+  pub first : wants ≡ false
+      → IfSome widest.wanting (λ config. ¬ HasVerdictOver config within exchange verdict)
 
--- So many are explained under one of two configurations, the most of both, and the next one under
--- neither; or under one of them that isn't known.
-abbrev pub AreExplainedOver : Option Config → Config → ℕ → Exchange → Option ℕ → Type 0
-AreExplainedOver None another within exchange count = AreExplained another within exchange count
-AreExplainedOver (Some wanting) another within exchange None =
-    AreExplained wanting within exchange None ⊎ AreExplained another within exchange None
-AreExplainedOver (Some wanting) another within exchange (Some count) =
-    (one : ℕ) × (other : ℕ) × AreExplained wanting within exchange (Some one)
-    × AreExplained another within exchange (Some other) × (count ≡ max one other)
+-- Of two answers of the search the other is told: told is the first by which some order is whole;
+-- else that the search was too long, if one was; else the first that explains all; else the one
+-- that explains more, of equals the first.
+abbrev pub tells_other : Explained → Explained → Bool
+tells_other (answers.All true) other = false
+tells_other one (answers.All true) = true
+tells_other answers.TooMany other = false
+tells_other one answers.TooMany = true
+tells_other (answers.All false) other = false
+tells_other one (answers.All false) = true
+tells_other (answers.Only count) (answers.Only later) = nat_lt count later
+
+-- This is answered under that configuration. Of an order that is whole nothing is said: its records
+-- are judged.
+abbrev pub IsSaidOver : Widest → ℕ → Exchange → Bool → Config → Explained → Type 0
+IsSaidOver widest within exchange wants under (answers.All true) = Unit {0}
+IsSaidOver widest within exchange wants under (answers.All false) =
+    IsToldOver widest within exchange wants under Unfinished
+IsSaidOver widest within exchange wants under (answers.Only count) =
+    IsToldOver widest within exchange wants under (No count)
+IsSaidOver widest within exchange wants under answers.TooMany = Unit {0}
+
+-- what the answer says, of a no with its message
+abbrev pub IsSaidBy : Exchange → Explained → Said → Type 0
+IsSaidBy exchange explained (said.Whole config) = Unit {0}
+IsSaidBy exchange explained (said.NoOrder unexplained) =
+    (explained ≡ answers.Only unexplained.before) × IsPacketOf exchange unexplained
+IsSaidBy exchange explained said.Neither = Unit {0}
 
 -- The local system of a session that has the connection so, framed so, where a received message is
 -- handled within so many seconds after it came.
 module _ (session : Session) (within : ℕ) (framings : Framings) (connection : Connection) where
-  -- Under none of its widest configurations some way explains this sent message. They are those of
-  -- the first well-formed OPEN that it sent and the first OPEN that it received.
-  pub record IsUnexplained (unexplained : Unexplained) : Type 0 where
+  -- This verdict over all orders is told of it, under one of its widest configurations. They are
+  -- those of the first well-formed OPEN that it sent and the first OPEN that it received.
+  pub record IsOver (verdict : VerdictOver) : Type 0 where
     pub exchange : Exchange
     pub tells : TellsConnection framings connection exchange
     pub own : Option (List ℕ)
@@ -77,15 +106,26 @@ module _ (session : Session) (within : ℕ) (framings : Framings) (connection : 
     pub has_peers : HasPeersOpen (records_received exchange.received.now) peers
     pub are_told : AreTold peers told
     pub made : parts_of widest ≡ widest_of session (option_map open_of own) told
-    pub explained : AreExplainedOver widest.wanting widest.another within exchange
-        (Some unexplained.before)
-    pub is_packet : IsPacketOf exchange unexplained
+    pub wants : Bool
+    pub under : Config
+    pub is_told : IsToldOver widest within exchange wants under verdict
+
+  -- under none of its widest configurations some order explains this sent message
+  pub record IsUnexplained (unexplained : Unexplained) : Type 0 where
+    pub over : IsOver (No unexplained.before)
+    pub is_packet : IsPacketOf over.exchange unexplained
+
+  -- what the search says
+  abbrev pub IsSaid : Said → Type 0
+  IsSaid (said.Whole config) = Unit {0}
+  IsSaid (said.NoOrder unexplained) = IsUnexplained unexplained
+  IsSaid said.Neither = Unit {0}
 
   -- such a message is found of a no alone; that none is found says nothing
   abbrev pub IsFoundFor : VerdictValue → Option Unexplained → Type 0
-  IsFoundFor (Yes ends) found = found ≡ None
-  IsFoundFor (No count) found = IfSome found IsUnexplained
-  IsFoundFor Unfinished found = found ≡ None
+  IsFoundFor (verdicts.Yes ends) found = found ≡ None
+  IsFoundFor (verdicts.No count) found = IfSome found IsUnexplained
+  IsFoundFor verdicts.Unfinished found = found ≡ None
 
   abbrev pub IsFoundTo : AnswerValue → Option Unexplained → Type 0
   IsFoundTo (Unjudged why) found = found ≡ None

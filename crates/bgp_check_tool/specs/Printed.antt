@@ -1,12 +1,12 @@
 -- What the lines of an end are worth: a verdict that is printed of a recording.
-use Rattle.std.specs.Prelude.{◌≡◌, ◌<◌, ◌+◌, ◌++◌, ◌⊎◌, ℕ, Bool, List, Option, Some, codes}
-use Rattle.std.specs.Prelude.{reverse, take}
-use Rattle.std.specs.List.{AllByRecursion, slice_get}
+use Rattle.std.specs.Prelude.{◌≡◌, ◌≢◌, ◌<◌, ◌+◌, ◌++◌, ◌⊎◌, ℕ, Bool, List, [], Option, Some}
+use Rattle.std.specs.Prelude.{codes, reverse, take}
+use Rattle.std.specs.List.{AllByRecursion, flat_map, slice_get}
 use Rattle.packets.specs.Packet.{Recorded}
 use Rattle.bgp_prefix.specs.declared.session.Session.{Session}
 use Rattle.bgp_open.specs.declared.config.Config.{Config}
-use Rattle.bgp_machine.specs.Run.{Begins}
-use Rattle.bgp_judge.specs.Verdict.{VerdictValue}
+use Rattle.bgp_machine.specs.Run.{Begins, End}
+use Rattle.bgp_judge.specs.Verdict.{No, Unfinished, VerdictValue, Yes}
 use Rattle.segments.specs.declared.found.Addresses.{Addresses}
 use Rattle.streams.specs.Choice.{IsAnswered}
 use Rattle.streams.specs.Connections.{numbered}
@@ -26,12 +26,13 @@ use Rattle.bgp_tool.specs.Answer.{IsWritten}
 use Rattle.bgp_check.specs.Answered.{HasFault, JudgedAs}
 use Rattle.bgp_check.specs.Configurations.{IsOf}
 use Rattle.bgp_parts.specs.Opens.{HasOwnOpen}
-use Rattle.bgp_check.specs.Over.{HasVerdictOver}
+use Rattle.bgp_check.specs.Over.{HasVerdictOver, ListsEndsOver}
 use Rattle.bgp_check.specs.WidestMade.{IsFaultless}
 use Rattle.bgp_check.specs.declared.own_fault.OwnFault.{OwnFault}
 use Rattle.bgp_check.specs.declared.peer_as.PeerAs.{PeerAs}
 use Rattle.bgp_check_text.specs.Tally.{status_of, tally_line}
-use Rattle.bgp_check_text.specs.Text.{no_text}
+use Rattle.bgp_check_text.specs.Text.{ending_text, no_text}
+use Rattle.bgp_check_text.specs.Unshown.{unshown_notes}
 use Rattle.bgp_check_text.specs.declared.tally.Tally.{Tally}
 use Rattle.bgp_import.specs.Pairs.{session_of}
 use Rattle.bgp_import.specs.Places.{HasConnection}
@@ -40,13 +41,16 @@ use Rattle.bgp_check_tool.specs.declared.options.CheckOptions.{CheckOptions}
 use Rattle.bgp_check_tool.specs.Blocks.{AllRefused, Block, BothEnds, OneEnd, Refused}
 use Rattle.bgp_check_tool.specs.Checking.{blocks_text, cut_note, file_text, nothing_text}
 use Rattle.bgp_check_tool.specs.Headline.{IsToldOfSide}
-use Rattle.bgp_check_tool.specs.Judging.{options_by}
+use Rattle.bgp_check_tool.specs.declared.another.Order.{Order}
+use Rattle.bgp_check_tool.specs.declared.another.Order.TheVariants as orders
+use Rattle.bgp_check_tool.specs.Judging.{judge_text, options_by}
 use Rattle.bgp_check_tool.specs.Orders.{NoOrderExplains}
+use Rattle.bgp_orders.specs.WholeWays.{AreOfAWayOver}
 use Rattle.bgp_orders.specs.declared.connection.Unexplained.{Unexplained}
 use Rattle.bgp_check_tool.specs.Made.{AreOffered, with_both_offers}
 use Rattle.bgp_check_tool.specs.Places.{IsToldAt}
 use Rattle.bgp_check_tool.specs.Seen.{seen_from, session_from}
-use Rattle.bgp_check_tool.specs.Text.{told_lines, unexplained_text}
+use Rattle.bgp_check_tool.specs.Text.{another_text, told_lines, unexplained_text, whose_text}
 use Rattle.bgp_check_tool.specs.Told.{EndTold}
 
 -- ---- the records of an end
@@ -67,9 +71,25 @@ pub record AreRecordsOf (within : ℕ) (connection : Connection) (entries : List
       looked_in_sent
   pub are_offered : AreOffered (records_of looked_in) framings
 
+-- These records show the same in another order that is allowed so, which may begin in Connect or in
+-- Active, whoever opened the connection: they are those of a way.
+pub record AreRecordsOfAWay (within : ℕ) (connection : Connection) (entries : List Entry) : Type 0
+  where
+    pub framings : Framings
+    pub received_unshown : Unshown
+    pub sent_unshown : Unshown
+    pub way : AreOfAWayOver framings within connection entries received_unshown sent_unshown
+    pub looked_in : List Entry
+    pub looked_in_received : Unshown
+    pub looked_in_sent : Unshown
+    pub is_looked_in : IsRecorded with_both_offers within connection looked_in looked_in_received
+        looked_in_sent
+    pub are_offered : AreOffered (records_of looked_in) framings
+
 -- The packets have the connection that was opened so, and these are records of that side of it.
-pub record HasRecords (options : CheckOptions) (packets : List Recorded) (last_packet : ℕ)
-    (session : Session) (opening : Opening) (side : Side) (entries : List Entry) : Type 0 where
+pub record HasRecordsSo (Are : ℕ → Connection → List Entry → Type 0) (options : CheckOptions)
+    (packets : List Recorded) (last_packet : ℕ) (session : Session) (opening : Opening)
+    (side : Side) (entries : List Entry) : Type 0 where
   pub addresses : Addresses
   pub segments : List Segment
   pub has : HasConnection options.port packets addresses segments opening
@@ -77,7 +97,30 @@ pub record HasRecords (options : CheckOptions) (packets : List Recorded) (last_p
   pub connection : Connection
   pub chosen : IsAnswered (Some opening.number) last_packet (numbered (reverse segments))
       connection
-  pub are_records : AreRecordsOf options.within (seen_from side connection) entries
+  pub are_records : Are options.within (seen_from side connection) entries
+
+abbrev pub HasRecords : CheckOptions → List Recorded → ℕ → Session → Opening → Side → List Entry
+    → Type 0
+HasRecords options packets last_packet session opening side entries =
+    HasRecordsSo AreRecordsOf options packets last_packet session opening side entries
+
+-- These are records of that side in the order in which an answer is told.
+abbrev pub HasRecordsIn : Order → CheckOptions → List Recorded → ℕ → Session → Opening → Side
+    → List Entry → Type 0
+HasRecordsIn orders.Made options packets last_packet session opening side entries =
+    HasRecords options packets last_packet session opening side entries
+HasRecordsIn orders.Another options packets last_packet session opening side entries =
+    HasRecordsSo AreRecordsOfAWay options packets last_packet session opening side entries
+
+-- a no and what is unfinished is told in the made one alone
+abbrev pub HasRecordsWith : VerdictValue → Order → CheckOptions → List Recorded → ℕ → Session
+    → Opening → Side → List Entry → Type 0
+HasRecordsWith (Yes ends) order options packets last_packet session opening side entries =
+    HasRecordsIn order options packets last_packet session opening side entries
+HasRecordsWith (No count) order options packets last_packet session opening side entries =
+    HasRecords options packets last_packet session opening side entries
+HasRecordsWith Unfinished order options packets last_packet session opening side entries =
+    HasRecords options packets last_packet session opening side entries
 
 -- ---- a line that begins with the word `no`
 
@@ -148,10 +191,53 @@ NoesAreTrue options packets last_packet (OneEnd session opening first second) = 
 NoesAreTrue options packets last_packet (Refused session opening refusal) = Unit {0}
 NoesAreTrue options packets last_packet (AllRefused addresses refusal) = Unit {0}
 
+-- ---- a line that begins with the word `yes`
+
+-- They name this end, and list these ends of its session: all that a run can have which shows just
+-- these records of it, under a configuration under which the OPEN that the end sent is its own. The
+-- records are those of the made order; or else those of another one that the packets allow, and
+-- then a note says so.
+pub record IsTrueYes (options : CheckOptions) (packets : List Recorded) (last_packet : ℕ)
+    (session : Session) (opening : Opening) (side : Side) (told : EndTold) : Type 0 where
+  pub entries : List Entry
+  pub has_records : HasRecordsIn told.order options packets last_packet session opening side
+      entries
+  pub number : Option ℕ
+  pub peer : PeerAs
+  pub ends : List End
+  pub named : told_lines options.routes told
+      ≡ codes "yes" ++ (whose_text (end_of side session opening) number peer
+      ++ (flat_map (ending_text options.routes told.highest) ends
+      ++ (unshown_notes told.received told.sent
+      ++ (another_text told.order ++ judge_text told.judge))))
+  pub own : Option (List ℕ)
+  pub has_own : HasOwnOpen (records_of entries) own
+  pub some : ends ≢ []
+  pub lists : ListsEndsOver (IsOf (session_from side session) own) (records_of entries) ends
+
+-- the lines of an end begin so, and are true
+abbrev pub HasTrueYes : CheckOptions → List Recorded → ℕ → Session → Opening → Side → EndTold
+    → Type 0
+HasTrueYes options packets last_packet session opening side told =
+    BeginWith (codes "yes") options.routes told
+    → IsTrueYes options packets last_packet session opening side told
+
+-- so it is of both ends of a connection
+abbrev pub YesesAreTrue : CheckOptions → List Recorded → ℕ → Block → Type 0
+YesesAreTrue options packets last_packet (BothEnds session opening first second opener other) =
+    HasTrueYes options packets last_packet session opening opening.opened_by opener
+    × HasTrueYes options packets last_packet session opening (other_side opening.opened_by) other
+YesesAreTrue options packets last_packet (OneEnd session opening first second) = Unit {0}
+YesesAreTrue options packets last_packet (Refused session opening refusal) = Unit {0}
+YesesAreTrue options packets last_packet (AllRefused addresses refusal) = Unit {0}
+
+-- ---- what is printed
+
 -- These packets are read of the source. What is written are blocks, each of which is told of the
--- packets where it stands: so each line that begins with the word `no` is that of an end. In these
--- each such line is true. Behind them stands no line of an end.
-pub record PrintsTrueNoes {S T : Type 0} (gives : S → S → List ℕ → Type 0) (has_ended : S → Bool)
+-- packets where it stands: so each line that begins with the word `no` or `yes` is that of an end.
+-- In these each such line is true, as `AreTrue` says it. Behind them stands no line of an end.
+pub record PrintsTrue {S T : Type 0} (AreTrue : CheckOptions → List Recorded → ℕ → Block → Type 0)
+    (gives : S → S → List ℕ → Type 0) (has_ended : S → Bool)
     (takes : T → T → List ℕ → Type 0) (failures : T → ℕ) (options : CheckOptions)
     (source source' : S) (sink sink' : T) (status : ℕ) (cut_short : Option CutShort) : Type 0
   where
@@ -162,8 +248,8 @@ pub record PrintsTrueNoes {S T : Type 0} (gives : S → S → List ℕ → Type 
     pub blocks : List (ℕ × Block)
     pub told : AllByRecursion (λ (b : ℕ × Block). IsToldAt (options_by stopped options) packets
         (looked_at packets stopped) b.0 b.1) blocks
-    pub noes : AllByRecursion
-        (λ (b : ℕ × Block). NoesAreTrue options packets (looked_at packets stopped) b.1) blocks
+    pub are_true : AllByRecursion
+        (λ (b : ℕ × Block). AreTrue options packets (looked_at packets stopped) b.1) blocks
     pub lacking : Option Refusal
     pub tally : Tally
     pub written : IsWritten takes failures
@@ -182,12 +268,21 @@ ToldNoesAreTrue =
     → IsToldAt options packets last_packet place block
     → NoesAreTrue options packets last_packet block
 
--- The verdict on that side's records is this one over all configurations under which the OPEN that
--- it sent is its own, where that has no own fault.
+-- and with `yes` only if some run shows just its records, and lists the ends of such runs
+abbrev pub ToldYesesAreTrue : Type 0
+ToldYesesAreTrue =
+    (options : CheckOptions) (last_packet place : ℕ) (packets : List Recorded) (block : Block)
+    → IsToldAt options packets last_packet place block
+    → YesesAreTrue options packets last_packet block
+
+-- The verdict on that side's records, in that order, is this one over all configurations under which
+-- the OPEN that it sent is its own, where that has no own fault.
 pub record HasVerdictOverAll (options : CheckOptions) (packets : List Recorded) (last_packet : ℕ)
-    (session : Session) (opening : Opening) (side : Side) (verdict : VerdictValue) : Type 0 where
+    (session : Session) (opening : Opening) (side : Side) (order : Order) (verdict : VerdictValue)
+    : Type 0 where
   pub entries : List Entry
-  pub has_records : HasRecords options packets last_packet session opening side entries
+  pub has_records : HasRecordsWith verdict order options packets last_packet session opening side
+      entries
   pub over_all : (own : Option (List ℕ)) → HasOwnOpen (records_of entries) own → IsFaultless own
       → HasVerdictOver (IsOf (session_from side session) own) (records_of entries) verdict
 
@@ -201,4 +296,4 @@ ToldVerdictIsOverAll =
     (BothEnds session opening first second opener other)
     → IsToldOfSide opening opener other side told
     → told.answer ≡ JudgedAs number peer under verdict
-    → HasVerdictOverAll options packets last_packet session opening side verdict
+    → HasVerdictOverAll options packets last_packet session opening side told.order verdict

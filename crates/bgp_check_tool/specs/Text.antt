@@ -10,6 +10,8 @@ use Rattle.bgp_check.specs.declared.peer_as.PeerAs.{PeerAs}
 use Rattle.bgp_check.specs.Answered.{AnswerValue, JudgedAs, Unjudged}
 use Rattle.bgp_check_text.specs.Unshown.{unshown_notes}
 use Rattle.bgp_check_text.specs.Text.{as_text, ending_text, no_text, peer_text, why_text}
+use Rattle.bgp_check_tool.specs.declared.another.Order.{Order}
+use Rattle.bgp_check_tool.specs.declared.another.Order.TheVariants as orders
 use Rattle.bgp_check_tool.specs.Judging.{judge_text}
 use Rattle.bgp_check_tool.specs.Late.{late_text}
 use Rattle.bgp_check_tool.specs.Told.{EndTold}
@@ -52,13 +54,25 @@ abbrev pub order_text : ℕ → Option Unexplained → List ℕ
 order_text count None = note_line count
 order_text count (Some unexplained) = []
 
+-- ---- a yes
+
+-- in another order than the made one
+unfoldable pub another_line : List ℕ
+another_line = codes "  note the order that bgp import makes isn't a yes: "
+    ++ codes "another that these packets allow is\n"
+
+abbrev pub another_text : Order → List ℕ
+another_text orders.Made = []
+another_text orders.Another = another_line
+
 -- ---- all of it
 
 abbrev pub verdict_text : Bool → EndTold → Option ℕ → PeerAs → VerdictValue → List ℕ
 verdict_text routes told number peer (Yes ends) =
     codes "yes" ++ (whose_text told.end number peer
     ++ (flat_map (ending_text routes told.highest) ends
-    ++ (unshown_notes told.received told.sent ++ judge_text told.judge)))
+    ++ (unshown_notes told.received told.sent
+    ++ (another_text told.order ++ judge_text told.judge))))
 verdict_text routes told number peer (No count) =
     place_text count told.packet told.unexplained ++ (whose_text told.end number peer
     ++ (told.reason ++ (unshown_notes told.received told.sent

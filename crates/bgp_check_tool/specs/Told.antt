@@ -1,5 +1,5 @@
 -- What is told of one of a connection's two ends.
-use Rattle.std.specs.Prelude.{◌≡◌, ℕ, List, Option, None, option_map}
+use Rattle.std.specs.Prelude.{◌≡◌, ◌⊎◌, ℕ, List, Option, None, option_map}
 use Rattle.std.specs.List.{slice_get}
 use Rattle.bgp_prefix.specs.declared.session.Session.{Session}
 use Rattle.segments.specs.declared.found.Endpoint.{Endpoint}
@@ -21,11 +21,15 @@ use Rattle.bgp_check_tool.specs.declared.ending.Told.{Told}
 use Rattle.bgp_check_text.specs.declared.options.Asked.{Asked}
 use Rattle.bgp_check_text.specs.declared.options.JudgeOptions.{JudgeOptions}
 use Rattle.bgp_check_tool.specs.declared.options.CheckOptions.{CheckOptions}
+use Rattle.bgp_check_tool.specs.declared.another.Order.{Order}
+use Rattle.bgp_check_tool.specs.declared.another.Order.TheVariants as orders
+use Rattle.bgp_check_tool.specs.Another.{IsNoYes, IsYes}
 use Rattle.bgp_check_tool.specs.Judging.{AreOptionsTo}
 use Rattle.bgp_check_tool.specs.Late.{IsLate}
 use Rattle.bgp_check_tool.specs.declared.late.Late.{Late}
 use Rattle.bgp_check_tool.specs.Made.{IsMade}
 use Rattle.bgp_check_tool.specs.Orders.{IsFoundTo}
+use Rattle.bgp_orders.specs.WholeWays.{AreOfAWayOver}
 use Rattle.bgp_orders.specs.declared.connection.Unexplained.{Unexplained}
 use Rattle.bgp_check_tool.specs.Seen.{seen_from, session_from}
 
@@ -33,6 +37,8 @@ use Rattle.bgp_check_tool.specs.Seen.{seen_from, session_from}
 pub record EndTold : Type 0 where
   pub end : Endpoint
   pub answer : AnswerValue
+  -- in which order that is so
+  pub order : Order
   -- the packet that shows the first impossible record, of a no
   pub packet : Option ℕ
   -- the first sent message that no order explains, of a no, if one is known
@@ -57,6 +63,7 @@ abbrev pub told_value : {X : Type 0} → Told X → EndTold
 told_value told = record {
   end = told.end;
   answer = answer_value told.answer;
+  order = told.order;
   packet = told.packet;
   unexplained = told.unexplained;
   put_off = told.put_off;
@@ -80,32 +87,66 @@ abbrev pub packet_of : AnswerValue → List Entry → Option ℕ
 packet_of (Unjudged why) entries = None
 packet_of (JudgedAs number peer under verdict) entries = packet_by verdict entries
 
--- This is told of that end of the connection: what is answered of the records that are made of it
--- as this end has it, and why; of a no the first sent message that no order explains, if one is
--- known; what the answer becomes, where a message may be handled as late as it can be said; the
--- line of a message that it sent goes by the limit of its receiver. And how `bgp judge` gives it,
--- where the connection is asked for so.
-pub record IsEndTold (options : CheckOptions) (asked : Asked) (session : Session)
-    (opening : Opening) (connection : Connection) (side : Side) (told : EndTold) : Type 0 where
+-- In which order of the end's messages it is told, of which these are the entries; an end of this
+-- session that has the connection so, framed so, and is asked for so.
+module _ (options : CheckOptions) (asked : Asked) (session : Session) (connection : Connection)
+    (framings : Framings) (entries : List Entry) (received_unshown sent_unshown : Unshown)
+    (told : EndTold) where
+  -- in the made one; and how `bgp judge` gives it
+  pub record IsOfMade : Type 0 where
+    pub is_order : told.order ≡ orders.Made
+    pub made : IsMade options.within connection framings entries received_unshown sent_unshown
+    pub judges : AreOptionsTo options.within asked connection entries received_unshown
+        sent_unshown options.settings told.answer told.judge
+
+  -- Or it is a yes in another one that the packets allow. What is answered of the made one, framed
+  -- the same, is no yes; and no line says how `bgp judge` gives it.
+  pub record IsOfAnother : Type 0 where
+    pub is_order : told.order ≡ orders.Another
+    pub is_yes : IsYes told.answer
+    pub way : AreOfAWayOver framings options.within connection entries received_unshown
+        sent_unshown
+    pub made_entries : List Entry
+    pub made_received : Unshown
+    pub made_sent : Unshown
+    pub made : IsMade options.within connection framings made_entries made_received made_sent
+    pub made_answer : AnswerValue
+    pub answers_made : IsAnswerTo session (records_of made_entries) made_answer
+    pub is_no_yes : IsNoYes made_answer
+    pub no_judge : told.judge ≡ None
+
+-- This is told of the end at this address and port, of this session, that has the connection so:
+-- what is answered of its records, and why; of a no the first sent message that no order explains,
+-- if one is known; what the answer becomes, where a message may be handled as late as it can be
+-- said; the line of a message that it sent goes by the limit of its receiver. And how `bgp judge`
+-- gives it, where the connection is asked for so.
+pub record IsTold (options : CheckOptions) (asked : Asked) (end : Endpoint) (session : Session)
+    (connection : Connection) (told : EndTold) : Type 0 where
   pub entries : List Entry
   pub received_unshown : Unshown
   pub sent_unshown : Unshown
   pub framings : Framings
-  pub made : IsMade options.within (seen_from side connection) framings entries received_unshown
-      sent_unshown
-  pub is_end : told.end ≡ end_of side session opening
-  pub answers : IsAnswerTo (session_from side session) (records_of entries) told.answer
+  pub are_of : IsOfMade options asked session connection framings entries received_unshown
+      sent_unshown told
+      ⊎ IsOfAnother options asked session connection framings entries received_unshown
+      sent_unshown told
+  pub is_end : told.end ≡ end
+  pub answers : IsAnswerTo session (records_of entries) told.answer
   pub is_packet : told.packet ≡ packet_of told.answer entries
-  pub is_found : IsFoundTo (session_from side session) options.within framings
-      (seen_from side connection) told.answer told.unexplained
+  pub is_found : IsFoundTo session options.within framings connection told.answer
+      told.unexplained
   pub is_put_off : told.put_off ≡ put_off 0 entries
   pub is_within : told.within ≡ options.within
-  pub is_late : IsLate (session_from side session) (seen_from side connection) told.answer
-      told.late
+  pub is_late : IsLate session connection told.answer told.late
   pub is_highest : told.highest ≡ highest_state (records_of entries)
-  pub explains : IsReasonTo (session_from side session) framings.sent.limit (shown_places entries)
+  pub explains : IsReasonTo session framings.sent.limit (shown_places entries)
       (records_of entries) told.answer told.reason
   pub is_received : told.received ≡ received_unshown
   pub is_sent : told.sent ≡ sent_unshown
-  pub judges : AreOptionsTo options.within asked (seen_from side connection) entries
-      received_unshown sent_unshown options.settings told.answer told.judge
+
+-- it is told of that side of the connection
+abbrev pub IsEndTold : CheckOptions → Asked → Session → Opening → Connection → Side → EndTold
+    → Type 0
+IsEndTold options asked session opening connection side told =
+    IsTold options asked (end_of side session opening) (session_from side session)
+    (seen_from side connection) told

@@ -1,6 +1,6 @@
 //! What is told of one of a connection's two ends.
 
-ghost use Rattle.std.specs.Prelude.{◌≡◌, IfOk, map};
+ghost use Rattle.std.specs.Prelude.{◌≡◌, None, IfOk, map};
 ghost use Rattle.mrt.specs.Reader.{shown_of};
 ghost use Rattle.bgp_check.specs.Answered.{IsAnswerTo, answer_value};
 ghost use Rattle.bgp_check_text.specs.Reason.{IsReasonTo, reason_text};
@@ -10,16 +10,18 @@ ghost use Rattle.bgp_recording.specs.Captured.{records_of};
 ghost use Rattle.bgp_recording.specs.Gathered.{IsClocked, IsCovered};
 ghost use Rattle.bgp_recording.specs.Recorded.{IsRecordedInOrder};
 ghost use Rattle.bgp_check_text.specs.Highest.{highest_state};
+ghost use Rattle.bgp_check_tool.specs.declared.another.Order.TheVariants.{Another};
+ghost use Rattle.bgp_check_tool.specs.declared.another.Order.TheVariants.{Made as OfMade};
 ghost use Rattle.bgp_check_tool.specs.Judging.{AreOptionsTo};
 ghost use Rattle.bgp_check_tool.specs.Late.{IsLate};
-ghost use Rattle.bgp_check_tool.specs.Orders.{IsFoundTo};
-ghost use Rattle.bgp_check_tool.specs.Told.{packet_of};
+ghost use Rattle.bgp_check_tool.specs.Made.{IsMade};
+ghost use Rattle.bgp_check_tool.specs.Told.{IsTold, packet_of, told_value};
 
+use crate::another::{AnotherOrder, Order, Searched, search_orders};
 use crate::judging::options_to;
 use crate::late::{Late, late_of};
 use crate::making::Made;
 use crate::options::CheckOptions;
-use crate::orders::unexplained_of;
 use bgp_check::{Answer, check_end};
 use bgp_check_text::{Asked, JudgeOptions, Reason, highest_state, reason_of};
 use bgp_explain::Places;
@@ -27,7 +29,7 @@ use bgp_import::notes_on;
 use bgp_judge::{Tracker, Verdict};
 use bgp_orders::Unexplained;
 use bgp_prefix::Session;
-use bgp_recording::{Entry, Unshown};
+use bgp_recording::{Entry, Framings, Recording, Unshown};
 use segments::Endpoint;
 use std::alloc::{AllocError, Allocator};
 use streams::Connection;
@@ -53,6 +55,8 @@ pub(crate) struct Told<A: Allocator> {
     pub(crate) end: Endpoint,
     /// What is answered of its records.
     pub(crate) answer: Answer<A>,
+    /// In which order that is so.
+    pub(crate) order: Order,
     /// The packet that shows the first impossible record, of a no.
     pub(crate) packet: Option<u64>,
     /// The first sent message that no order explains, of a no, if one is known.
@@ -90,7 +94,119 @@ fn packet_of<A: Allocator>(answer: &Answer<A>, entries: &[Entry<'_>]) -> Option<
     }
 }
 
-/// What is told of an end of whose connection these records were made.
+/// What is told beside an answer.
+#[derive(Clone, Copy)]
+struct Beside {
+    order: Order,
+    unexplained: Option<Unexplained>,
+    late: Option<Late>,
+    judge: Option<JudgeOptions>,
+}
+
+impl Beside {
+    /// Beside a yes of another order than the made one.
+    fn of_another() -> Beside
+        ensures order { result.order ≡ Another }
+        ensures unexplained { result.unexplained ≡ None }
+        ensures late { result.late ≡ None }
+        ensures judge { result.judge ≡ None }
+    {
+        Beside {
+            order: Order::Another,
+            unexplained: None,
+            late: None,
+            judge: None,
+        }
+    }
+
+    /// Beside this answer on the made order, of which this is the first sent message that no order
+    /// explains, if one is known.
+    fn of_made<A: Allocator + Copy, T: Tracker<A>>(
+        alloc: A,
+        viewed: &Viewed<'_>,
+        made: &Made<'_, A>,
+        answer: &Answer<A>,
+        unexplained: Option<Unexplained>,
+    ) -> Result<Beside, AllocError>
+        requires received { IsCovered viewed.now.connection.received }
+        requires sent { IsCovered viewed.now.connection.sent }
+        requires records { map shown_of made.now.recording.records.items
+            ≡ records_of made.now.recording.entries.items }
+        ensures order { IfOk result (λ beside. beside.order ≡ OfMade) }
+        ensures unexplained { IfOk result (λ beside. beside.unexplained ≡ unexplained) }
+        ensures late { IfOk result (λ beside. IsClocked viewed.now.connection → IsLate
+            viewed.now.session viewed.now.connection (answer_value answer.now) beside.late) }
+        ensures judge { IfOk result (λ beside. IsClocked viewed.now.connection
+            → IsRecordedInOrder made.now.framings viewed.now.options.within
+            viewed.now.connection made.now.recording.entries.items made.now.recording.received
+            made.now.recording.sent
+            → AreOptionsTo viewed.now.options.within viewed.now.asked viewed.now.connection
+            made.now.recording.entries.items made.now.recording.received made.now.recording.sent
+            viewed.now.options.settings (answer_value answer.now) beside.judge) }
+    {
+        Ok(Beside {
+            order: Order::Made,
+            unexplained,
+            late: late_of::<A, T>(alloc, viewed, answer)?,
+            judge: options_to(alloc, viewed, made, answer)?,
+        })
+    }
+}
+
+/// What is told of an end by what is answered of these records.
+fn told_of<A: Allocator + Copy, T: Tracker<A>>(
+    alloc: A,
+    viewed: &Viewed<'_>,
+    framings: Framings,
+    recording: &Recording<'_, A>,
+    answer: Answer<A>,
+    beside: Beside,
+) -> Result<Told<A>, AllocError>
+    requires records { map shown_of recording.now.records.items
+        ≡ records_of recording.now.entries.items }
+    requires answers { IsAnswerTo viewed.now.session (records_of recording.now.entries.items)
+        (answer_value answer) }
+    ensures end { IfOk result (λ told. told.end ≡ viewed.now.end) }
+    ensures answer { IfOk result (λ told. answer_value told.answer ≡ answer_value answer) }
+    ensures packet { IfOk result (λ told. told.packet
+        ≡ packet_of (answer_value answer) recording.now.entries.items) }
+    ensures put_off { IfOk result (λ told. told.put_off
+        ≡ put_off 0 recording.now.entries.items) }
+    ensures within { IfOk result (λ told. told.within ≡ viewed.now.options.within) }
+    ensures highest { IfOk result (λ told. told.highest
+        ≡ highest_state (records_of recording.now.entries.items)) }
+    ensures reason { IfOk result (λ told. IsReasonTo viewed.now.session framings.sent.limit
+        (shown_places recording.now.entries.items) (records_of recording.now.entries.items)
+        (answer_value answer) (reason_text told.reason)) }
+    ensures unshown { IfOk result (λ told. (told.received ≡ recording.now.received)
+        × (told.sent ≡ recording.now.sent)) }
+    ensures beside { IfOk result (λ told. (told.order ≡ beside.order)
+        × (told.unexplained ≡ beside.unexplained) × (told.late ≡ beside.late)
+        × (told.judge ≡ beside.judge)) }
+{
+    let entries = recording.entries.as_slice();
+    let records = recording.records.as_slice();
+    let places = Places::Shown(entries);
+    let reason = reason_of::<A, T>(alloc, framings.sent.limit, places, records, &answer)?;
+    Ok(Told {
+        end: viewed.end,
+        packet: packet_of(&answer, entries),
+        answer,
+        order: beside.order,
+        unexplained: beside.unexplained,
+        put_off: notes_on(recording).put_off,
+        within: viewed.options.within,
+        late: beside.late,
+        highest: highest_state(records),
+        reason,
+        received: recording.received,
+        sent: recording.sent,
+        judge: beside.judge,
+    })
+}
+
+/// What is told of an end of whose connection these records were made: of another order that the
+/// packets allow, if that is a yes and the made one isn't; else of the made one.
 pub(crate) fn told_by<A: Allocator + Copy, T: Tracker<A>>(
     alloc: A,
     viewed: &Viewed<'_>,
@@ -100,57 +216,32 @@ pub(crate) fn told_by<A: Allocator + Copy, T: Tracker<A>>(
     requires sent { IsCovered viewed.now.connection.sent }
     requires records { map shown_of made.now.recording.records.items
         ≡ records_of made.now.recording.entries.items }
-    ensures end { IfOk result (λ told. told.end ≡ viewed.now.end) }
-    ensures answers { IfOk result (λ told. IsAnswerTo viewed.now.session
-        (records_of made.now.recording.entries.items) (answer_value told.answer)) }
-    ensures packet { IfOk result (λ told. told.packet
-        ≡ packet_of (answer_value told.answer) made.now.recording.entries.items) }
-    ensures unexplained { IfOk result (λ told. IsClocked viewed.now.connection → IsFoundTo
-        viewed.now.session viewed.now.options.within made.now.framings viewed.now.connection
-        (answer_value told.answer) told.unexplained) }
-    ensures put_off { IfOk result (λ told. told.put_off
-        ≡ put_off 0 made.now.recording.entries.items) }
-    ensures within { IfOk result (λ told. told.within ≡ viewed.now.options.within) }
-    ensures late { IfOk result (λ told. IsClocked viewed.now.connection → IsLate
-        viewed.now.session viewed.now.connection (answer_value told.answer) told.late) }
-    ensures highest { IfOk result (λ told. told.highest
-        ≡ highest_state (records_of made.now.recording.entries.items)) }
-    ensures reason { IfOk result (λ told. IsReasonTo viewed.now.session
-        made.now.framings.sent.limit (shown_places made.now.recording.entries.items)
-        (records_of made.now.recording.entries.items) (answer_value told.answer)
-        (reason_text told.reason)) }
-    ensures unshown { IfOk result (λ told. (told.received ≡ made.now.recording.received)
-        × (told.sent ≡ made.now.recording.sent)) }
-    ensures judge { IfOk result (λ told. IsClocked viewed.now.connection
-        → IsRecordedInOrder made.now.framings viewed.now.options.within viewed.now.connection
+    ensures { IfOk result (λ told. IsClocked viewed.now.connection
+        → IsMade viewed.now.options.within viewed.now.connection made.now.framings
         made.now.recording.entries.items made.now.recording.received made.now.recording.sent
-        → AreOptionsTo viewed.now.options.within viewed.now.asked viewed.now.connection
-        made.now.recording.entries.items made.now.recording.received made.now.recording.sent
-        viewed.now.options.settings (answer_value told.answer) told.judge) }
+        → IsTold viewed.now.options viewed.now.asked viewed.now.end viewed.now.session
+        viewed.now.connection (told_value told)) }
 {
-    let session = &viewed.session;
-    let recording = &made.recording;
-    let sent = made.framings.sent.limit;
-    let entries = recording.entries.as_slice();
+    let (framings, recording) = (made.framings, &made.recording);
     let records = recording.records.as_slice();
-    let answer = check_end::<A, T>(alloc, session, records)?;
-    let unexplained = unexplained_of(alloc, viewed, made.framings, &answer);
-    let late = late_of::<A, T>(alloc, viewed, &answer)?;
-    let places = Places::Shown(entries);
-    let reason = reason_of::<A, T>(alloc, sent, places, records, &answer)?;
-    let judge = options_to(alloc, viewed, made, &answer)?;
-    Ok(Told {
-        end: viewed.end,
-        packet: packet_of(&answer, entries),
-        answer,
-        unexplained,
-        put_off: notes_on(recording).put_off,
-        within: viewed.options.within,
-        late,
-        highest: highest_state(records),
-        reason,
-        received: recording.received,
-        sent: recording.sent,
-        judge,
-    })
+    let answer = check_end::<A, T>(alloc, &viewed.session, records)?;
+    match search_orders::<A, T>(alloc, viewed, framings, &answer) {
+        Searched::Nothing => {
+            let beside = Beside::of_made::<A, T>(alloc, viewed, made, &answer, None)?;
+            let told = told_of::<A, T>(alloc, viewed, framings, recording, answer, beside)?;
+            Ok(told)
+        }
+        Searched::NoOrder(unexplained) => {
+            let found = Some(unexplained);
+            let beside = Beside::of_made::<A, T>(alloc, viewed, made, &answer, found)?;
+            let told = told_of::<A, T>(alloc, viewed, framings, recording, answer, beside)?;
+            Ok(told)
+        }
+        Searched::Another(another) => {
+            let AnotherOrder { recording, answer } = another;
+            let beside = Beside::of_another();
+            let told = told_of::<A, T>(alloc, viewed, framings, &recording, answer, beside)?;
+            Ok(told)
+        }
+    }
 }

@@ -2,7 +2,8 @@
 
 ghost use Rattle.std.specs.Prelude.{◌<◌, ◌^◌};
 ghost use Rattle.bgp_check_tool.specs.Checking.{ChecksRecording};
-ghost use Rattle.bgp_check_tool.specs.Printed.{PrintsTrueNoes, ToldVerdictIsOverAll};
+ghost use Rattle.bgp_check_tool.specs.Printed.{NoesAreTrue, PrintsTrue, ToldVerdictIsOverAll};
+ghost use Rattle.bgp_check_tool.specs.Printed.{YesesAreTrue};
 
 use crate::checking::{self, CheckedRecording};
 use crate::laws::no_order_has_a_run;
@@ -57,8 +58,10 @@ pub fn check_recording<A: Allocator + Copy, T: Tracker<A>, R: Source, W: Sink>(
 ) -> CheckedRecording
     requires source { R.failures source.old < 2 ^ 63 }
     requires sink { W.failures sink.old < 2 ^ 63 }
-    ensures no { PrintsTrueNoes R.gives R.has_ended W.takes W.failures options.now source.old
-        source.new sink.old sink.new result.status result.cut_short }
+    ensures no { PrintsTrue NoesAreTrue R.gives R.has_ended W.takes W.failures options.now
+        source.old source.new sink.old sink.new result.status result.cut_short }
+    ensures yes { PrintsTrue YesesAreTrue R.gives R.has_ended W.takes W.failures options.now
+        source.old source.new sink.old sink.new result.status result.cut_short }
     ensures all { ChecksRecording R.gives R.has_ended W.takes R.failures W.failures options.now
         source.old source.new sink.old sink.new result.status result.cut_short
         result.refusals.items result.refusal result.nothing }

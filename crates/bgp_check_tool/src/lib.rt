@@ -9,6 +9,7 @@
 //! ```
 #![tactic(auto)]
 
+mod another;
 mod blocks;
 mod checking;
 mod connection;

@@ -6,11 +6,13 @@ ghost use Rattle.bgp_judge.specs.Ends.{end_value};
 ghost use Rattle.bgp_judge.specs.Verdict.{verdict_value};
 ghost use Rattle.bgp_text.specs.Lines.{Writes};
 ghost use Rattle.bgp_check_text.specs.Text.{as_text, ending_text, no_text, peer_text, why_text};
-ghost use Rattle.bgp_check_tool.specs.Text.{not_judged_line, note_line, one_end_line, order_text};
-ghost use Rattle.bgp_check_tool.specs.Text.{place_text, told_lines, unexplained_text};
-ghost use Rattle.bgp_check_tool.specs.Text.{verdict_text, whose_text};
+ghost use Rattle.bgp_check_tool.specs.Text.{another_line, another_text, not_judged_line};
+ghost use Rattle.bgp_check_tool.specs.Text.{note_line, one_end_line, order_text, place_text};
+ghost use Rattle.bgp_check_tool.specs.Text.{told_lines, unexplained_text, verdict_text};
+ghost use Rattle.bgp_check_tool.specs.Text.{whose_text};
 ghost use Rattle.bgp_check_tool.specs.Told.{told_value};
 
+use crate::another::Order;
 use crate::ending::Told;
 use crate::judging::put_judge;
 use crate::late::put_late;
@@ -99,6 +101,24 @@ fn put_order<W: Sink>(lines: &mut Lines<'_, W>, put_off: usize, unexplained: Opt
     }
 }
 
+/// Puts that a yes is that of another order than the made one.
+fn put_another<W: Sink>(lines: &mut Lines<'_, W>)
+    ensures { Writes lines.old lines.new another_line }
+{
+    lines.put(b"  note the order that bgp import makes isn't a yes: ");
+    lines.put(b"another that these packets allow is\n");
+}
+
+/// Puts that, if it is.
+fn put_whose_order<W: Sink>(lines: &mut Lines<'_, W>, order: Order)
+    ensures { Writes lines.old lines.new (another_text order) }
+{
+    match order {
+        Order::Made => lines.put(b""),
+        Order::Another => put_another(lines),
+    }
+}
+
 /// The lines of an end's verdict.
 fn put_verdict<W: Sink, A: Allocator>(
     lines: &mut Lines<'_, W>,
@@ -115,6 +135,7 @@ fn put_verdict<W: Sink, A: Allocator>(
             put_whose(lines, told.end, judged.as_number, judged.peer_as);
             put_endings(lines, endings.as_slice(), told.highest, routes);
             put_unshown(lines, told.received, told.sent);
+            put_whose_order(lines, told.order);
             put_judge(lines, told.judge);
         }
         Verdict::No(count) => {

@@ -1,24 +1,41 @@
-//! Whether a no holds in all orders that the packets allow.
+//! What all orders say together that the packets allow, under an end's widest configurations.
 
-ghost use Rattle.std.specs.Prelude.{◌≡◌, ◌≤◌, IfNone, IfOk, IfSome, length, map};
+ghost use Rattle.std.specs.Prelude.{◌≡◌, true, IfOk, IsTrue, map};
 ghost use Rattle.mrt.specs.Reader.{shown_of};
-ghost use Rattle.bgp_judge.specs.Verdict.{verdict_value};
 ghost use Rattle.bgp_recording.specs.Gathered.{IsClocked, IsCovered};
 ghost use Rattle.bgp_recording.specs.Told.{IsTold};
-ghost use Rattle.bgp_orders.specs.Connections.{IsPacketOf};
-ghost use Rattle.bgp_check.specs.Answered.{answer_value};
-ghost use Rattle.bgp_check_tool.specs.Orders.{AreExplained, AreExplainedOver, IsFoundTo};
-ghost use Rattle.bgp_check_tool.specs.Orders.{IsUnexplained, explained_by, records_received};
-ghost use Rattle.bgp_check_tool.specs.Orders.{records_sent};
+ghost use Rattle.bgp_orders.specs.declared.explained.Explained.TheVariants.{All};
+ghost use Rattle.bgp_check_tool.specs.Orders.{IsSaid, IsSaidBy, IsSaidOver, records_received};
+ghost use Rattle.bgp_check_tool.specs.Orders.{records_sent, tells_other};
 
 use crate::ending::Viewed;
-use bgp_check::{Answer, Widest, own_open, peers_open, widest_of};
-use bgp_judge::Verdict;
+use bgp_check::{Widest, own_open, peers_open, widest_of};
 use bgp_open::Config;
 use bgp_orders::{Explained, Unexplained, explained_count};
 use bgp_recording::{Exchange, Framings, Message, frame_connection};
 use mrt::Record;
 use std::alloc::{AllocError, Allocator};
+
+/// What the search over all orders answers, under the one of the widest configurations that has the
+/// better verdict.
+#[derive(Clone, Copy)]
+struct Over {
+    explained: Explained,
+    /// Whether that configuration wants the AS number of the peer's OPEN.
+    wants_peers: bool,
+    under: Config,
+}
+
+/// What all orders of an end's messages say.
+#[derive(Clone, Copy)]
+pub(crate) enum Said {
+    /// By the search some order is whole under this configuration.
+    Whole(Config),
+    /// No order explains this sent message.
+    NoOrder(Unexplained),
+    /// Neither is known.
+    Neither,
+}
 
 /// Returns received messages as records.
 fn records_received<'a, A: Allocator + Copy>(
@@ -40,7 +57,8 @@ fn records_sent<'a, A: Allocator + Copy>(
     alloc: A,
     messages: &[Message<'a>],
 ) -> Result<Vec<Record<'a>, A>, AllocError>
-    ensures { IfOk result (λ records. map shown_of records.items ≡ records_sent messages.now) }
+    ensures { IfOk result (λ records.
+        map shown_of records.items ≡ records_sent messages.now) }
 {
     let mut records = Vec::new(alloc);
     for message in messages {
@@ -49,81 +67,100 @@ fn records_sent<'a, A: Allocator + Copy>(
     Ok(records)
 }
 
-/// Returns how many sent messages some order explains, if not all of them and if that is known.
-fn explained_by(explained: Explained) -> Option<usize>
-    ensures { result ≡ explained_by explained }
+/// Whether some order is whole.
+fn is_whole(explained: Explained) -> bool
+    ensures { IsTrue result → explained ≡ All true }
 {
     match explained {
-        Explained::Only(count) => Some(count),
-        Explained::All { .. } | Explained::TooMany => None,
+        Explained::All { is_whole } => is_whole,
+        Explained::Only(_) | Explained::TooMany => false,
     }
 }
 
-/// Returns how many some order explains under this configuration, if not all of them and if the
-/// search finds that.
-fn explained_under<A: Allocator + Copy>(
-    alloc: A,
-    config: &Config,
-    exchange: &Exchange<'_, '_>,
-    within: u16,
-) -> Result<Option<usize>, AllocError>
-    ensures { IfOk result (λ count. IsTold exchange.now
-        → AreExplained config.now within exchange.now count) }
+/// Whether the other one of two answers is told.
+fn tells_other(one: Explained, other: Explained) -> bool
+    ensures { result ≡ tells_other one other }
 {
-    let explained = explained_count(alloc, config, exchange, within)?;
-    Ok(explained_by(explained))
+    match (one, other) {
+        (Explained::All { is_whole: true }, _) => false,
+        (_, Explained::All { is_whole: true }) => true,
+        (Explained::TooMany, _) => false,
+        (_, Explained::TooMany) => true,
+        (Explained::All { is_whole: false }, _) => false,
+        (_, Explained::All { is_whole: false }) => true,
+        (Explained::Only(count), Explained::Only(later)) => count < later,
+    }
 }
 
-/// Returns how many are explained under one of the widest configurations, the most of both, if each
-/// leaves one unexplained. The second search is made only after such a first one.
-fn explained_over<A: Allocator + Copy>(
+/// Returns what the search answers under the widest configurations. The second one is searched only
+/// where the first has no whole order.
+fn search_over<A: Allocator + Copy>(
     alloc: A,
     widest: &Widest,
     exchange: &Exchange<'_, '_>,
     within: u16,
-) -> Result<Option<usize>, AllocError>
-    ensures { IfOk result (λ count. IsTold exchange.now → AreExplainedOver widest.now.wanting
-        widest.now.another within exchange.now count) }
+) -> Result<Over, AllocError>
+    ensures { IfOk result (λ over. IsTold exchange.now → IsSaidOver widest.now within
+        exchange.now over.wants_peers over.under over.explained) }
 {
     let Some(wanting) = widest.wanting else {
-        return explained_under(alloc, &widest.another, exchange, within);
+        return Ok(Over {
+            explained: explained_count(alloc, &widest.another, exchange, within)?,
+            wants_peers: false,
+            under: widest.another,
+        });
     };
-    let Some(one) = explained_under(alloc, &wanting, exchange, within)? else {
-        return Ok(None);
-    };
-    let Some(other) = explained_under(alloc, &widest.another, exchange, within)? else {
-        return Ok(None);
-    };
-    Ok(Some(one.max(other)))
-}
-
-/// Returns the sent message behind so many of them.
-fn message_behind(exchange: &Exchange<'_, '_>, before: usize) -> Option<Unexplained>
-    ensures some { IfSome result (λ unexplained. (unexplained.before ≡ before)
-        × IsPacketOf exchange.now unexplained) }
-    ensures none { IfNone result (length exchange.now.sent.now ≤ before) }
-{
-    match exchange.sent.get(before) {
-        Some(message) => Some(Unexplained {
-            before,
-            packet: message.packet,
-        }),
-        None => None,
+    let one = explained_count(alloc, &wanting, exchange, within)?;
+    if is_whole(one) {
+        return Ok(Over {
+            explained: one,
+            wants_peers: true,
+            under: wanting,
+        });
+    }
+    let other = explained_count(alloc, &widest.another, exchange, within)?;
+    if tells_other(one, other) {
+        Ok(Over {
+            explained: other,
+            wants_peers: false,
+            under: widest.another,
+        })
+    } else {
+        Ok(Over {
+            explained: one,
+            wants_peers: true,
+            under: wanting,
+        })
     }
 }
 
-/// Returns the first sent message of a connection, framed so, that no order explains, if the search
-/// finds one.
-fn unexplained_in<A: Allocator + Copy>(
+/// Returns what the answer says, of a no with the first sent message that no order explains.
+fn said_of(exchange: &Exchange<'_, '_>, over: Over) -> Said
+    ensures { IsSaidBy exchange.now over.explained result }
+{
+    match over.explained {
+        Explained::All { is_whole: true } => Said::Whole(over.under),
+        Explained::Only(before) => match exchange.sent.get(before) {
+            Some(message) => Said::NoOrder(Unexplained {
+                before,
+                packet: message.packet,
+            }),
+            None => Said::Neither,
+        },
+        Explained::All { is_whole: false } | Explained::TooMany => Said::Neither,
+    }
+}
+
+/// Returns what all orders of the end's messages say, the connection framed so.
+pub(crate) fn search_end<A: Allocator + Copy>(
     alloc: A,
     viewed: &Viewed<'_>,
     framings: Framings,
-) -> Result<Option<Unexplained>, AllocError>
+) -> Result<Said, AllocError>
     requires received { IsCovered viewed.now.connection.received }
     requires sent { IsCovered viewed.now.connection.sent }
-    ensures { IfOk result (λ found. IsClocked viewed.now.connection → IfSome found
-        (IsUnexplained viewed.now.session viewed.now.options.within framings
-        viewed.now.connection)) }
+    ensures { IfOk result (λ said. IsClocked viewed.now.connection → IsSaid viewed.now.session
+        viewed.now.options.within framings viewed.now.connection said) }
 {
     let within = viewed.options.within;
     let framed = frame_connection(alloc, &viewed.connection, framings)?;
@@ -133,36 +170,8 @@ fn unexplained_in<A: Allocator + Copy>(
     let own = own_open(&sent);
     let peers = peers_open(&received);
     let Some(widest) = widest_of(&viewed.session, own, peers) else {
-        return Ok(None);
+        return Ok(Said::Neither);
     };
-    let Some(before) = explained_over(alloc, &widest, &exchange, within)? else {
-        return Ok(None);
-    };
-    Ok(message_behind(&exchange, before))
-}
-
-/// Returns the first sent message that no order explains that the packets allow, for a no. `None`
-/// for any other answer; if some order explains all of them; and if the search is too long or
-/// memory is refused for it.
-pub(crate) fn unexplained_of<A: Allocator + Copy>(
-    alloc: A,
-    viewed: &Viewed<'_>,
-    framings: Framings,
-    answer: &Answer<A>,
-) -> Option<Unexplained>
-    requires received { IsCovered viewed.now.connection.received }
-    requires sent { IsCovered viewed.now.connection.sent }
-    ensures { IsClocked viewed.now.connection → IsFoundTo viewed.now.session
-        viewed.now.options.within framings viewed.now.connection (answer_value answer.now) result }
-{
-    let Answer::Judged(judged) = answer else {
-        return None;
-    };
-    match &judged.verdict {
-        Verdict::No(_) => match unexplained_in(alloc, viewed, framings) {
-            Ok(found) => found,
-            Err(AllocError) => None,
-        },
-        Verdict::Yes(_) | Verdict::Unfinished => None,
-    }
+    let over = search_over(alloc, &widest, &exchange, within)?;
+    Ok(said_of(&exchange, over))
 }

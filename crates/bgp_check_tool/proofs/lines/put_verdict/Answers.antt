@@ -5,7 +5,7 @@ pub returns-in-Yes : goal.returns-in-Yes
 returns-in-Yes g c =
     let law : Joins g.W.Sink = record { joined = g.met.W.Sink.joined } in
     let endings = rw c.as_slice.ensures.value at c.put_endings.ensures in
-    rw c.in-Yes.is (and_then law c.put.ensures (and_then law c.put_whose.ensures (and_then law endings (and_then law c.put_unshown.ensures c.put_judge.ensures))))
+    rw c.in-Yes.is (and_then law c.put.ensures (and_then law c.put_whose.ensures (and_then law endings (and_then law c.put_unshown.ensures (and_then law c.put_whose_order.ensures c.put_judge.ensures)))))
 
 pub returns-in-No : goal.returns-in-No
 returns-in-No g c =

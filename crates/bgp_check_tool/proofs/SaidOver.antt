@@ -1,0 +1,156 @@
+-- What the search answers under the widest configurations.
+use Rattle.std.proofs.Common.{◌≡◌, ◌+◌, ◌<◌, ◌≤◌, ℕ, Bool, true, false, List, Option, None, Some, IfSome, arith, length, nat_lt, option_map, refl, subst, sym}
+use Rattle.bgp_prefix.specs.declared.session.Session.{Session}
+use Rattle.streams.specs.declared.connection.Connection.{Connection}
+use Rattle.bgp_open.specs.Open.{OpenFields, open_of}
+use Rattle.bgp_open.specs.declared.config.Config.{Config}
+use Rattle.bgp_machine.specs.Lists.{Each}
+use Rattle.bgp_machine.specs.Run.{End}
+use Rattle.bgp_recording.specs.declared.framing.Framings.{Framings}
+use Rattle.bgp_recording.specs.declared.ordering.Exchange.{Exchange}
+use Rattle.bgp_orders.specs.Connections.{TellsConnection}
+use Rattle.bgp_orders.specs.Explained.{HasVerdictOver, IsExplained, IsWhole, No, Unfinished, VerdictOver}
+use Rattle.bgp_orders.specs.Rows.{IsAnswer}
+use Rattle.bgp_orders.specs.declared.explained.Explained.{Explained}
+use Rattle.bgp_orders.specs.declared.explained.Explained.TheVariants as answers
+use Rattle.bgp_orders.proofs.Over.{at_most_explained, whole_is_explained}
+use Rattle.bgp_parts.specs.Opens.{HasOwnOpen, HasPeersOpen}
+use Rattle.bgp_check.specs.WidestMade.{both_of}
+use Rattle.bgp_check.specs.WidestOf.{AreTold, parts_of, widest_of}
+use Rattle.bgp_check.specs.declared.widest.Widest.{Widest}
+use Rattle.bgp_check_tool.specs.declared.orders.Said.{Said}
+use Rattle.bgp_check_tool.specs.declared.orders.Said.TheVariants as said
+use Rattle.bgp_check_tool.specs.Orders.{IsNoBetter, IsOver, IsSaid, IsSaidBy, IsSaidOver, IsToldOver, records_received, records_sent, tells_other}
+
+not_beyond : (config : Config) (within : ℕ) (exchange : Exchange) (count before : ℕ) → HasVerdictOver config within exchange (No count) → count ≤ before
+    → ¬ IsExplained config within exchange (before + 1)
+not_beyond config within exchange count before holds less explained =
+    holds.2 (at_most_explained config within exchange (count + 1) (before + 1) (omega (arith, less)) explained)
+
+-- where a message isn't explained no way is whole
+none_whole : (config : Config) (within : ℕ) (exchange : Exchange) (count : ℕ) → HasVerdictOver config within exchange (No count) → (e : End) → ¬ IsWhole config within exchange e
+none_whole config within exchange count holds e whole =
+    let few : count < length exchange.sent.now = holds.0 in
+    holds.2 (at_most_explained config within exchange (count + 1) (length exchange.sent.now) (omega (arith, few)) (whole_is_explained config within exchange e whole))
+
+not_unfinished : (config : Config) (within : ℕ) (exchange : Exchange) (count : ℕ) → HasVerdictOver config within exchange (No count) → ¬ HasVerdictOver config within exchange Unfinished
+not_unfinished config within exchange count holds unfinished =
+    let few : count < length exchange.sent.now = holds.0 in
+    holds.2 (at_most_explained config within exchange (count + 1) (length exchange.sent.now) (omega (arith, few)) unfinished.0)
+
+not_later : (config : Config) (within : ℕ) (exchange : Exchange) (count later : ℕ) → HasVerdictOver config within exchange (No count) → count < later
+    → ¬ HasVerdictOver config within exchange (No later)
+not_later config within exchange count later holds less other =
+    holds.2 (at_most_explained config within exchange (count + 1) later (omega (arith, less)) other.1)
+
+at_most : (count later : ℕ) → nat_lt count later ≡ false → later ≤ count
+at_most count later is = grind arith
+
+less_than : (count later : ℕ) → nat_lt count later ≡ true → count < later
+less_than count later is = grind arith
+
+-- ---- told under one of two
+
+module _ (within : ℕ) (exchange : Exchange) (wanting another : Config) where
+  abbrev Best : VerdictOver → Type 0
+  Best verdict = Each (IsNoBetter within exchange verdict) (both_of (Some wanting) another)
+
+  module _ (widest : Widest) (is_wanting : widest.wanting ≡ Some wanting) (is_another : widest.another ≡ another) where
+    of_first : (verdict : VerdictOver) → HasVerdictOver wanting within exchange verdict → Best verdict → IsToldOver widest within exchange true wanting verdict
+    of_first verdict holds best = record {
+      is_under = is_wanting;
+      holds = holds;
+      best = subst (λ (a : Config). Each (IsNoBetter within exchange verdict) (both_of widest.wanting a)) (sym is_another)
+          (subst (λ (w : Option Config). Each (IsNoBetter within exchange verdict) (both_of w another)) (sym is_wanting) best);
+      first = λ other. absurd (let k : ⊥ = cc in k);
+    }
+
+    of_other : (verdict : VerdictOver) → HasVerdictOver another within exchange verdict → Best verdict → ¬ HasVerdictOver wanting within exchange verdict
+        → IsToldOver widest within exchange false another verdict
+    of_other verdict holds best first = record {
+      is_under = is_another;
+      holds = holds;
+      best = subst (λ (a : Config). Each (IsNoBetter within exchange verdict) (both_of widest.wanting a)) (sym is_another)
+          (subst (λ (w : Option Config). Each (IsNoBetter within exchange verdict) (both_of w another)) (sym is_wanting) best);
+      first = λ other. subst (λ (w : Option Config). IfSome w (λ config. ¬ HasVerdictOver config within exchange verdict)) (sym is_wanting) first;
+    }
+
+    pub said_first : (one other : Explained) → IsAnswer wanting within exchange one → IsAnswer another within exchange other → tells_other one other ≡ false
+        → IsSaidOver widest within exchange true wanting one
+    said_first (answers.All true) other is is_other tells = tt
+    said_first (answers.All false) (answers.All true) is is_other tells = absurd (let k : ⊥ = cc in k)
+    said_first (answers.All false) (answers.All false) is is_other tells = of_first Unfinished is (is.1, (is_other.1, tt))
+    said_first (answers.All false) (answers.Only later) is is_other tells = of_first Unfinished is (is.1, (none_whole another within exchange later is_other, tt))
+    said_first (answers.All false) answers.TooMany is is_other tells = absurd (let k : ⊥ = cc in k)
+    said_first (answers.Only count) (answers.All true) is is_other tells = absurd (let k : ⊥ = cc in k)
+    said_first (answers.Only count) (answers.All false) is is_other tells = absurd (let k : ⊥ = cc in k)
+    said_first (answers.Only count) (answers.Only later) is is_other tells =
+        of_first (No count) is (is.2, (not_beyond another within exchange later count is_other (at_most count later tells), tt))
+    said_first (answers.Only count) answers.TooMany is is_other tells = absurd (let k : ⊥ = cc in k)
+    said_first answers.TooMany other is is_other tells = tt
+
+    pub said_other : (one other : Explained) → IsAnswer wanting within exchange one → IsAnswer another within exchange other → tells_other one other ≡ true
+        → IsSaidOver widest within exchange false another other
+    said_other one (answers.All true) is is_other tells = tt
+    said_other (answers.All true) (answers.All false) is is_other tells = absurd (let k : ⊥ = cc in k)
+    said_other (answers.All false) (answers.All false) is is_other tells = absurd (let k : ⊥ = cc in k)
+    said_other (answers.Only count) (answers.All false) is is_other tells =
+        of_other Unfinished is_other (none_whole wanting within exchange count is, (is_other.1, tt)) (not_unfinished wanting within exchange count is)
+    said_other answers.TooMany (answers.All false) is is_other tells = absurd (let k : ⊥ = cc in k)
+    said_other (answers.All true) (answers.Only later) is is_other tells = absurd (let k : ⊥ = cc in k)
+    said_other (answers.All false) (answers.Only later) is is_other tells = absurd (let k : ⊥ = cc in k)
+    said_other (answers.Only count) (answers.Only later) is is_other tells =
+        let less = less_than count later tells in
+        of_other (No later) is_other (not_beyond wanting within exchange count later is (omega (arith, less)), (is_other.2, tt)) (not_later wanting within exchange count later is less)
+    said_other answers.TooMany (answers.Only later) is is_other tells = absurd (let k : ⊥ = cc in k)
+    said_other one answers.TooMany is is_other tells = tt
+
+-- ---- where there is one
+
+module _ (within : ℕ) (exchange : Exchange) (widest : Widest) (is_none : widest.wanting ≡ None) where
+  of_alone : (verdict : VerdictOver) → HasVerdictOver widest.another within exchange verdict → IsNoBetter within exchange verdict widest.another
+      → IsToldOver widest within exchange false widest.another verdict
+  of_alone verdict holds best = record {
+    is_under = refl;
+    holds = holds;
+    best = subst (λ (w : Option Config). Each (IsNoBetter within exchange verdict) (both_of w widest.another)) (sym is_none) (best, tt);
+    first = λ other. subst (λ (w : Option Config). IfSome w (λ config. ¬ HasVerdictOver config within exchange verdict)) (sym is_none) tt;
+  }
+
+  pub said_alone : (x : Explained) → IsAnswer widest.another within exchange x → IsSaidOver widest within exchange false widest.another x
+  said_alone (answers.All true) is = tt
+  said_alone (answers.All false) is = of_alone Unfinished is is.1
+  said_alone (answers.Only count) is = of_alone (No count) is is.2
+  said_alone answers.TooMany is = tt
+
+-- ---- what the answer says of an end
+
+module _ (session : Session) (within : ℕ) (framings : Framings) (connection : Connection) (exchange : Exchange) (tells : TellsConnection framings connection exchange)
+    (own peers : Option (List ℕ)) (told : Option OpenFields) (widest : Widest) (has_own : HasOwnOpen (records_sent exchange.sent.now) own)
+    (has_peers : HasPeersOpen (records_received exchange.received.now) peers) (are_told : AreTold peers told) (made : parts_of widest ≡ widest_of session (option_map open_of own) told)
+    (wants : Bool) (under : Config) (explained : Explained) (is_said : IsSaidOver widest within exchange wants under explained) where
+  over_so : (verdict : VerdictOver) → IsToldOver widest within exchange wants under verdict → IsOver session within framings connection verdict
+  over_so verdict is = record {
+    exchange = exchange;
+    tells = tells;
+    own = own;
+    peers = peers;
+    told = told;
+    widest = widest;
+    has_own = has_own;
+    has_peers = has_peers;
+    are_told = are_told;
+    made = made;
+    wants = wants;
+    under = under;
+    is_told = is;
+  }
+
+  pub said_so : (x : Said) → IsSaidBy exchange explained x → IsSaid session within framings connection x
+  unfolding over_so
+  said_so (said.Whole config) by = tt
+  said_so (said.NoOrder unexplained) by = record {
+    over = over_so (No unexplained.before) (subst (λ (e : Explained). IsSaidOver widest within exchange wants under e) by.0 is_said);
+    is_packet = by.1;
+  }
+  said_so said.Neither by = tt

@@ -1,0 +1,126 @@
+-- What is told of an end, by the order in which it is told.
+use Rattle.std.proofs.Common.{◌≡◌, ◌∙◌, ◌⊎◌, ℕ, List, [], Option, None, Some, IfSome, ap, inl, inr, sym, subst}
+use Rattle.bgp_prefix.specs.Shown.{ShownRecord}
+use Rattle.bgp_prefix.specs.declared.session.Session.{Session}
+use Rattle.segments.specs.declared.found.Endpoint.{Endpoint}
+use Rattle.streams.specs.declared.connection.Connection.{Connection}
+use Rattle.bgp_open.specs.declared.config.Config.{Config}
+use Rattle.bgp_judge.specs.Verdict.{No, Unfinished, VerdictValue, Yes}
+use Rattle.bgp_recording.specs.Captured.{records_of}
+use Rattle.bgp_recording.specs.declared.entry.Entry.{Entry}
+use Rattle.bgp_recording.specs.declared.framing.Framings.{Framings}
+use Rattle.bgp_recording.specs.declared.framing.Unshown.{Unshown}
+use Rattle.bgp_orders.specs.WholeWays.{AreOfAWayOver}
+use Rattle.bgp_orders.specs.declared.connection.Unexplained.{Unexplained}
+use Rattle.bgp_orders.proofs.Entries.{entries_show_the_way}
+use Rattle.bgp_check.specs.Answered.{AnswerValue, IsAnswerTo, JudgedAs, Unjudged}
+use Rattle.bgp_check.specs.Stretch.{IsStretch}
+use Rattle.bgp_check.specs.declared.peer_as.PeerAs.{PeerAs}
+use Rattle.bgp_check_text.specs.Highest.{highest_state}
+use Rattle.bgp_check_text.specs.Reason.{IsReasonTo}
+use Rattle.bgp_explain.specs.Places.{shown_places}
+use Rattle.bgp_import.specs.Captures.{put_off}
+use Rattle.bgp_check_text.specs.declared.options.Asked.{Asked}
+use Rattle.bgp_check_text.specs.declared.options.JudgeOptions.{JudgeOptions}
+use Rattle.bgp_check_tool.specs.declared.options.CheckOptions.{CheckOptions}
+use Rattle.bgp_check_tool.specs.declared.late.Late.{Late}
+use Rattle.bgp_check_tool.specs.Another.{IsNo, IsNoYes, IsYes}
+use Rattle.bgp_check_tool.specs.Late.{IsLate}
+use Rattle.bgp_check_tool.specs.Orders.{IsFoundTo, IsUnexplained}
+use Rattle.bgp_check_tool.specs.Told.{EndTold, IsOfAnother, IsOfMade, IsTold, packet_of}
+use Rattle.bgp_check_tool.proofs.Stretch.{stretch_of}
+use Rattle.bgp_check_tool.proofs.WayRecords.{front_is_stretch}
+
+-- ---- a stretch
+
+stretch_of_way : (framings : Framings) (within : ℕ) (connection : Connection) (entries : List Entry) (received sent : Unshown)
+    → AreOfAWayOver framings within connection entries received sent → IsStretch (records_of entries)
+stretch_of_way framings within connection entries received sent over =
+    subst (λ (records : List ShownRecord). IsStretch records) (sym (entries_show_the_way within over.exchange entries over.of))
+    (front_is_stretch over.exchange.second over.of.start over.of.events [] over.of.way.starts.0)
+
+module _ (options : CheckOptions) (asked : Asked) (end : Endpoint) (session : Session) (connection : Connection) (told : EndTold) (is : IsTold options asked end session connection told) where
+  -- the records of which it is told are one
+  pub told_stretch : IsStretch (records_of is.entries)
+  told_stretch = elim is.are_of [
+    | inl of ↦ stretch_of is.framings options.within connection is.entries is.received_unshown is.sent_unshown of.made.recorded.told
+    | inr of ↦ stretch_of_way is.framings options.within connection is.entries is.received_unshown is.sent_unshown of.way
+  ]
+
+  abbrev OfMade : Type 0
+  OfMade = IsOfMade options asked session connection is.framings is.entries is.received_unshown is.sent_unshown told
+
+  -- a no, and what isn't finished, are told in the made order
+  pub no_of_made : (number : Option ℕ) (peer : PeerAs) (under : Config) (count : ℕ) → told.answer ≡ JudgedAs number peer under (No count) → OfMade
+  no_of_made number peer under count is_no = elim is.are_of [
+    | inl of ↦ of
+    | inr of ↦ let its : ⊥ = subst IsYes is_no of.is_yes in absurd its
+  ]
+
+  pub unfinished_of_made : (number : Option ℕ) (peer : PeerAs) (under : Config) → told.answer ≡ JudgedAs number peer under Unfinished → OfMade
+  unfinished_of_made number peer under unfinished = elim is.are_of [
+    | inl of ↦ of
+    | inr of ↦ let its : ⊥ = subst IsYes unfinished of.is_yes in absurd its
+  ]
+
+  some_none : (line : JudgeOptions) → told.judge ≡ Some line → told.judge ≡ None → ⊥
+  some_none line some none = cc
+
+  -- and what has a line
+  pub line_of_made : (line : JudgeOptions) → told.judge ≡ Some line → OfMade
+  line_of_made line some = elim is.are_of [
+    | inl of ↦ of
+    | inr of ↦ absurd (some_none line some of.no_judge)
+  ]
+
+-- ---- what is told beside an answer
+
+module _ (session : Session) (within : ℕ) (framings : Framings) (connection : Connection) where
+  pub nothing_found : (answer : AnswerValue) (found : Option Unexplained) → found ≡ None → IsFoundTo session within framings connection answer found
+  nothing_found (Unjudged why) found none = none
+  nothing_found (JudgedAs number peer under (Yes ends)) found none = none
+  nothing_found (JudgedAs number peer under (No count)) found none = subst (λ (o : Option Unexplained). IfSome o (IsUnexplained session within framings connection)) (sym none) tt
+  nothing_found (JudgedAs number peer under Unfinished) found none = none
+
+  pub message_found : (answer : AnswerValue) (found : Option Unexplained) (unexplained : Unexplained) → found ≡ Some unexplained → IsNo answer
+      → IsUnexplained session within framings connection unexplained → IsFoundTo session within framings connection answer found
+  message_found (Unjudged why) found unexplained some it is = absurd it
+  message_found (JudgedAs number peer under (Yes ends)) found unexplained some it is = absurd it
+  message_found (JudgedAs number peer under (No count)) found unexplained some it is = subst (λ (o : Option Unexplained). IfSome o (IsUnexplained session within framings connection)) (sym some) is
+  message_found (JudgedAs number peer under Unfinished) found unexplained some it is = absurd it
+
+  pub yes_not_late : (answer : AnswerValue) (late : Option Late) → IsYes answer → late ≡ None → IsLate session connection answer late
+  yes_not_late (Unjudged why) late it none = absurd it
+  yes_not_late (JudgedAs number peer under (Yes ends)) late it none = none
+  yes_not_late (JudgedAs number peer under (No count)) late it none = absurd it
+  yes_not_late (JudgedAs number peer under Unfinished) late it none = absurd it
+
+-- ---- all of it
+
+pub told_so : (options : CheckOptions) (asked : Asked) (end : Endpoint) (session : Session) (connection : Connection) (framings : Framings) (entries : List Entry) (received sent : Unshown)
+    (told : EndTold) (answer : AnswerValue) → told.answer ≡ answer
+    → IsOfMade options asked session connection framings entries received sent told ⊎ IsOfAnother options asked session connection framings entries received sent told
+    → told.end ≡ end → IsAnswerTo session (records_of entries) answer → told.packet ≡ packet_of answer entries
+    → IsFoundTo session options.within framings connection answer told.unexplained → told.put_off ≡ put_off 0 entries → told.within ≡ options.within
+    → IsLate session connection answer told.late → told.highest ≡ highest_state (records_of entries)
+    → IsReasonTo session framings.sent.limit (shown_places entries) (records_of entries) answer told.reason → told.received ≡ received → told.sent ≡ sent
+    → IsTold options asked end session connection told
+told_so options asked end session connection framings entries received sent told answer same are_of is_end answers is_packet is_found is_put_off is_within is_late is_highest explains is_received is_sent =
+    record {
+      entries = entries;
+      received_unshown = received;
+      sent_unshown = sent;
+      framings = framings;
+      are_of = are_of;
+      is_end = is_end;
+      answers = subst (λ (a : AnswerValue). IsAnswerTo session (records_of entries) a) (sym same) answers;
+      is_packet = is_packet ∙ ap (λ (a : AnswerValue). packet_of a entries) (sym same);
+      is_found = subst (λ (a : AnswerValue). IsFoundTo session options.within framings connection a told.unexplained) (sym same) is_found;
+      is_put_off = is_put_off;
+      is_within = is_within;
+      is_late = subst (λ (a : AnswerValue). IsLate session connection a told.late) (sym same) is_late;
+      is_highest = is_highest;
+      explains = subst (λ (a : AnswerValue). IsReasonTo session framings.sent.limit (shown_places entries) (records_of entries) a told.reason) (sym same) explains;
+      is_received = is_received;
+      is_sent = is_sent;
+    }

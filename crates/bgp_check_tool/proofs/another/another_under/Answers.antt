@@ -1,0 +1,28 @@
+use Rattle.std.proofs.Common.{◌≡◌, ◌∙◌, List, ap, map, subst}
+use Rattle.bgp_prefix.specs.Shown.{ShownRecord}
+use Rattle.mrt.specs.Reader.{shown_of}
+use Rattle.bgp_recording.specs.Captured.{records_of}
+use Rattle.bgp_recording.specs.Gathered.{IsClocked}
+use Rattle.bgp_orders.specs.WholeWays.{AreOfAWayOver}
+use Rattle.bgp_check.specs.Answered.{IsAnswerTo, answer_value}
+use Rattle.bgp_check_tool.proofs.Asking.{some_is}
+use Rattle.bgp_check_tool.proofs.another.another_under.Goals as goal
+
+pub returns-clause-records : goal.returns-clause-records
+returns-clause-records g c =
+    some_is c.in-Ok-Some.field-0 c.in-Ok-Some.recording (λ made. map shown_of made.records.items ≡ records_of made.entries.items) c.in-Ok-Some.field-0-is
+    (rw c.in-Ok-Some.is at c.record_whole_way.ensures.records)
+
+pub returns-clause-answers : goal.returns-clause-answers
+returns-clause-answers g c =
+    let recording = c.in-Ok-Some.recording in
+    let records = some_is c.in-Ok-Some.field-0 recording (λ made. map shown_of made.records.items ≡ records_of made.entries.items) c.in-Ok-Some.field-0-is
+    (rw c.in-Ok-Some.is at c.record_whole_way.ensures.records) in
+    subst (λ (rs : List ShownRecord). IsAnswerTo c.args.viewed.now.session rs (answer_value c.in-Ok.answer)) (ap (map shown_of) c.deref.ensures.value ∙ records) c.in-Ok.ensures.answer
+
+pub returns-clause-way : goal.returns-clause-way
+returns-clause-way g c = λ clocked.
+    let viewed = c.args.viewed.now in
+    some_is c.in-Ok-Some.field-0 c.in-Ok-Some.recording
+    (λ made. IsClocked viewed.connection → AreOfAWayOver c.args.framings viewed.options.within viewed.connection made.entries.items made.received made.sent) c.in-Ok-Some.field-0-is
+    (rw c.in-Ok-Some.is at c.record_whole_way.ensures.way) clocked

@@ -1,0 +1,60 @@
+-- A yes of an end in another order than the made one.
+use Rattle.std.specs.Prelude.{◌≡◌, ℕ, map}
+use Rattle.bgp_prefix.specs.declared.session.Session.{Session}
+use Rattle.mrt.specs.Reader.{shown_of}
+use Rattle.streams.specs.declared.connection.Connection.{Connection}
+use Rattle.bgp_judge.specs.Verdict.{No, Unfinished, VerdictValue, Yes}
+use Rattle.bgp_recording.specs.Captured.{records_of}
+use Rattle.bgp_recording.specs.declared.framing.Framings.{Framings}
+use Rattle.bgp_orders.specs.WholeWays.{AreOfAWayOver}
+use Rattle.bgp_check.specs.Answered.{AnswerValue, IsAnswerTo, JudgedAs, Unjudged, answer_value}
+use Rattle.bgp_check_tool.specs.declared.another.Searched.{Searched}
+use Rattle.bgp_check_tool.specs.declared.another.Searched.TheVariants as searches
+use Rattle.bgp_check_tool.specs.Orders.{IsUnexplained}
+
+-- ---- answers
+
+-- the end is judged, with a yes
+abbrev pub IsYes : AnswerValue → Type 0
+IsYes (Unjudged why) = ⊥
+IsYes (JudgedAs number peer under (Yes ends)) = Unit {0}
+IsYes (JudgedAs number peer under (No count)) = ⊥
+IsYes (JudgedAs number peer under Unfinished) = ⊥
+
+-- with a no
+abbrev pub IsNo : AnswerValue → Type 0
+IsNo (Unjudged why) = ⊥
+IsNo (JudgedAs number peer under (Yes ends)) = ⊥
+IsNo (JudgedAs number peer under (No count)) = Unit {0}
+IsNo (JudgedAs number peer under Unfinished) = ⊥
+
+-- it is judged, and that is no yes
+abbrev pub IsNoYes : AnswerValue → Type 0
+IsNoYes (Unjudged why) = ⊥
+IsNoYes (JudgedAs number peer under (Yes ends)) = ⊥
+IsNoYes (JudgedAs number peer under (No count)) = Unit {0}
+IsNoYes (JudgedAs number peer under Unfinished) = Unit {0}
+
+-- ---- what is found over all orders, where this is answered of the made one
+
+-- A message that no order explains is found of a no. Of another order the answer on its records is
+-- kept, and is a yes.
+abbrev pub IsSought : {X : Type 0} → Session → AnswerValue → Searched X → Type 0
+IsSought session answer searches.Nothing = Unit {0}
+IsSought session answer (searches.NoOrder unexplained) = IsNo answer
+IsSought session answer (searches.Another another) =
+    IsNoYes answer
+    × (map shown_of another.recording.records.items ≡ records_of another.recording.entries.items)
+    × IsAnswerTo session (records_of another.recording.entries.items)
+    (answer_value another.answer)
+    × IsYes (answer_value another.answer)
+
+-- the other order is one that the packets allow
+abbrev pub IsFound : {X : Type 0} → Session → ℕ → Framings → Connection → Searched X
+    → Type 0
+IsFound session within framings connection searches.Nothing = Unit {0}
+IsFound session within framings connection (searches.NoOrder unexplained) =
+    IsUnexplained session within framings connection unexplained
+IsFound session within framings connection (searches.Another another) =
+    AreOfAWayOver framings within connection another.recording.entries.items
+    another.recording.received another.recording.sent

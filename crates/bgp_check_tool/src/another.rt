@@ -1,0 +1,147 @@
+//! A yes of an end in another order than the made one, which the packets allow, too.
+
+ghost use Rattle.std.specs.Prelude.{◌≡◌, IfSome, IsTrue, map};
+ghost use Rattle.mrt.specs.Reader.{shown_of};
+ghost use Rattle.bgp_recording.specs.Captured.{records_of};
+ghost use Rattle.bgp_recording.specs.Gathered.{IsClocked, IsCovered};
+ghost use Rattle.bgp_orders.specs.WholeWays.{AreOfAWayOver};
+ghost use Rattle.bgp_check.specs.Answered.{IsAnswerTo, answer_value};
+ghost use Rattle.bgp_check_tool.specs.Another.{IsFound, IsNo, IsNoYes, IsSought, IsYes};
+
+use crate::ending::Viewed;
+use crate::orders::{Said, search_end};
+use bgp_check::{Answer, check_end};
+use bgp_judge::{Tracker, Verdict};
+use bgp_open::Config;
+use bgp_orders::{Unexplained, record_whole_way};
+use bgp_recording::{Framings, Recording};
+use std::alloc::Allocator;
+
+/// In which order of an end's messages what is told of it is so.
+#[derive(Clone, Copy, Debug, PartialEq, Eq)]
+pub(crate) enum Order {
+    /// In the made one.
+    Made,
+    /// In another one, that is a yes. The made one isn't.
+    Another,
+}
+
+/// The records of another order than the made one, which are a yes.
+#[derive(Drop)]
+pub(crate) struct AnotherOrder<'a, A: Allocator> {
+    pub(crate) recording: Recording<'a, A>,
+    /// What is answered of them.
+    pub(crate) answer: Answer<A>,
+}
+
+/// What the search over all orders finds that is told in place of the answer on the made one.
+#[derive(Drop)]
+pub(crate) enum Searched<'a, A: Allocator> {
+    /// Nothing: that answer is told.
+    Nothing,
+    /// No order explains this sent message.
+    NoOrder(Unexplained),
+    /// Another order is a yes.
+    Another(AnotherOrder<'a, A>),
+}
+
+/// Whether the end is judged with a yes.
+fn is_yes<A: Allocator>(answer: &Answer<A>) -> bool
+    ensures { IsTrue result → IsYes (answer_value answer.now) }
+{
+    match answer {
+        Answer::NotJudged(_) => false,
+        Answer::Judged(judged) => match &judged.verdict {
+            Verdict::Yes(_) => true,
+            Verdict::No(_) | Verdict::Unfinished => false,
+        },
+    }
+}
+
+/// Whether it is judged with a no.
+fn is_no<A: Allocator>(answer: &Answer<A>) -> bool
+    ensures { IsTrue result → IsNo (answer_value answer.now) }
+{
+    match answer {
+        Answer::NotJudged(_) => false,
+        Answer::Judged(judged) => match &judged.verdict {
+            Verdict::No(_) => true,
+            Verdict::Yes(_) | Verdict::Unfinished => false,
+        },
+    }
+}
+
+/// Whether it is judged, and that is no yes.
+fn is_no_yes<A: Allocator>(answer: &Answer<A>) -> bool
+    ensures { IsTrue result → IsNoYes (answer_value answer.now) }
+{
+    match answer {
+        Answer::NotJudged(_) => false,
+        Answer::Judged(judged) => match &judged.verdict {
+            Verdict::No(_) | Verdict::Unfinished => true,
+            Verdict::Yes(_) => false,
+        },
+    }
+}
+
+/// Returns the records of an order that is whole under this configuration, if they are a yes.
+fn another_under<'a, A: Allocator + Copy, T: Tracker<A>>(
+    alloc: A,
+    viewed: &Viewed<'a>,
+    framings: Framings,
+    config: &Config,
+) -> Option<AnotherOrder<'a, A>>
+    requires received { IsCovered viewed.now.connection.received }
+    requires sent { IsCovered viewed.now.connection.sent }
+    ensures records { IfSome result (λ another. map shown_of another.recording.records.items
+        ≡ records_of another.recording.entries.items) }
+    ensures answers { IfSome result (λ another. IsAnswerTo viewed.now.session
+        (records_of another.recording.entries.items) (answer_value another.answer)) }
+    ensures yes { IfSome result (λ another. IsYes (answer_value another.answer)) }
+    ensures way { IfSome result (λ another. IsClocked viewed.now.connection
+        → AreOfAWayOver framings viewed.now.options.within viewed.now.connection
+        another.recording.entries.items another.recording.received another.recording.sent) }
+{
+    let within = viewed.options.within;
+    let Ok(Some(recording)) = record_whole_way(alloc, config, &viewed.connection, framings, within)
+    else {
+        return None;
+    };
+    let Ok(answer) = check_end::<A, T>(alloc, &viewed.session, &recording.records) else {
+        return None;
+    };
+    if !is_yes(&answer) {
+        return None;
+    }
+    Some(AnotherOrder { recording, answer })
+}
+
+/// Returns what is found over all orders of the end's messages, if this is answered of the made one:
+/// a yes of another, if the answer isn't a yes; of a no the first sent message that no order
+/// explains. Nothing is found, too, if the search is too long or memory is refused for it.
+pub(crate) fn search_orders<'a, A: Allocator + Copy, T: Tracker<A>>(
+    alloc: A,
+    viewed: &Viewed<'a>,
+    framings: Framings,
+    answer: &Answer<A>,
+) -> Searched<'a, A>
+    requires received { IsCovered viewed.now.connection.received }
+    requires sent { IsCovered viewed.now.connection.sent }
+    ensures sought { IsSought viewed.now.session (answer_value answer.now) result }
+    ensures found { IsClocked viewed.now.connection → IsFound viewed.now.session
+        viewed.now.options.within framings viewed.now.connection result }
+{
+    if !is_no_yes(answer) {
+        return Searched::Nothing;
+    }
+    match search_end(alloc, viewed, framings) {
+        Ok(Said::Whole(config)) => {
+            match another_under::<A, T>(alloc, viewed, framings, &config) {
+                Some(another) => Searched::Another(another),
+                None => Searched::Nothing,
+            }
+        }
+        Ok(Said::NoOrder(unexplained)) if is_no(answer) => Searched::NoOrder(unexplained),
+        Ok(_) | Err(_) => Searched::Nothing,
+    }
+}
