@@ -26,8 +26,12 @@ use std::alloc::Allocator;
 /// If they begin with `no at record N, packet P`, the same is known of one of these orders: no such
 /// configuration has a run that shows the first N of the end's records in it, the last of which is
 /// shown by packet P. In both cases some such configuration has a run that explains what comes
-/// before, if the OPEN is any configuration's own. That is the clause `no`. All that is printed is
-/// tied to the packets, so that no other line passes for one of these.
+/// before, if the OPEN is any configuration's own. That is the clause `no`.
+///
+/// If they begin with `yes`, some run under such a configuration shows just the end's records in one
+/// of these orders. Each end of its session that such a run can have is listed, and no other. It is
+/// the order that `bgp import` makes, or another one, and then a note says so. That is the clause
+/// `yes`. All that is printed is tied to the packets, so that no other line passes for one of these.
 ///
 /// It writes a line for each connection, in the order of their first packets. After it come the
 /// reports on both ends, first on the one that opened the connection: the verdict and for which AS
