@@ -10,14 +10,14 @@ use Rattle.bgp_open.specs.OpenFault.{IsWellFormed}
 use Rattle.bgp_open.specs.OwnOpen.{IsOwnOpen}
 use Rattle.bgp_open.specs.declared.config.Config.{Config}
 use Rattle.bgp_machine.specs.Lists.{Each, Has}
-use Rattle.bgp_machine.specs.Run.{Begins}
+use Rattle.bgp_machine.specs.Run.{Begins, End, IsComplete}
 use Rattle.bgp_recording.specs.Allowed.{received_in, sent_in}
 use Rattle.bgp_recording.specs.Tells.{Event, items_in}
 use Rattle.bgp_recording.specs.declared.message.Message.{Message}
 use Rattle.bgp_recording.specs.declared.ordering.Exchange.{Exchange}
 use Rattle.bgp_recording.specs.declared.standing.Before.TheVariants.{Other}
-use Rattle.bgp_orders.specs.Explained.{IsExplained}
-use Rattle.bgp_orders.specs.Ways.{records_of_front}
+use Rattle.bgp_orders.specs.Explained.{IsExplained, IsWhole}
+use Rattle.bgp_orders.specs.Ways.{records_of_front, records_of_way}
 use Rattle.bgp_parts.specs.Opens.{FirstSent, HasOwnOpen, HasPeersOpen, IsOpenMessage, SendsNoOpen}
 use Rattle.bgp_parts.proofs.OneOwnOpen.{one_own}
 use Rattle.bgp_check.specs.Another.{CanBeTold, WantsAnother}
@@ -26,13 +26,13 @@ use Rattle.bgp_check.specs.Checked.{IsUnder}
 use Rattle.bgp_check.specs.Configurations.{IsOf}
 use Rattle.bgp_check.specs.OwnFaults.{SentOpenIsOwn}
 use Rattle.bgp_check.specs.Stretch.{IsStretch}
-use Rattle.bgp_check.specs.Widest.{AreWidestWith, WidestBegins}
+use Rattle.bgp_check.specs.Widest.{AreWidestWith, WidestBegins, WidestIsComplete}
 use Rattle.bgp_check.specs.WidestMade.{IsFaultless, WidestAreMade, both_of, configurations_of}
-use Rattle.bgp_check.specs.Without.{AreWidest, AreWidestWithout, WithoutBegins}
+use Rattle.bgp_check.specs.Without.{AreWidest, AreWidestWithout, WithoutBegins, WithoutIsComplete}
 use Rattle.bgp_check.specs.declared.own_fault.OwnFault.{OwnFault}
 use Rattle.bgp_check.specs.declared.widest.Widest.{Widest}
 use Rattle.bgp_check.proofs.OwnSettings.{none_if_own}
-use Rattle.bgp_check_tool.specs.Orders.{UnexplainedByAll, records_received, records_sent}
+use Rattle.bgp_check_tool.specs.Orders.{UnexplainedByAll, UnfinishedByAll, records_received, records_sent}
 use Rattle.bgp_check_tool.proofs.WayRecords.{front_is_stretch, front_sends_none, items_joined, none_sent_before, received_before, received_first, received_joined, sent_first, sent_joined, sent_within}
 
 -- ---- lists of configurations
@@ -131,6 +131,28 @@ some_widest enough without session within exchange own peers widest config count
     (λ none. sends_none within exchange config count x (subst (λ (o : Option (List ℕ)). HasOwnOpen (records_sent exchange.sent.now) o) none has_own))
     (has_peers within exchange config count x peers is_peers) of x.begins)
 
+-- ---- and as some configuration has ended, a widest one can
+
+complete_under : WidestIsComplete → WithoutIsComplete → (session : Session) (own peers : Option (List ℕ)) (widest : List Config) (records : List ShownRecord) (config : Config) (e : End)
+    → AreWidest session own peers widest → IsStretch records → (own ≡ None → Each SendsNoOpen records) → HasPeersOpen records peers → IsOf session own config → IsComplete config records e
+    → Has (λ c. IsComplete c records e) widest
+complete_under enough without session (Some own) peers widest records config e are stretch sends has of complete = (enough session own peers widest records e are stretch has).0 (config, of, complete)
+complete_under enough without session None peers widest records config e are stretch sends has of complete = (without session peers widest records e are stretch (sends refl) has).0 (config, of, complete)
+
+whole_widest : WidestIsComplete → WithoutIsComplete → (session : Session) (within : ℕ) (exchange : Exchange) (own peers : Option (List ℕ)) (widest : List Config) (config : Config) (e : End)
+    → AreWidest session own peers widest → HasOwnOpen (records_sent exchange.sent.now) own → HasPeersOpen (records_received exchange.received.now) peers
+    → IsOf session own config → IsWhole config within exchange e → Has (λ c. IsWhole c within exchange e) widest
+whole_widest enough without session within exchange own peers widest config e are has_own is_peers of x =
+    let records = records_of_way exchange.second x.start x.events in
+    let sent : exchange.sent.now ≡ sent_in (items_in x.events) = sym x.way.allowed.of_sent in
+    let received : exchange.received.now ≡ received_in (items_in x.events) = sym x.way.allowed.of_received in
+    weaker (λ c. IsComplete c records e) (λ c. IsWhole c within exchange e) widest
+    (λ c complete. record { start = x.start; events = x.events; way = x.way; complete = complete })
+    (complete_under enough without session own peers widest records config e are (front_is_stretch exchange.second x.start x.events [] x.way.starts.0)
+    (λ none. front_sends_none exchange.second x.start x.events []
+    (subst (λ (ms : List Message). HasOwnOpen (records_sent ms) None) sent (subst (λ (o : Option (List ℕ)). HasOwnOpen (records_sent exchange.sent.now) o) none has_own)))
+    (received_first IsOpenMessage x.start Other x.events [] peers (subst (λ (ms : List Message). HasPeersOpen (records_received ms) peers) received is_peers)) of x.complete)
+
 -- ---- the verdict over all orders
 
 under_is : (wanting under : Config) → Some wanting ≡ Some under → under ≡ wanting
@@ -183,6 +205,20 @@ not_shown sent within exchange (Some own) fault config count n is_fault x has fe
     let shows = shows_own within exchange config count x own n few has in
     none_if_own config own (sent config (its_records within exchange config count x) own x.begins shows) fault is_fault
 
+take_whole : (ms : List Message) → take (length ms) ms ≡ ms
+take_whole [] = refl
+take_whole (m ∷ ms) = ap (λ (later : List Message). m ∷ later) (take_whole ms)
+
+-- so an OPEN among all that some order explains has none
+shown_faultless : SentOpenIsOwn → (within : ℕ) (exchange : Exchange) (own : Option (List ℕ)) (config : Config) (count : ℕ) → HasOwnOpen (records_sent exchange.sent.now) own
+    → IsExplained config within exchange count → length exchange.sent.now ≤ count → IsFaultless own
+shown_faultless sent within exchange None config count has x all = tt
+shown_faultless sent within exchange (Some own) config count has x all = (
+  well_formed (records_sent exchange.sent.now) own has,
+  λ fault is_fault. not_shown sent within exchange (Some own) fault config count (length exchange.sent.now) is_fault x
+      (subst (λ (ms : List Message). HasOwnOpen (records_sent ms) (Some own)) (sym (take_whole exchange.sent.now)) has) all,
+)
+
 any : {X : Type 0} (P : X → Type 0) (xs : List X) → Has P xs → (x : X) × P x
 any P [] none = absurd none
 any P (x ∷ xs) (inl this) = (x, this)
@@ -215,4 +251,31 @@ unexplained_by_all enough without made sent session within framings connection u
             let one = any (λ c. IsExplained c within over.exchange before) configs some in
             absurd (not_shown sent within over.exchange own fault one.0 before n is_fault one.1 shows few)
       ];
+    }
+
+whole_never : (within : ℕ) (exchange : Exchange) (configs : List Config) (e : End) → Each (λ c. (x : End) → ¬ IsWhole c within exchange x) configs → Each (λ c. ¬ IsWhole c within exchange e) configs
+whole_never within exchange [] e each = tt
+whole_never within exchange (c ∷ configs) e each = (each.0 e, whole_never within exchange configs e each.1)
+
+pub unfinished_by_all : WidestIsComplete → WithoutIsComplete → WidestAreMade → SentOpenIsOwn → UnfinishedByAll
+unfinished_by_all enough without made sent session within framings connection peer under un =
+    let over = un.over in
+    let records = records_sent over.exchange.sent.now in
+    let count = length over.exchange.sent.now in
+    let configs = configurations_of over.widest in
+    let some : Has (λ c. IsExplained c within over.exchange count) configs =
+    among (λ c. IsExplained c within over.exchange count) over.widest.wanting over.widest.another over.under over.wants over.is_told.is_under over.is_told.holds.0 in
+    let one = any (λ c. IsExplained c within over.exchange count) configs some in
+    let of_own : (own : Option (List ℕ)) → HasOwnOpen records own → IsFaultless own → AreWidest session own over.peers configs = λ own has faultless.
+    subst (λ (o : Option (List ℕ)). AreWidest session o over.peers configs) (one_own records over.own own over.has_own has)
+    (made session over.own over.peers over.told over.widest (subst (λ (o : Option (List ℕ)). IsFaultless o) (one_own records own over.own has over.has_own) faultless) over.are_told over.made) in
+    record {
+      exchange = over.exchange;
+      tells = over.tells;
+      none = λ own config e has of whole.
+          none_has (λ c. IsWhole c within over.exchange e) configs (whole_never within over.exchange configs e over.is_told.best)
+          (whole_widest enough without session within over.exchange own over.peers configs config e (of_own own has (is_faultless session own records config has of)) has over.has_peers of whole);
+      explained = λ own has.
+          let faultless = shown_faultless sent within over.exchange own one.0 count has one.1 (omega arith) in
+          with_both (λ c. IsOf session own c) (λ c. IsExplained c within over.exchange count) configs (each_is_of session own over.peers configs (of_own own has faultless)) some;
     }

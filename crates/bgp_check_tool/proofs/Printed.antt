@@ -33,19 +33,23 @@ use Rattle.bgp_check_text.specs.Asked.{asked_of}
 use Rattle.bgp_check_text.specs.declared.options.Asked.{Asked}
 use Rattle.bgp_check_tool.specs.declared.options.CheckOptions.{CheckOptions}
 use Rattle.bgp_check_tool.specs.Blocks.{AllRefused, Block, BothEnds, OneEnd, Refused, TellsBoth}
-use Rattle.bgp_check_tool.specs.Headline.{IsToldOfSide, NoOrderHasARun}
+use Rattle.bgp_check_tool.specs.Another.{number_in}
+use Rattle.bgp_check_tool.specs.Another as Another
+use Rattle.bgp_check_tool.specs.Headline.{IsToldOfSide, NoOrderHasARun, NoneIsWhole}
+use Rattle.bgp_check_tool.specs.Late.{late_text}
+use Rattle.bgp_check_tool.specs.Made.{IsMade}
 use Rattle.bgp_check_tool.specs.declared.another.Order.{Order}
 use Rattle.bgp_check_tool.specs.declared.another.Order.TheVariants as orders
 use Rattle.bgp_check_tool.specs.Judging.{judge_text, options_by}
 use Rattle.bgp_check_tool.specs.Places.{IsToldAt, IsToldOfOne}
-use Rattle.bgp_check_tool.specs.Printed.{AreRecordsOf, AreRecordsOfAWay, BeginWith, HasRecords, HasRecordsIn, HasRecordsSo, HasRecordsWith, HasTrueNoes, HasTrueYes, IsTrueNo, IsTrueOverall, IsTrueYes, NoesAreTrue, ToldNoesAreTrue, ToldVerdictIsOverAll, ToldYesesAreTrue, YesesAreTrue}
+use Rattle.bgp_check_tool.specs.Printed.{AreRecordsOf, AreRecordsOfAWay, BeginWith, HasRecords, HasRecordsIn, HasRecordsSo, HasTrueNoes, HasTrueUnfinished, HasTrueYes, HasVerdictIn, IsTrueNo, IsTrueOverall, NoesAreTrue, ToldNoesAreTrue, ToldUnfinishedAreTrue, ToldVerdictIsOverAll, ToldYesesAreTrue, UnfinishedAreTrue, YesesAreTrue}
 use Rattle.bgp_orders.specs.declared.connection.Unexplained.{Unexplained}
 use Rattle.bgp_check_tool.specs.Seen.{seen_from, session_from}
-use Rattle.bgp_check_tool.specs.Text.{another_text, answer_text, not_judged_line, place_text, told_lines, unexplained_text, verdict_text, whose_text}
-use Rattle.bgp_check_tool.specs.Told.{EndTold, IsEndTold, IsOfAnother, IsOfMade, packet_of}
+use Rattle.bgp_check_tool.specs.Text.{another_text, answer_text, not_judged_line, place_text, told_lines, unexplained_text, unfinished_text, verdict_text, whose_text}
+use Rattle.bgp_check_tool.specs.Told.{EndTold, IsEndTold, IsOfAll, IsOfAnother, IsOfMade, packet_of}
 use Rattle.bgp_check_tool.proofs.NoOrder.{well_formed}
-use Rattle.bgp_check_tool.proofs.TellingEnd.{no_of_made, unfinished_of_made}
-use Rattle.bgp_check_tool.proofs.Verdicts.{no_run, over_all, side_told}
+use Rattle.bgp_check_tool.proofs.TellingEnd.{no_of_made, yes_of}
+use Rattle.bgp_check_tool.proofs.Verdicts.{no_run, over_answer, side_told, verdict_is}
 
 -- ---- which lines begin with `no`
 
@@ -165,6 +169,30 @@ yes_text routes told end number peer ends =
     ++ (unshown_notes told.received told.sent
     ++ (another_text told.order ++ judge_text told.judge))))
 
+-- it is unfinished
+record IsUnfinished (answer : AnswerValue) : Type 0 where
+  pub number : Option ℕ
+  pub peer : PeerAs
+  pub under : Config
+  pub is : answer ≡ JudgedAs number peer under Unfinished
+
+unfinished_by_text : (routes : Bool) (told : EndTold) (answer : AnswerValue) (rest : List ℕ) → answer_text routes told answer ≡ codes "unfinished" ++ rest → IsUnfinished answer
+unfinished_by_text routes told (Unjudged why) rest is =
+    let differs : 110 ≡ 117 = sym (unjudged_first told.end why) ∙ ap first is ∙ unfinished_first rest in absurd (omega (arith, differs))
+unfinished_by_text routes told (JudgedAs number peer under (Yes ends)) rest is =
+    let differs : 121 ≡ 117 = sym (yes_first _) ∙ ap first is ∙ unfinished_first rest in absurd (omega (arith, differs))
+unfinished_by_text routes told (JudgedAs number peer under (No count)) rest is =
+    let differs : 110 ≡ 117 = sym (place_first count told.packet told.unexplained _) ∙ ap first is ∙ unfinished_first rest in absurd (omega (arith, differs))
+unfinished_by_text routes told (JudgedAs number peer under Unfinished) rest is = record { number = number; peer = peer; under = under; is = refl }
+
+-- the text of one
+unfinished_lines : EndTold → Endpoint → Option ℕ → PeerAs → List ℕ
+unfinished_lines told end number peer =
+    codes "unfinished" ++ (whose_text end number peer
+    ++ (told.reason ++ (unshown_notes told.received told.sent
+    ++ (unfinished_text told.order told.put_off
+    ++ (late_text told.within told.late ++ judge_text told.judge)))))
+
 -- where a run shows it the OPEN has no own fault
 faultless_by : (own : Option (List ℕ)) (records : List ShownRecord) → HasOwnOpen records own → ((fault : OwnFault) → HasFault own fault → ⊥) → IsFaultless own
 faultless_by None records has none = tt
@@ -256,9 +284,8 @@ module _ (options : CheckOptions) (packets : List Recorded) (last_packet place :
     its = session_from side session
 
     -- the records of the made order
-    records_so : IsOfMade options (asked side) its seen end.framings end.entries end.received_unshown end.sent_unshown told
-        → HasRecords options packets last_packet session opening side end.entries
-    records_so of = record {
+    records_so : IsMade options.within seen end.framings end.entries end.received_unshown end.sent_unshown → HasRecords options packets last_packet session opening side end.entries
+    records_so made = record {
       addresses = it.addresses;
       segments = it.segments;
       has = it.has;
@@ -269,17 +296,17 @@ module _ (options : CheckOptions) (packets : List Recorded) (last_packet place :
         framings = end.framings;
         received_unshown = end.received_unshown;
         sent_unshown = end.sent_unshown;
-        recorded = of.made.recorded.told;
-        looked_in = of.made.looked_in;
-        looked_in_received = of.made.looked_in_received;
-        looked_in_sent = of.made.looked_in_sent;
-        is_looked_in = of.made.is_looked_in.told;
-        are_offered = of.made.are_offered;
+        recorded = made.recorded.told;
+        looked_in = made.looked_in;
+        looked_in_received = made.looked_in_received;
+        looked_in_sent = made.looked_in_sent;
+        is_looked_in = made.is_looked_in.told;
+        are_offered = made.are_offered;
       };
     }
 
     -- those of another order
-    way_records : IsOfAnother options (asked side) its seen end.framings end.entries end.received_unshown end.sent_unshown told
+    way_records : IsOfAnother options (asked side) its seen end.framings end.entries end.received_unshown end.sent_unshown end.answer told
         → HasRecordsSo AreRecordsOfAWay options packets last_packet session opening side end.entries
     way_records of = record {
       addresses = it.addresses;
@@ -301,20 +328,76 @@ module _ (options : CheckOptions) (packets : List Recorded) (last_packet place :
       };
     }
 
-    records_in : HasRecordsIn told.order options packets last_packet session opening side end.entries
+    abbrev RecordsIn : Order → Type 0
+    RecordsIn order = HasRecordsIn order options packets last_packet session opening side end.entries
+
+    records_in : RecordsIn told.order
     records_in = elim end.are_of [
-      | inl of ↦ subst (λ (o : Order). HasRecordsIn o options packets last_packet session opening side end.entries) (sym of.is_order) (records_so of)
-      | inr of ↦ subst (λ (o : Order). HasRecordsIn o options packets last_packet session opening side end.entries) (sym of.is_order) (way_records of)
+      | inl of ↦ subst RecordsIn (sym of.is_order) (records_so of.made)
+      | inr others ↦ elim others [
+        | inl of ↦ subst RecordsIn (sym of.is_order) (way_records of)
+        | inr of ↦ subst RecordsIn (sym of.is_order) (records_so of.made)
+      ]
     ]
 
-    records_with : (number : Option ℕ) (peer : PeerAs) (under : Config) (verdict : VerdictValue) → told.answer ≡ JudgedAs number peer under verdict
-        → HasRecordsWith verdict told.order options packets last_packet session opening side end.entries
-    records_with number peer under (Yes ends) is = records_in
-    records_with number peer under (No count) is = records_so (no_of_made options (asked side) (end_of side session opening) its seen told end number peer under count is)
-    records_with number peer under Unfinished is = records_so (unfinished_of_made options (asked side) (end_of side session opening) its seen told end number peer under is)
-
     no_records : (is : IsNo told.answer) → HasRecords options packets last_packet session opening side end.entries
-    no_records is = records_so (no_of_made options (asked side) (end_of side session opening) its seen told end is.number is.peer is.under is.count is.is)
+    no_records is = records_so (no_of_made options (asked side) (end_of side session opening) its seen told end is.number is.peer is.under is.count is.is).made
+
+    abbrev VerdictIn : VerdictValue → Order → Type 0
+    VerdictIn verdict order = HasVerdictIn order options packets last_packet session opening side verdict
+
+    module _ (number : Option ℕ) (peer : PeerAs) (under : Config) where
+      -- on the records of the made order
+      verdict_made : (verdict : VerdictValue) → told.answer ≡ JudgedAs number peer under verdict
+          → IsOfMade options (asked side) its seen end.framings end.entries end.received_unshown end.sent_unshown end.answer told → VerdictIn verdict orders.Made
+      verdict_made (Yes ends) is of = record {
+        entries = end.entries;
+        has_records = records_so of.made;
+        over_all = over_answer options (asked side) session opening both.connection side told number peer under (Yes ends) end (sym of.is_told ∙ is);
+      }
+      verdict_made (No count) is of = record {
+        entries = end.entries;
+        has_records = records_so of.made;
+        over_all = over_answer options (asked side) session opening both.connection side told number peer under (No count) end (sym of.is_told ∙ is);
+      }
+      verdict_made Unfinished is of = record {
+        entries = end.entries;
+        has_records = records_so of.made;
+        over_all = over_answer options (asked side) session opening both.connection side told number peer under Unfinished end (sym of.is_told ∙ is);
+      }
+
+      -- a yes on those of another
+      verdict_another : (verdict : VerdictValue) → told.answer ≡ JudgedAs number peer under verdict
+          → IsOfAnother options (asked side) its seen end.framings end.entries end.received_unshown end.sent_unshown end.answer told → VerdictIn verdict orders.Another
+      verdict_another (Yes ends) is of = record {
+        entries = end.entries;
+        has_records = way_records of;
+        over_all = over_answer options (asked side) session opening both.connection side told number peer under (Yes ends) end (sym of.is_told ∙ is);
+      }
+      verdict_another (No count) is of = let never : ⊥ = subst Another.IsYes is of.is_yes in absurd never
+      verdict_another Unfinished is of = let never : ⊥ = subst Another.IsYes is of.is_yes in absurd never
+
+      -- or over all orders
+      verdict_all : NoneIsWhole → (verdict : VerdictValue) → told.answer ≡ JudgedAs number peer under verdict
+          → IsOfAll options (asked side) its seen end.framings end.entries end.received_unshown end.sent_unshown end.answer told → VerdictIn verdict orders.All
+      unfolding records_so
+      verdict_all law verdict is of = (
+        verdict_is number (number_in end.answer) peer of.peer under of.under verdict (sym is ∙ of.is_told),
+        record {
+          entries = end.entries;
+          has_records = records_so of.made;
+          no_order = law options (asked side) session opening both.connection side told end of.is_order;
+        },
+      )
+
+      verdict_in : NoneIsWhole → (verdict : VerdictValue) → told.answer ≡ JudgedAs number peer under verdict → VerdictIn verdict told.order
+      verdict_in law verdict is = elim end.are_of [
+        | inl of ↦ subst (VerdictIn verdict) (sym of.is_order) (verdict_made verdict is of)
+        | inr others ↦ elim others [
+          | inl of ↦ subst (VerdictIn verdict) (sym of.is_order) (verdict_another verdict is of)
+          | inr of ↦ subst (VerdictIn verdict) (sym of.is_order) (verdict_all law verdict is of)
+        ]
+      ]
 
   abbrev NamesPlace : EndTold → ℕ → Option Unexplained → Type 0
   NamesPlace told count found = Names (told_lines options.routes told) (place_text count told.packet found) told.end
@@ -379,7 +462,9 @@ module _ (options : CheckOptions) (packets : List Recorded) (last_packet place :
       let its = session_from side session in
       let records = records_of end.entries in
       let no = no_by_text options.routes told told.answer (record_is_no options.routes told begins).0 (record_is_no options.routes told begins).1 in
-      let answer : IsJudged its records no.number no.peer no.under (No no.count) = subst (λ (a : AnswerValue). IsAnswerTo its records a) no.is end.answers in
+      let made = no_of_made options (asked side) (end_of side session opening) its (seen_from side both.connection) told end no.number no.peer no.under no.count no.is in
+      let judged : end.answer ≡ JudgedAs no.number no.peer no.under (No no.count) = sym made.is_told ∙ no.is in
+      let answer : IsJudged its records no.number no.peer no.under (No no.count) = subst (λ (a : AnswerValue). IsAnswerTo its records a) judged end.answers in
       let holds : HasVerdict no.under records (No no.count) = (has_verdict its records no.number no.peer no.under (No no.count) answer).0 in
       let stands = stands_at end.entries no.count holds.0 in
       let packet : told.packet ≡ Some stands.impossible.packet =
@@ -396,7 +481,7 @@ module _ (options : CheckOptions) (packets : List Recorded) (last_packet place :
         rest = named.rest;
         named = named.named;
         none = λ own config has of. no_run explains options (asked side) session opening both.connection side told no.number no.peer no.under no.count own config end no.is has of;
-        possible = λ own has faultless. (over_all options (asked side) session opening both.connection side told no.number no.peer no.under (No no.count) own end no.is has faultless).1;
+        possible = λ own has faultless. (over_answer options (asked side) session opening both.connection side told no.number no.peer no.under (No no.count) end judged own has faultless).1;
         by_open = λ own fault has is_fault n within.
             let same = one_own records own answer.own has answer.has_own in
             answer.by_open fault (subst (λ (o : Option (List ℕ)). HasFault o fault) same is_fault) n (subst (λ (o : Option (List ℕ)). HasOwnOpen (take n records) o) same within);
@@ -418,9 +503,11 @@ module _ (options : CheckOptions) (packets : List Recorded) (last_packet place :
       let its = session_from side session in
       let records = records_of end.entries in
       let yes = yes_by_text options.routes told told.answer begins.0 begins.1 in
-      let answer : IsJudged its records yes.number yes.peer yes.under (Yes yes.ends) = subst (λ (a : AnswerValue). IsAnswerTo its records a) yes.is end.answers in
+      let of = yes_of options (asked side) (end_of side session opening) its (seen_from side both.connection) told end yes.number yes.peer yes.under yes.ends yes.is in
+      let judged : end.answer ≡ JudgedAs yes.number yes.peer yes.under (Yes yes.ends) = elim of [ inl made ↦ sym made.is_told ∙ yes.is | inr another ↦ sym another.is_told ∙ yes.is ] in
+      let answer : IsJudged its records yes.number yes.peer yes.under (Yes yes.ends) = subst (λ (a : AnswerValue). IsAnswerTo its records a) judged end.answers in
       let over : HasVerdictOver (IsOf its answer.own) records (Yes yes.ends) =
-      over_all options (asked side) session opening both.connection side told yes.number yes.peer yes.under (Yes yes.ends) answer.own end yes.is answer.has_own
+      over_answer options (asked side) session opening both.connection side told yes.number yes.peer yes.under (Yes yes.ends) end judged answer.own answer.has_own
       (faultless_by answer.own records answer.has_own (λ fault has. answer.by_open fault has)) in
       record {
         entries = end.entries;
@@ -435,6 +522,31 @@ module _ (options : CheckOptions) (packets : List Recorded) (last_packet place :
         some = over.0;
         lists = over.1;
       }
+
+  -- ---- what is unfinished
+
+  true_unfinished : NoneIsWhole → (side : Side) (told : EndTold) → IsEndTold options (asked side) session opening both.connection side told
+      → HasTrueUnfinished options packets last_packet session opening side told
+  unfolding unfinished_lines
+  true_unfinished law side told end begins =
+      let it = unfinished_by_text options.routes told told.answer begins.0 begins.1 in
+      record {
+        number = it.number;
+        peer = it.peer;
+        named = subst (λ (e : Endpoint). told_lines options.routes told ≡ unfinished_lines told e it.number it.peer) end.is_end (ap (λ (a : AnswerValue). answer_text options.routes told a) it.is);
+        verdict = verdict_in side told end it.number it.peer it.under law Unfinished it.is;
+      }
+
+pub unfinished_are_true : NoneIsWhole → ToldUnfinishedAreTrue
+unfinished_are_true law options last_packet place packets (BothEnds session opening first_octets second_octets opener other) it =
+    let both = it.is_block.2 in
+    let block = BothEnds session opening first_octets second_octets opener other in (
+      true_unfinished options packets last_packet place session opening block it first_octets second_octets opener other both law opening.opened_by opener both.is_opener,
+      true_unfinished options packets last_packet place session opening block it first_octets second_octets opener other both law (other_side opening.opened_by) other both.is_other,
+    )
+unfinished_are_true law options last_packet place packets (OneEnd session opening first_octets second_octets) it = tt
+unfinished_are_true law options last_packet place packets (Refused session opening refusal) it = tt
+unfinished_are_true law options last_packet place packets (AllRefused addresses refusal) it = tt
 
 pub yeses_are_true : ToldYesesAreTrue
 yeses_are_true options last_packet place packets (BothEnds session opening first_octets second_octets opener other) it =
@@ -458,16 +570,13 @@ noes_are_true explains has_verdict law options last_packet place packets (OneEnd
 noes_are_true explains has_verdict law options last_packet place packets (Refused session opening refusal) it = tt
 noes_are_true explains has_verdict law options last_packet place packets (AllRefused addresses refusal) it = tt
 
-pub verdict_over_all : ToldVerdictIsOverAll
-verdict_over_all options last_packet place packets session opening first_octets second_octets opener other told side number peer under verdict it of_side is =
+pub verdict_over_all : NoneIsWhole → ToldVerdictIsOverAll
+verdict_over_all law options last_packet place packets session opening first_octets second_octets opener other told side number peer under verdict it of_side is =
     let both = it.is_block.2 in
     let asked = λ (s : Side). asked_of options.port options.within session (numbered (reverse it.segments)) opening s in
     let end = side_told options asked session opening both.connection opener other told side both.is_opener both.is_other of_side in
-    record {
-      entries = end.entries;
-      has_records = records_with options packets last_packet place session opening (BothEnds session opening first_octets second_octets opener other) it first_octets second_octets opener other both side told end number peer under verdict is;
-      over_all = λ own has faultless. over_all options (asked side) session opening both.connection side told number peer under verdict own end is has faultless;
-    }
+    verdict_in options packets last_packet place session opening (BothEnds session opening first_octets second_octets opener other) it first_octets second_octets opener other both side told end
+    number peer under law verdict is
 
 -- ---- of all blocks
 
@@ -481,6 +590,12 @@ pub all_yeses : (options : CheckOptions) (packets : List Recorded) (last_packet 
     → AllByRecursion (λ (b : ℕ × Block). IsToldAt options packets last_packet b.0 b.1) blocks → AllByRecursion (λ (b : ℕ × Block). YesesAreTrue options packets last_packet b.1) blocks
 all_yeses options packets last_packet [] all = tt
 all_yeses options packets last_packet (b ∷ blocks) all = (yeses_are_true options last_packet b.0 packets b.1 all.0, all_yeses options packets last_packet blocks all.1)
+
+pub all_unfinished : NoneIsWhole → (options : CheckOptions) (packets : List Recorded) (last_packet : ℕ) (blocks : List (ℕ × Block))
+    → AllByRecursion (λ (b : ℕ × Block). IsToldAt options packets last_packet b.0 b.1) blocks → AllByRecursion (λ (b : ℕ × Block). UnfinishedAreTrue options packets last_packet b.1) blocks
+all_unfinished law options packets last_packet [] all = tt
+all_unfinished law options packets last_packet (b ∷ blocks) all =
+    (unfinished_are_true law options last_packet b.0 packets b.1 all.0, all_unfinished law options packets last_packet blocks all.1)
 
 -- ---- whether the options of `judge` are told plays no part
 
@@ -499,6 +614,7 @@ records_as Are stopped options packets last_packet session opening side entries 
 records_in_as : (order : Order) (stopped : Option WhyRefused) (options : CheckOptions) (packets : List Recorded) (last_packet : ℕ) (session : Session) (opening : Opening) (side : Side) (entries : List Entry)
     → HasRecordsIn order (options_by stopped options) packets last_packet session opening side entries → HasRecordsIn order options packets last_packet session opening side entries
 records_in_as orders.Made stopped options packets last_packet session opening side entries h = records_as AreRecordsOf stopped options packets last_packet session opening side entries h
+records_in_as orders.All stopped options packets last_packet session opening side entries h = records_as AreRecordsOf stopped options packets last_packet session opening side entries h
 records_in_as orders.Another stopped options packets last_packet session opening side entries h = records_as AreRecordsOfAWay stopped options packets last_packet session opening side entries h
 
 true_as : (stopped : Option WhyRefused) (options : CheckOptions) (packets : List Recorded) (last_packet : ℕ) (session : Session) (opening : Opening) (side : Side) (told : EndTold)
@@ -586,3 +702,48 @@ pub all_yeses_as : (stopped : Option WhyRefused) (options : CheckOptions) (packe
 all_yeses_as stopped options packets last_packet [] all = tt
 all_yeses_as stopped options packets last_packet (b ∷ blocks) all =
     (yeses_as stopped options packets last_packet b.1 all.0, all_yeses_as stopped options packets last_packet blocks all.1)
+
+verdict_in_as : (order : Order) (stopped : Option WhyRefused) (options : CheckOptions) (packets : List Recorded) (last_packet : ℕ) (session : Session) (opening : Opening) (side : Side)
+    → HasVerdictIn order (options_by stopped options) packets last_packet session opening side Unfinished → HasVerdictIn order options packets last_packet session opening side Unfinished
+unfolding records_as
+verdict_in_as orders.Made stopped options packets last_packet session opening side h = record {
+  entries = h.entries;
+  has_records = records_as AreRecordsOf stopped options packets last_packet session opening side h.entries h.has_records;
+  over_all = h.over_all;
+}
+verdict_in_as orders.Another stopped options packets last_packet session opening side h = record {
+  entries = h.entries;
+  has_records = records_as AreRecordsOf stopped options packets last_packet session opening side h.entries h.has_records;
+  over_all = h.over_all;
+}
+verdict_in_as orders.All stopped options packets last_packet session opening side h = (
+  h.0,
+  record {
+    entries = h.1.entries;
+    has_records = records_as AreRecordsOf stopped options packets last_packet session opening side h.1.entries h.1.has_records;
+    no_order = h.1.no_order;
+  },
+)
+
+unfinished_as : (stopped : Option WhyRefused) (options : CheckOptions) (packets : List Recorded) (last_packet : ℕ) (session : Session) (opening : Opening) (side : Side) (told : EndTold)
+    → HasTrueUnfinished (options_by stopped options) packets last_packet session opening side told → HasTrueUnfinished options packets last_packet session opening side told
+unfinished_as stopped options packets last_packet session opening side told has begins =
+    let it = has begins in
+    record { number = it.number; peer = it.peer; named = it.named; verdict = verdict_in_as told.order stopped options packets last_packet session opening side it.verdict }
+
+both_unfinished_as : (stopped : Option WhyRefused) (options : CheckOptions) (packets : List Recorded) (last_packet : ℕ) (block : Block)
+    → UnfinishedAreTrue (options_by stopped options) packets last_packet block → UnfinishedAreTrue options packets last_packet block
+both_unfinished_as stopped options packets last_packet (BothEnds session opening first_octets second_octets opener other) both = (
+  unfinished_as stopped options packets last_packet session opening opening.opened_by opener both.0,
+  unfinished_as stopped options packets last_packet session opening (other_side opening.opened_by) other both.1,
+)
+both_unfinished_as stopped options packets last_packet (OneEnd session opening first_octets second_octets) both = tt
+both_unfinished_as stopped options packets last_packet (Refused session opening refusal) both = tt
+both_unfinished_as stopped options packets last_packet (AllRefused addresses refusal) both = tt
+
+pub all_unfinished_as : (stopped : Option WhyRefused) (options : CheckOptions) (packets : List Recorded) (last_packet : ℕ) (blocks : List (ℕ × Block))
+    → AllByRecursion (λ (b : ℕ × Block). UnfinishedAreTrue (options_by stopped options) packets last_packet b.1) blocks
+    → AllByRecursion (λ (b : ℕ × Block). UnfinishedAreTrue options packets last_packet b.1) blocks
+all_unfinished_as stopped options packets last_packet [] all = tt
+all_unfinished_as stopped options packets last_packet (b ∷ blocks) all =
+    (both_unfinished_as stopped options packets last_packet b.1 all.0, all_unfinished_as stopped options packets last_packet blocks all.1)

@@ -34,8 +34,8 @@ gives_the_verdict law options asked session opening connection side told number 
     let its = session_from side session in
     let seen = seen_from side connection in
     let records = records_of end.entries in
-    let judged : IsJudged its records number peer under verdict = subst (λ (a : AnswerValue). IsAnswerTo its records a) is end.answers in
     let of = line_of_made options asked (end_of side session opening) its seen told end line there in
+    let judged : IsJudged its records number peer under verdict = subst (λ (a : AnswerValue). IsAnswerTo its records a) (sym of.is_told ∙ is) end.answers in
     let line_told = subst (λ (j : Option JudgeOptions).
     AreOptionsTo options.within asked seen end.entries end.received_unshown end.sent_unshown options.settings told.answer j) there of.judges in
     let for_it = subst (λ (a : AnswerValue).

@@ -1,5 +1,5 @@
 -- What the search answers under the widest configurations.
-use Rattle.std.proofs.Common.{◌≡◌, ◌+◌, ◌<◌, ◌≤◌, ℕ, Bool, true, false, List, Option, None, Some, IfSome, arith, length, nat_lt, option_map, refl, subst, sym}
+use Rattle.std.proofs.Common.{◌≡◌, ◌∙◌, ◌+◌, ◌<◌, ◌≤◌, ℕ, Bool, true, false, List, Option, None, Some, IfSome, arith, length, nat_lt, option_map, refl, subst, sym}
 use Rattle.bgp_prefix.specs.declared.session.Session.{Session}
 use Rattle.streams.specs.declared.connection.Connection.{Connection}
 use Rattle.bgp_open.specs.Open.{OpenFields, open_of}
@@ -15,6 +15,8 @@ use Rattle.bgp_orders.specs.declared.explained.Explained.{Explained}
 use Rattle.bgp_orders.specs.declared.explained.Explained.TheVariants as answers
 use Rattle.bgp_orders.proofs.Over.{at_most_explained, whole_is_explained}
 use Rattle.bgp_parts.specs.Opens.{HasOwnOpen, HasPeersOpen}
+use Rattle.bgp_check.specs.Answered.{heard_as, peer_as_by}
+use Rattle.bgp_check.specs.declared.peer_as.PeerAs.{PeerAs}
 use Rattle.bgp_check.specs.WidestMade.{both_of}
 use Rattle.bgp_check.specs.WidestOf.{AreTold, parts_of, widest_of}
 use Rattle.bgp_check.specs.declared.widest.Widest.{Widest}
@@ -146,11 +148,16 @@ module _ (session : Session) (within : ℕ) (framings : Framings) (connection : 
     is_told = is;
   }
 
-  pub said_so : (x : Said) → IsSaidBy exchange explained x → IsSaid session within framings connection x
+  pub said_so : (peer : PeerAs) → peer ≡ peer_as_by wants told (heard_as widest.wanting) → (x : Said) → IsSaidBy exchange peer under explained x → IsSaid session within framings connection x
   unfolding over_so
-  said_so (said.Whole config) by = tt
-  said_so (said.NoOrder unexplained) by = record {
+  said_so peer is_peer (said.Whole config) by = tt
+  said_so peer is_peer (said.Unfinished its) by = record {
+    over = over_so Unfinished (subst (λ (e : Explained). IsSaidOver widest within exchange wants under e) by.0 is_said);
+    is_under = by.2;
+    is_peer = by.1 ∙ is_peer;
+  }
+  said_so peer is_peer (said.NoOrder unexplained) by = record {
     over = over_so (No unexplained.before) (subst (λ (e : Explained). IsSaidOver widest within exchange wants under e) by.0 is_said);
     is_packet = by.1;
   }
-  said_so said.Neither by = tt
+  said_so peer is_peer said.Neither by = tt

@@ -5,6 +5,7 @@ use Rattle.bgp_prefix.specs.declared.session.Session.{Session}
 use Rattle.segments.specs.declared.found.Endpoint.{Endpoint}
 use Rattle.streams.specs.declared.connection.Connection.{Connection}
 use Rattle.bgp_open.specs.declared.config.Config.{Config}
+use Rattle.bgp_machine.specs.Run.{End}
 use Rattle.bgp_judge.specs.Verdict.{No, Unfinished, VerdictValue, Yes}
 use Rattle.bgp_recording.specs.Captured.{records_of}
 use Rattle.bgp_recording.specs.declared.entry.Entry.{Entry}
@@ -22,12 +23,13 @@ use Rattle.bgp_explain.specs.Places.{shown_places}
 use Rattle.bgp_import.specs.Captures.{put_off}
 use Rattle.bgp_check_text.specs.declared.options.Asked.{Asked}
 use Rattle.bgp_check_text.specs.declared.options.JudgeOptions.{JudgeOptions}
+use Rattle.bgp_check_tool.specs.declared.another.Order.TheVariants as orders
 use Rattle.bgp_check_tool.specs.declared.options.CheckOptions.{CheckOptions}
 use Rattle.bgp_check_tool.specs.declared.late.Late.{Late}
 use Rattle.bgp_check_tool.specs.Another.{IsNo, IsNoYes, IsYes}
 use Rattle.bgp_check_tool.specs.Late.{IsLate}
 use Rattle.bgp_check_tool.specs.Orders.{IsFoundTo, IsUnexplained}
-use Rattle.bgp_check_tool.specs.Told.{EndTold, IsOfAnother, IsOfMade, IsTold, packet_of}
+use Rattle.bgp_check_tool.specs.Told.{EndTold, IsOfAll, IsOfAnother, IsOfMade, IsTold, packet_of}
 use Rattle.bgp_check_tool.proofs.Stretch.{stretch_of}
 use Rattle.bgp_check_tool.proofs.WayRecords.{front_is_stretch}
 
@@ -44,23 +46,60 @@ module _ (options : CheckOptions) (asked : Asked) (end : Endpoint) (session : Se
   pub told_stretch : IsStretch (records_of is.entries)
   told_stretch = elim is.are_of [
     | inl of ↦ stretch_of is.framings options.within connection is.entries is.received_unshown is.sent_unshown of.made.recorded.told
-    | inr of ↦ stretch_of_way is.framings options.within connection is.entries is.received_unshown is.sent_unshown of.way
+    | inr others ↦ elim others [
+      | inl of ↦ stretch_of_way is.framings options.within connection is.entries is.received_unshown is.sent_unshown of.way
+      | inr of ↦ stretch_of is.framings options.within connection is.entries is.received_unshown is.sent_unshown of.made.recorded.told
+    ]
   ]
 
   abbrev OfMade : Type 0
-  OfMade = IsOfMade options asked session connection is.framings is.entries is.received_unshown is.sent_unshown told
+  OfMade = IsOfMade options asked session connection is.framings is.entries is.received_unshown is.sent_unshown is.answer told
 
-  -- a no, and what isn't finished, are told in the made order
+  abbrev OfAnother : Type 0
+  OfAnother = IsOfAnother options asked session connection is.framings is.entries is.received_unshown is.sent_unshown is.answer told
+
+  abbrev OfAll : Type 0
+  OfAll = IsOfAll options asked session connection is.framings is.entries is.received_unshown is.sent_unshown is.answer told
+
+  -- a no is told in the made order
   pub no_of_made : (number : Option ℕ) (peer : PeerAs) (under : Config) (count : ℕ) → told.answer ≡ JudgedAs number peer under (No count) → OfMade
   no_of_made number peer under count is_no = elim is.are_of [
     | inl of ↦ of
-    | inr of ↦ let its : ⊥ = subst IsYes is_no of.is_yes in absurd its
+    | inr others ↦ elim others [
+      | inl of ↦ let its : ⊥ = subst IsYes is_no of.is_yes in absurd its
+      | inr of ↦ let its : ⊥ = subst IsNo (sym is_no ∙ of.is_told) tt in absurd its
+    ]
   ]
 
-  pub unfinished_of_made : (number : Option ℕ) (peer : PeerAs) (under : Config) → told.answer ≡ JudgedAs number peer under Unfinished → OfMade
-  unfinished_of_made number peer under unfinished = elim is.are_of [
-    | inl of ↦ of
-    | inr of ↦ let its : ⊥ = subst IsYes unfinished of.is_yes in absurd its
+  -- a yes in it, or in another one
+  pub yes_of : (number : Option ℕ) (peer : PeerAs) (under : Config) (ends : List End) → told.answer ≡ JudgedAs number peer under (Yes ends) → OfMade ⊎ OfAnother
+  yes_of number peer under ends is_yes = elim is.are_of [
+    | inl of ↦ inl of
+    | inr others ↦ elim others [
+      | inl of ↦ inr of
+      | inr of ↦ let its : ⊥ = subst IsYes (sym is_yes ∙ of.is_told) tt in absurd its
+    ]
+  ]
+
+  -- what is unfinished in it, or over all
+  pub unfinished_of : (number : Option ℕ) (peer : PeerAs) (under : Config) → told.answer ≡ JudgedAs number peer under Unfinished → OfMade ⊎ OfAll
+  unfinished_of number peer under unfinished = elim is.are_of [
+    | inl of ↦ inl of
+    | inr others ↦ elim others [
+      | inl of ↦ let its : ⊥ = subst IsYes unfinished of.is_yes in absurd its
+      | inr of ↦ inr of
+    ]
+  ]
+
+  -- a judged end is judged
+  pub judged_so : (number : Option ℕ) (peer : PeerAs) (under : Config) (verdict : VerdictValue) → told.answer ≡ JudgedAs number peer under verdict
+      → (is.answer ≡ JudgedAs number peer under verdict) ⊎ OfAll
+  judged_so number peer under verdict it = elim is.are_of [
+    | inl of ↦ inl (sym of.is_told ∙ it)
+    | inr others ↦ elim others [
+      | inl of ↦ inl (sym of.is_told ∙ it)
+      | inr of ↦ inr of
+    ]
   ]
 
   some_none : (line : JudgeOptions) → told.judge ≡ Some line → told.judge ≡ None → ⊥
@@ -70,7 +109,26 @@ module _ (options : CheckOptions) (asked : Asked) (end : Endpoint) (session : Se
   pub line_of_made : (line : JudgeOptions) → told.judge ≡ Some line → OfMade
   line_of_made line some = elim is.are_of [
     | inl of ↦ of
-    | inr of ↦ absurd (some_none line some of.no_judge)
+    | inr others ↦ elim others [
+      | inl of ↦ absurd (some_none line some of.no_judge)
+      | inr of ↦ absurd (some_none line some of.no_judge)
+    ]
+  ]
+
+  made_or_all : told.order ≡ orders.Made → told.order ≡ orders.All → ⊥
+  made_or_all made all = let k : orders.Made ≡ orders.All = sym made ∙ all in let never : ⊥ = cc in never
+
+  another_or_all : told.order ≡ orders.Another → told.order ≡ orders.All → ⊥
+  another_or_all made all = let k : orders.Another ≡ orders.All = sym made ∙ all in let never : ⊥ = cc in never
+
+  -- what is told over all orders
+  pub of_all : told.order ≡ orders.All → OfAll
+  of_all all = elim is.are_of [
+    | inl of ↦ absurd (made_or_all of.is_order all)
+    | inr others ↦ elim others [
+      | inl of ↦ absurd (another_or_all of.is_order all)
+      | inr of ↦ of
+    ]
   ]
 
 -- ---- what is told beside an answer
@@ -98,29 +156,32 @@ module _ (session : Session) (within : ℕ) (framings : Framings) (connection : 
 -- ---- all of it
 
 pub told_so : (options : CheckOptions) (asked : Asked) (end : Endpoint) (session : Session) (connection : Connection) (framings : Framings) (entries : List Entry) (received sent : Unshown)
-    (told : EndTold) (answer : AnswerValue) → told.answer ≡ answer
-    → IsOfMade options asked session connection framings entries received sent told ⊎ IsOfAnother options asked session connection framings entries received sent told
-    → told.end ≡ end → IsAnswerTo session (records_of entries) answer → told.packet ≡ packet_of answer entries
-    → IsFoundTo session options.within framings connection answer told.unexplained → told.put_off ≡ put_off 0 entries → told.within ≡ options.within
-    → IsLate session connection answer told.late → told.highest ≡ highest_state (records_of entries)
+    (told : EndTold) (answer its : AnswerValue) → told.answer ≡ its → IsAnswerTo session (records_of entries) answer
+    → IsOfMade options asked session connection framings entries received sent answer told
+    ⊎ IsOfAnother options asked session connection framings entries received sent answer told
+    ⊎ IsOfAll options asked session connection framings entries received sent answer told
+    → told.end ≡ end → told.packet ≡ packet_of its entries
+    → IsFoundTo session options.within framings connection its told.unexplained → told.put_off ≡ put_off 0 entries → told.within ≡ options.within
+    → IsLate session connection its told.late → told.highest ≡ highest_state (records_of entries)
     → IsReasonTo session framings.sent.limit (shown_places entries) (records_of entries) answer told.reason → told.received ≡ received → told.sent ≡ sent
     → IsTold options asked end session connection told
-told_so options asked end session connection framings entries received sent told answer same are_of is_end answers is_packet is_found is_put_off is_within is_late is_highest explains is_received is_sent =
+told_so options asked end session connection framings entries received sent told answer its same answers are_of is_end is_packet is_found is_put_off is_within is_late is_highest explains is_received is_sent =
     record {
       entries = entries;
       received_unshown = received;
       sent_unshown = sent;
       framings = framings;
+      answer = answer;
+      answers = answers;
       are_of = are_of;
       is_end = is_end;
-      answers = subst (λ (a : AnswerValue). IsAnswerTo session (records_of entries) a) (sym same) answers;
       is_packet = is_packet ∙ ap (λ (a : AnswerValue). packet_of a entries) (sym same);
       is_found = subst (λ (a : AnswerValue). IsFoundTo session options.within framings connection a told.unexplained) (sym same) is_found;
       is_put_off = is_put_off;
       is_within = is_within;
       is_late = subst (λ (a : AnswerValue). IsLate session connection a told.late) (sym same) is_late;
       is_highest = is_highest;
-      explains = subst (λ (a : AnswerValue). IsReasonTo session framings.sent.limit (shown_places entries) (records_of entries) a told.reason) (sym same) explains;
+      explains = explains;
       is_received = is_received;
       is_sent = is_sent;
     }

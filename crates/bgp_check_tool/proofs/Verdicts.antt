@@ -1,12 +1,16 @@
 -- What a verdict on an end is worth.
-use Rattle.std.proofs.Common.{◌≡◌, Bool, true, false, IsTrue, ℕ, List, Option, None, Some, IfSome, option_map, inl, inr, refl, reverse, sym, subst}
+use Rattle.std.proofs.Common.{◌≡◌, ◌∙◌, Bool, true, false, IsTrue, ℕ, List, Option, None, Some, IfSome, option_map, inl, inr, refl, reverse, sym, subst}
 use Rattle.bgp_prefix.specs.Shown.{ShownRecord}
 use Rattle.bgp_prefix.specs.declared.session.Session.{Session}
 use Rattle.bgp_open.specs.Open.{OpenFields, open_of}
 use Rattle.streams.specs.declared.connection.Connection.{Connection}
 use Rattle.streams.specs.declared.connection.Opening.{Opening}
 use Rattle.streams.specs.declared.passed.Side.{Side}
-use Rattle.bgp_judge.specs.Verdict.{No, Unfinished, Yes}
+use Rattle.bgp_open.specs.declared.config.Config.{Config}
+use Rattle.bgp_judge.specs.Verdict.{No, Unfinished, VerdictValue, Yes}
+use Rattle.bgp_parts.specs.Opens.{HasOwnOpen}
+use Rattle.bgp_check.specs.declared.peer_as.PeerAs.{PeerAs}
+use Rattle.bgp_check_tool.specs.Another.{IsNo}
 use Rattle.bgp_recording.specs.declared.framing.Framings.{Framings}
 use Rattle.bgp_recording.specs.Captured.{records_of}
 use Rattle.bgp_import.specs.ListText.{end_of, other_side}
@@ -20,15 +24,18 @@ use Rattle.bgp_check_text.specs.Asked.{asked_of}
 use Rattle.bgp_check_text.specs.declared.options.Asked.{Asked}
 use Rattle.streams.specs.Connections.{numbered}
 use Rattle.bgp_check_tool.specs.declared.options.CheckOptions.{CheckOptions}
-use Rattle.bgp_check_tool.specs.Headline.{IsToldOfSide, NoConfigurationHasARun, NoOrderHasARun, NothingIsVacuous, ToldNoHasNoRun, VerdictIsOverAll}
-use Rattle.bgp_check_tool.specs.Orders.{IsFoundTo, IsUnexplained, UnexplainedByAll}
+use Rattle.bgp_check_tool.specs.Headline.{IsToldOfSide, NoConfigurationHasARun, NoOrderHasARun, NoneIsWhole, NothingIsVacuous, ToldNoHasNoRun, VerdictIsOverAll}
+use Rattle.bgp_check_tool.specs.Orders.{IsFoundTo, IsUnexplained, UnexplainedByAll, UnfinishedByAll}
 use Rattle.bgp_orders.specs.declared.connection.Unexplained.{Unexplained}
 use Rattle.bgp_check_tool.specs.Seen.{seen_from, session_from}
 use Rattle.bgp_check_tool.specs.Told.{EndTold, IsEndTold}
-use Rattle.bgp_check_tool.proofs.TellingEnd.{no_of_made, told_stretch}
+use Rattle.bgp_check_tool.proofs.TellingEnd.{judged_so, no_of_made, of_all, told_stretch}
 
-pub over_all : VerdictIsOverAll
-over_all options asked session opening connection side told number peer under verdict own end is has faultless =
+-- of the records that are judged
+pub over_answer : (options : CheckOptions) (asked : Asked) (session : Session) (opening : Opening) (connection : Connection) (side : Side) (told : EndTold) (number : Option ℕ) (peer : PeerAs)
+    (under : Config) (verdict : VerdictValue) (end : IsEndTold options asked session opening connection side told) → end.answer ≡ JudgedAs number peer under verdict
+    → (own : Option (List ℕ)) → HasOwnOpen (records_of end.entries) own → IsFaultless own → HasVerdictOver (IsOf (session_from side session) own) (records_of end.entries) verdict
+over_answer options asked session opening connection side told number peer under verdict end is own has faultless =
     let its = session_from side session in
     let records = records_of end.entries in
     let answer : IsAnswerTo its records (JudgedAs number peer under verdict) = subst (λ (a : AnswerValue). IsAnswerTo its records a) is end.answers in
@@ -37,13 +44,34 @@ over_all options asked session opening connection side told number peer under ve
     subst (λ (o : Option (List ℕ)). HasVerdictOver (IsOf its o) records verdict) (sym same)
     (answer.over stretch (subst (λ (o : Option (List ℕ)). IsFaultless o) same faultless))
 
+pub none_whole : UnfinishedByAll → NoneIsWhole
+none_whole law options asked session opening connection side told end all =
+    let its = session_from side session in
+    let seen = seen_from side connection in
+    let of = of_all options asked (end_of side session opening) its seen told end all in
+    law its options.within end.framings seen of.peer of.under of.over
+
+pub verdict_is : (number its : Option ℕ) (peer another : PeerAs) (under other : Config) (verdict : VerdictValue) → JudgedAs number peer under verdict ≡ JudgedAs its another other Unfinished
+    → verdict ≡ Unfinished
+verdict_is number its peer another under other verdict e = cc
+
+pub over_all : NoneIsWhole → VerdictIsOverAll
+over_all law options asked session opening connection side told number peer under verdict own end is has faultless =
+    let its = session_from side session in
+    let seen = seen_from side connection in
+    elim (judged_so options asked (end_of side session opening) its seen told end number peer under verdict is) [
+      | inl same ↦ inl (over_answer options asked session opening connection side told number peer under verdict end same own has faultless)
+      | inr of ↦ inr (verdict_is number _ peer of.peer under of.under verdict (sym is ∙ of.is_told), of.is_order, law options asked session opening connection side told end of.is_order)
+    ]
+
 pub no_run : NoConfigurationExplains → NoConfigurationHasARun
 no_run law options asked session opening connection side told number peer under count own config end is has of =
     let its = session_from side session in
+    let seen = seen_from side connection in
     let records = records_of end.entries in
-    let answer : IsAnswerTo its records (JudgedAs number peer under (No count)) = subst (λ (a : AnswerValue). IsAnswerTo its records a) is end.answers in
-    let stretch = told_stretch options asked (end_of side session opening) its (seen_from side connection) told end in
-    law its records number peer under count own config stretch answer has of
+    let made = no_of_made options asked (end_of side session opening) its seen told end number peer under count is in
+    let answer : IsAnswerTo its records (JudgedAs number peer under (No count)) = subst (λ (a : AnswerValue). IsAnswerTo its records a) (sym made.is_told ∙ is) end.answers in
+    law its records number peer under count own config (told_stretch options asked (end_of side session opening) its seen told end) answer has of
 
 -- ---- a sent message that no order explains
 
@@ -71,13 +99,24 @@ sends_by true extended own told confederated is = refl
 sends_some : (records : List ShownRecord) → IsWhyNot records None → SendsSome records
 sends_some records none = none.is_sends.0 (sends_by none.sends none.extended (option_map open_of none.own) none.told none.confederated none.is_why)
 
+judged_sends : (session : Session) (records : List ShownRecord) (answer : AnswerValue) → IsNo answer → IsAnswerTo session records answer → SendsSome records
+judged_sends session records (Unjudged why) it answers = absurd it
+judged_sends session records (JudgedAs number peer under (Yes ends)) it answers = absurd it
+judged_sends session records (JudgedAs number peer under (No count)) it answers = sends_some records answers.none
+judged_sends session records (JudgedAs number peer under Unfinished) it answers = absurd it
+
 pub not_vacuous : NothingIsVacuous
 not_vacuous options asked session opening connection side told number peer under verdict end is =
     let its = session_from side session in
-    let records = records_of end.entries in
-    let answer : IsAnswerTo its records (JudgedAs number peer under verdict) = subst (λ (a : AnswerValue). IsAnswerTo its records a) is end.answers in (
-      told_stretch options asked (end_of side session opening) its (seen_from side connection) told end,
-      sends_some records answer.none,
+    let seen = seen_from side connection in
+    let records = records_of end.entries in (
+      told_stretch options asked (end_of side session opening) its seen told end,
+      elim (judged_so options asked (end_of side session opening) its seen told end number peer under verdict is) [
+        | inl same ↦
+            let answer : IsAnswerTo its records (JudgedAs number peer under verdict) = subst (λ (a : AnswerValue). IsAnswerTo its records a) same end.answers in
+            sends_some records answer.none
+        | inr of ↦ judged_sends its records end.answer of.is_no end.answers
+      ],
     )
 
 -- ---- of a no that is told of a recording

@@ -1,5 +1,5 @@
--- A yes of an end in another order than the made one.
-use Rattle.std.specs.Prelude.{◌≡◌, ℕ, map}
+-- What is told of an end in another order than the made one, or over all of them.
+use Rattle.std.specs.Prelude.{◌≡◌, ℕ, Option, None, map}
 use Rattle.bgp_prefix.specs.declared.session.Session.{Session}
 use Rattle.mrt.specs.Reader.{shown_of}
 use Rattle.streams.specs.declared.connection.Connection.{Connection}
@@ -10,7 +10,7 @@ use Rattle.bgp_orders.specs.WholeWays.{AreOfAWayOver}
 use Rattle.bgp_check.specs.Answered.{AnswerValue, IsAnswerTo, JudgedAs, Unjudged, answer_value}
 use Rattle.bgp_check_tool.specs.declared.another.Searched.{Searched}
 use Rattle.bgp_check_tool.specs.declared.another.Searched.TheVariants as searches
-use Rattle.bgp_check_tool.specs.Orders.{IsUnexplained}
+use Rattle.bgp_check_tool.specs.Orders.{IsUnexplained, IsUnfinished}
 
 -- ---- answers
 
@@ -35,13 +35,19 @@ IsNoYes (JudgedAs number peer under (Yes ends)) = ⊥
 IsNoYes (JudgedAs number peer under (No count)) = Unit {0}
 IsNoYes (JudgedAs number peer under Unfinished) = Unit {0}
 
+-- the AS number that its OPEN tells, if it is judged and sent one
+abbrev pub number_in : AnswerValue → Option ℕ
+number_in (Unjudged why) = None
+number_in (JudgedAs number peer under verdict) = number
+
 -- ---- what is found over all orders, where this is answered of the made one
 
--- A message that no order explains is found of a no. Of another order the answer on its records is
--- kept, and is a yes.
+-- A message that no order explains is found of a no, and that some order explains all. Of another
+-- order the answer on its records is kept, and is a yes.
 abbrev pub IsSought : {X : Type 0} → Session → AnswerValue → Searched X → Type 0
 IsSought session answer searches.Nothing = Unit {0}
 IsSought session answer (searches.NoOrder unexplained) = IsNo answer
+IsSought session answer (searches.Unfinished its) = IsNo answer
 IsSought session answer (searches.Another another) =
     IsNoYes answer
     × (map shown_of another.recording.records.items ≡ records_of another.recording.entries.items)
@@ -55,6 +61,8 @@ abbrev pub IsFound : {X : Type 0} → Session → ℕ → Framings → Connectio
 IsFound session within framings connection searches.Nothing = Unit {0}
 IsFound session within framings connection (searches.NoOrder unexplained) =
     IsUnexplained session within framings connection unexplained
+IsFound session within framings connection (searches.Unfinished its) =
+    IsUnfinished session within framings connection its.peer_as its.under
 IsFound session within framings connection (searches.Another another) =
     AreOfAWayOver framings within connection another.recording.entries.items
     another.recording.received another.recording.sent

@@ -4,7 +4,7 @@ use Rattle.packets.specs.Packet.{Recorded}
 use Rattle.bgp_prefix.specs.declared.session.Session.{Session}
 use Rattle.bgp_open.specs.declared.config.Config.{Config}
 use Rattle.bgp_machine.specs.Run.{Begins}
-use Rattle.bgp_judge.specs.Verdict.{No, VerdictValue}
+use Rattle.bgp_judge.specs.Verdict.{No, Unfinished, VerdictValue}
 use Rattle.segments.specs.declared.found.Addresses.{Addresses}
 use Rattle.streams.specs.Choice.{IsAnswered}
 use Rattle.streams.specs.Connections.{numbered}
@@ -26,10 +26,11 @@ use Rattle.bgp_check.specs.Stretch.{IsStretch}
 use Rattle.bgp_check.specs.WidestMade.{IsFaultless}
 use Rattle.bgp_check.specs.declared.peer_as.PeerAs.{PeerAs}
 use Rattle.bgp_check_text.specs.declared.options.Asked.{Asked}
+use Rattle.bgp_check_tool.specs.declared.another.Order.TheVariants as orders
 use Rattle.bgp_check_tool.specs.declared.options.CheckOptions.{CheckOptions}
 use Rattle.bgp_check_tool.specs.Blocks.{BothEnds}
 use Rattle.bgp_check_tool.specs.Made.{IsMade}
-use Rattle.bgp_check_tool.specs.Orders.{NoOrderExplains}
+use Rattle.bgp_check_tool.specs.Orders.{NoOrderExplains, NoOrderIsWhole}
 use Rattle.bgp_orders.specs.declared.connection.Unexplained.{Unexplained}
 use Rattle.bgp_import.specs.Pairs.{session_of}
 use Rattle.bgp_import.specs.Places.{HasConnection}
@@ -38,7 +39,8 @@ use Rattle.bgp_check_tool.specs.Seen.{seen_from, session_from}
 use Rattle.bgp_check_tool.specs.Told.{EndTold, IsEndTold}
 
 -- What is told of an end is told of a stretch, so that the verdict is the one over all
--- configurations under which the OPEN that the end sent is its own, where that has no own fault.
+-- configurations under which the OPEN that the end sent is its own, where that has no own fault. Or
+-- it is unfinished over all orders, and none of them is whole under any of these configurations.
 abbrev pub VerdictIsOverAll : Type 0
 VerdictIsOverAll =
     (options : CheckOptions) (asked : Asked) (session : Session) (opening : Opening)
@@ -48,6 +50,9 @@ VerdictIsOverAll =
     → told.answer ≡ JudgedAs number peer under verdict
     → HasOwnOpen (records_of end.entries) own → IsFaultless own
     → HasVerdictOver (IsOf (session_from side session) own) (records_of end.entries) verdict
+    ⊎ ((verdict ≡ Unfinished) × (told.order ≡ orders.All)
+    × NoOrderIsWhole (session_from side session) options.within end.framings
+    (seen_from side connection))
 
 -- A no after so many records says that no configuration under which the router's OPEN is its own
 -- has a run that shows these and one more; nor one, then, that shows all of the records.
@@ -72,6 +77,17 @@ NoOrderHasARun =
     → told.unexplained ≡ Some unexplained
     → NoOrderExplains (session_from side session) options.within end.framings
     (seen_from side connection) unexplained
+
+-- What is told over all orders is unfinished: none that the packets allow is whole, and some of them
+-- explains all that was sent.
+abbrev pub NoneIsWhole : Type 0
+NoneIsWhole =
+    (options : CheckOptions) (asked : Asked) (session : Session) (opening : Opening)
+    (connection : Connection) (side : Side) (told : EndTold)
+    (end : IsEndTold options asked session opening connection side told)
+    → told.order ≡ orders.All
+    → NoOrderIsWhole (session_from side session) options.within end.framings
+    (seen_from side connection)
 
 -- A verdict is told only of records with a sent message, the first of which leaves Idle.
 abbrev pub NothingIsVacuous : Type 0

@@ -1,6 +1,6 @@
 -- What a verdict on an end that isn't a yes becomes, where each message may be handled as late as
 -- it can be said: it is judged once more, of records that are made so.
-use Rattle.std.specs.Prelude.{◌≡◌, ◌++◌, ℕ, List, [], Option, None, Some, codes}
+use Rattle.std.specs.Prelude.{◌≡◌, ◌⊎◌, ◌++◌, ℕ, List, [], Option, None, Some, codes}
 use Rattle.std.specs.Fmt.{decimal}
 use Rattle.bgp_prefix.specs.declared.session.Session.{Session}
 use Rattle.streams.specs.declared.connection.Connection.{Connection}
@@ -9,7 +9,9 @@ use Rattle.bgp_recording.specs.Captured.{records_of}
 use Rattle.bgp_recording.specs.declared.entry.Entry.{Entry}
 use Rattle.bgp_recording.specs.declared.framing.Framings.{Framings}
 use Rattle.bgp_recording.specs.declared.framing.Unshown.{Unshown}
+use Rattle.bgp_orders.specs.WholeWays.{AreOfAWayOver}
 use Rattle.bgp_check.specs.Answered.{AnswerValue, IsAnswerTo, JudgedAs, Unjudged}
+use Rattle.bgp_check_tool.specs.Another.{IsYes}
 use Rattle.bgp_check_tool.specs.declared.late.Late.{Late}
 use Rattle.bgp_check_tool.specs.declared.late.Late.TheVariants as lates
 use Rattle.bgp_check_tool.specs.Made.{IsMade}
@@ -32,8 +34,17 @@ late_by verdict (JudgedAs number peer under later) = late_over verdict later
 
 -- Of the end of this session that has the connection so.
 module _ (session : Session) (connection : Connection) where
-  -- this is answered of the records that are made of it where a message may be handled up to 65535
-  -- seconds after it came
+  -- a yes is answered of the records of another order, framed so
+  pub record IsAnsweredByAnother (framings : Framings) (answer : AnswerValue) : Type 0 where
+    pub entries : List Entry
+    pub received_unshown : Unshown
+    pub sent_unshown : Unshown
+    pub way : AreOfAWayOver framings 65535 connection entries received_unshown sent_unshown
+    pub answers : IsAnswerTo session (records_of entries) answer
+    pub is_yes : IsYes answer
+
+  -- This is answered of the records that are made of it where a message may be handled up to 65535
+  -- seconds after it came. Or that is unfinished, and a yes is answered in another order.
   pub record IsAnsweredLater (answer : AnswerValue) : Type 0 where
     pub entries : List Entry
     pub received_unshown : Unshown
@@ -41,6 +52,7 @@ module _ (session : Session) (connection : Connection) where
     pub framings : Framings
     pub made : IsMade 65535 connection framings entries received_unshown sent_unshown
     pub answers : IsAnswerTo session (records_of entries) answer
+        ⊎ IsAnsweredByAnother framings answer
 
   -- so that the verdict becomes this, or stays
   pub record IsLateOf (verdict : VerdictValue) (late : Option Late) : Type 0 where

@@ -1,9 +1,9 @@
 pub mod Seen
 pub mod Made
-pub mod Late
 pub mod Judging
 pub mod Orders
 pub mod Another
+pub mod Late
 pub mod Told
 pub mod Text
 pub mod Blocks

@@ -1,7 +1,7 @@
 -- What all orders say that the packets allow, of an end whose verdict in the made order isn't a
 -- yes: the verdict over all of them, under the widest configurations of the end.
 use Rattle.std.specs.Prelude.{◌≡◌, ◌+◌, ◌<◌, ℕ, Bool, true, false, List, Option, None, Some}
-use Rattle.std.specs.Prelude.{IfSome, map, nat_lt, option_map, take}
+use Rattle.std.specs.Prelude.{IfSome, length, map, nat_lt, option_map, take}
 use Rattle.bgp_prefix.specs.Shown as shown
 use Rattle.bgp_prefix.specs.Shown.{ShownRecord}
 use Rattle.bgp_prefix.specs.declared.session.Session.{Session}
@@ -22,12 +22,14 @@ use Rattle.bgp_orders.specs.declared.connection.Unexplained.{Unexplained}
 use Rattle.bgp_orders.specs.declared.explained.Explained.{Explained}
 use Rattle.bgp_orders.specs.declared.explained.Explained.TheVariants as answers
 use Rattle.bgp_parts.specs.Opens.{HasOwnOpen, HasPeersOpen}
-use Rattle.bgp_check.specs.Answered.{AnswerValue, HasFault, JudgedAs, Unjudged}
+use Rattle.bgp_check.specs.Answered.{AnswerValue, HasFault, JudgedAs, Unjudged, heard_as}
+use Rattle.bgp_check.specs.Answered.{peer_as_by}
 use Rattle.bgp_check.specs.Checked.{IsUnder}
 use Rattle.bgp_check.specs.Configurations.{IsOf}
 use Rattle.bgp_check.specs.WidestMade.{IsFaultless, configurations_of}
 use Rattle.bgp_check.specs.WidestOf.{AreTold, parts_of, widest_of}
 use Rattle.bgp_check.specs.declared.own_fault.OwnFault.{OwnFault}
+use Rattle.bgp_check.specs.declared.peer_as.PeerAs.{PeerAs}
 use Rattle.bgp_check.specs.declared.widest.Widest.{Widest}
 use Rattle.bgp_check_tool.specs.declared.orders.Said.{Said}
 use Rattle.bgp_check_tool.specs.declared.orders.Said.TheVariants as said
@@ -83,12 +85,14 @@ IsSaidOver widest within exchange wants under (answers.Only count) =
     IsToldOver widest within exchange wants under (No count)
 IsSaidOver widest within exchange wants under answers.TooMany = Unit {0}
 
--- what the answer says, of a no with its message
-abbrev pub IsSaidBy : Exchange → Explained → Said → Type 0
-IsSaidBy exchange explained (said.Whole config) = Unit {0}
-IsSaidBy exchange explained (said.NoOrder unexplained) =
+-- What the answer under that configuration, which is for this peer, says: of a no with its message.
+abbrev pub IsSaidBy : Exchange → PeerAs → Config → Explained → Said → Type 0
+IsSaidBy exchange peer under explained (said.Whole config) = Unit {0}
+IsSaidBy exchange peer under explained (said.NoOrder unexplained) =
     (explained ≡ answers.Only unexplained.before) × IsPacketOf exchange unexplained
-IsSaidBy exchange explained said.Neither = Unit {0}
+IsSaidBy exchange peer under explained (said.Unfinished its) =
+    (explained ≡ answers.All false) × (its.peer_as ≡ peer) × (its.under ≡ under)
+IsSaidBy exchange peer under explained said.Neither = Unit {0}
 
 -- The local system of a session that has the connection so, framed so, where a received message is
 -- handled within so many seconds after it came.
@@ -115,10 +119,18 @@ module _ (session : Session) (within : ℕ) (framings : Framings) (connection : 
     pub over : IsOver (No unexplained.before)
     pub is_packet : IsPacketOf over.exchange unexplained
 
+  -- All that was sent is explained under this configuration, which is for this peer, and under none
+  -- of the widest some order is whole.
+  pub record IsUnfinished (peer : PeerAs) (under : Config) : Type 0 where
+    pub over : IsOver Unfinished
+    pub is_under : under ≡ over.under
+    pub is_peer : peer ≡ peer_as_by over.wants over.told (heard_as over.widest.wanting)
+
   -- what the search says
   abbrev pub IsSaid : Said → Type 0
   IsSaid (said.Whole config) = Unit {0}
   IsSaid (said.NoOrder unexplained) = IsUnexplained unexplained
+  IsSaid (said.Unfinished its) = IsUnfinished its.peer_as its.under
   IsSaid said.Neither = Unit {0}
 
   -- such a message is found of a no alone; that none is found says nothing
@@ -154,7 +166,19 @@ module _ (session : Session) (within : ℕ) (framings : Framings) (connection : 
         → HasOwnOpen (records_sent exchange.sent.now) own → HasFault own fault → (n : ℕ)
         → HasOwnOpen (records_sent (take n exchange.sent.now)) own → unexplained.before < n
 
--- ---- the law
+  -- No order is whole: under no configuration under which that OPEN is the end's own some run shows
+  -- just the records of a way. Under one of these some way explains all that was sent.
+  pub record NoOrderIsWhole : Type 0 where
+    pub exchange : Exchange
+    pub tells : TellsConnection framings connection exchange
+    pub none : (own : Option (List ℕ)) (config : Config) (e : End)
+        → HasOwnOpen (records_sent exchange.sent.now) own → IsOf session own config
+        → ¬ IsWhole config within exchange e
+    pub explained : (own : Option (List ℕ)) → HasOwnOpen (records_sent exchange.sent.now) own
+        → (config : Config) × IsOf session own config
+        × IsExplained config within exchange (length exchange.sent.now)
+
+-- ---- the laws
 
 -- that no order explains the message is what follows
 abbrev pub UnexplainedByAll : Type 0
@@ -162,3 +186,10 @@ UnexplainedByAll =
     (session : Session) (within : ℕ) (framings : Framings) (connection : Connection)
     (unexplained : Unexplained) → IsUnexplained session within framings connection unexplained
     → NoOrderExplains session within framings connection unexplained
+
+-- that none is whole is what follows where it is unfinished
+abbrev pub UnfinishedByAll : Type 0
+UnfinishedByAll =
+    (session : Session) (within : ℕ) (framings : Framings) (connection : Connection)
+    (peer : PeerAs) (under : Config) → IsUnfinished session within framings connection peer under
+    → NoOrderIsWhole session within framings connection

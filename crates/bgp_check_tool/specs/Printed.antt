@@ -44,13 +44,15 @@ use Rattle.bgp_check_tool.specs.Headline.{IsToldOfSide}
 use Rattle.bgp_check_tool.specs.declared.another.Order.{Order}
 use Rattle.bgp_check_tool.specs.declared.another.Order.TheVariants as orders
 use Rattle.bgp_check_tool.specs.Judging.{judge_text, options_by}
-use Rattle.bgp_check_tool.specs.Orders.{NoOrderExplains}
+use Rattle.bgp_check_tool.specs.Late.{late_text}
+use Rattle.bgp_check_tool.specs.Orders.{NoOrderExplains, NoOrderIsWhole}
 use Rattle.bgp_orders.specs.WholeWays.{AreOfAWayOver}
 use Rattle.bgp_orders.specs.declared.connection.Unexplained.{Unexplained}
 use Rattle.bgp_check_tool.specs.Made.{AreOffered, with_both_offers}
 use Rattle.bgp_check_tool.specs.Places.{IsToldAt}
 use Rattle.bgp_check_tool.specs.Seen.{seen_from, session_from}
-use Rattle.bgp_check_tool.specs.Text.{another_text, told_lines, unexplained_text, whose_text}
+use Rattle.bgp_check_tool.specs.Text.{another_text, told_lines, unexplained_text}
+use Rattle.bgp_check_tool.specs.Text.{unfinished_text, whose_text}
 use Rattle.bgp_check_tool.specs.Told.{EndTold}
 
 -- ---- the records of an end
@@ -104,15 +106,18 @@ abbrev pub HasRecords : CheckOptions → List Recorded → ℕ → Session → O
 HasRecords options packets last_packet session opening side entries =
     HasRecordsSo AreRecordsOf options packets last_packet session opening side entries
 
--- These are records of that side in the order in which an answer is told.
+-- These are records of that side in the order in which an answer is told; over all orders, those of
+-- the made one.
 abbrev pub HasRecordsIn : Order → CheckOptions → List Recorded → ℕ → Session → Opening → Side
     → List Entry → Type 0
 HasRecordsIn orders.Made options packets last_packet session opening side entries =
     HasRecords options packets last_packet session opening side entries
 HasRecordsIn orders.Another options packets last_packet session opening side entries =
     HasRecordsSo AreRecordsOfAWay options packets last_packet session opening side entries
+HasRecordsIn orders.All options packets last_packet session opening side entries =
+    HasRecords options packets last_packet session opening side entries
 
--- a no and what is unfinished is told in the made one alone
+-- a no and what is unfinished is told of those of the made one alone
 abbrev pub HasRecordsWith : VerdictValue → Order → CheckOptions → List Recorded → ℕ → Session
     → Opening → Side → List Entry → Type 0
 HasRecordsWith (Yes ends) order options packets last_packet session opening side entries =
@@ -121,6 +126,39 @@ HasRecordsWith (No count) order options packets last_packet session opening side
     HasRecords options packets last_packet session opening side entries
 HasRecordsWith Unfinished order options packets last_packet session opening side entries =
     HasRecords options packets last_packet session opening side entries
+
+-- ---- a verdict
+
+-- The verdict on that side's records, in that order, is this one over all configurations under which
+-- the OPEN that it sent is its own, where that has no own fault.
+pub record HasVerdictOverAll (options : CheckOptions) (packets : List Recorded) (last_packet : ℕ)
+    (session : Session) (opening : Opening) (side : Side) (order : Order) (verdict : VerdictValue)
+    : Type 0 where
+  pub entries : List Entry
+  pub has_records : HasRecordsWith verdict order options packets last_packet session opening side
+      entries
+  pub over_all : (own : Option (List ℕ)) → HasOwnOpen (records_of entries) own → IsFaultless own
+      → HasVerdictOver (IsOf (session_from side session) own) (records_of entries) verdict
+
+-- Of all orders that the packets allow none is whole, under none of these configurations, and under
+-- one of them some order explains all that the end sent.
+pub record IsUnfinishedOverAll (options : CheckOptions) (packets : List Recorded)
+    (last_packet : ℕ) (session : Session) (opening : Opening) (side : Side) : Type 0 where
+  pub entries : List Entry
+  pub has_records : HasRecords options packets last_packet session opening side entries
+  pub no_order : NoOrderIsWhole (session_from side session) options.within
+      has_records.are_records.framings (seen_from side has_records.connection)
+
+-- the verdict in the order in which it is told
+abbrev pub HasVerdictIn : Order → CheckOptions → List Recorded → ℕ → Session → Opening → Side
+    → VerdictValue → Type 0
+HasVerdictIn orders.Made options packets last_packet session opening side verdict =
+    HasVerdictOverAll options packets last_packet session opening side orders.Made verdict
+HasVerdictIn orders.Another options packets last_packet session opening side verdict =
+    HasVerdictOverAll options packets last_packet session opening side orders.Another verdict
+HasVerdictIn orders.All options packets last_packet session opening side verdict =
+    (verdict ≡ Unfinished)
+    × IsUnfinishedOverAll options packets last_packet session opening side
 
 -- ---- a line that begins with the word `no`
 
@@ -231,11 +269,46 @@ YesesAreTrue options packets last_packet (OneEnd session opening first second) =
 YesesAreTrue options packets last_packet (Refused session opening refusal) = Unit {0}
 YesesAreTrue options packets last_packet (AllRefused addresses refusal) = Unit {0}
 
+-- ---- a line that begins with the word `unfinished`
+
+-- They name this end. The verdict is that on its records in the made order. Or it is so over all
+-- orders that the packets allow, and then a note says so.
+pub record IsTrueUnfinished (options : CheckOptions) (packets : List Recorded) (last_packet : ℕ)
+    (session : Session) (opening : Opening) (side : Side) (told : EndTold) : Type 0 where
+  pub number : Option ℕ
+  pub peer : PeerAs
+  pub named : told_lines options.routes told
+      ≡ codes "unfinished" ++ (whose_text (end_of side session opening) number peer
+      ++ (told.reason ++ (unshown_notes told.received told.sent
+      ++ (unfinished_text told.order told.put_off
+      ++ (late_text told.within told.late ++ judge_text told.judge)))))
+  pub verdict : HasVerdictIn told.order options packets last_packet session opening side
+      Unfinished
+
+-- the lines of an end begin so, and are true
+abbrev pub HasTrueUnfinished : CheckOptions → List Recorded → ℕ → Session → Opening → Side
+    → EndTold → Type 0
+HasTrueUnfinished options packets last_packet session opening side told =
+    BeginWith (codes "unfinished") options.routes told
+    → IsTrueUnfinished options packets last_packet session opening side told
+
+-- so it is of both ends of a connection
+abbrev pub UnfinishedAreTrue : CheckOptions → List Recorded → ℕ → Block → Type 0
+UnfinishedAreTrue options packets last_packet
+    (BothEnds session opening first second opener other) =
+    HasTrueUnfinished options packets last_packet session opening opening.opened_by opener
+    × HasTrueUnfinished options packets last_packet session opening
+    (other_side opening.opened_by) other
+UnfinishedAreTrue options packets last_packet (OneEnd session opening first second) = Unit {0}
+UnfinishedAreTrue options packets last_packet (Refused session opening refusal) = Unit {0}
+UnfinishedAreTrue options packets last_packet (AllRefused addresses refusal) = Unit {0}
+
 -- ---- what is printed
 
 -- These packets are read of the source. What is written are blocks, each of which is told of the
--- packets where it stands: so each line that begins with the word `no` or `yes` is that of an end.
--- In these each such line is true, as `AreTrue` says it. Behind them stands no line of an end.
+-- packets where it stands: so each line that begins with the word `no`, `yes` or `unfinished` is
+-- that of an end. In these each such line is true, as `AreTrue` says it. Behind them stands no line
+-- of an end.
 pub record PrintsTrue {S T : Type 0} (AreTrue : CheckOptions → List Recorded → ℕ → Block → Type 0)
     (gives : S → S → List ℕ → Type 0) (has_ended : S → Bool)
     (takes : T → T → List ℕ → Type 0) (failures : T → ℕ) (options : CheckOptions)
@@ -275,16 +348,12 @@ ToldYesesAreTrue =
     → IsToldAt options packets last_packet place block
     → YesesAreTrue options packets last_packet block
 
--- The verdict on that side's records, in that order, is this one over all configurations under which
--- the OPEN that it sent is its own, where that has no own fault.
-pub record HasVerdictOverAll (options : CheckOptions) (packets : List Recorded) (last_packet : ℕ)
-    (session : Session) (opening : Opening) (side : Side) (order : Order) (verdict : VerdictValue)
-    : Type 0 where
-  pub entries : List Entry
-  pub has_records : HasRecordsWith verdict order options packets last_packet session opening side
-      entries
-  pub over_all : (own : Option (List ℕ)) → HasOwnOpen (records_of entries) own → IsFaultless own
-      → HasVerdictOver (IsOf (session_from side session) own) (records_of entries) verdict
+-- and with `unfinished` only if no run shows just its records, or none shows just those of any order
+abbrev pub ToldUnfinishedAreTrue : Type 0
+ToldUnfinishedAreTrue =
+    (options : CheckOptions) (last_packet place : ℕ) (packets : List Recorded) (block : Block)
+    → IsToldAt options packets last_packet place block
+    → UnfinishedAreTrue options packets last_packet block
 
 -- So it is of each verdict in a block: of a yes, a no and an unfinished.
 abbrev pub ToldVerdictIsOverAll : Type 0
@@ -296,4 +365,4 @@ ToldVerdictIsOverAll =
     (BothEnds session opening first second opener other)
     → IsToldOfSide opening opener other side told
     → told.answer ≡ JudgedAs number peer under verdict
-    → HasVerdictOverAll options packets last_packet session opening side told.order verdict
+    → HasVerdictIn told.order options packets last_packet session opening side verdict

@@ -64,6 +64,19 @@ another_line = codes "  note the order that bgp import makes isn't a yes: "
 abbrev pub another_text : Order → List ℕ
 another_text orders.Made = []
 another_text orders.Another = another_line
+another_text orders.All = []
+
+-- ---- what is unfinished
+
+-- over all orders, where the made one is a no
+unfoldable pub over_all_line : List ℕ
+over_all_line = codes "  note the order that bgp import makes is a no: "
+    ++ codes "over all that these packets allow it is unfinished\n"
+
+abbrev pub unfinished_text : Order → ℕ → List ℕ
+unfinished_text orders.Made put_off = note_line put_off
+unfinished_text orders.Another put_off = note_line put_off
+unfinished_text orders.All put_off = over_all_line
 
 -- ---- all of it
 
@@ -81,7 +94,7 @@ verdict_text routes told number peer (No count) =
 verdict_text routes told number peer Unfinished =
     codes "unfinished" ++ (whose_text told.end number peer
     ++ (told.reason ++ (unshown_notes told.received told.sent
-    ++ (note_line told.put_off ++ (late_text told.within told.late ++ judge_text told.judge)))))
+    ++ (unfinished_text told.order told.put_off ++ (late_text told.within told.late ++ judge_text told.judge)))))
 
 abbrev pub answer_text : Bool → EndTold → AnswerValue → List ℕ
 answer_text routes told (Unjudged why) = not_judged_line told.end why

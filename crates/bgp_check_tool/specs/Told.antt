@@ -13,7 +13,9 @@ use Rattle.bgp_recording.specs.declared.framing.Framings.{Framings}
 use Rattle.bgp_recording.specs.declared.framing.Unshown.{Unshown}
 use Rattle.bgp_import.specs.Captures.{put_off}
 use Rattle.bgp_import.specs.ListText.{end_of}
+use Rattle.bgp_open.specs.declared.config.Config.{Config}
 use Rattle.bgp_check.specs.Answered.{AnswerValue, IsAnswerTo, JudgedAs, Unjudged, answer_value}
+use Rattle.bgp_check.specs.declared.peer_as.PeerAs.{PeerAs}
 use Rattle.bgp_check_text.specs.Reason.{IsReasonTo, reason_text}
 use Rattle.bgp_explain.specs.Places.{shown_places}
 use Rattle.bgp_check_text.specs.Highest.{highest_state}
@@ -23,12 +25,12 @@ use Rattle.bgp_check_text.specs.declared.options.JudgeOptions.{JudgeOptions}
 use Rattle.bgp_check_tool.specs.declared.options.CheckOptions.{CheckOptions}
 use Rattle.bgp_check_tool.specs.declared.another.Order.{Order}
 use Rattle.bgp_check_tool.specs.declared.another.Order.TheVariants as orders
-use Rattle.bgp_check_tool.specs.Another.{IsNoYes, IsYes}
+use Rattle.bgp_check_tool.specs.Another.{IsNo, IsNoYes, IsYes, number_in}
 use Rattle.bgp_check_tool.specs.Judging.{AreOptionsTo}
 use Rattle.bgp_check_tool.specs.Late.{IsLate}
 use Rattle.bgp_check_tool.specs.declared.late.Late.{Late}
 use Rattle.bgp_check_tool.specs.Made.{IsMade}
-use Rattle.bgp_check_tool.specs.Orders.{IsFoundTo}
+use Rattle.bgp_check_tool.specs.Orders.{IsFoundTo, IsUnfinished}
 use Rattle.bgp_orders.specs.WholeWays.{AreOfAWayOver}
 use Rattle.bgp_orders.specs.declared.connection.Unexplained.{Unexplained}
 use Rattle.bgp_check_tool.specs.Seen.{seen_from, session_from}
@@ -87,15 +89,17 @@ abbrev pub packet_of : AnswerValue → List Entry → Option ℕ
 packet_of (Unjudged why) entries = None
 packet_of (JudgedAs number peer under verdict) entries = packet_by verdict entries
 
--- In which order of the end's messages it is told, of which these are the entries; an end of this
--- session that has the connection so, framed so, and is asked for so.
+-- In which order of the end's messages it is told, of which these are the entries, and this is
+-- answered of them; an end of this session that has the connection so, framed so, and is asked for
+-- so.
 module _ (options : CheckOptions) (asked : Asked) (session : Session) (connection : Connection)
     (framings : Framings) (entries : List Entry) (received_unshown sent_unshown : Unshown)
-    (told : EndTold) where
+    (answer : AnswerValue) (told : EndTold) where
   -- in the made one; and how `bgp judge` gives it
   pub record IsOfMade : Type 0 where
     pub is_order : told.order ≡ orders.Made
     pub made : IsMade options.within connection framings entries received_unshown sent_unshown
+    pub is_told : told.answer ≡ answer
     pub judges : AreOptionsTo options.within asked connection entries received_unshown
         sent_unshown options.settings told.answer told.judge
 
@@ -103,9 +107,10 @@ module _ (options : CheckOptions) (asked : Asked) (session : Session) (connectio
   -- the same, is no yes; and no line says how `bgp judge` gives it.
   pub record IsOfAnother : Type 0 where
     pub is_order : told.order ≡ orders.Another
-    pub is_yes : IsYes told.answer
     pub way : AreOfAWayOver framings options.within connection entries received_unshown
         sent_unshown
+    pub is_told : told.answer ≡ answer
+    pub is_yes : IsYes told.answer
     pub made_entries : List Entry
     pub made_received : Unshown
     pub made_sent : Unshown
@@ -115,23 +120,38 @@ module _ (options : CheckOptions) (asked : Asked) (session : Session) (connectio
     pub is_no_yes : IsNoYes made_answer
     pub no_judge : told.judge ≡ None
 
+  -- Or it is unfinished over all of them, where the made one is a no. It is told under the
+  -- configuration under which some order explains all that was sent.
+  pub record IsOfAll : Type 0 where
+    pub is_order : told.order ≡ orders.All
+    pub made : IsMade options.within connection framings entries received_unshown sent_unshown
+    pub is_no : IsNo answer
+    pub peer : PeerAs
+    pub under : Config
+    pub over : IsUnfinished session options.within framings connection peer under
+    pub is_told : told.answer ≡ JudgedAs (number_in answer) peer under Unfinished
+    pub no_judge : told.judge ≡ None
+
 -- This is told of the end at this address and port, of this session, that has the connection so:
--- what is answered of its records, and why; of a no the first sent message that no order explains,
--- if one is known; what the answer becomes, where a message may be handled as late as it can be
--- said; the line of a message that it sent goes by the limit of its receiver. And how `bgp judge`
--- gives it, where the connection is asked for so.
+-- what is answered of its records, or over all orders, and why; of a no the first sent message that
+-- no order explains, if one is known; what the answer becomes, where a message may be handled as
+-- late as it can be said; the line of a message that it sent goes by the limit of its receiver. And
+-- how `bgp judge` gives it, where the connection is asked for so.
 pub record IsTold (options : CheckOptions) (asked : Asked) (end : Endpoint) (session : Session)
     (connection : Connection) (told : EndTold) : Type 0 where
   pub entries : List Entry
   pub received_unshown : Unshown
   pub sent_unshown : Unshown
   pub framings : Framings
+  pub answer : AnswerValue
+  pub answers : IsAnswerTo session (records_of entries) answer
   pub are_of : IsOfMade options asked session connection framings entries received_unshown
-      sent_unshown told
+      sent_unshown answer told
       ⊎ IsOfAnother options asked session connection framings entries received_unshown
-      sent_unshown told
+      sent_unshown answer told
+      ⊎ IsOfAll options asked session connection framings entries received_unshown
+      sent_unshown answer told
   pub is_end : told.end ≡ end
-  pub answers : IsAnswerTo session (records_of entries) told.answer
   pub is_packet : told.packet ≡ packet_of told.answer entries
   pub is_found : IsFoundTo session options.within framings connection told.answer
       told.unexplained
@@ -140,7 +160,7 @@ pub record IsTold (options : CheckOptions) (asked : Asked) (end : Endpoint) (ses
   pub is_late : IsLate session connection told.answer told.late
   pub is_highest : told.highest ≡ highest_state (records_of entries)
   pub explains : IsReasonTo session framings.sent.limit (shown_places entries)
-      (records_of entries) told.answer told.reason
+      (records_of entries) answer told.reason
   pub is_received : told.received ≡ received_unshown
   pub is_sent : told.sent ≡ sent_unshown
 

@@ -9,7 +9,7 @@ ghost use Rattle.bgp_check.specs.Answered.{IsAnswerTo, answer_value};
 ghost use Rattle.bgp_check_tool.specs.Another.{IsFound, IsNo, IsNoYes, IsSought, IsYes};
 
 use crate::ending::Viewed;
-use crate::orders::{Said, search_end};
+use crate::orders::{Said, Under, search_end};
 use bgp_check::{Answer, check_end};
 use bgp_judge::{Tracker, Verdict};
 use bgp_open::Config;
@@ -24,6 +24,8 @@ pub(crate) enum Order {
     Made,
     /// In another one, that is a yes. The made one isn't.
     Another,
+    /// Over all of them it is unfinished. The made one is a no.
+    All,
 }
 
 /// The records of another order than the made one, which are a yes.
@@ -41,6 +43,8 @@ pub(crate) enum Searched<'a, A: Allocator> {
     Nothing,
     /// No order explains this sent message.
     NoOrder(Unexplained),
+    /// Some order explains all that was sent, and none is a yes.
+    Unfinished(Under),
     /// Another order is a yes.
     Another(AnotherOrder<'a, A>),
 }
@@ -84,6 +88,17 @@ fn is_no_yes<A: Allocator>(answer: &Answer<A>) -> bool
     }
 }
 
+/// Whether it is judged and unfinished.
+pub(crate) fn is_unfinished<A: Allocator>(answer: &Answer<A>) -> bool {
+    match answer {
+        Answer::NotJudged(_) => false,
+        Answer::Judged(judged) => match &judged.verdict {
+            Verdict::Unfinished => true,
+            Verdict::Yes(_) | Verdict::No(_) => false,
+        },
+    }
+}
+
 /// Returns the records of an order that is whole under this configuration, if they are a yes.
 fn another_under<'a, A: Allocator + Copy, T: Tracker<A>>(
     alloc: A,
@@ -118,7 +133,8 @@ fn another_under<'a, A: Allocator + Copy, T: Tracker<A>>(
 
 /// Returns what is found over all orders of the end's messages, if this is answered of the made one:
 /// a yes of another, if the answer isn't a yes; of a no the first sent message that no order
-/// explains. Nothing is found, too, if the search is too long or memory is refused for it.
+/// explains, or that some order explains all of them. Nothing is found, too, if the search is too
+/// long or memory is refused for it.
 pub(crate) fn search_orders<'a, A: Allocator + Copy, T: Tracker<A>>(
     alloc: A,
     viewed: &Viewed<'a>,
@@ -142,6 +158,7 @@ pub(crate) fn search_orders<'a, A: Allocator + Copy, T: Tracker<A>>(
             }
         }
         Ok(Said::NoOrder(unexplained)) if is_no(answer) => Searched::NoOrder(unexplained),
+        Ok(Said::Unfinished(under)) if is_no(answer) => Searched::Unfinished(under),
         Ok(_) | Err(_) => Searched::Nothing,
     }
 }

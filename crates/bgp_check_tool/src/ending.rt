@@ -2,7 +2,8 @@
 
 ghost use Rattle.std.specs.Prelude.{◌≡◌, None, IfOk, map};
 ghost use Rattle.mrt.specs.Reader.{shown_of};
-ghost use Rattle.bgp_check.specs.Answered.{IsAnswerTo, answer_value};
+ghost use Rattle.bgp_check.specs.Answered.{IsAnswerTo, JudgedAs, answer_value};
+ghost use Rattle.bgp_judge.specs.Verdict.{Unfinished};
 ghost use Rattle.bgp_check_text.specs.Reason.{IsReasonTo, reason_text};
 ghost use Rattle.bgp_explain.specs.Places.{shown_places};
 ghost use Rattle.bgp_import.specs.Captures.{put_off};
@@ -10,8 +11,8 @@ ghost use Rattle.bgp_recording.specs.Captured.{records_of};
 ghost use Rattle.bgp_recording.specs.Gathered.{IsClocked, IsCovered};
 ghost use Rattle.bgp_recording.specs.Recorded.{IsRecordedInOrder};
 ghost use Rattle.bgp_check_text.specs.Highest.{highest_state};
-ghost use Rattle.bgp_check_tool.specs.declared.another.Order.TheVariants.{Another};
 ghost use Rattle.bgp_check_tool.specs.declared.another.Order.TheVariants.{Made as OfMade};
+ghost use Rattle.bgp_check_tool.specs.Another.{number_in};
 ghost use Rattle.bgp_check_tool.specs.Judging.{AreOptionsTo};
 ghost use Rattle.bgp_check_tool.specs.Late.{IsLate};
 ghost use Rattle.bgp_check_tool.specs.Made.{IsMade};
@@ -22,7 +23,8 @@ use crate::judging::options_to;
 use crate::late::{Late, late_of};
 use crate::making::Made;
 use crate::options::CheckOptions;
-use bgp_check::{Answer, check_end};
+use crate::orders::Under;
+use bgp_check::{Answer, Judged, check_end};
 use bgp_check_text::{Asked, JudgeOptions, Reason, highest_state, reason_of};
 use bgp_explain::Places;
 use bgp_import::notes_on;
@@ -104,17 +106,18 @@ struct Beside {
 }
 
 impl Beside {
-    /// Beside a yes of another order than the made one.
-    fn of_another() -> Beside
-        ensures order { result.order ≡ Another }
+    /// Beside an answer of another order than the made one, or over all of them, with what it
+    /// becomes.
+    fn of_others(order: Order, late: Option<Late>) -> Beside
+        ensures order { result.order ≡ order }
         ensures unexplained { result.unexplained ≡ None }
-        ensures late { result.late ≡ None }
+        ensures late { result.late ≡ late }
         ensures judge { result.judge ≡ None }
     {
         Beside {
-            order: Order::Another,
+            order,
             unexplained: None,
-            late: None,
+            late,
             judge: None,
         }
     }
@@ -153,60 +156,94 @@ impl Beside {
     }
 }
 
-/// What is told of an end by what is answered of these records.
-fn told_of<A: Allocator + Copy, T: Tracker<A>>(
+/// Why this is answered of these records.
+fn reason_on<A: Allocator + Copy, T: Tracker<A>>(
     alloc: A,
     viewed: &Viewed<'_>,
     framings: Framings,
     recording: &Recording<'_, A>,
-    answer: Answer<A>,
-    beside: Beside,
-) -> Result<Told<A>, AllocError>
+    answer: &Answer<A>,
+) -> Result<Reason<A>, AllocError>
     requires records { map shown_of recording.now.records.items
         ≡ records_of recording.now.entries.items }
     requires answers { IsAnswerTo viewed.now.session (records_of recording.now.entries.items)
-        (answer_value answer) }
-    ensures end { IfOk result (λ told. told.end ≡ viewed.now.end) }
-    ensures answer { IfOk result (λ told. answer_value told.answer ≡ answer_value answer) }
-    ensures packet { IfOk result (λ told. told.packet
-        ≡ packet_of (answer_value answer) recording.now.entries.items) }
-    ensures put_off { IfOk result (λ told. told.put_off
-        ≡ put_off 0 recording.now.entries.items) }
-    ensures within { IfOk result (λ told. told.within ≡ viewed.now.options.within) }
-    ensures highest { IfOk result (λ told. told.highest
-        ≡ highest_state (records_of recording.now.entries.items)) }
-    ensures reason { IfOk result (λ told. IsReasonTo viewed.now.session framings.sent.limit
+        (answer_value answer.now) }
+    ensures { IfOk result (λ reason. IsReasonTo viewed.now.session framings.sent.limit
         (shown_places recording.now.entries.items) (records_of recording.now.entries.items)
-        (answer_value answer) (reason_text told.reason)) }
-    ensures unshown { IfOk result (λ told. (told.received ≡ recording.now.received)
-        × (told.sent ≡ recording.now.sent)) }
-    ensures beside { IfOk result (λ told. (told.order ≡ beside.order)
-        × (told.unexplained ≡ beside.unexplained) × (told.late ≡ beside.late)
-        × (told.judge ≡ beside.judge)) }
+        (answer_value answer.now) (reason_text reason)) }
 {
-    let entries = recording.entries.as_slice();
+    let _viewed = *viewed;
     let records = recording.records.as_slice();
-    let places = Places::Shown(entries);
-    let reason = reason_of::<A, T>(alloc, framings.sent.limit, places, records, &answer)?;
-    Ok(Told {
+    let places = Places::Shown(recording.entries.as_slice());
+    let reason = reason_of::<A, T>(alloc, framings.sent.limit, places, records, answer)?;
+    Ok(reason)
+}
+
+/// What is told of an end with this answer, of these records, for this reason.
+fn told_of<A: Allocator>(
+    viewed: &Viewed<'_>,
+    recording: &Recording<'_, A>,
+    answer: Answer<A>,
+    reason: Reason<A>,
+    beside: Beside,
+) -> Told<A>
+    requires records { map shown_of recording.now.records.items
+        ≡ records_of recording.now.entries.items }
+    ensures end { result.end ≡ viewed.now.end }
+    ensures answer { answer_value result.answer ≡ answer_value answer }
+    ensures packet { result.packet ≡ packet_of (answer_value answer) recording.now.entries.items }
+    ensures put_off { result.put_off ≡ put_off 0 recording.now.entries.items }
+    ensures within { result.within ≡ viewed.now.options.within }
+    ensures highest { result.highest
+        ≡ highest_state (records_of recording.now.entries.items) }
+    ensures reason { reason_text result.reason ≡ reason_text reason }
+    ensures unshown { (result.received ≡ recording.now.received)
+        × (result.sent ≡ recording.now.sent) }
+    ensures beside { (result.order ≡ beside.order) × (result.unexplained ≡ beside.unexplained)
+        × (result.late ≡ beside.late) × (result.judge ≡ beside.judge) }
+{
+    Told {
         end: viewed.end,
-        packet: packet_of(&answer, entries),
+        packet: packet_of(&answer, &recording.entries),
         answer,
         order: beside.order,
         unexplained: beside.unexplained,
         put_off: notes_on(recording).put_off,
         within: viewed.options.within,
         late: beside.late,
-        highest: highest_state(records),
+        highest: highest_state(&recording.records),
         reason,
         received: recording.received,
         sent: recording.sent,
         judge: beside.judge,
+    }
+}
+
+/// The AS number that its OPEN tells, if it is judged and sent one.
+fn number_in<A: Allocator>(answer: &Answer<A>) -> Option<u32>
+    ensures { result ≡ number_in (answer_value answer.now) }
+{
+    match answer {
+        Answer::NotJudged(_) => None,
+        Answer::Judged(judged) => judged.as_number,
+    }
+}
+
+/// That an end with this AS number is unfinished, under this configuration.
+fn unfinished<A: Allocator>(as_number: Option<u32>, its: Under) -> Answer<A>
+    ensures { answer_value result ≡ JudgedAs as_number its.peer_as its.under Unfinished }
+{
+    Answer::Judged(Judged {
+        as_number,
+        peer_as: its.peer_as,
+        under: its.under,
+        verdict: Verdict::Unfinished,
     })
 }
 
 /// What is told of an end of whose connection these records were made: of another order that the
-/// packets allow, if that is a yes and the made one isn't; else of the made one.
+/// packets allow, if that is a yes and the made one isn't; that it is unfinished over all orders, if
+/// the made one is a no; else of the made one.
 pub(crate) fn told_by<A: Allocator + Copy, T: Tracker<A>>(
     alloc: A,
     viewed: &Viewed<'_>,
@@ -227,21 +264,28 @@ pub(crate) fn told_by<A: Allocator + Copy, T: Tracker<A>>(
     let answer = check_end::<A, T>(alloc, &viewed.session, records)?;
     match search_orders::<A, T>(alloc, viewed, framings, &answer) {
         Searched::Nothing => {
+            let reason = reason_on::<A, T>(alloc, viewed, framings, recording, &answer)?;
             let beside = Beside::of_made::<A, T>(alloc, viewed, made, &answer, None)?;
-            let told = told_of::<A, T>(alloc, viewed, framings, recording, answer, beside)?;
-            Ok(told)
+            Ok(told_of(viewed, recording, answer, reason, beside))
         }
         Searched::NoOrder(unexplained) => {
             let found = Some(unexplained);
+            let reason = reason_on::<A, T>(alloc, viewed, framings, recording, &answer)?;
             let beside = Beside::of_made::<A, T>(alloc, viewed, made, &answer, found)?;
-            let told = told_of::<A, T>(alloc, viewed, framings, recording, answer, beside)?;
-            Ok(told)
+            Ok(told_of(viewed, recording, answer, reason, beside))
+        }
+        Searched::Unfinished(its) => {
+            let reason = reason_on::<A, T>(alloc, viewed, framings, recording, &answer)?;
+            let answer = unfinished(number_in(&answer), its);
+            let late = late_of::<A, T>(alloc, viewed, &answer)?;
+            let beside = Beside::of_others(Order::All, late);
+            Ok(told_of(viewed, recording, answer, reason, beside))
         }
         Searched::Another(another) => {
             let AnotherOrder { recording, answer } = another;
-            let beside = Beside::of_another();
-            let told = told_of::<A, T>(alloc, viewed, framings, &recording, answer, beside)?;
-            Ok(told)
+            let reason = reason_on::<A, T>(alloc, viewed, framings, &recording, &answer)?;
+            let beside = Beside::of_others(Order::Another, None);
+            Ok(told_of(viewed, &recording, answer, reason, beside))
         }
     }
 }

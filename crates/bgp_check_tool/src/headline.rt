@@ -3,10 +3,10 @@
 ghost use Rattle.std.specs.Prelude.{◌<◌, ◌^◌};
 ghost use Rattle.bgp_check_tool.specs.Checking.{ChecksRecording};
 ghost use Rattle.bgp_check_tool.specs.Printed.{NoesAreTrue, PrintsTrue, ToldVerdictIsOverAll};
-ghost use Rattle.bgp_check_tool.specs.Printed.{YesesAreTrue};
+ghost use Rattle.bgp_check_tool.specs.Printed.{UnfinishedAreTrue, YesesAreTrue};
 
 use crate::checking::{self, CheckedRecording};
-use crate::laws::no_order_has_a_run;
+use crate::laws::{no_order_has_a_run, no_order_is_whole};
 use crate::options::CheckOptions;
 use bgp_check::{a_verdict_holds_under_its_configuration, no_configuration_explains_a_no};
 use bgp_judge::Tracker;
@@ -31,7 +31,11 @@ use std::alloc::Allocator;
 /// If they begin with `yes`, some run under such a configuration shows just the end's records in one
 /// of these orders. Each end of its session that such a run can have is listed, and no other. It is
 /// the order that `bgp import` makes, or another one, and then a note says so. That is the clause
-/// `yes`. All that is printed is tied to the packets, so that no other line passes for one of these.
+/// `yes`. If they begin with `unfinished`, no run under such a configuration shows just the end's
+/// records in the order that is made, and some run shows more. Or no run shows just those of any
+/// order that the packets allow, and in one of them some run explains all that the end sent: then a
+/// note says so. That is the clause `unfinished`. All that is printed is tied to the packets, so that
+/// no other line passes for one of these.
 ///
 /// It writes a line for each connection, in the order of their first packets. After it come the
 /// reports on both ends, first on the one that opened the connection: the verdict and for which AS
@@ -66,6 +70,8 @@ pub fn check_recording<A: Allocator + Copy, T: Tracker<A>, R: Source, W: Sink>(
         source.old source.new sink.old sink.new result.status result.cut_short }
     ensures yes { PrintsTrue YesesAreTrue R.gives R.has_ended W.takes W.failures options.now
         source.old source.new sink.old sink.new result.status result.cut_short }
+    ensures unfinished { PrintsTrue UnfinishedAreTrue R.gives R.has_ended W.takes W.failures
+        options.now source.old source.new sink.old sink.new result.status result.cut_short }
     ensures all { ChecksRecording R.gives R.has_ended W.takes R.failures W.failures options.now
         source.old source.new sink.old sink.new result.status result.cut_short
         result.refusals.items result.refusal result.nothing }
@@ -73,12 +79,15 @@ pub fn check_recording<A: Allocator + Copy, T: Tracker<A>, R: Source, W: Sink>(
     no_configuration_explains_a_no();
     a_verdict_holds_under_its_configuration();
     no_order_has_a_run();
+    no_order_is_whole();
     checking::check_recording::<A, T, R, W>(alloc, options, source, sink)
 }
 
 /// Law: each verdict that is told of an end in a block, a yes, a no and an unfinished, is the one
 /// over all configurations under which the OPEN that the end sent is its own, where that has no own
-/// fault; of records in an order that the packets allow.
+/// fault; of records in an order that the packets allow, or unfinished of all these orders.
 pub fn a_printed_verdict_is_over_all_configurations()
     ensures { ToldVerdictIsOverAll }
-{}
+{
+    no_order_is_whole();
+}

@@ -2,10 +2,10 @@
 
 ghost use Rattle.bgp_check_tool.specs.Alone.{EachConnectionIsTold, EachRefusalIsTold};
 ghost use Rattle.bgp_check_tool.specs.Headline.{NoConfigurationHasARun, NoOrderHasARun};
-ghost use Rattle.bgp_check_tool.specs.Headline.{NothingIsVacuous, ToldNoHasNoRun};
+ghost use Rattle.bgp_check_tool.specs.Headline.{NoneIsWhole, NothingIsVacuous, ToldNoHasNoRun};
 ghost use Rattle.bgp_check_tool.specs.Headline.{VerdictIsOverAll};
 ghost use Rattle.bgp_check_tool.specs.Headings.{HeadingsAreTheList, ListIsWithoutEnds};
-ghost use Rattle.bgp_check_tool.specs.Orders.{UnexplainedByAll};
+ghost use Rattle.bgp_check_tool.specs.Orders.{UnexplainedByAll, UnfinishedByAll};
 ghost use Rattle.bgp_check_tool.specs.Repeated.{LineGivesTheVerdict};
 
 use bgp_check::{
@@ -39,11 +39,27 @@ pub fn no_order_has_a_run()
     widest_settings_are_widest();
 }
 
+/// States what is unfinished over all orders: under no configuration under which the OPEN that the
+/// end sent is its own, and in no order that the packets allow, a run of the session machine shows
+/// just the end's records. Under one of these configurations, in some such order, a run explains all
+/// that the end sent.
+pub fn no_order_is_whole()
+    ensures found { UnfinishedByAll }
+    ensures end { NoneIsWhole }
+{
+    own_faults_are_all();
+    widest_configurations_are_enough();
+    widest_configurations_without_open_are_enough();
+    widest_settings_are_widest();
+}
+
 /// The verdict that is told of an end is the one over all configurations under which the OPEN that
-/// it sent is its own, where that has no own fault.
+/// it sent is its own, where that has no own fault; or unfinished over all orders, too.
 pub fn a_verdict_is_over_all_configurations()
     ensures { VerdictIsOverAll }
-{}
+{
+    no_order_is_whole();
+}
 
 /// A verdict is told only of an end that sent a message, and of records that begin where it leaves
 /// Idle: no yes is vacuous.

@@ -24,6 +24,7 @@ mod making;
 mod nothing;
 mod options;
 mod orders;
+mod peer;
 mod seen;
 
 pub use bgp_check_text::Settings;
@@ -31,7 +32,7 @@ pub use checking::CheckedRecording;
 pub use headline::{a_printed_verdict_is_over_all_configurations, check_recording};
 pub use laws::{
     a_judge_line_gives_the_verdict, a_verdict_is_over_all_configurations, each_of_them_is_told,
-    no_configuration_has_a_run, no_order_has_a_run, no_verdict_is_vacuous,
+    no_configuration_has_a_run, no_order_has_a_run, no_order_is_whole, no_verdict_is_vacuous,
     without_its_ends_it_is_the_list,
 };
 pub use nothing::NothingJudged;

@@ -7,9 +7,9 @@ ghost use Rattle.bgp_judge.specs.Verdict.{verdict_value};
 ghost use Rattle.bgp_text.specs.Lines.{Writes};
 ghost use Rattle.bgp_check_text.specs.Text.{as_text, ending_text, no_text, peer_text, why_text};
 ghost use Rattle.bgp_check_tool.specs.Text.{another_line, another_text, not_judged_line};
-ghost use Rattle.bgp_check_tool.specs.Text.{note_line, one_end_line, order_text, place_text};
-ghost use Rattle.bgp_check_tool.specs.Text.{told_lines, unexplained_text, verdict_text};
-ghost use Rattle.bgp_check_tool.specs.Text.{whose_text};
+ghost use Rattle.bgp_check_tool.specs.Text.{note_line, one_end_line, order_text, over_all_line};
+ghost use Rattle.bgp_check_tool.specs.Text.{place_text, told_lines, unexplained_text};
+ghost use Rattle.bgp_check_tool.specs.Text.{unfinished_text, verdict_text, whose_text};
 ghost use Rattle.bgp_check_tool.specs.Told.{told_value};
 
 use crate::another::Order;
@@ -116,6 +116,25 @@ fn put_whose_order<W: Sink>(lines: &mut Lines<'_, W>, order: Order)
     match order {
         Order::Made => lines.put(b""),
         Order::Another => put_another(lines),
+        Order::All => lines.put(b""),
+    }
+}
+
+/// Puts that what is unfinished is so over all orders, where the made one is a no.
+fn put_over_all<W: Sink>(lines: &mut Lines<'_, W>)
+    ensures { Writes lines.old lines.new over_all_line }
+{
+    lines.put(b"  note the order that bgp import makes is a no: ");
+    lines.put(b"over all that these packets allow it is unfinished\n");
+}
+
+/// Puts that, or that one order was judged.
+fn put_unfinished<W: Sink>(lines: &mut Lines<'_, W>, order: Order, put_off: usize)
+    ensures { Writes lines.old lines.new (unfinished_text order put_off) }
+{
+    match order {
+        Order::Made | Order::Another => put_note(lines, put_off),
+        Order::All => put_over_all(lines),
     }
 }
 
@@ -152,7 +171,7 @@ fn put_verdict<W: Sink, A: Allocator>(
             put_whose(lines, told.end, judged.as_number, judged.peer_as);
             put_reason(lines, &told.reason);
             put_unshown(lines, told.received, told.sent);
-            put_note(lines, told.put_off);
+            put_unfinished(lines, told.order, told.put_off);
             put_late(lines, told.within, told.late);
             put_judge(lines, told.judge);
         }

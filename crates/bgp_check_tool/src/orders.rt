@@ -9,7 +9,8 @@ ghost use Rattle.bgp_check_tool.specs.Orders.{IsSaid, IsSaidBy, IsSaidOver, reco
 ghost use Rattle.bgp_check_tool.specs.Orders.{records_sent, tells_other};
 
 use crate::ending::Viewed;
-use bgp_check::{Widest, own_open, peers_open, widest_of};
+use crate::peer::{heard_as, peer_as_by};
+use bgp_check::{PeerAs, Widest, own_open, peers_open, widest_of};
 use bgp_open::Config;
 use bgp_orders::{Explained, Unexplained, explained_count};
 use bgp_recording::{Exchange, Framings, Message, frame_connection};
@@ -26,6 +27,15 @@ struct Over {
     under: Config,
 }
 
+/// A configuration under which all that an end sent is explained in some order.
+#[derive(Clone, Copy)]
+pub(crate) struct Under {
+    /// The AS number that the end's peer has to have.
+    pub(crate) peer_as: PeerAs,
+    /// The configuration.
+    pub(crate) under: Config,
+}
+
 /// What all orders of an end's messages say.
 #[derive(Clone, Copy)]
 pub(crate) enum Said {
@@ -33,7 +43,9 @@ pub(crate) enum Said {
     Whole(Config),
     /// No order explains this sent message.
     NoOrder(Unexplained),
-    /// Neither is known.
+    /// Some order explains all that was sent, and none is whole.
+    Unfinished(Under),
+    /// None of these is known.
     Neither,
 }
 
@@ -134,12 +146,17 @@ fn search_over<A: Allocator + Copy>(
     }
 }
 
-/// Returns what the answer says, of a no with the first sent message that no order explains.
-fn said_of(exchange: &Exchange<'_, '_>, over: Over) -> Said
-    ensures { IsSaidBy exchange.now over.explained result }
+/// Returns what the answer says, which is for this peer; of a no with the first sent message that no
+/// order explains.
+fn said_of(exchange: &Exchange<'_, '_>, peer_as: PeerAs, over: Over) -> Said
+    ensures { IsSaidBy exchange.now peer_as over.under over.explained result }
 {
     match over.explained {
         Explained::All { is_whole: true } => Said::Whole(over.under),
+        Explained::All { is_whole: false } => Said::Unfinished(Under {
+            peer_as,
+            under: over.under,
+        }),
         Explained::Only(before) => match exchange.sent.get(before) {
             Some(message) => Said::NoOrder(Unexplained {
                 before,
@@ -147,7 +164,7 @@ fn said_of(exchange: &Exchange<'_, '_>, over: Over) -> Said
             }),
             None => Said::Neither,
         },
-        Explained::All { is_whole: false } | Explained::TooMany => Said::Neither,
+        Explained::TooMany => Said::Neither,
     }
 }
 
@@ -173,5 +190,6 @@ pub(crate) fn search_end<A: Allocator + Copy>(
         return Ok(Said::Neither);
     };
     let over = search_over(alloc, &widest, &exchange, within)?;
-    Ok(said_of(&exchange, over))
+    let peer_as = peer_as_by(over.wants_peers, peers, heard_as(&widest));
+    Ok(said_of(&exchange, peer_as, over))
 }

@@ -1,6 +1,6 @@
 use Rattle.bgp_check_tool.specs.Judging.{options_by}
 use Rattle.bgp_import.specs.Reading.{looked_at}
-use Rattle.bgp_check_tool.proofs.Printed.{all_as, all_true, all_yeses, all_yeses_as}
+use Rattle.bgp_check_tool.proofs.Printed.{all_as, all_true, all_unfinished, all_unfinished_as, all_yeses, all_yeses_as}
 use Rattle.bgp_check_tool.proofs.headline.check_recording.Goals as goal
 
 pub returns-clause-no : goal.returns-clause-no
@@ -33,6 +33,24 @@ returns-clause-yes g c =
       blocks = checks.blocks;
       told = checks.told;
       are_true = all_yeses_as checks.stopped options checks.packets last checks.blocks (all_yeses (options_by checks.stopped options) checks.packets last checks.blocks checks.told);
+      lacking = checks.lacking;
+      tally = checks.tally;
+      written = checks.written;
+    }
+
+pub returns-clause-unfinished : goal.returns-clause-unfinished
+returns-clause-unfinished g c =
+    let checks = c.check_recording.ensures in
+    let options = c.args.options.now in
+    let last = looked_at checks.packets checks.stopped in record {
+      packets = checks.packets;
+      short = checks.short;
+      stopped = checks.stopped;
+      read = checks.read;
+      blocks = checks.blocks;
+      told = checks.told;
+      are_true = all_unfinished_as checks.stopped options checks.packets last checks.blocks
+          (all_unfinished c.no_order_is_whole.ensures.end (options_by checks.stopped options) checks.packets last checks.blocks checks.told);
       lacking = checks.lacking;
       tally = checks.tally;
       written = checks.written;

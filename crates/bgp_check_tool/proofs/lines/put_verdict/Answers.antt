@@ -18,4 +18,4 @@ returns-in-Unfinished g c =
     let law : Joins g.W.Sink = record { joined = g.met.W.Sink.joined } in
     rw c.in-Unfinished.is
     (and_then law c.put-in-Unfinished.ensures (and_then law c.put_whose-in-Unfinished.ensures (and_then law c.put_reason-in-Unfinished.ensures
-    (and_then law c.put_unshown-in-Unfinished.ensures (and_then law c.put_note.ensures (and_then law c.put_late-in-Unfinished.ensures c.put_judge-in-Unfinished.ensures))))))
+    (and_then law c.put_unshown-in-Unfinished.ensures (and_then law c.put_unfinished.ensures (and_then law c.put_late-in-Unfinished.ensures c.put_judge-in-Unfinished.ensures))))))

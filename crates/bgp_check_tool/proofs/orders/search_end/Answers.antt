@@ -4,6 +4,7 @@ use Rattle.mrt.specs.Reader.{shown_of}
 use Rattle.bgp_orders.specs.Connections.{TellsConnection}
 use Rattle.bgp_orders.proofs.NoOrder.{connection_is_told}
 use Rattle.bgp_parts.specs.Opens.{HasOwnOpen, HasPeersOpen}
+use Rattle.bgp_check.specs.Answered.{peer_as_by}
 use Rattle.bgp_check.proofs.ToldOpen.{told_of}
 use Rattle.bgp_check_tool.specs.Orders.{records_received, records_sent}
 use Rattle.bgp_check_tool.proofs.SaidOver.{said_so}
@@ -35,4 +36,4 @@ returns g c =
     λ clocked.
     said_so viewed.session viewed.options.within c.args.framings viewed.connection exchange tells own peers told.0 c.in-Some.widest has_own has_peers told.1
     (c.in-Some.ensures.some told.0 told.1) over.wants_peers over.under over.explained (c.in_ok-over.ensures (connection_is_told c.args.framings viewed.connection exchange tells clocked))
-    c.said_of.result c.said_of.ensures
+    c.peer_as_by-peer_as.result (c.peer_as_by-peer_as.ensures told.0 told.1 ∙ ap (λ (n : ℕ). peer_as_by over.wants_peers told.0 n) c.heard_as.ensures) c.said_of.result c.said_of.ensures
