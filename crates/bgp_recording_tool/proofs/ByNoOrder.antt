@@ -16,7 +16,7 @@ use Rattle.bgp_orders.specs.Connections.{NoOrderExplains}
 use Rattle.bgp_orders.specs.declared.connection.Unexplained.{Unexplained}
 use Rattle.bgp_recording_tool.specs.Connections.{IsNoOrder, IsTold}
 use Rattle.bgp_recording_tool.specs.Headline.{IsByNoOrder, NoAtPacketIsByNoOrder}
-use Rattle.bgp_recording_tool.specs.Told.{Told, Judged, NoOrder, InAnotherOrder, Refused, no_order_line, told_status, told_text}
+use Rattle.bgp_recording_tool.specs.Told.{Told, Judged, NoOrder, InAnotherOrder, Refused, UnfinishedOverAll, no_order_line, told_status, told_text}
 use Rattle.bgp_recording_tool.specs.declared.remark.Remark.{Remark}
 
 -- ---- no other text begins so
@@ -66,6 +66,7 @@ module _ (law : NoOrderExplains) (config : Config) (report : Report) (wanted : I
   by_told text status remarks rest (Judged Unfinished more) is prints tells begins = absurd (no_unfinished more rest (sym prints ∙ begins))
   by_told text status remarks rest (Refused refusal) is prints tells begins = absurd (no_refusal refusal rest (sym prints ∙ begins))
   by_told text status remarks rest (InAnotherOrder ends more) is prints tells begins = absurd (no_yes (flat_map end_text ends ++ more) rest (sym prints ∙ begins))
+  by_told text status remarks rest (UnfinishedOverAll more) is prints tells begins = absurd (no_unfinished more rest (sym prints ∙ begins))
   by_told text status remarks rest (NoOrder u more) (verdict, reported) prints tells begins = (u, more, prints, tells, says_so u reported.judged.is_found.1)
 
 pub by_no_order : NoOrderExplains → NoAtPacketIsByNoOrder

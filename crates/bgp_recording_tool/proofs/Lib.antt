@@ -11,6 +11,7 @@ pub mod Texts
 pub mod Tellings
 mod ToldAlike
 mod ByNoOrder
+mod UnfinishedSo
 mod SameVerdict
 mod YesShown
 mod EntryLines

@@ -31,6 +31,8 @@ found_so config wanted packets segments number connection verdict (searches.NoOr
     (sought, record { connection = connection; chosen = answered; over_all = over })
 found_so config wanted packets segments number connection verdict (searches.Another another) answered other sought over =
     (other, record { connection = connection; chosen = answered; yes = over })
+found_so config wanted packets segments number connection verdict searches.Unfinished answered other sought over =
+    (sought, record { connection = connection; chosen = answered; over_all = over })
 
 -- the reason of a yes can be put, since it has none
 pub yes_can : {X Y : Type 0} (session : Session) (config : Config) (records : List ShownRecord) (verdict : Verdict X) (reason : Option (Reason Y)) → IsYes (verdict_value verdict)

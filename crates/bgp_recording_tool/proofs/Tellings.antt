@@ -20,7 +20,7 @@ use Rattle.bgp_recording_tool.specs.declared.remark.Remark.{Remark}
 use Rattle.bgp_recording_tool.specs.Judging.{Puts}
 use Rattle.bgp_recording_tool.specs.Remarks.{AddsTold, IsHelp, notes_of, remarks_on}
 use Rattle.bgp_explain.specs.declared.report.Report.{Report}
-use Rattle.bgp_recording_tool.specs.Found.{Found, Nothing, ByNone, ByAnother}
+use Rattle.bgp_recording_tool.specs.Found.{Found, Nothing, ByNone, ByAnother, ByAll}
 use Rattle.bgp_recording_tool.specs.Told.{Refused, refused_status, told_text, told_with}
 use Rattle.bgp_recording_tool.proofs.Judgings.{is_made}
 use Rattle.bgp_recording_tool.specs.Connections.{IsReported, IsTold, IsToldAs}
@@ -35,6 +35,7 @@ module _ {T : Type 0} {sink : sinks.Ghosts T} (config : Config) (report : Report
   reported_so verdict Nothing more remarks reported = reported
   reported_so verdict (ByNone u) more remarks reported = (verdict, reported)
   reported_so verdict (ByAnother ends) more remarks reported = (verdict, reported)
+  reported_so verdict ByAll more remarks reported = (verdict, reported)
 
   -- it was judged
   pub was_judged : {Z : Type 0} (made : Recording Z) → TellsOne wanted number packets segments made

@@ -31,8 +31,8 @@ use Rattle.bgp_import.specs.Refusals.{refusal_number, refusal_packet}
 use Rattle.bgp_import.specs.declared.refusal.Refusal.{Refusal}
 use Rattle.bgp_recording_tool.specs.Headline.{IsFirstRefresh, ImportAndJudgeAgree, JudgeTellsTheCapture}
 use Rattle.bgp_recording_tool.specs.Connections.{IsJudged}
-use Rattle.bgp_recording_tool.specs.Found.{Found, Nothing, ByNone, ByAnother}
-use Rattle.bgp_recording_tool.specs.Told.{Judged, NoOrder, InAnotherOrder, Refused}
+use Rattle.bgp_recording_tool.specs.Found.{Found, Nothing, ByNone, ByAnother, ByAll}
+use Rattle.bgp_recording_tool.specs.Told.{Judged, NoOrder, InAnotherOrder, Refused, UnfinishedOverAll}
 use Rattle.bgp_recording_tool.specs.declared.remark.Remark.{Remark}
 use Rattle.bgp_recording_tool.proofs.FirstRefresh.{first_or_none}
 
@@ -133,6 +133,10 @@ tells_as agree config report imports judges number packets segments connection e
 tells_as agree config report imports judges number packets segments connection entries notes octets named (InAnotherOrder ends more) remarks can session mean taken also answered made capture (verdict, told) =
     let (records, spells, is) = reads_so agree config imports judges number named packets segments connection entries notes octets can session mean taken also answered made capture
     verdict (ByAnother ends) remarks told.judged in (records, spells, verdict, told.judged.is_found.0, is)
+tells_as agree config report imports judges number packets segments connection entries notes octets named (UnfinishedOverAll more) remarks can session mean taken also answered made capture (verdict, told) =
+    let (records, spells, is) = reads_so agree config imports judges number named packets segments connection entries notes octets can session mean taken also answered made capture
+    verdict ByAll remarks told.judged in
+    let (count, same) = told.judged.is_found.0 in (records, spells, count, subst (λ (v : VerdictValue). HasVerdict config records v) same is)
 tells_as agree config report imports judges number packets segments connection entries notes octets named (Refused refusal) remarks can session mean taken also answered made capture told =
     elim told.why [
       | inl (inl not) ↦ absurd (not_unchosen number (length packets) (reverse segments) connection refusal answered not)

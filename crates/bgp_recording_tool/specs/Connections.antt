@@ -35,10 +35,9 @@ use Rattle.bgp_explain.specs.declared.report.Report.{Report}
 use Rattle.bgp_explain.specs.declared.report.Report.TheVariants.{VerdictAlone, WithReason}
 use Rattle.bgp_recording_tool.specs.declared.remark.Remark.{Remark}
 use Rattle.bgp_recording_tool.specs.Remarks.{IsHelp, remarks_on}
-use Rattle.bgp_recording_tool.specs.Found.{Found, Nothing, ByNone, ByAnother, IsNo, IsNoYes}
+use Rattle.bgp_recording_tool.specs.Found.{Found, Nothing, ByNone, ByAnother, ByAll, IsNo, IsNoYes}
 use Rattle.bgp_recording_tool.specs.Told.{Told, Judged, NoOrder, InAnotherOrder, Refused}
-use Rattle.bgp_recording_tool.specs.Told.{told_text, told_status}
-use Rattle.bgp_recording_tool.specs.Told.{status_over}
+use Rattle.bgp_recording_tool.specs.Told.{UnfinishedOverAll, status_over, told_status, told_text}
 
 -- One connection more is told of, under its line: what was told before it stands before it. Its
 -- status comes first.
@@ -76,6 +75,8 @@ IsFoundOver config within framings connection others (ByNone u) =
     IsOverOrders config within framings connection (over.No u)
 IsFoundOver config within framings connection others (ByAnother ends) =
     IsYesOver config within framings connection others ends
+IsFoundOver config within framings connection others ByAll =
+    IsOverOrders config within framings connection over.Unfinished
 
 -- The session's packets have these segments, none of which is refused.
 module _ (config : Config) (wanted : Import) (packets : List Recorded) (segments : List Segment)
@@ -98,6 +99,14 @@ module _ (config : Config) (wanted : Import) (packets : List Recorded) (segments
       pub yes : IsYesOver config wanted.within (framings_of wanted.selection.session) connection
           entries ends
 
+    -- Over all orders of the connection with this number, or of the only one, that the packets allow
+    -- within the patience it is unfinished.
+    pub record IsUnfinishedByAll (number : Option ℕ) : Type 0 where
+      pub connection : Connection
+      pub chosen : IsAnswered number (length packets) (numbered (reverse segments)) connection
+      pub over_all : IsOverOrders config wanted.within (framings_of wanted.selection.session)
+          connection over.Unfinished
+
     -- This is found over all orders, where this is the verdict on the made one. If another order is
     -- a yes, these are its entries.
     abbrev pub IsFound : Option ℕ → VerdictValue → List Entry → Found → Type 0
@@ -105,6 +114,7 @@ module _ (config : Config) (wanted : Import) (packets : List Recorded) (segments
     IsFound number verdict others (ByNone u) = IsNo verdict × IsNoOrder number u
     IsFound number verdict others (ByAnother ends) =
         IsNoYes verdict × IsYesOfAnother number others ends
+    IsFound number verdict others ByAll = IsNo verdict × IsUnfinishedByAll number
 
     -- These entries are made of the connection with this number, or of the only one, and this is
     -- the verdict on their records. None of them is a ROUTE-REFRESH, where the session refuses
@@ -169,6 +179,7 @@ IsMoreOf report config made others verdict (ByNone u) more =
     IsMore report config made verdict more
 IsMoreOf report config made others verdict (ByAnother ends) more =
     IsMore report config others (Yes ends) more
+IsMoreOf report config made others verdict ByAll more = IsMore report config made verdict more
 
 -- And this is reported of the session's connections.
 module _ (config : Config) (report : Report) (wanted : Import) (packets : List Recorded)
@@ -188,6 +199,8 @@ module _ (config : Config) (report : Report) (wanted : Import) (packets : List R
       (verdict : VerdictValue) × IsReported number named verdict (ByNone u) more remarks
   IsTold number named (InAnotherOrder ends more) remarks =
       (verdict : VerdictValue) × IsReported number named verdict (ByAnother ends) more remarks
+  IsTold number named (UnfinishedOverAll more) remarks =
+      (verdict : VerdictValue) × IsReported number named verdict ByAll more remarks
   IsTold number named (Refused refusal) remarks =
       IsNotJudged config wanted packets segments number named refusal remarks
 

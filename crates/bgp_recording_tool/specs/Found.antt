@@ -17,6 +17,8 @@ pub data Found : Type 0 where
   ByNone : Unexplained → Found
   -- that verdict isn't a yes, and another order is one, with these ends
   ByAnother : List End → Found
+  -- that verdict is a no, some order explains all that was sent, and none is a yes
+  ByAll : Found
 
 -- ---- verdicts
 
@@ -45,18 +47,21 @@ found_of searches.Nothing = Nothing
 found_of (searches.NoOrder u) = ByNone u
 found_of (searches.Another another) =
     ByAnother (ends_of (verdict_value another.explained.verdict))
+found_of searches.Unfinished = ByAll
 
 -- the entries of the other order, if one is a yes
 abbrev pub entries_of : {X : Type 0} → Searched X → List Entry
 entries_of searches.Nothing = []
 entries_of (searches.NoOrder u) = []
 entries_of (searches.Another another) = another.recording.entries.items
+entries_of searches.Unfinished = []
 
--- A no over all orders is found where this verdict is a no. Of another order the verdict on its
--- records is kept, with its reason, and is a yes.
+-- A no over all orders, or that it is unfinished over them, is found where this verdict is a no. Of
+-- another order the verdict on its records is kept, with its reason, and is a yes.
 abbrev pub IsSought : {X : Type 0} → Config → VerdictValue → Searched X → Type 0
 IsSought config verdict searches.Nothing = Unit {0}
 IsSought config verdict (searches.NoOrder u) = IsNo verdict
 IsSought config verdict (searches.Another another) =
     AreExplained config (records_of another.recording.entries.items) another.explained
     × IsYes (verdict_value another.explained.verdict)
+IsSought config verdict searches.Unfinished = IsNo verdict

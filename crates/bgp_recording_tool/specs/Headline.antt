@@ -16,14 +16,14 @@ use Rattle.bgp_open.specs.declared.config.Config.{Config}
 use Rattle.bgp_machine.specs.Lists.{Has}
 use Rattle.bgp_machine.specs.Run.{End, IsComplete}
 use Rattle.bgp_judge.specs.Ends.{ListsEnds}
-use Rattle.bgp_judge.specs.Verdict.{VerdictValue, No, HasVerdict}
+use Rattle.bgp_judge.specs.Verdict.{VerdictValue, No, Unfinished, HasVerdict}
 use Rattle.bgp_recording.specs.Captured.{CanBeNamed, IsNoRefresh, records_of}
 use Rattle.bgp_recording.specs.Pieces.{framings_of}
 use Rattle.bgp_recording.specs.Recorded.{IsRecorded}
 use Rattle.bgp_recording.specs.declared.entry.Entry.{Entry}
 use Rattle.bgp_recording.specs.declared.ordering.Exchange.{Exchange}
 use Rattle.bgp_orders.specs.Connections.{IsPacketOf, NoWayExplains, TellsConnection}
-use Rattle.bgp_orders.specs.Explained.{IsExplained}
+use Rattle.bgp_orders.specs.Explained.{IsExplained, IsWhole}
 use Rattle.bgp_orders.specs.WholeWays.{CanHaveEnded}
 use Rattle.bgp_orders.specs.declared.connection.Unexplained.{Unexplained}
 use Rattle.bgp_explain.specs.declared.report.Report.{Report}
@@ -37,7 +37,7 @@ use Rattle.bgp_import.specs.declared.note.Notes.{Notes}
 use Rattle.bgp_recording_tool.specs.Connections.{IsTold, IsToldAs}
 use Rattle.bgp_recording_tool.specs.Found.{IsNoYes}
 use Rattle.bgp_recording_tool.specs.Told.{Told, Judged, NoOrder, InAnotherOrder, Refused}
-use Rattle.bgp_recording_tool.specs.Told.{no_order_line}
+use Rattle.bgp_recording_tool.specs.Told.{UnfinishedOverAll, no_order_line}
 use Rattle.bgp_recording_tool.specs.declared.remark.Remark.{Remark}
 
 -- Some run of the session machine ends so and shows just the records of these entries, and they
@@ -104,6 +104,40 @@ NoAtPacketIsByNoOrder =
     → (u : Unexplained) × (more : List ℕ) × (text ≡ no_order_line u.packet ++ more)
     × (status ≡ 1) × IsByNoOrder config wanted packets segments number u
 
+-- The made records of the connection with this number, or of the only one, are unfinished.
+pub record IsUnfinishedAsMade (config : Config) (wanted : Import) (packets : List Recorded)
+    (segments : List Segment) (number : Option ℕ) : Type 0 where
+  pub connection : Connection
+  pub chosen : IsAnswered number (length packets) (numbered (reverse segments)) connection
+  pub entries : List Entry
+  pub notes : Notes
+  pub made : IsMadeOf wanted connection entries notes
+  pub is : HasVerdict config (records_of entries) Unfinished
+
+-- What packets tell of that connection: some order that they allow explains all that was sent, and
+-- no run shows just the records of any, whichever state the session begins in.
+pub record IsUnfinishedByEach (config : Config) (wanted : Import) (packets : List Recorded)
+    (segments : List Segment) (number : Option ℕ) : Type 0 where
+  pub connection : Connection
+  pub chosen : IsAnswered number (length packets) (numbered (reverse segments)) connection
+  pub exchange : Exchange
+  pub tells : TellsConnection (framings_of wanted.selection.session) connection exchange
+  pub explained : IsExplained config wanted.within exchange (length exchange.sent.now)
+  pub none : (e : End) → ¬ IsWhole config wanted.within exchange e
+
+-- If what is printed of a connection begins as what is unfinished does, one of both holds, and the
+-- exit status is 2.
+abbrev pub UnfinishedIsSo : Type 0
+UnfinishedIsSo =
+    (config : Config) (report : Report) (wanted : Import) (packets : List Recorded)
+    (segments : List Segment) (number named : Option ℕ) (text : List ℕ) (status : ℕ)
+    (remarks : List Remark) (rest : List ℕ)
+    → IsToldAs config report wanted packets segments number named text status remarks
+    → text ≡ codes "unfinished" ++ rest
+    → (status ≡ 2)
+    × (IsUnfinishedAsMade config wanted packets segments number
+    ⊎ IsUnfinishedByEach config wanted packets segments number)
+
 -- The first ROUTE-REFRESH of some records stands after these.
 pub record IsFirstRefresh (records front : List ShownRecord) : Type 0 where
   pub refresh : ShownRecord
@@ -151,8 +185,9 @@ ImportAndJudgeAgree =
     → (notes ≡ told) × (records_of entries ≡ records_of judged) × Agrees config judged octets
 
 -- What is told of a connection is what these octets read as: a verdict, where they spell records
--- that have it; of a no over all orders a no, too; of a yes of another order none that is a yes; 18
--- RouteRefresh, where a reader refuses them by 7 RouteRefresh; or memory was refused.
+-- that have it; of a no over all orders a no, too, and of what is unfinished over all; of a yes of
+-- another order none that is a yes; 18 RouteRefresh, where a reader refuses them by 7 RouteRefresh;
+-- or memory was refused.
 abbrev pub TellsAs : Config → List ℕ → Told → Type 0
 TellsAs config octets (Judged verdict more) =
     (records : List ShownRecord) × Spells config.parts.session octets records
@@ -163,6 +198,9 @@ TellsAs config octets (NoOrder u more) =
 TellsAs config octets (InAnotherOrder ends more) =
     (records : List ShownRecord) × Spells config.parts.session octets records
     × (verdict : VerdictValue) × IsNoYes verdict × HasVerdict config records verdict
+TellsAs config octets (UnfinishedOverAll more) =
+    (records : List ShownRecord) × Spells config.parts.session octets records
+    × (count : ℕ) × HasVerdict config records (No count)
 TellsAs config octets (Refused refusal) =
     ((refusal_number refusal ≡ 18) × (front : List ShownRecord) × (offset : ℕ)
     × IsFirstFault config.parts.session octets front kinds.RouteRefresh offset)

@@ -16,7 +16,7 @@ use Rattle.bgp_import.specs.declared.refusal.Cause.TheVariants as causes
 use Rattle.bgp_import.specs.declared.refusal.Refusal.{Refusal}
 use Rattle.bgp_import.specs.declared.note.Note.{Note}
 use Rattle.bgp_import.specs.declared.note.Notes.{Notes}
-use Rattle.bgp_recording_tool.specs.Found.{Found, Nothing, ByNone, ByAnother}
+use Rattle.bgp_recording_tool.specs.Found.{Found, Nothing, ByNone, ByAnother, ByAll}
 use Rattle.bgp_recording_tool.specs.declared.remark.Remark.{Remark}
 use Rattle.bgp_recording_tool.specs.declared.remark.RemarkKind.{RemarkKind}
 use Rattle.bgp_recording_tool.specs.declared.remark.RemarkKind.TheVariants as kinds
@@ -78,7 +78,7 @@ made_order_remark connection within entries Unfinished = None
 
 -- If a sent message is known that no order explains, it is told in place of the record of a no: how
 -- many come before it, its packet, and how long a message may have waited. If another order is a
--- yes, that nothing was sent is told as of each yes.
+-- yes, that nothing was sent is told as of each yes. Of what is unfinished nothing is.
 abbrev pub verdict_remark : Option ℕ → ℕ → List Entry → VerdictValue → Found → Option Remark
 verdict_remark connection within entries verdict Nothing =
     made_order_remark connection within entries verdict
@@ -86,12 +86,14 @@ verdict_remark connection within entries verdict (ByNone u) =
     Some (remark_on connection (kinds.NoOrder u.before u.packet within))
 verdict_remark connection within entries verdict (ByAnother ends) =
     unsent_remark connection entries
+verdict_remark connection within entries verdict ByAll = None
 
 -- that the yes is that of another order, if it is
 abbrev pub another_remark : Option ℕ → Found → Option Remark
 another_remark connection Nothing = None
 another_remark connection (ByNone u) = None
 another_remark connection (ByAnother ends) = Some (remark_on connection kinds.AnotherOrder)
+another_remark connection ByAll = None
 
 -- All that is told of a connection of which these entries are made: with this patience, and with
 -- an UPDATE of a confederation or without.

@@ -10,7 +10,7 @@ use Rattle.bgp_import.specs.declared.refusal.Cause.{Cause}
 use Rattle.bgp_import.specs.declared.refusal.Cause.TheVariants as causes
 use Rattle.bgp_import.specs.declared.refusal.Refusal.{Refusal}
 use Rattle.bgp_orders.specs.declared.connection.Unexplained.{Unexplained}
-use Rattle.bgp_recording_tool.specs.Found.{Found, Nothing, ByNone, ByAnother}
+use Rattle.bgp_recording_tool.specs.Found.{Found, Nothing, ByNone, ByAnother, ByAll}
 
 pub data Told : Type 0 where
   -- the verdict on the records that are made of it, and what stands after it
@@ -21,6 +21,9 @@ pub data Told : Type 0 where
   -- That verdict isn't a yes, and another order that the packets allow is one, with these ends.
   -- And what stands after it.
   InAnotherOrder : List End → List ℕ → Told
+  -- That verdict is a no, some order that the packets allow explains all that was sent, and none is
+  -- a yes. And what stands after it.
+  UnfinishedOverAll : List ℕ → Told
   -- why none are made or judged
   Refused : Refusal → Told
 
@@ -34,6 +37,7 @@ abbrev pub told_with : VerdictValue → Found → List ℕ → Told
 told_with verdict Nothing more = told_of verdict None more
 told_with verdict (ByNone u) more = told_of verdict (Some u) more
 told_with verdict (ByAnother ends) more = InAnotherOrder ends more
+told_with verdict ByAll more = UnfinishedOverAll more
 
 -- ---- its text
 
@@ -50,6 +54,7 @@ abbrev pub told_text : Told → List ℕ
 told_text (Judged verdict more) = value_text verdict ++ more
 told_text (NoOrder u more) = no_order_line u.packet ++ more
 told_text (InAnotherOrder ends more) = yes_text ends ++ more
+told_text (UnfinishedOverAll more) = unfinished_line ++ more
 told_text (Refused refusal) = refusal_line refusal
 
 -- ---- its exit status
@@ -72,6 +77,7 @@ abbrev pub told_status : Told → ℕ
 told_status (Judged verdict more) = value_status verdict
 told_status (NoOrder u more) = 1
 told_status (InAnotherOrder ends more) = 0
+told_status (UnfinishedOverAll more) = 2
 told_status (Refused refusal) = refused_status refusal
 
 -- ---- the exit status over several connections

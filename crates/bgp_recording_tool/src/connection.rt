@@ -27,7 +27,7 @@ ghost use Rattle.bgp_recording_tool.specs.Judging.{Puts};
 ghost use Rattle.bgp_recording_tool.specs.Options.{IsOneFamily};
 ghost use Rattle.bgp_recording_tool.specs.Putting.{PutsNothing, PutsReport};
 ghost use Rattle.bgp_recording_tool.specs.Remarks.{AddsTold, IsHelp, notes_of};
-ghost use Rattle.bgp_recording_tool.specs.Told.{no_order_line, refused_status};
+ghost use Rattle.bgp_recording_tool.specs.Told.{UnfinishedOverAll, no_order_line, refused_status};
 ghost use Rattle.bgp_recording_tool.specs.Told.{told_of, told_status, told_text, told_with};
 
 use crate::judging::{status_of, verdict_status};
@@ -159,6 +159,28 @@ fn put_report<A: Allocator + Copy, W: Sink>(
     verdict_status(&explained.verdict)
 }
 
+/// Puts that it is unfinished over all orders, and what stands after the verdict on the records of
+/// these entries, a no; and answers its exit status.
+fn put_over_all<A: Allocator + Copy, W: Sink>(
+    lines: &mut Lines<'_, W>,
+    alloc: A,
+    config: &Config,
+    report: Report,
+    entries: &[Entry<'_>],
+    explained: &ExplainedRecords<A>,
+) -> Status
+    requires explained { AreExplained config.now (captured.records_of entries.now) explained.now }
+    requires can { CanBePutOf config.now.parts.session explained.now.reason }
+    ensures put { (more : List ℕ)
+        × IsMore report config.now entries.now (verdict_value explained.now.verdict) more
+        × Writes lines.old lines.new (told_text (UnfinishedOverAll more)) }
+    ensures status { code_of result ≡ 2 }
+{
+    lines.put(b"unfinished\n");
+    put_more(lines, alloc, config, report, entries, explained);
+    Status::Unfinished
+}
+
 /// Puts what is reported on the records of these entries, or on those of another order that is a
 /// yes, and answers its exit status.
 fn put_searched<A: Allocator + Copy, W: Sink>(
@@ -195,6 +217,7 @@ fn put_searched<A: Allocator + Copy, W: Sink>(
                 unexplained,
             )
         }
+        Searched::Unfinished => put_over_all(lines, alloc, config, report, entries, explained),
         Searched::Another(another) => {
             let entries = another.recording.entries.as_slice();
             put_report(
@@ -213,8 +236,8 @@ fn put_searched<A: Allocator + Copy, W: Sink>(
 /// Judges the records of a connection, puts what is reported on them, adds what there is to tell of
 /// it, with a number where several are told of, and answers the exit status. If they aren't a yes,
 /// all orders are searched: another that is one is reported in place of the made one, and of a no a
-/// sent message that none explains in place of the record. If memory is refused for the verdict
-/// nothing is put or added.
+/// sent message that none explains in place of the record, or that it is unfinished over all. If
+/// memory is refused for the verdict nothing is put or added.
 fn report_made<A: Allocator + Copy, T: Tracker<A>, W: Sink>(
     alloc: A,
     config: &Config,

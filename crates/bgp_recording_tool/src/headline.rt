@@ -5,6 +5,7 @@ ghost use Rattle.bgp_recording_tool.specs.Told.{NoIsTold};
 ghost use Rattle.bgp_recording_tool.specs.Headline.{EachEndIsShown, EachEndOfAnotherIsShown};
 ghost use Rattle.bgp_recording_tool.specs.Headline.{ImportAndJudgeAgree};
 ghost use Rattle.bgp_recording_tool.specs.Headline.{JudgeTellsTheCapture, NoAtPacketIsByNoOrder};
+ghost use Rattle.bgp_recording_tool.specs.Headline.{UnfinishedIsSo};
 ghost use Rattle.bgp_recording_tool.specs.Judging.{JudgesRecording};
 
 use crate::judging::{Judged, judge_source, misfit};
@@ -28,10 +29,11 @@ use std::alloc::Allocator;
 /// is worth says [`each_end_is_shown`]. If the verdict isn't a yes, all orders that the packets
 /// allow are searched. If another is a yes, that yes is reported, and a remark says so. A no over all
 /// is reported by the packet of a sent message ([`a_no_at_a_packet_is_by_no_order`]). If some order
-/// explains all that was sent and none is a yes, or there are too many to be searched or no memory
-/// for it, the verdict on the made order is reported: a no by its record, which is about this one
-/// order, and another may be a yes. By [`import_and_judge_agree`] the capture that is imported has
-/// the verdict of the made order from [`judge_capture`](bgp_tool::judge_capture).
+/// explains all that was sent and none is a yes, unfinished is reported
+/// ([`what_is_unfinished_is_so`]). If there are too many to be searched or no memory for it, the
+/// verdict on the made order is reported: a no by its record, which is about this one order, and
+/// another may be a yes. By [`import_and_judge_agree`] the capture that is imported has the verdict
+/// of the made order from [`judge_capture`](bgp_tool::judge_capture).
 ///
 /// It judges the connection that is named, or the only one; where there are several and none is
 /// named, each, under a line that names it. It writes the text of each verdict, or `recording
@@ -43,7 +45,8 @@ use std::alloc::Allocator;
 /// * 1: `no at packet P`: no order explains the sent message that this packet shows; a remark has
 ///   its number among those sent. Or `no at record N` of the made records; a remark has the packet
 ///   that shows the record.
-/// * 2: `unfinished`: the recording stops within what the local system had to do.
+/// * 2: `unfinished`: the recording stops within what the local system had to do, in the made order
+///   or over all.
 /// * 3: the recording is refused.
 /// * 4: memory was refused.
 /// * 5: a device failed.
@@ -58,7 +61,8 @@ use std::alloc::Allocator;
 ///   it was whole; each kind of record that could have stood in its place, and no other, with what
 ///   the record lacks of it; and each note whose condition holds, as
 ///   [`explain_capture`](bgp_explain::explain_capture) has them.
-/// * after an unfinished the same, of what may follow all records.
+/// * after an unfinished the same, of what may follow all records; if the made order is a no, and it
+///   is unfinished over all, the same as after a no.
 /// * after a yes how many records there are, and of which kinds; of another order its own.
 ///
 /// After a refusal it writes nothing more. Where memory is refused for the reason of a connection,
@@ -153,13 +157,23 @@ pub fn a_no_at_a_packet_is_by_no_order()
     no_order_explains_a_no();
 }
 
+/// Law: what an unfinished is worth.
+///
+/// If what is printed of a connection begins with `unfinished`, its made records are unfinished. Or
+/// some order that the packets allow explains all that was sent, and no run of the session machine
+/// shows just the records of any of these orders under this configuration, whichever state the
+/// session begins in.
+pub fn what_is_unfinished_is_so()
+    ensures { UnfinishedIsSo }
+{}
+
 /// Law: what is imported of a recording is judged as the recording is.
 ///
 /// Whatever is imported of a recording and whatever is judged of it, each by its own contract, are
 /// one list of records ([`recordings_are_made_once`]). The capture that
 /// [`import_recording`](bgp_import::import_recording) writes reads as just these, and whatever
 /// verdict holds of what it reads as is the one that is answered of the recording; a no, if a no
-/// over all orders is answered; and no yes, if the yes of another order is. A reader refuses such a
+/// over all orders is answered, or unfinished over all; and no yes, if the yes of another order is. A reader refuses such a
 /// capture at its first ROUTE-REFRESH, where the session refuses one, and for nothing else
 /// (7 RouteRefresh); and exactly there is the recording refused for that (18 RouteRefresh). Where
 /// both pass such messages over, none is in the capture.

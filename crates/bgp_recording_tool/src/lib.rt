@@ -33,7 +33,7 @@ pub use decoding::decode_recording;
 pub use files::{FileOutcome, decode_file, judge_file};
 pub use headline::{
     a_no_at_a_packet_is_by_no_order, a_no_is_told, each_end_is_shown, import_and_judge_agree,
-    judge_recording,
+    judge_recording, what_is_unfinished_is_so,
 };
 pub use judging::{Judged, status_of};
 pub use laws::{made_records_could_have_stood, recordings_are_explained_as_judged};

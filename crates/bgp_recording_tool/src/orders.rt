@@ -41,6 +41,8 @@ pub(crate) enum Searched<'a, A: Allocator> {
     NoOrder(Unexplained),
     /// Another order is a yes.
     Another(AnotherOrder<'a, A>),
+    /// Some order explains all that was sent, and none is a yes.
+    Unfinished,
 }
 
 /// Whether the verdict is a no.
@@ -120,7 +122,8 @@ fn search_connection<'a, A: Allocator + Copy, T: Tracker<A>>(
                 None => Searched::Nothing,
             }
         }
-        // Some order explains all that was sent and none is a yes, or it isn't known.
+        Ok(OverOrders::Unfinished) if is_no(verdict) => Searched::Unfinished,
+        // It is known of the made order already, or isn't known.
         Ok(_) | Err(_) => Searched::Nothing,
     }
 }

@@ -151,6 +151,7 @@ fn verdict_remark<A: Allocator>(
             },
         }),
         Searched::Another(_) => unsent_remark(connection, entries),
+        Searched::Unfinished => None,
     }
 }
 
@@ -162,7 +163,7 @@ fn another_remark<A: Allocator>(
     ensures { result ≡ another_remark connection (found_of searched.now) }
 {
     match searched {
-        Searched::Nothing | Searched::NoOrder(_) => None,
+        Searched::Nothing | Searched::NoOrder(_) | Searched::Unfinished => None,
         Searched::Another(_) => Some(Remark {
             connection,
             kind: RemarkKind::AnotherOrder,
