@@ -238,7 +238,10 @@ module _ {R W : Type 0} (remaining : R → Option (List ℕ)) (contents : W → 
   -- both ends of each connection are checked
   abbrev pub ChecksPackets : CheckOptions → CheckedRecording → Ends → Type 0
   ChecksPackets options checked ends = IsCalled file reader old new ends
-      (λ begun read. recordings.PrintsTrueNoes (GivesRead remaining) has_ended
+      (λ begun read. recordings.PrintsTrue recordings.NoesAreTrue (GivesRead remaining) has_ended
+      (TakesWritten contents) write_failures options begun read old new checked.status
+      checked.cut_short
+      × recordings.PrintsTrue recordings.YesesAreTrue (GivesRead remaining) has_ended
       (TakesWritten contents) write_failures options begun read old new checked.status
       checked.cut_short
       × ChecksRecording (GivesRead remaining) has_ended (TakesWritten contents) read_failures

@@ -9,7 +9,11 @@ returns g c = record {
   begun = c.new-source.result;
   read = c.check_recording-checked.new.source;
   fresh = c.new-source.ensures;
-  is_call = (c.check_recording-checked.ensures.no, c.check_recording-checked.ensures.all);
+  is_call = (
+    c.check_recording-checked.ensures.no,
+    c.check_recording-checked.ensures.yes,
+    c.check_recording-checked.ensures.all,
+  );
   are_ends = subst
       (λ (n : ℕ). AreEnds c.args.file (reader_state c.check_recording-checked.new.source)
       (writer_state c.check_recording-checked.new.sink) n None c.of-ends.result)
