@@ -1,26 +1,23 @@
 -- What it says that no order explains a message.
-use Rattle.std.proofs.Common.{◌≡◌, ◌∙◌, ◌+◌, ◌<◌, ◌≤◌, ◌++◌, ◌⊎◌, Bool, true, false, ℕ, List, [], ◌∷◌, Option, None, Some, inl, inr, refl, sym, ap, subst, arith, length, take, drop, option_map}
+use Rattle.std.proofs.Common.{◌≡◌, ◌∙◌, ◌+◌, ◌≤◌, ◌++◌, ◌⊎◌, Bool, true, false, ℕ, List, [], ◌∷◌, Option, None, Some, inl, inr, refl, sym, ap, subst, arith, length, take, drop}
 use Rattle.std.proofs.lemmas.Bool.{cases_lt}
 use Rattle.std.proofs.lemmas.List.{take-append-drop, take-append-le}
 use Rattle.bgp_prefix.specs.Shown as shown
 use Rattle.bgp_prefix.specs.Shown.{ShownRecord}
 use Rattle.bgp_prefix.specs.declared.session.Session.{Session}
-use Rattle.bgp_open.specs.Open.{OpenFields}
 use Rattle.bgp_open.specs.OpenFault.{IsWellFormed}
-use Rattle.bgp_open.specs.OwnOpen.{IsOwnOpen}
 use Rattle.bgp_open.specs.declared.config.Config.{Config}
 use Rattle.bgp_machine.specs.Lists.{Each, Has}
 use Rattle.bgp_machine.specs.Run.{Begins, End, IsComplete}
 use Rattle.bgp_recording.specs.Allowed.{received_in, sent_in}
-use Rattle.bgp_recording.specs.Tells.{Event, items_in}
+use Rattle.bgp_recording.specs.Tells.{items_in}
 use Rattle.bgp_recording.specs.declared.message.Message.{Message}
 use Rattle.bgp_recording.specs.declared.ordering.Exchange.{Exchange}
 use Rattle.bgp_recording.specs.declared.standing.Before.TheVariants.{Other}
 use Rattle.bgp_orders.specs.Explained.{IsExplained, IsWhole}
 use Rattle.bgp_orders.specs.Ways.{records_of_front, records_of_way}
-use Rattle.bgp_parts.specs.Opens.{FirstSent, HasOwnOpen, HasPeersOpen, IsOpenMessage, SendsNoOpen}
+use Rattle.bgp_parts.specs.Opens.{HasOwnOpen, HasPeersOpen, IsOpenMessage, SendsNoOpen}
 use Rattle.bgp_parts.proofs.OneOwnOpen.{one_own}
-use Rattle.bgp_check.specs.Another.{CanBeTold, WantsAnother}
 use Rattle.bgp_check.specs.Answered.{HasFault}
 use Rattle.bgp_check.specs.Checked.{IsUnder}
 use Rattle.bgp_check.specs.Configurations.{IsOf}

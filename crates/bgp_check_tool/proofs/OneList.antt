@@ -20,10 +20,9 @@ use Rattle.streams.specs.declared.passed.Side.{Side}
 use Rattle.streams.specs.declared.passed.Side.TheVariants.{Local, Peer}
 use Rattle.bgp_prefix.specs.declared.session.Session.{Session}
 use Rattle.bgp_import.specs.Octets.{octets_from}
-use Rattle.bgp_import.specs.Pairs.{AreOrdered, selection_of, session_of}
+use Rattle.bgp_import.specs.Pairs.{selection_of, session_of}
 use Rattle.bgp_import.specs.Places.{HasAll, IsNumber, connection_in}
 use Rattle.bgp_import.specs.Reading.{AreKnown}
-use Rattle.bgp_import.specs.Talks.{IsRefusedAt}
 use Rattle.bgp_import.specs.declared.refusal.Refusal.{Refusal}
 use Rattle.bgp_import.specs.declared.refusal.Refusal.TheVariants as refusals
 use Rattle.bgp_import.proofs.Alone.{connections_alone, none_at_refusal, one_place, refusals_alone, same_taken, taken_not_refused}

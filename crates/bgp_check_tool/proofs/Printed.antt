@@ -1,10 +1,9 @@
 -- What the lines of an end are worth.
-use Rattle.std.proofs.Common.{◌≡◌, ◌∙◌, ◌+◌, ◌<◌, ◌++◌, ◌⊎◌, inl, inr, ℕ, zero, suc, Bool, List, [], ◌∷◌, Option, None, Some, codes, option_map, refl, reverse, sym, ap, append_assoc, subst, arith, length, map, take}
+use Rattle.std.proofs.Common.{◌≡◌, ◌∙◌, ◌+◌, ◌<◌, ◌++◌, ◌⊎◌, inl, inr, ℕ, zero, suc, Bool, List, [], ◌∷◌, Option, None, Some, codes, option_map, refl, reverse, sym, ap, append_assoc, subst, arith, length, take}
 use Rattle.std.specs.List.{AllByRecursion, flat_map, slice_get}
 use Rattle.packets.specs.Packet.{Recorded}
 use Rattle.bgp_prefix.specs.Shown.{ShownRecord}
 use Rattle.bgp_prefix.specs.declared.session.Session.{Session}
-use Rattle.mrt.specs.Reader.{shown_of}
 use Rattle.bgp_open.specs.declared.config.Config.{Config}
 use Rattle.streams.specs.Connections.{numbered}
 use Rattle.streams.specs.declared.connection.Connection.{Connection}
@@ -35,7 +34,7 @@ use Rattle.bgp_check_tool.specs.declared.options.CheckOptions.{CheckOptions}
 use Rattle.bgp_check_tool.specs.Blocks.{AllRefused, Block, BothEnds, OneEnd, Refused, TellsBoth}
 use Rattle.bgp_check_tool.specs.Another.{number_in}
 use Rattle.bgp_check_tool.specs.Another as Another
-use Rattle.bgp_check_tool.specs.Headline.{IsToldOfSide, NoOrderHasARun, NoneIsWhole}
+use Rattle.bgp_check_tool.specs.Headline.{NoOrderHasARun, NoneIsWhole}
 use Rattle.bgp_check_tool.specs.Late.{late_text}
 use Rattle.bgp_check_tool.specs.Made.{IsMade}
 use Rattle.bgp_check_tool.specs.declared.another.Order.{Order}

@@ -26,7 +26,7 @@ use Rattle.bgp_check_text.specs.declared.options.JudgeOptions.{JudgeOptions}
 use Rattle.bgp_check_tool.specs.declared.another.Order.TheVariants as orders
 use Rattle.bgp_check_tool.specs.declared.options.CheckOptions.{CheckOptions}
 use Rattle.bgp_check_tool.specs.declared.late.Late.{Late}
-use Rattle.bgp_check_tool.specs.Another.{IsNo, IsNoYes, IsYes}
+use Rattle.bgp_check_tool.specs.Another.{IsNo, IsYes}
 use Rattle.bgp_check_tool.specs.Late.{IsLate}
 use Rattle.bgp_check_tool.specs.Orders.{IsFoundTo, IsUnexplained}
 use Rattle.bgp_check_tool.specs.Told.{EndTold, IsOfAll, IsOfAnother, IsOfMade, IsTold, packet_of}

@@ -3,7 +3,7 @@ use Rattle.std.specs.Prelude.{◌≡◌, ℕ, Option, None, map}
 use Rattle.bgp_prefix.specs.declared.session.Session.{Session}
 use Rattle.mrt.specs.Reader.{shown_of}
 use Rattle.streams.specs.declared.connection.Connection.{Connection}
-use Rattle.bgp_judge.specs.Verdict.{No, Unfinished, VerdictValue, Yes}
+use Rattle.bgp_judge.specs.Verdict.{No, Unfinished, Yes}
 use Rattle.bgp_recording.specs.Captured.{records_of}
 use Rattle.bgp_recording.specs.declared.framing.Framings.{Framings}
 use Rattle.bgp_orders.specs.WholeWays.{AreOfAWayOver}

@@ -1,6 +1,6 @@
 -- What all orders say that the packets allow, of an end whose verdict in the made order isn't a
 -- yes: the verdict over all of them, under the widest configurations of the end.
-use Rattle.std.specs.Prelude.{◌≡◌, ◌+◌, ◌<◌, ℕ, Bool, true, false, List, Option, None, Some}
+use Rattle.std.specs.Prelude.{◌≡◌, ◌+◌, ◌<◌, ℕ, Bool, true, false, List, Option, None}
 use Rattle.std.specs.Prelude.{IfSome, length, map, nat_lt, option_map, take}
 use Rattle.bgp_prefix.specs.Shown as shown
 use Rattle.bgp_prefix.specs.Shown.{ShownRecord}

@@ -1,4 +1,4 @@
-use Rattle.std.proofs.Common.{◌≡◌, ◌∙◌, ℕ, List, Option, None, Some, ap, inl, inr, map, subst, sym}
+use Rattle.std.proofs.Common.{◌≡◌, ◌∙◌, ℕ, List, Option, ap, inl, inr, map, subst, sym}
 use Rattle.bgp_prefix.specs.Shown.{ShownRecord}
 use Rattle.mrt.specs.Reader.{shown_of}
 use Rattle.bgp_recording.specs.Captured.{records_of}

@@ -1,4 +1,3 @@
-use Rattle.bgp_check_tool.specs.Orders.{UnexplainedByAll}
 use Rattle.bgp_check_tool.proofs.NoOrder.{unexplained_by_all}
 use Rattle.bgp_check_tool.proofs.Verdicts.{no_order}
 use Rattle.bgp_check_tool.proofs.laws.no_order_has_a_run.Goals as goal
