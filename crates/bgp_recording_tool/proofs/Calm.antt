@@ -1,5 +1,5 @@
 -- A capture that is read for a session which may have a ROUTE-REFRESH is read the same for one which may have none, unless it passes some over.
-use Rattle.std.proofs.Common.{◌≡◌, ◌≢◌, ◌∙◌, ◌⊎◌, ℕ, List, [], ◌∷◌, Option, None, refl, subst, inl, inr}
+use Rattle.std.proofs.Common.{◌≡◌, ◌≢◌, ◌⊎◌, ℕ, List, [], ◌∷◌, Option, None, refl, subst, inl, inr}
 use Rattle.bgp_prefix.specs.Shown.{ShownRecord}
 use Rattle.bgp_prefix.specs.declared.session.Session.{Session}
 use Rattle.bgp_prefix.specs.declared.session.RouteRefresh.TheVariants as refreshes

@@ -8,7 +8,7 @@ use Rattle.streams.specs.declared.connection.Connection.{Connection}
 use Rattle.bgp_prefix.specs.Shown.{ShownRecord}
 use Rattle.bgp_prefix.specs.declared.session.Session.{Session}
 use Rattle.bgp_open.specs.declared.config.Config.{Config}
-use Rattle.bgp_judge.specs.Verdict.{VerdictValue, Yes, No, Unfinished, HasVerdict, verdict_value}
+use Rattle.bgp_judge.specs.Verdict.{VerdictValue, verdict_value}
 use Rattle.bgp_judge.specs.declared.verdict.Verdict.{Verdict}
 use Rattle.bgp_judge.specs.declared.verdict.Verdict.TheVariants as verdicts
 use Rattle.bgp_recording.specs.Pieces.{framings_of}
@@ -17,7 +17,7 @@ use Rattle.bgp_explain.specs.Text.{CanBePutOf}
 use Rattle.bgp_explain.specs.declared.explained.Reason.{Reason}
 use Rattle.bgp_import.specs.declared.importing.Import.{Import}
 use Rattle.bgp_recording_tool.specs.Connections.{IsFound, IsFoundOver}
-use Rattle.bgp_recording_tool.specs.Found.{IsNoYes, IsSought, IsYes, ends_of, entries_of, found_of}
+use Rattle.bgp_recording_tool.specs.Found.{IsNoYes, IsSought, IsYes, entries_of, found_of}
 use Rattle.bgp_recording_tool.specs.declared.orders.Searched.{Searched}
 use Rattle.bgp_recording_tool.specs.declared.orders.Searched.TheVariants as searches
 

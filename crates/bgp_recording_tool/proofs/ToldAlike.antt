@@ -14,7 +14,7 @@ use Rattle.streams.specs.declared.passed.Side.TheVariants.{Local, Peer}
 use Rattle.mrt.specs.Reader.{shown_of}
 use Rattle.packets.specs.Packet.{Recorded}
 use Rattle.bgp_open.specs.declared.config.Config.{Config}
-use Rattle.bgp_judge.specs.Verdict.{VerdictValue, No, HasVerdict}
+use Rattle.bgp_judge.specs.Verdict.{VerdictValue, HasVerdict}
 use Rattle.mrt.specs.Capture.{Spells}
 use Rattle.bgp_recording.specs.Captured.{CanBeNamed, IsNoRefresh, records_of}
 use Rattle.bgp_recording.specs.declared.entry.Entry.{Entry}

@@ -1,4 +1,4 @@
-use Rattle.std.proofs.Common.{◌≡◌, ◌∙◌, List, ℕ, None, ap, subst, sym}
+use Rattle.std.proofs.Common.{◌∙◌, List, None, ap, subst, sym}
 use Rattle.bgp_judge.specs.Verdict.{VerdictValue, verdict_value}
 use Rattle.bgp_recording.specs.Captured.{records_of}
 use Rattle.bgp_recording.specs.declared.entry.Entry.{Entry}
