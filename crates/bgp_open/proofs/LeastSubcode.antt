@@ -16,9 +16,9 @@ named_with subcodes n detail named = elim named [
   ]
 ]
 
--- a subcode is below 8
-pub below_8 : (subcodes : OpenSubcodes) (n : ℕ) (detail : List ℕ) → Names subcodes n detail → n < 8
-below_8 subcodes n detail named = elim named [
+-- a subcode is below 12
+pub below_12 : (subcodes : OpenSubcodes) (n : ℕ) (detail : List ℕ) → Names subcodes n detail → n < 12
+below_12 subcodes n detail named = elim named [
   | inl a ↦ omega (arith, a.0)
   | inr b ↦ elim b [
     | inl c ↦ omega (arith, c.0)
@@ -28,7 +28,10 @@ below_8 subcodes n detail named = elim named [
         | inl g ↦ omega (arith, g.0)
         | inr h ↦ elim h [
           | inl i ↦ omega (arith, i.0)
-          | inr j ↦ elim j [ inl k ↦ omega (arith, k.0) | inr l ↦ omega (arith, l.0) ]
+          | inr j ↦ elim j [
+            | inl k ↦ omega (arith, k.0)
+            | inr l ↦ elim l [ inl o ↦ omega (arith, o.0) | inr q ↦ omega (arith, q.0) ]
+          ]
         ]
       ]
     ]
@@ -47,7 +50,10 @@ without_data subcodes n named = elim named [
         | inl g ↦ rw g.0 refl
         | inr h ↦ elim h [
           | inl i ↦ rw i.0 refl
-          | inr j ↦ elim j [ inl k ↦ rw k.0 refl | inr l ↦ rw l.0 refl ]
+          | inr j ↦ elim j [
+            | inl k ↦ rw k.0 refl
+            | inr l ↦ elim l [ inl o ↦ rw o.0 refl | inr q ↦ rw q.0 refl ]
+          ]
         ]
       ]
     ]
@@ -81,6 +87,6 @@ one_more subcodes n detail fixed not_named before = λ m others below named. eli
   | inr other ↦ before m others (omega arith) named
 ]
 
--- where none below 8 is named, none is
-pub none_at_all : (subcodes : OpenSubcodes) (n : ℕ) → 8 ≤ n → IsNoneBelow subcodes n → IsEmpty subcodes
-none_at_all subcodes n most before = λ m detail named. before m detail (omega (arith, below_8 subcodes m detail named)) named
+-- where none below 12 is named, none is
+pub none_at_all : (subcodes : OpenSubcodes) (n : ℕ) → 12 ≤ n → IsNoneBelow subcodes n → IsEmpty subcodes
+none_at_all subcodes n most before = λ m detail named. before m detail (omega (arith, below_12 subcodes m detail named)) named

@@ -10,3 +10,6 @@ pub mod EachOpen
 pub mod OneSetOfSubcodes
 pub mod OpenParts
 pub mod LeastSubcode
+pub mod CapabilityEntries
+pub mod SettledForms
+pub mod OneOffer

@@ -29,7 +29,7 @@ of_readable config octets alone subcodes readable types each subcode detail = (
             | inl e ↦ inr (inr (readable, inl (e.0, λ all. each.parameter.0 e.1 (types.1 all))))
             | inr h ↦ elim h [
               | inl e ↦ inr (inr (readable, inr (inr (inr (e.0, each.hold.0 e.1)))))
-              | inr c ↦ absurd (each.capability c.1)
+              | inr c ↦ elim c [ inl e ↦ absurd (each.capability e.1) | inr e ↦ absurd (each.role e.1) ]
             ]
           ]
         ]
@@ -57,7 +57,7 @@ of_readable config octets alone subcodes readable types each subcode detail = (
 -- the set of a malformed OPEN
 pub of_malformed : (config : Config) (octets : List ℕ) → IsAnswered octets Malformed
     → AreSubcodesOf (mandatory_faults config octets)
-    (record { unspecific = true; version = false; peer_as = true; identifier = true; parameter = true; hold = true; capability = true })
+    (record { unspecific = true; version = false; peer_as = true; identifier = true; parameter = true; hold = true; capability = true; role = false })
 of_malformed config octets malformed subcode detail = (
   λ named. elim named [
     | inl u ↦ inr (inl (inl u.0, malformed))
@@ -71,7 +71,7 @@ of_malformed config octets malformed subcode detail = (
             | inl e ↦ inr (inl (inr (inr (inr (inl e.0))), malformed))
             | inr h ↦ elim h [
               | inl e ↦ inr (inl (inr (inr (inr (inr (inl e.0)))), malformed))
-              | inr c ↦ inr (inl (inr (inr (inr (inr (inr c.0)))), malformed))
+              | inr c ↦ elim c [ inl e ↦ inr (inl (inr (inr (inr (inr (inr e.0)))), malformed)) | inr e ↦ absurd (cc) ]
             ]
           ]
         ]
@@ -91,7 +91,7 @@ of_malformed config octets malformed subcode detail = (
               | inl a ↦ inr (inr (inr (inr (inl (a, refl)))))
               | inr h ↦ elim h [
                 | inl a ↦ inr (inr (inr (inr (inr (inl (a, refl))))))
-                | inr a ↦ inr (inr (inr (inr (inr (inr (a, refl))))))
+                | inr a ↦ inr (inr (inr (inr (inr (inr (inl (a, refl)))))))
               ]
             ]
           ]
@@ -112,7 +112,7 @@ beq_no false none = refl
 
 -- no field is set exactly where nothing is named
 pub free_is_none : (e : OpenSubcodes) → (IsTrue (beq e.unspecific false && (beq e.version false && (beq e.peer_as false
-    && (beq e.identifier false && (beq e.parameter false && (beq e.hold false && beq e.capability false)))))) ↔ IsEmpty e)
+    && (beq e.identifier false && (beq e.parameter false && (beq e.hold false && (beq e.capability false && beq e.role false))))))) ↔ IsEmpty e)
 free_is_none e = (
   λ none subcode detail named.
       let u = and_parts _ _ none in
@@ -121,6 +121,7 @@ free_is_none e = (
       let i = and_parts _ _ p.1 in
       let o = and_parts _ _ i.1 in
       let h = and_parts _ _ o.1 in
+      let c = and_parts _ _ h.1 in
       elim named [
         | inl a ↦ no_beq e.unspecific u.0 a.1
         | inr n1 ↦ elim n1 [
@@ -131,7 +132,10 @@ free_is_none e = (
               | inl a ↦ no_beq e.identifier i.0 a.1
               | inr n4 ↦ elim n4 [
                 | inl a ↦ no_beq e.parameter o.0 a.1
-                | inr n5 ↦ elim n5 [ inl a ↦ no_beq e.hold h.0 a.1 | inr a ↦ no_beq e.capability h.1 a.1 ]
+                | inr n5 ↦ elim n5 [
+                  | inl a ↦ no_beq e.hold h.0 a.1
+                  | inr n6 ↦ elim n6 [ inl a ↦ no_beq e.capability c.0 a.1 | inr a ↦ no_beq e.role c.1 a.1 ]
+                ]
               ]
             ]
           ]
@@ -144,7 +148,8 @@ free_is_none e = (
       (and_from _ _ (beq_no e.identifier (λ t. free 3 [] (inr (inr (inr (inl (refl, t)))))))
       (and_from _ _ (beq_no e.parameter (λ t. free 4 [] (inr (inr (inr (inr (inl (refl, t))))))))
       (and_from _ _ (beq_no e.hold (λ t. free 6 [] (inr (inr (inr (inr (inr (inl (refl, t)))))))))
-      (beq_no e.capability (λ t. free 7 [] (inr (inr (inr (inr (inr (inr (refl, t)))))))))))))),
+      (and_from _ _ (beq_no e.capability (λ t. free 7 [] (inr (inr (inr (inr (inr (inr (inl (refl, t))))))))))
+      (beq_no e.role (λ t. free 11 [] (inr (inr (inr (inr (inr (inr (inr (refl, t)))))))))))))))),
 )
 
 -- a set of the faults for which an OPEN has to be refused is empty exactly where it is valid

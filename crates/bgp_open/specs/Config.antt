@@ -2,11 +2,27 @@
 use Rattle.std.specs.Prelude.{◌≡◌, ◌≢◌, ◌<◌, ◌^◌, ◌==◌, ◌⊎◌, Bool, false, IsTrue, ℕ}
 use Rattle.bgp_wire.specs.AsNumber.{needs_four_octets}
 use Rattle.bgp_open.specs.Families.{IsEmpty}
+use Rattle.bgp_open.specs.RouteOffer.{nothing}
 use Rattle.bgp_open.specs.declared.config.ConfigParts.{ConfigParts}
 
 -- the peer is internal: both AS numbers are equal (RFC 4271, 1.1)
 abbrev pub is_internal : ConfigParts → Bool
 is_internal parts = parts.local_as == parts.peer_as
+
+-- the same parts, but that nothing is offered about routes
+abbrev pub offering_nothing : ConfigParts → ConfigParts
+offering_nothing parts = record {
+  local_as = parts.local_as;
+  peer_as = parts.peer_as;
+  local_id = parts.local_id;
+  hold = parts.hold;
+  families = parts.families;
+  as4 = parts.as4;
+  delay_open = parts.delay_open;
+  large_hold = parts.large_hold;
+  session = parts.session;
+  offers = nothing;
+}
 
 -- a Hold Time that none may have: it is to be 0 or at least 3 seconds (RFC 4271, 4.2)
 abbrev pub IsBadHold : ℕ → Type 0

@@ -6,6 +6,8 @@ pub mod Notification
 pub mod Families
 pub mod Config
 pub mod Offer
+pub mod RouteOffer
+pub mod RouteForm
 pub mod Link
 pub mod OpenSubcodes
 pub mod OwnOpen

@@ -7,11 +7,14 @@ use Rattle.bgp_open.specs.Config.{is_internal}
 use Rattle.bgp_open.specs.Families.{intersection}
 use Rattle.bgp_open.specs.Offer.{families_of, as_number_of, offers_extended}
 use Rattle.bgp_open.specs.Open.{OpenFields}
+use Rattle.bgp_open.specs.RouteForm.{received_form, sent_form}
+use Rattle.bgp_open.specs.RouteOffer.{route_offer_in}
 
 -- The smaller Hold Time of both (RFC 4271, 4.2); four-octet AS numbers where both sides send that
 -- capability, the peer with a length of 4 (RFC 6793, 4.1); the families that both offer (RFC 4760,
 -- 8); whether the peer is internal; whether the peer offers extended messages, whatever the local
--- system offers (RFC 8654, 4: who offers that can receive them)
+-- system offers (RFC 8654, 4: who offers that can receive them); and how routes are spelled in each
+-- direction, by what both offer (RFC 7911, 5; RFC 8950, 4)
 abbrev pub link_of : Config → OpenFields → Link
 link_of config message = record {
   hold = min config.parts.hold message.hold;
@@ -19,4 +22,6 @@ link_of config message = record {
   families = intersection config.parts.families (families_of message.capabilities);
   internal = is_internal config.parts;
   extended = offers_extended message.capabilities;
+  received = received_form config.parts.offers (route_offer_in message);
+  sent = sent_form config.parts.offers (route_offer_in message);
 }

@@ -1,5 +1,5 @@
 -- The faults of a peer's OPEN, as sets of subcodes of OPEN Message Error with their data (RFC 4271,
--- 6.2; RFC 6286, 2.2; RFC 5492, 3).
+-- 6.2; RFC 6286, 2.2; RFC 5492, 3; RFC 9234, 4.2).
 use Rattle.std.specs.Prelude.{◌≡◌, ◌≢◌, ◌↔◌, ◌⊎◌, ◌||◌, if◌then◌else◌, Bool, ℕ, List, [], IsTrue}
 use Rattle.std.specs.Prelude.{◌==◌, unwrap_or}
 use Rattle.byteorder.specs.Endian.{big_bytes}
@@ -39,7 +39,8 @@ abbrev pub IsUnreadable : List ℕ → Type 0
 IsUnreadable octets = IsAnswered octets Malformed
 
 -- the subcodes that a malformed OPEN has, so that it may be answered by any of them (profile):
--- nobody can tell what else is wrong with it, or what it lacks
+-- nobody can tell what else is wrong with it, or what it lacks (11 is permitted besides, as of
+-- other OPENs)
 abbrev pub IsOfMalformed : ℕ → Type 0
 IsOfMalformed subcode =
     (subcode ≡ 0) ⊎ (subcode ≡ 2) ⊎ (subcode ≡ 3) ⊎ (subcode ≡ 4) ⊎ (subcode ≡ 6) ⊎ (subcode ≡ 7)
@@ -67,12 +68,12 @@ abbrev pub IsValid : Config → List ℕ → Type 0
 IsValid config octets =
     (subcode : ℕ) (detail : List ℕ) → ¬ mandatory_faults config octets subcode detail
 
--- The faults for which one may be refused, since a speaker may reject any Hold Time (RFC 4271, 6.2)
--- and require a capability (RFC 5492, 3): 6 and 7 of every OPEN but one of another version. Octets
--- that are no whole OPEN have them too, as subcodes of a malformed one.
+-- The faults for which one may be refused, since a speaker may reject any Hold Time (RFC 4271,
+-- 6.2), require a capability (RFC 5492, 3) and require a role of its peer (RFC 9234, 4.2): 6, 7 and
+-- 11 of every OPEN but one of another version, and of octets that are no whole OPEN
 abbrev pub permitted_faults : List ℕ → ℕ → List ℕ → Type 0
 permitted_faults octets subcode detail =
-    ((subcode ≡ 6) ⊎ (subcode ≡ 7)) × (¬ IsOfOtherVersion octets)
+    ((subcode ≡ 6) ⊎ (subcode ≡ 7) ⊎ (subcode ≡ 11)) × (¬ IsOfOtherVersion octets)
 
 -- a NOTIFICATION with this subcode and these data names a fault of the set
 abbrev pub Names : OpenSubcodes → ℕ → List ℕ → Type 0
@@ -84,6 +85,7 @@ Names subcodes subcode detail =
     ⊎ ((subcode ≡ 4) × IsTrue subcodes.parameter)
     ⊎ ((subcode ≡ 6) × IsTrue subcodes.hold)
     ⊎ ((subcode ≡ 7) × IsTrue subcodes.capability)
+    ⊎ ((subcode ≡ 11) × IsTrue subcodes.role)
 
 -- the data of a subcode where they are fixed, and else none
 abbrev pub detail_of : ℕ → List ℕ
@@ -108,6 +110,7 @@ union subcodes others = record {
   parameter = subcodes.parameter || others.parameter;
   hold = subcodes.hold || others.hold;
   capability = subcodes.capability || others.capability;
+  role = subcodes.role || others.role;
 }
 
 -- fault by fault: the set of an OPEN whose fields can be told, and which has capabilities alone or
@@ -121,3 +124,4 @@ pub record AreOfFields
   pub parameter : IsTrue subcodes.parameter ↔ (¬ IsTrue alone)
   pub hold : IsTrue subcodes.hold ↔ IsBadHold message.hold
   pub capability : ¬ IsTrue subcodes.capability
+  pub role : ¬ IsTrue subcodes.role

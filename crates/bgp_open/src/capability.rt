@@ -11,7 +11,8 @@ use std::marker::Model;
 /// The Parameter Type of the parameter that has capabilities (RFC 5492, 4).
 pub(crate) const CAPABILITIES: u8 = 2;
 
-/// One capability: a code and what it says. One that was read has at most 255 octets of value.
+/// One capability: a code and a value. If it was read from an OPEN, the value has at most 255
+/// octets.
 #[derive(Clone, Copy, Debug, Default, PartialEq, Eq)]
 pub struct Capability<'a> {
     /// The Capability Code.
@@ -20,9 +21,9 @@ pub struct Capability<'a> {
     pub value: &'a [u8],
 }
 
-/// The capabilities of an OPEN in their order, over all its parameters. It takes no memory.
+/// The capabilities of an OPEN, in order, over all its parameters. It allocates nothing.
 ///
-/// Contracts see it as the list of what is left.
+/// Contracts see it as the list of the capabilities that are left.
 #[derive(Debug, Drop)]
 pub struct Capabilities<'a> {
     parameters: &'a [u8],

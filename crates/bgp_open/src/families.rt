@@ -15,14 +15,14 @@ pub struct Families {
 }
 
 impl Families {
-    /// IPv4 unicast alone, which an OPEN offers that has no capability of multiprotocol extensions
-    /// of length 4 (profile; RFC 4271 knows IPv4 alone).
+    /// IPv4 unicast only. An OPEN offers this if it has no capability of multiprotocol extensions
+    /// of length 4 (profile; RFC 4271 knows only IPv4).
     pub const V4: Families = Families {
         v4: true,
         v6: false,
     };
 
-    /// Whether the family is in the set.
+    /// Checks whether the family is in the set.
     pub fn contains(self, family: Family) -> bool
         ensures { result ≡ contains self family }
     {
@@ -32,14 +32,14 @@ impl Families {
         }
     }
 
-    /// Whether no family is in the set.
+    /// Checks whether the set is empty.
     pub fn is_empty(self) -> bool
         ensures { IsTrue result ↔ IsEmpty self }
     {
         !self.v4 && !self.v6
     }
 
-    /// The families that are in both sets.
+    /// Returns the families that are in both sets.
     pub fn intersection(self, other: Families) -> Families
         ensures { result ≡ intersection self other }
     {

@@ -1,7 +1,7 @@
-//! Laws of OPENs and NOTIFICATIONs: what stands in octets is read in the one way that there is,
-//! what is written is a frame, and a set of faults is told by what it names.
+//! Laws of OPENs and NOTIFICATIONs: octets are read in the only way there is, what is written is a
+//! frame, and what a set of faults names determines the set.
 
-ghost use Rattle.std.specs.Prelude.{◌≡◌, ◌≤◌, ◌↔◌, ◌⊎◌, ◌++◌, ℕ, List, length};
+ghost use Rattle.std.specs.Prelude.{◌≡◌, ◌≤◌, ◌↔◌, ◌⊎◌, ◌++◌, IsTrue, ℕ, List, length};
 ghost use Rattle.std.specs.List.{flat_map};
 ghost use Rattle.byteorder.specs.Endian.{big_bytes};
 ghost use Rattle.bgp_wire.specs.Framing.{IsFrame};
@@ -15,15 +15,19 @@ ghost use Rattle.bgp_open.specs.OpenFault.{IsOtherVersion, open_fault_number};
 ghost use Rattle.bgp_open.specs.Open.{OpenFields, open_of, parameters_of, capabilities_in};
 ghost use Rattle.bgp_open.specs.OpenSubcodes.{mandatory_faults, permitted_faults};
 ghost use Rattle.bgp_open.specs.OpenSubcodes.{Names, AreSubcodesOf, union};
+ghost use Rattle.bgp_open.specs.Link.{link_of};
 ghost use Rattle.bgp_open.specs.OwnOpen.{IsOwnOpen, own_fields};
+ghost use Rattle.bgp_open.specs.RouteForm.{plain_form};
+ghost use Rattle.bgp_open.specs.RouteOffer.{nothing, offers_next_hops, route_offer_in};
 ghost use Rattle.bgp_open.specs.Written.{FitsOpen, open_with, open_octets, parameters_with};
 ghost use Rattle.bgp_open.specs.Written.{notification_octets};
 ghost use Rattle.bgp_open.specs.declared.subcodes.OpenSubcodes.{OpenSubcodes};
 ghost use Rattle.bgp_open.specs.declared.config.Config.{Config};
 ghost use Rattle.bgp_open.specs.declared.fault.OpenFault.{OpenFault};
 
-/// Octets are triplets, as parameters and capabilities are, and then a rest in which no whole one
-/// stands, in one way; and those are the triplets that are read (RFC 4271, 4.2; RFC 5492, 4).
+/// Octets split in exactly one way into triplets, as parameters and capabilities are, and a rest
+/// that doesn't begin with a whole triplet. Those are the triplets that are read (RFC 4271, 4.2;
+/// RFC 5492, 4).
 pub fn one_reading()
     ensures reads { (octets : List ℕ) → (cut : List ℕ)
         × (octets ≡ triplets_octets (triplets_of octets) ++ cut) × IsCutTriplet cut }
@@ -36,9 +40,10 @@ pub fn one_reading()
         → IsWhole octets ↔ ((triplets : List Triplet) × (octets ≡ triplets_octets triplets)) }
 {}
 
-/// Octets are a well-formed OPEN or have just one fault that is answered. Of an OPEN of version 4
-/// it is the least of those that it has, by their numbers. And it is one for which `open_faults`
-/// says that the OPEN has to be refused, with `00 04` as the data of subcode 1.
+/// Octets are a well-formed OPEN, or there is exactly one fault that `read_open` may return. If the
+/// octets are an OPEN of version 4, that fault has the least number of all that the OPEN has.
+/// `open_faults` has this fault among those for which the OPEN has to be refused, with `00 04` as
+/// the data of subcode 1.
 pub fn one_fault()
     ensures each { (octets : List ℕ)
         → IsWellFormed octets ⊎ ((fault : OpenFault) × IsAnswered octets fault) }
@@ -55,8 +60,8 @@ pub fn one_fault()
         → mandatory_faults config octets (open_fault_number fault) (big_bytes 2 4) }
 {}
 
-/// A readable OPEN is its header, its fixed fields and its parameters, however many there are, and
-/// its capabilities are those of all its parameters, joined.
+/// A readable OPEN is its header, its fixed fields and its parameters, however many there are. Its
+/// capabilities are those of all its parameters, joined.
 pub fn each_readable_open_is_its_parts()
     ensures parts { (octets : List ℕ) → AreOctets octets → IsReadable octets
         → octets ≡ open_with (open_of octets).my_as (open_of octets).hold (open_of octets).id
@@ -65,34 +70,45 @@ pub fn each_readable_open_is_its_parts()
         ≡ flat_map capabilities_in (triplets_of (parameters_of octets)) }
 {}
 
-/// What is written reads as it was meant: a well-formed OPEN with all capabilities in one
-/// parameter, or none.
+/// An OPEN that is written reads back as what was written. It is well-formed, and has all
+/// capabilities in one parameter, or no parameter if there are no capabilities.
 pub fn written_open_reads_back()
     ensures { (fields : OpenFields) → FitsOpen fields → IsWellFormed (open_octets fields)
         × (open_of (open_octets fields) ≡ fields)
         × (triplets_of (parameters_of (open_octets fields)) ≡ parameters_with fields.capabilities) }
 {}
 
-/// A NOTIFICATION that is written has no header fault, whichever [`Limit`](bgp_wire::Limit) there
-/// is.
+/// A NOTIFICATION that is written has no header fault under any [`Limit`](bgp_wire::Limit).
 pub fn written_notification_is_a_frame()
     ensures { (code subcode : ℕ) (detail : List ℕ) → length detail ≤ 4075
         → (limit : Limit) → IsFrame limit (notification_octets code subcode detail) }
 {}
 
-/// For every configuration there is an OPEN that the local system may send: what `write_open`
-/// writes of what is configured, which fits the fields of an OPEN and is octets. And a well-formed
-/// OPEN has no header fault, whichever [`Limit`](bgp_wire::Limit) there is.
+/// For every configuration there is an OPEN that the local system may send: the one that
+/// `write_own_open` writes. Its numbers fit the fields of an OPEN, it consists of octets, and it
+/// offers about routes exactly what is configured. A well-formed OPEN has no header fault under any
+/// [`Limit`](bgp_wire::Limit).
 pub fn own_open_exists()
     ensures own { (config : Config) → IsOwnOpen config (open_octets (own_fields config)) }
+    ensures offers { (config : Config)
+        → route_offer_in (open_of (open_octets (own_fields config))) ≡ config.parts.offers }
     ensures fits { (config : Config) → FitsOpen (own_fields config) }
     ensures octets { (config : Config) → AreOctets (open_octets (own_fields config)) }
     ensures frame { (octets : List ℕ) → AreOctets octets → IsWellFormed octets
         → (limit : Limit) → IsFrame limit octets }
 {}
 
-/// Sets of subcodes that name the same are equal values. So there is one set of the faults for
-/// which an OPEN has to be refused, and one of those for which it may be.
+/// If the configuration offers nothing about routes, and the peer's OPEN offers no IPv6 next hops,
+/// routes are spelled plainly in both directions, whatever else the peer offers.
+pub fn plain_forms()
+    ensures { (config : Config) (message : OpenFields) → config.parts.offers ≡ nothing
+        → (¬ IsTrue (offers_next_hops message.capabilities))
+        → ((link_of config message).received ≡ plain_form)
+        × ((link_of config message).sent ≡ plain_form) }
+{}
+
+/// Sets of subcodes that name the same faults are equal. So there is only one set of the faults for
+/// which an OPEN has to be refused, and only one of those for which it may be.
 pub fn one_set_of_subcodes()
     ensures same { (subcodes others : OpenSubcodes)
         → ((subcode : ℕ) (detail : List ℕ)
@@ -106,7 +122,7 @@ pub fn one_set_of_subcodes()
         → AreSubcodesOf (permitted_faults octets) others → subcodes ≡ others }
 {}
 
-/// The union of two sets of subcodes names what one of both names, and nothing else.
+/// The union of two sets of subcodes names exactly what at least one of the two names.
 pub fn subcodes_of_both_sets()
     ensures { (subcodes others : OpenSubcodes) (subcode : ℕ) (detail : List ℕ)
         → (Names (union subcodes others) subcode detail

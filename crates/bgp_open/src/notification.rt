@@ -23,19 +23,19 @@ const DETAIL_AT: usize = 21; // header 19, code 1, subcode 1
 /// The most octets of data (RFC 4271, 4.1).
 const MOST_DETAIL: usize = 4075; // message 4096, less 21 before the data
 
-/// Why a speaker closes the connection.
+/// A NOTIFICATION, which says why a speaker closes the connection.
 #[derive(Clone, Copy, Debug, PartialEq, Eq)]
 pub struct Notification<'a> {
     /// The Error code.
     pub code: u8,
-    /// The Error subcode, 0 where the code has none.
+    /// The Error subcode, 0 if the code has none.
     pub subcode: u8,
-    /// The Data, which tell more.
+    /// The Data, which say more.
     pub detail: &'a [u8],
 }
 
-/// Reads a whole NOTIFICATION. `None` where the octets are no whole message of this type, or one
-/// without code and subcode.
+/// Reads a whole NOTIFICATION. Returns `None` if the octets aren't a whole message of this type, or
+/// have no code and subcode.
 pub fn read_notification(octets: &[u8]) -> Option<Notification<'_>>
     ensures some { IfSome result (λ notification. IsNotification octets.entry.now
         notification.code notification.subcode notification.detail.now) }
@@ -57,16 +57,16 @@ pub fn read_notification(octets: &[u8]) -> Option<Notification<'_>>
 /// Why a NOTIFICATION isn't written.
 #[derive(Clone, Copy, Debug, PartialEq, Eq, Error)]
 pub enum NotificationWriteFault {
-    /// It has more than 4075 octets of data, and the message would have more than 4096.
+    /// It has more than 4075 octets of data, so the message would have more than 4096.
     #[error("the data of the NOTIFICATION are too large")]
     TooLarge = 1,
-    /// There was no memory for it.
+    /// Memory ran out.
     #[error("out of memory")]
     Memory = 2,
 }
 
 impl NotificationWriteFault {
-    /// The fault's number: 1 for too large data, 2 for memory.
+    /// Returns the fault's number: 1 for data that are too large, 2 for memory.
     pub fn number(self) -> u8
         ensures { result ≡ notification_write_number self }
     {
@@ -74,7 +74,7 @@ impl NotificationWriteFault {
     }
 }
 
-/// Appends a NOTIFICATION. After a fault the vector is as before.
+/// Appends a NOTIFICATION. After a fault the vector is unchanged.
 pub fn write_notification<A: Allocator>(
     notification: &Notification<'_>,
     out: &mut Vec<u8, A>,

@@ -32,10 +32,10 @@ pub(crate) const EXTENDED_MESSAGE: u8 = 6;
 pub(crate) const FOUR_OCTET_AS: u8 = 65;
 
 /// The Subsequent Address Family Identifier of unicast (RFC 4760, 6).
-const UNICAST: u8 = 1;
+pub(crate) const UNICAST: u8 = 1;
 
 /// The Address Family Identifier.
-fn afi(family: Family) -> u16
+pub(crate) fn afi(family: Family) -> u16
     ensures { result ≡ afi_of family }
 {
     match family {

@@ -76,7 +76,7 @@ fn open_parts(octets: &[u8]) -> Option<(&[u8; FIXED_LEN], &[u8])>
     message_body(MessageType::Open, octets)?.split_first_chunk::<FIXED_LEN>()
 }
 
-/// The fields of an OPEN of version 4. Contracts see it as these.
+/// The fields of an OPEN of version 4. Contracts see it as these fields and a list of capabilities.
 #[derive(Debug, Drop)]
 pub struct Open<'a> {
     my_as: u16,
@@ -99,29 +99,29 @@ impl<'a> Model for Open<'a> {
 }
 
 impl<'a> Open<'a> {
-    /// My Autonomous System, as it was sent: a speaker whose AS number has more than two octets
-    /// sends 23456 (RFC 6793, 3 and 9).
+    /// Returns My Autonomous System as it was sent. A speaker whose AS number has more than two
+    /// octets sends 23456 (RFC 6793, 3 and 9).
     pub fn my_as(&self) -> u16
         ensures { result ≡ self.now.my_as }
     {
         self.my_as
     }
 
-    /// The Hold Time that the speaker proposes, in seconds.
+    /// Returns the Hold Time that the speaker proposes, in seconds.
     pub fn hold(&self) -> u16
         ensures { result ≡ self.now.hold }
     {
         self.hold
     }
 
-    /// The speaker's BGP Identifier.
+    /// Returns the speaker's BGP Identifier.
     pub fn id(&self) -> u32
         ensures { result ≡ self.now.id }
     {
         self.id
     }
 
-    /// The capabilities in all parameters, in their order.
+    /// Returns the capabilities in all parameters, in order.
     pub fn caps(&self) -> Capabilities<'a>
         ensures { result ≡ self.now.capabilities }
     {
@@ -170,9 +170,27 @@ pub(crate) fn read_readable(octets: &[u8]) -> Result<ReadableOpen<'_>, OpenFault
     })
 }
 
-/// Reads a whole OPEN message. Octets that are none are malformed. Of several faults it answers the
-/// least, but a version other than 4 before any other, since nothing else is then known of the
-/// message.
+/// Reads the fields of a readable OPEN: its version is 4, and its parameters are whole. Returns
+/// `None` for other octets.
+///
+/// A readable OPEN may still have to be refused, for a parameter of another type or for what its
+/// fields say ([`open_faults`](crate::open_faults)). So whoever describes an OPEN reads it with
+/// this function: [`RouteOffer::of`](crate::RouteOffer::of), a reason, `check`, an import. Who
+/// takes part in a session reads it with [`read_open`].
+pub fn read_fields(octets: &[u8]) -> Option<Open<'_>>
+    ensures some { IfSome result (λ message. IsReadable octets.entry.now) }
+    ensures open { IfSome result (λ message. message ≡ open_of octets.entry.now) }
+    ensures none { IfNone result (¬ IsReadable octets.entry.now) }
+{
+    match read_readable(octets) {
+        Ok(readable) => Some(readable.message),
+        Err(_) => None,
+    }
+}
+
+/// Reads a whole OPEN message. Octets that aren't one are malformed. If there are several faults,
+/// it returns the least. Only a version other than 4 comes before all others, since nothing else is
+/// known about such a message.
 pub fn read_open(octets: &[u8]) -> Result<Open<'_>, OpenFault>
     ensures open { IfOk result (λ message. message ≡ open_of octets.entry.now) }
     ensures ok { IfOk result (λ message. IsWellFormed octets.entry.now) }

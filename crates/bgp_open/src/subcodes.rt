@@ -1,4 +1,5 @@
-//! The faults of a peer's OPEN, as sets of subcodes (RFC 4271, 6.2; RFC 6286, 2.2; RFC 5492, 3).
+//! The faults of a peer's OPEN, as sets of subcodes (RFC 4271, 6.2; RFC 6286, 2.2; RFC 5492, 3;
+//! RFC 9234, 4.2).
 
 ghost use Rattle.std.specs.Prelude.{◌≡◌, ◌↔◌, ◌||◌, IsTrue, IfSome, IfNone, unwrap_or};
 ghost use Rattle.bgp_wire.specs.Least.{IsLeastNamed};
@@ -23,7 +24,7 @@ const OPEN_MESSAGE_ERROR: u8 = 2;
 pub struct OpenSubcodes {
     /// Unspecific (subcode 0).
     pub unspecific: bool,
-    /// Unsupported Version Number (subcode 1), with the version that is spoken as data: `00 04`.
+    /// Unsupported Version Number (subcode 1), with the supported version as data: `00 04`.
     pub version: bool,
     /// Bad Peer AS (subcode 2).
     pub peer_as: bool,
@@ -35,6 +36,8 @@ pub struct OpenSubcodes {
     pub hold: bool,
     /// Unsupported Capability (subcode 7; RFC 5492, 5).
     pub capability: bool,
+    /// Role Mismatch (subcode 11; RFC 9234, 4.2).
+    pub role: bool,
 }
 
 impl OpenSubcodes {
@@ -47,13 +50,15 @@ impl OpenSubcodes {
         parameter: false,
         hold: false,
         capability: false,
+        role: false,
     };
 
-    /// What a speaker may refuse any OPEN of version 4 for: its Hold Time (RFC 4271, 6.2), or that
-    /// a capability is missing (RFC 5492, 3).
+    /// What a speaker may refuse any OPEN of version 4 for: its Hold Time (RFC 4271, 6.2), that a
+    /// capability is missing (RFC 5492, 3), or the peer's role (RFC 9234, 4.2).
     const ANY_SPEAKERS: OpenSubcodes = OpenSubcodes {
         hold: true,
         capability: true,
+        role: true,
         ..OpenSubcodes::NONE
     };
 
@@ -66,17 +71,18 @@ impl OpenSubcodes {
         parameter: true,
         hold: true,
         capability: true,
+        role: false,
     };
 
-    /// Whether no fault is in the set.
+    /// Checks whether the set is empty.
     pub fn is_empty(&self) -> bool
         ensures { IsTrue result ↔ IsEmpty self.now }
     {
         *self == OpenSubcodes::NONE
     }
 
-    /// Whether a NOTIFICATION with this subcode of OPEN Message Error and these data names a fault
-    /// of the set: with subcode 1 the data are `00 04`, and with others they are free.
+    /// Checks whether a NOTIFICATION with this subcode of OPEN Message Error and these data names a
+    /// fault of the set. For subcode 1 the data have to be `00 04`; for others they are free.
     pub fn contains(&self, subcode: u8, detail: &[u8]) -> bool
         ensures { IsTrue result ↔ Names self.now subcode detail.now }
     {
@@ -88,17 +94,18 @@ impl OpenSubcodes {
             4 => self.parameter,
             6 => self.hold,
             7 => self.capability,
+            11 => self.role,
             _ => false,
         }
     }
 
-    /// The fault of the set with the least subcode: with `00 04` as data for subcode 1, and without
-    /// data for others. `None` where the set is empty.
+    /// Returns the fault of the set with the least subcode. Its data are `00 04` for subcode 1, and
+    /// none for others. Returns `None` if the set is empty.
     pub fn least(&self) -> Option<NamedFault>
         ensures some { IfSome result (λ fault. IsLeastNamed 2 (Names self.now) fault) }
         ensures none { IfNone result (IsEmpty self.now) }
     {
-        for subcode in 0..8 {
+        for subcode in 0..12 {
             let detail = detail_with(subcode);
             if self.contains(subcode, detail) {
                 return Some(NamedFault::new(OPEN_MESSAGE_ERROR, subcode, detail));
@@ -107,7 +114,7 @@ impl OpenSubcodes {
         None
     }
 
-    /// The subcodes of both sets.
+    /// Returns the subcodes of both sets together.
     pub fn union(self, others: OpenSubcodes) -> OpenSubcodes
         ensures { result ≡ union self others }
     {
@@ -119,6 +126,7 @@ impl OpenSubcodes {
             parameter: either(self.parameter, others.parameter),
             hold: either(self.hold, others.hold),
             capability: either(self.capability, others.capability),
+            role: either(self.role, others.role),
         }
     }
 }
@@ -137,13 +145,13 @@ fn either(one: bool, other: bool) -> bool
     one || other
 }
 
-/// The faults of an OPEN that was received. Its allowed NOTIFICATIONs name one of either set. It is
-/// small, and takes no memory.
+/// The faults of a received OPEN. A NOTIFICATION in answer to it is allowed if it names a fault of
+/// one of the two sets. It is small, and allocates nothing.
 #[derive(Clone, Copy, Debug, PartialEq, Eq)]
 pub struct OpenFaults {
-    /// For these the OPEN has to be refused; it is valid where there is none.
+    /// The faults for which the OPEN has to be refused. If there is none, the OPEN is valid.
     pub must: OpenSubcodes,
-    /// For these it may be.
+    /// The faults for which it may be refused.
     pub may: OpenSubcodes,
 }
 
@@ -179,8 +187,8 @@ fn field_subcodes(config: &Config, message: &Open<'_>, has_capabilities_alone: b
     }
 }
 
-/// The faults of a peer's OPEN: those for which it has to be refused, each by itself, and those for
-/// which it may be. Octets that are no whole OPEN count as a malformed one.
+/// Finds the faults of a peer's OPEN: those for which it has to be refused, each by itself, and
+/// those for which it may be. Octets that aren't a whole OPEN count as a malformed one.
 pub fn open_faults(config: &Config, octets: &[u8]) -> OpenFaults
     ensures must { AreSubcodesOf (mandatory_faults config.now octets.now) result.must }
     ensures may { AreSubcodesOf (permitted_faults octets.now) result.may }

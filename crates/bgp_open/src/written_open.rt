@@ -29,13 +29,13 @@ pub enum OpenWriteFault {
     /// The parameter with the capabilities would have more than 255 octets.
     #[error("too many capabilities for an OPEN message")]
     TooMany = 1,
-    /// There was no memory for it.
+    /// Memory ran out.
     #[error("out of memory")]
     Memory = 2,
 }
 
 impl OpenWriteFault {
-    /// The fault's number: 1 for too many capabilities, 2 for memory.
+    /// Returns the fault's number: 1 for too many capabilities, 2 for memory.
     pub fn number(self) -> u8
         ensures { result ≡ open_write_number self }
     {
@@ -125,8 +125,8 @@ fn put_fixed_fields<A: Allocator>(
     put_u8(out, parameters_length);
 }
 
-/// Appends an OPEN of version 4 with all capabilities in one parameter, or without a parameter
-/// where there are none. After a fault the vector is as before.
+/// Appends an OPEN of version 4 with all capabilities in one parameter, or without a parameter if
+/// there are no capabilities. After a fault the vector is unchanged.
 pub fn write_open<A: Allocator>(
     my_as: u16,
     hold: u16,

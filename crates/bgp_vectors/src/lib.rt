@@ -3,7 +3,7 @@
 //! `vectors` of `bgp_wire` has the messages that this router sends and receives.
 #![tactic(auto)]
 
-use bgp_open::{ConfigParts, Families};
+use bgp_open::{ConfigParts, Families, RouteOffer};
 use bgp_prefix::{Address, RouteRefresh, Session};
 
 /// What router A is configured to do: AS 65001 at 192.0.2.1, with AS 65002 at 192.0.2.2, Hold Time
@@ -23,6 +23,7 @@ pub const ROUTER_A: ConfigParts = ConfigParts {
         refresh: RouteRefresh::Refused,
         extended: false,
     },
+    offers: RouteOffer::NOTHING,
 };
 
 /// The same for a router A that doesn't offer route refresh, as a speaker doesn't.
@@ -41,4 +42,5 @@ pub const SPEAKER_A: ConfigParts = ConfigParts {
         refresh: RouteRefresh::NotOffered,
         extended: false,
     },
+    offers: RouteOffer::NOTHING,
 };
