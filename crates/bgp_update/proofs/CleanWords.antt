@@ -9,7 +9,7 @@ use Rattle.bgp_update.specs.Clean.{IsClean, IsCleanBy, IsAppliedAlone, most_octe
 use Rattle.bgp_update.specs.Disabled.{IsCertain, IsOptional}
 use Rattle.bgp_update.specs.ResetFaults.{IsResetSubcode, IsMereSubcode}
 use Rattle.bgp_update.specs.WithdrawFaults.{HasWithdrawFault}
-use Rattle.bgp_update.specs.Found.{Found, found}
+use Rattle.bgp_update.specs.Found.{Found, found_by_form}
 use Rattle.bgp_update.specs.Mp.{Unused}
 use Rattle.bgp_update.specs.MpShown.{state_of}
 use Rattle.bgp_update.specs.Sections.{Sections, IsUpdate}
@@ -41,11 +41,11 @@ no_subcode R M U S T false r m u e = (
   λ none. absurd (none e.0 (elim ((u e.0).0 e.1) [ inl x ↦ inl ((r e.0).0 x) | inr x ↦ inr ((m e.0).0 x) ])),
 )
 
-pub clean_by : (link : Link) (octets : List ℕ) → length octets ≤ most_octets link → (s : Sections) (x : Found) (clean : Bool) → IsUpdate octets s → x ≡ found link s → IsTrue clean ↔ IsCleanBy link x
+pub clean_by : (link : Link) (octets : List ℕ) → length octets ≤ most_octets link → (s : Sections) (x : Found) (clean : Bool) → IsUpdate octets s → x ≡ found_by_form link link.sent s → IsTrue clean ↔ IsCleanBy link x
     → IsTrue clean ↔ IsClean link octets
 clean_by link octets fits s x clean is e h = (
   λ yes. (fits, s, is, subst (IsCleanBy link) e (h.0 yes)),
-  λ c. h.1 (subst (IsCleanBy link) (ap (found link) (one_split octets c.1 s c.2 is) ∙ sym e) c.3),
+  λ c. h.1 (subst (IsCleanBy link) (ap (found_by_form link link.sent) (one_split octets c.1 s c.2 is) ∙ sym e) c.3),
 )
 
 pub alone : (x : Found) (fault : Bool) → ((n : ℕ) → ¬ (IsResetSubcode x n ⊎ IsMereSubcode x n)) → ((f : Family) → ¬ (IsCertain x f ⊎ IsOptional x f)) → IsTrue fault ↔ HasWithdrawFault x

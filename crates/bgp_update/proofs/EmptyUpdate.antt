@@ -2,6 +2,7 @@
 use Rattle.std.proofs.Common.{◌≡◌, ℕ, ◌+◌, ◌<◌, ◌≤◌, ◌^◌, ◌⊎◌, length, [], Some, None, true, false, refl, subst, inl, inr, arith}
 use Rattle.bgp_prefix.specs.declared.family.Family.{Family}
 use Rattle.bgp_open.specs.declared.link.Link.{Link}
+use Rattle.bgp_open.specs.declared.route_form.RouteForm.{RouteForm}
 use Rattle.bgp_attr.specs.Split.{attributes_of, rest_of, tail_at}
 use Rattle.bgp_wire.specs.declared.header.Limit.{Limit}
 use Rattle.bgp_wire.specs.declared.header.MessageType.TheVariants.{Update}
@@ -15,7 +16,7 @@ use Rattle.bgp_wire.proofs.WrittenMessage.{written_message, body_of-message_octe
 use Rattle.bgp_update.specs.Laws.{HasCleanUpdate}
 use Rattle.bgp_update.specs.Clean.{IsCleanBy, most_octets}
 use Rattle.bgp_update.specs.Disabled.{IsCertain, IsOptional}
-use Rattle.bgp_update.specs.Found.{Found, MpFound, found}
+use Rattle.bgp_update.specs.Found.{Found, MpFound, found_by_form}
 use Rattle.bgp_update.specs.Mp.{Absent, Unused}
 use Rattle.bgp_update.specs.MpFaults.{MayReset}
 use Rattle.bgp_update.specs.Prefixes.{prefixes_of}
@@ -41,9 +42,9 @@ blank = record {
   tail = None;
 }
 
-is_blank : (link : Link) → blank ≡ found link empty
+is_blank : (link : Link) (form : RouteForm) → blank ≡ found_by_form link form empty
 unfolding blank absent empty prefixes_of attributes_of rest_of tail_at
-is_blank link = refl
+is_blank link form = refl
 
 never : false ≡ true → ⊥
 never e = absurd cc
@@ -100,8 +101,8 @@ clean_blank link = record {
   used = record { base = inr (refl, refl); reach = apart; unreach = apart };
 }
 
-pub clean_empty : (link : Link) → IsCleanBy link (found link empty)
-clean_empty link = subst (IsCleanBy link) (is_blank link) (clean_blank link)
+clean_empty : (link : Link) → IsCleanBy link (found_by_form link link.sent empty)
+clean_empty link = subst (IsCleanBy link) (is_blank link link.sent) (clean_blank link)
 
 -- ---- and a whole frame
 

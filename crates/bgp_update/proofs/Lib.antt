@@ -7,7 +7,9 @@ pub mod MpValues
 pub mod OneOutcome
 pub mod OneParts
 pub mod OneSplit
+pub mod NextHops
 pub mod PrefixLists
+pub mod ReadAlike
 pub mod Routes
 pub mod Seen
 pub mod Words

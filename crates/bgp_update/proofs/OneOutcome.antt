@@ -1,5 +1,5 @@
 -- An UPDATE changes one thing, and a clean one has one outcome.
-use Rattle.std.proofs.Common.{◌≡◌, ℕ, List, Bool, true, false, IsTrue, refl, sym, subst, ◌∙◌, inl, inr}
+use Rattle.std.proofs.Common.{◌≡◌, ◌↔◌, ℕ, List, Bool, true, false, IsTrue, refl, sym, subst, ◌∙◌, inl, inr}
 use Rattle.bgp_prefix.specs.declared.family.Family.TheVariants.{V4, V6}
 use Rattle.bgp_prefix.specs.Prefix.{PrefixBits}
 use Rattle.bgp_open.specs.declared.families.Families.{Families}
@@ -14,6 +14,7 @@ use Rattle.bgp_update.specs.Laws.{HasOneChange, CleanHasOneOutcome, no_families}
 use Rattle.bgp_update.specs.Outcome.{Outcome, Applied, Reset, IsOutcome, IsOutcomeBy}
 use Rattle.bgp_update.specs.Sections.{Sections, IsUpdate}
 use Rattle.bgp_update.proofs.OneSplit.{one_split}
+use Rattle.bgp_update.proofs.ReadAlike.{same_found}
 
 -- ---- one change
 
@@ -58,18 +59,24 @@ only link x attributes h (Applied c d) (r, inl faulty, off) = absurd (h.no_fault
 only link x attributes h (Applied c d) (r, inr sound, off) = rw (sound.1, only_none x d h off) refl
 only link x attributes h (Reset n) subcode = absurd (h.no_reset n subcode)
 
-pub alone_outcome : (link : Link) (x : Found) (attributes : List Attribute) → IsAppliedAlone x
+alone_outcome : (link : Link) (x : Found) (attributes : List Attribute) → IsAppliedAlone x
     → IsOutcomeBy link x attributes (Applied (record { remove = withdrawals link x; put = announcements link x attributes }) no_families)
 alone_outcome link x attributes h = ((λ r. h.no_reset r.0 (inl r.1)), inr (h.no_fault, refl), none_disabled x h)
 
+-- an UPDATE that is applied alone has the one outcome
+pub applied_alone : (link : Link) (octets : List ℕ) (s : Sections) → IsUpdate octets s → IsAppliedAlone (found link s) → (outcome : Outcome)
+    → IsOutcome link octets outcome
+    ↔ (outcome ≡ Applied (record { remove = withdrawals link (found link s); put = announcements link (found link s) (attributes_of s.attributes) }) no_families)
+applied_alone link octets s is alone outcome = (
+  λ o. only link (found link s) (attributes_of s.attributes) alone outcome (under link octets s outcome is o),
+  λ same. subst (IsOutcome link octets) (sym same) (inr (s, is, alone_outcome link (found link s) (attributes_of s.attributes) alone)),
+)
+
 pub one_outcome : CleanHasOneOutcome
-one_outcome link octets clean =
+one_outcome sender receiver octets alike clean =
     let s = clean.1 in
-    let x = found link s in
-    let attributes = attributes_of s.attributes in (
-      record { remove = withdrawals link x; put = announcements link x attributes },
-      λ outcome. (
-        λ is. only link x attributes clean.3.alone outcome (under link octets s outcome clean.2 is),
-        λ same. subst (IsOutcome link octets) (sym same) (inr (s, clean.2, alone_outcome link x attributes clean.3.alone)),
-      ),
+    let x = found receiver s in
+    let alone = subst IsAppliedAlone (same_found sender sender.sent receiver receiver.received alike s) clean.3.alone in (
+      record { remove = withdrawals receiver x; put = announcements receiver x (attributes_of s.attributes) },
+      applied_alone receiver octets s clean.2 alone,
     )

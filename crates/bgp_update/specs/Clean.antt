@@ -1,5 +1,6 @@
 -- A clean UPDATE: one that a speaker may send, since it leaves a peer nothing to forgive (RFC 4271,
--- 4.3 and 5; RFC 7606, 3).
+-- 4.3 and 5; RFC 7606, 3). How routes are spelled that are sent, the link's sent form says
+-- (RFC 8950, 4).
 use Rattle.std.specs.Prelude.{◌≡◌, ◌≢◌, ◌≤◌, ◌⊎◌, ℕ, List, [], Some, false, IsTrue, length}
 use Rattle.bgp_wire.specs.Header.{greatest_length, limit_with}
 use Rattle.bgp_prefix.specs.declared.family.Family.{Family}
@@ -7,7 +8,7 @@ use Rattle.bgp_prefix.specs.declared.family.Family.TheVariants.{V4}
 use Rattle.bgp_open.specs.declared.link.Link.{Link}
 use Rattle.bgp_open.specs.Families.{contains}
 use Rattle.bgp_update.specs.Disabled.{IsCertain, IsOptional}
-use Rattle.bgp_update.specs.Found.{Found, found}
+use Rattle.bgp_update.specs.Found.{Found, found_by_form}
 use Rattle.bgp_update.specs.Mp.{Unused}
 use Rattle.bgp_update.specs.ResetFaults.{IsResetSubcode, IsMereSubcode}
 use Rattle.bgp_update.specs.Sections.{Sections, IsUpdate}
@@ -44,8 +45,9 @@ pub record IsCleanBy (link : Link) (x : Found) : Type 0 where
 abbrev pub most_octets : Link → ℕ
 most_octets link = greatest_length (limit_with link.extended) 2
 
--- the octets are a whole UPDATE, no more of them than the link allows, and it is clean
+-- the octets are a whole UPDATE, no more of them than the link allows, and it is clean in the form
+-- in which routes are sent
 abbrev pub IsClean : Link → List ℕ → Type 0
 IsClean link octets =
     (length octets ≤ most_octets link)
-    × (s : Sections) × IsUpdate octets s × IsCleanBy link (found link s)
+    × (s : Sections) × IsUpdate octets s × IsCleanBy link (found_by_form link link.sent s)

@@ -7,6 +7,7 @@ use Rattle.bgp_prefix.specs.declared.family.Family.{Family}
 use Rattle.bgp_prefix.specs.declared.family.Family.TheVariants.{V4}
 use Rattle.bgp_prefix.specs.Prefix.{PrefixBits}
 use Rattle.bgp_open.specs.declared.link.Link.{Link}
+use Rattle.bgp_open.specs.declared.route_form.RouteForm.{RouteForm}
 use Rattle.bgp_attr.specs.declared.classes.AttrVerdict.{AttrVerdict}
 use Rattle.bgp_attr.specs.declared.classes.AttrVerdict.TheVariants.{Good, Discard, Withdraw, Reset}
 use Rattle.bgp_attr.specs.declared.classes.Side.{Side}
@@ -109,22 +110,27 @@ mp_found link read t attributes = record {
   is_repeated = is_repeated (type_number t) attributes;
 }
 
--- what prefixes, attributes and a tail come to; only the first attribute of a type is classed
--- (RFC 7606, 3 g)
-abbrev pub found_of : Link → Option (List PrefixBits) → Option (List PrefixBits) → List Attribute
-    → Option Tail → Found
-found_of link withdrawn nlri attributes tail = record {
+-- what prefixes, attributes and a tail come to if routes are spelled in this form; only the first
+-- attribute of a type is classed (RFC 7606, 3 g). The form's identified families aren't read here
+-- yet: each prefix stands without a path identifier (RFC 7911, 3).
+abbrev pub found_of : Link → RouteForm → Option (List PrefixBits) → Option (List PrefixBits)
+    → List Attribute → Option Tail → Found
+found_of link form withdrawn nlri attributes tail = record {
   withdrawn = withdrawn;
   nlri = nlri;
-  reach = mp_found link reach_contents types.MpReachNlri attributes;
+  reach = mp_found link (reach_contents form) types.MpReachNlri attributes;
   unreach = mp_found link unreach_contents types.MpUnreachNlri attributes;
   classes = classes_found (side_of link) (firsts attributes);
   types = types_found attributes;
   tail = tail;
 }
 
--- what the three fields come to
-abbrev pub found : Link → Sections → Found
-found link s =
-    found_of link (prefixes_of V4 s.withdrawn) (prefixes_of V4 s.nlri)
+-- what the three fields come to if routes are spelled in this form
+abbrev pub found_by_form : Link → RouteForm → Sections → Found
+found_by_form link form s =
+    found_of link form (prefixes_of V4 s.withdrawn) (prefixes_of V4 s.nlri)
     (attributes_of s.attributes) (tail_at (rest_of s.attributes))
+
+-- what those of an UPDATE that was received over the link come to
+abbrev pub found : Link → Sections → Found
+found link s = found_by_form link link.received s

@@ -1,7 +1,12 @@
 -- Laws of UPDATEs and their outcomes.
-use Rattle.std.specs.Prelude.{◌≡◌, ◌↔◌, ℕ, List, [], false}
+use Rattle.std.specs.Prelude.{◌≡◌, ◌↔◌, ℕ, List, [], false, IsTrue, All}
+use Rattle.bgp_prefix.specs.declared.family.Family.{Family}
+use Rattle.bgp_prefix.specs.declared.family.Family.TheVariants as families
 use Rattle.bgp_open.specs.declared.families.Families.{Families}
 use Rattle.bgp_open.specs.declared.link.Link.{Link}
+use Rattle.bgp_open.specs.declared.route_form.RouteForm.{RouteForm}
+use Rattle.bgp_path.specs.declared.path.NextHop.{NextHop}
+use Rattle.bgp_path.specs.declared.path.NextHop.TheVariants as hops
 use Rattle.bgp_wire.specs.Message.{message_octets}
 use Rattle.bgp_wire.specs.declared.header.Limit.{Limit}
 use Rattle.bgp_wire.specs.Framing.{IsFrame}
@@ -30,13 +35,57 @@ HasOneChange =
 abbrev pub no_families : Families
 no_families = record { v4 = false; v6 = false }
 
--- of a clean UPDATE there is one outcome: it is applied, and nothing is disabled
+-- in these two forms, over these two links, an UPDATE is read alike: reading asks a link and a form
+-- for nothing else
+pub record IsReadAlike (one : Link) (form : RouteForm) (other : Link) (another : RouteForm)
+    : Type 0 where
+  pub as4 : one.as4 ≡ other.as4
+  pub internal : one.internal ≡ other.internal
+  pub families : one.families ≡ other.families
+  pub next_hops : form.ipv6_next_hops ≡ another.ipv6_next_hops
+
+-- what is received over the second link is read as what is sent over the first. A link whose two
+-- forms are one is so to itself.
+abbrev pub IsReceiver : Link → Link → Type 0
+IsReceiver sender receiver = IsReadAlike sender sender.sent receiver receiver.received
+
+-- of an UPDATE that is clean when it is sent there is one outcome where it is received: it is
+-- applied, and nothing is disabled
 abbrev pub CleanHasOneOutcome : Type 0
 CleanHasOneOutcome =
-    (link : Link) (octets : List ℕ) → IsClean link octets
+    (sender receiver : Link) (octets : List ℕ) → IsReceiver sender receiver
+    → IsClean sender octets
     → (changes : RouteChanges)
     × ((outcome : Outcome)
-    → IsOutcome link octets outcome ↔ (outcome ≡ Applied changes no_families))
+    → IsOutcome receiver octets outcome ↔ (outcome ≡ Applied changes no_families))
+
+-- an IPv4 route has an IPv6 next hop only if the form has them (RFC 8950, 4), and an IPv6 route has
+-- no IPv4 next hop
+abbrev pub IsNextHopOf : RouteForm → Family → NextHop → Type 0
+IsNextHopOf form families.V4 (hops.V4 address) = Unit {0}
+IsNextHopOf form families.V4 (hops.V6 address) = IsTrue form.ipv6_next_hops
+IsNextHopOf form families.V4 (hops.V6WithLinkLocal address link_local) =
+    IsTrue form.ipv6_next_hops
+IsNextHopOf form families.V6 (hops.V4 address) = ⊥
+IsNextHopOf form families.V6 (hops.V6 address) = Unit {0}
+IsNextHopOf form families.V6 (hops.V6WithLinkLocal address link_local) = Unit {0}
+
+-- each route that is put has a next hop by the received form: under the plain one, one of its own
+-- family (RFC 4760, 3)
+abbrev pub NextHopsAreByForm : Type 0
+NextHopsAreByForm =
+    (link : Link) (octets : List ℕ) (changes : RouteChanges) (disabled : Families)
+    → IsOutcome link octets (Applied changes disabled)
+    → All (λ route. IsNextHopOf link.received route.prefix.family route.path.next_hop) changes.put
+
+-- over links that read alike the same outcomes are allowed, and the same UPDATEs are clean
+pub record DependsOnForm : Type 0 where
+  pub outcome : (one other : Link) (octets : List ℕ) (outcome : Outcome)
+      → IsReadAlike one one.received other other.received
+      → IsOutcome one octets outcome → IsOutcome other octets outcome
+  pub clean : (one other : Link) (octets : List ℕ)
+      → IsReadAlike one one.sent other other.sent → one.extended ≡ other.extended
+      → IsClean one octets → IsClean other octets
 
 -- an UPDATE whose three fields are empty (RFC 4724, 2, calls it the End-of-RIB marker of IPv4)
 abbrev pub empty_update : List ℕ

@@ -1,6 +1,7 @@
 -- What an MP attribute that was read is to a contract.
 use Rattle.std.specs.Prelude.{ℕ, List, Option}
 use Rattle.bgp_prefix.specs.declared.family.Family.{Family}
+use Rattle.bgp_open.specs.declared.route_form.RouteForm.{RouteForm}
 use Rattle.bgp_attr.specs.declared.types.AttrType.{AttrType}
 use Rattle.bgp_attr.specs.declared.types.AttrType.TheVariants as types
 use Rattle.bgp_update.specs.declared.mp.MpContents.{MpContents}
@@ -18,10 +19,10 @@ abbrev pub type_of_mp : MpType → AttrType
 type_of_mp Reach = types.MpReachNlri
 type_of_mp Unreach = types.MpUnreachNlri
 
--- how the contents are read
-abbrev pub contents_read : MpType → Family → List ℕ → Option Contents
-contents_read Reach = reach_contents
-contents_read Unreach = unreach_contents
+-- how the contents are read in this form
+abbrev pub contents_read : RouteForm → MpType → Family → List ℕ → Option Contents
+contents_read form Reach = reach_contents form
+contents_read form Unreach = unreach_contents
 
 abbrev pub contents_of : Family → MpContents → Contents
 contents_of family c = record {

@@ -1,11 +1,12 @@
--- The values of MP_REACH_NLRI and MP_UNREACH_NLRI (RFC 4760, 3 and 4).
-use Rattle.std.specs.Prelude.{◌≡◌, ◌↔◌, ◌++◌, ℕ, ◌+◌, ◌==◌, not, nat_lt, List, ◌∷◌}
+-- The values of MP_REACH_NLRI and MP_UNREACH_NLRI (RFC 4760, 3 and 4; RFC 8950, 3).
+use Rattle.std.specs.Prelude.{◌≡◌, ◌↔◌, ◌++◌, ℕ, ◌+◌, ◌==◌, Bool, not, nat_lt, List, ◌∷◌}
 use Rattle.std.specs.Prelude.{if◌then◌else◌, length, take, drop, slice_index, Option, None, Some}
 use Rattle.std.specs.Option.{option_map}
 use Rattle.byteorder.specs.Endian.{big_number}
 use Rattle.bgp_prefix.specs.declared.family.Family.{Family}
 use Rattle.bgp_prefix.specs.declared.family.Family.TheVariants as families
 use Rattle.bgp_prefix.specs.Prefix.{PrefixBits}
+use Rattle.bgp_open.specs.declared.route_form.RouteForm.{RouteForm}
 use Rattle.bgp_path.specs.declared.path.NextHop.{NextHop}
 use Rattle.bgp_path.specs.declared.path.NextHop.TheVariants as hops
 use Rattle.bgp_update.specs.Prefixes.{ArePrefixes, prefixes_of}
@@ -20,34 +21,42 @@ family_with afi safi =
 abbrev pub family_in : List ℕ → Option Family
 family_in value = family_with (big_number 2 value) (slice_index value 2)
 
--- the next hop of so many octets: 4 for IPv4, 16 or 32 for IPv6 (RFC 4760, 3; RFC 2545, 3)
-abbrev pub next_hop_in : Family → List ℕ → Option NextHop
-next_hop_in families.V4 octets =
-    if length octets == 4 then Some (hops.V4 (big_number 4 octets)) else None
-next_hop_in families.V6 octets =
+-- an IPv6 next hop: 16 octets, or 32 with a link-local address (RFC 2545, 3)
+abbrev pub ipv6_hop_in : List ℕ → Option NextHop
+ipv6_hop_in octets =
     if length octets == 16 then Some (hops.V6 (big_number 16 octets))
     else (if length octets == 32
     then Some (hops.V6WithLinkLocal (big_number 16 octets) (big_number 16 (drop 16 octets)))
     else None)
+
+-- the next hop of so many octets: 4 for IPv4, 16 or 32 for IPv6 (RFC 4760, 3; RFC 2545, 3). If IPv4
+-- routes may have IPv6 next hops, IPv4 has 4, 16 or 32 (RFC 8950, 3 and 4). 24 or 48 octets are the
+-- next hop of a VPN's route, so of neither family.
+abbrev pub next_hop_in : Bool → Family → List ℕ → Option NextHop
+next_hop_in ipv6_next_hops families.V4 octets =
+    if length octets == 4 then Some (hops.V4 (big_number 4 octets))
+    else (if ipv6_next_hops then ipv6_hop_in octets else None)
+next_hop_in ipv6_next_hops families.V6 octets = ipv6_hop_in octets
 
 -- what an MP attribute of a family holds; MP_UNREACH_NLRI has no next hop
 pub record Contents : Type 0 where
   pub next_hop : Option NextHop
   pub prefixes : List PrefixBits
 
--- behind AFI and SAFI, the value of MP_REACH_NLRI is the length of the next hop and the next hop, a
+-- after AFI and SAFI, the value of MP_REACH_NLRI is the length of the next hop and the next hop, a
 -- reserved octet, which means nothing, and the prefixes
-pub record IsReachValue (family : Family) (value : List ℕ) (contents : Contents) : Type 0 where
+pub record IsReachValue (form : RouteForm) (family : Family) (value : List ℕ) (contents : Contents)
+    : Type 0 where
   pub hop : List ℕ
   pub address : NextHop
   pub reserved : ℕ
   pub nlri : List ℕ
   pub spelled : drop 3 value ≡ length hop ∷ (hop ++ reserved ∷ nlri)
-  pub is_hop : next_hop_in family hop ≡ Some address
+  pub is_hop : next_hop_in form.ipv6_next_hops family hop ≡ Some address
   pub next_hop : contents.next_hop ≡ Some address
   pub prefixes : ArePrefixes family nlri contents.prefixes
 
--- behind AFI and SAFI, that of MP_UNREACH_NLRI is prefixes
+-- after AFI and SAFI, that of MP_UNREACH_NLRI is prefixes
 pub record IsUnreachValue (family : Family) (value : List ℕ) (contents : Contents) : Type 0 where
   pub next_hop : contents.next_hop ≡ None
   pub prefixes : ArePrefixes family (drop 3 value) contents.prefixes
@@ -58,17 +67,18 @@ with_hop (Some hop) None = None
 with_hop (Some hop) (Some prefixes) =
     Some (record { next_hop = Some hop; prefixes = prefixes })
 
--- the contents of MP_REACH_NLRI: none where they are wrong, since the value is too short for its
--- fields, or the next hop's length isn't one of the family, or the prefixes are incorrect (RFC
--- 7606, 5.3 and 7.11)
-abbrev pub reach_contents : Family → List ℕ → Option Contents
-reach_contents family value =
+-- the contents of MP_REACH_NLRI in this form: none if they are wrong, since the value is too short
+-- for its fields, or the next hop's length isn't one of the family, or the prefixes are incorrect
+-- (RFC 7606, 5.3 and 7.11)
+abbrev pub reach_contents : RouteForm → Family → List ℕ → Option Contents
+reach_contents form family value =
     if nat_lt (length value) (5 + slice_index value 3)
     then None
-    else with_hop (next_hop_in family (take (slice_index value 3) (drop 4 value)))
+    else with_hop (next_hop_in form.ipv6_next_hops family
+    (take (slice_index value 3) (drop 4 value)))
     (prefixes_of family (drop (5 + slice_index value 3) value))
 
--- those of MP_UNREACH_NLRI: none where the prefixes are incorrect (RFC 7606, 5.3 and 7.12)
+-- those of MP_UNREACH_NLRI: none if the prefixes are incorrect (RFC 7606, 5.3 and 7.12)
 abbrev pub unreach_contents : Family → List ℕ → Option Contents
 unreach_contents family value =
     option_map (λ prefixes. record { next_hop = None; prefixes = prefixes })
@@ -76,7 +86,8 @@ unreach_contents family value =
 
 -- the functions read what the relations say
 pub record ReadsMpValues : Type 0 where
-  pub reach : (family : Family) (value : List ℕ) (contents : Contents)
-      → IsReachValue family value contents ↔ (reach_contents family value ≡ Some contents)
+  pub reach : (form : RouteForm) (family : Family) (value : List ℕ) (contents : Contents)
+      → IsReachValue form family value contents
+      ↔ (reach_contents form family value ≡ Some contents)
   pub unreach : (family : Family) (value : List ℕ) (contents : Contents)
       → IsUnreachValue family value contents ↔ (unreach_contents family value ≡ Some contents)

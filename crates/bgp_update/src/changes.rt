@@ -1,4 +1,4 @@
-//! What an UPDATE changes where it is applied (RFC 4271, 3.1; RFC 7606, 2).
+//! What an UPDATE changes if it is applied (RFC 4271, 3.1; RFC 7606, 2).
 
 ghost use Rattle.std.specs.Prelude.{◌≡◌, ◌++◌, IfOk, OnOk, List};
 ghost use Rattle.bgp_attr.specs.declared.types.AttrType.TheVariants as types;
@@ -42,7 +42,7 @@ use bgp_prefix::{Family, Prefix};
 use byteorder::{BigEndian, ByteOrder};
 use std::alloc::{AllocError, Allocator};
 
-/// The changes of an UPDATE that came to this.
+/// Returns the changes of an UPDATE in which this was found.
 pub(crate) fn changes_of<A: Allocator + Copy>(
     alloc: A,
     link: &Link,
@@ -102,7 +102,7 @@ fn push_announced<A: Allocator>(
     push_mp_prefixes(out, &found.reach.state)
 }
 
-/// Appends the prefixes of a Withdrawn Routes or NLRI field, where IPv4 is in use.
+/// Appends the prefixes of a Withdrawn Routes or NLRI field if IPv4 is in use.
 #[inline(always)]
 fn push_base_prefixes<A: Allocator>(
     out: &mut Vec<Prefix, A>,
@@ -118,7 +118,7 @@ fn push_base_prefixes<A: Allocator>(
     push_prefixes(out, Family::V4, field)
 }
 
-/// Appends those of an MP attribute of a family in use, where its contents are right.
+/// Appends the prefixes of an MP attribute of a family in use if its contents are right.
 #[inline(always)]
 fn push_mp_prefixes<A: Allocator>(
     out: &mut Vec<Prefix, A>,
@@ -132,7 +132,7 @@ fn push_mp_prefixes<A: Allocator>(
     }
 }
 
-/// The routes of the NLRI field, with NEXT_HOP.
+/// Returns the routes of the NLRI field, with the next hop of NEXT_HOP.
 fn base_group<A: Allocator + Copy>(
     alloc: A,
     link: &Link,
@@ -155,7 +155,7 @@ fn base_group<A: Allocator + Copy>(
     read_group(alloc, side, first, next_hop, Family::V4, found.nlri)
 }
 
-/// Those of MP_REACH_NLRI, with its own next hop.
+/// Returns the routes of MP_REACH_NLRI, with its own next hop.
 fn mp_group<A: Allocator + Copy>(
     alloc: A,
     link: &Link,
@@ -178,7 +178,7 @@ fn mp_group<A: Allocator + Copy>(
     read_group(alloc, side, first, next_hop, family, contents.prefixes)
 }
 
-/// The next hop that NEXT_HOP names.
+/// Returns the next hop that NEXT_HOP names.
 fn base_hop(side: Side, first: &FirstAttrs<'_>) -> NextHop
     ensures { result ≡ next_hop_from (value_by_type side (first_at first.now) types.NextHop) }
 {
@@ -188,14 +188,14 @@ fn base_hop(side: Side, first: &FirstAttrs<'_>) -> NextHop
     }
 }
 
-/// The next hop, where there is one; where there is none, no route has it.
+/// Returns the next hop if there is one. If there is none, no route has what is returned.
 fn hop_or_none(next_hop: Option<NextHop>) -> NextHop
     ensures { result ≡ hop_or next_hop }
 {
     next_hop.unwrap_or(NextHop::V4(0))
 }
 
-/// The routes of a field of prefixes: none where it has no prefix, so that no path is read then.
+/// Returns the routes of a field of prefixes, or none if it has no prefix: then no path is read.
 fn read_group<A: Allocator + Copy>(
     alloc: A,
     side: Side,

@@ -26,16 +26,20 @@ use bgp_open::Link;
 use bgp_prefix::Family;
 use bgp_wire::{Limit, MessageType};
 
-/// The most octets that an UPDATE may have which is sent on the link: 65535 where the peer offers
-/// extended messages (RFC 8654, 4), else 4096 (RFC 4271, 4.1).
+/// Returns how many octets an UPDATE may have at most that is sent over the link: 65535 if the peer
+/// offers extended messages (RFC 8654, 4), else 4096 (RFC 4271, 4.1).
 pub fn most_octets(link: &Link) -> u16
     ensures { result ≡ most_octets link.now }
 {
     Limit::with_extended(link.extended).greatest_length(MessageType::Update.code())
 }
 
-/// Whether the octets are a whole UPDATE that is clean: no longer than the link allows, it leaves a
-/// peer nothing to forgive. It takes no memory.
+/// Checks whether the octets are a whole UPDATE that is clean, so that it may be sent: it is no
+/// longer than the link allows, and leaves the peer nothing to forgive. It takes no memory.
+///
+/// IPv4 routes may have IPv6 next hops in MP_REACH_NLRI if the link's sent form has them (RFC 8950,
+/// 4); NEXT_HOP has 4 octets either way. The identified families of that form aren't read here yet:
+/// prefixes stand without path identifiers (RFC 7911, 3).
 pub fn is_clean(link: &Link, octets: &[u8]) -> bool
     ensures clean { IsTrue result ↔ IsClean link.now octets.now }
 {
@@ -45,11 +49,11 @@ pub fn is_clean(link: &Link, octets: &[u8]) -> bool
     let Some(fields) = split_update(octets) else {
         return false;
     };
-    survey_of(link, &fields, &mut FirstAttrs::none()).is_clean(link)
+    survey_of(link, link.sent, &fields, &mut FirstAttrs::none()).is_clean(link)
 }
 
 impl Survey<'_> {
-    /// Whether an UPDATE that comes to this is clean.
+    /// Checks whether an UPDATE in which this was found is clean.
     fn is_clean(&self, link: &Link) -> bool
         ensures { IsTrue result ↔ IsCleanBy link.now (found_by self.now) }
     {
@@ -62,7 +66,7 @@ impl Survey<'_> {
         self.is_of_families_in_use(link)
     }
 
-    /// The only outcome is Apply, with nothing disabled or withdrawn for a fault.
+    /// Checks whether the only outcome is Apply, with nothing disabled or withdrawn for a fault.
     fn is_applied_alone(&self) -> bool
         ensures { IsTrue result ↔ IsAppliedAlone (found_by self.now) }
     {
@@ -75,14 +79,14 @@ impl Survey<'_> {
         !self.has_withdraw_fault()
     }
 
-    /// Rules "discarded attribute" and "repeated attribute": neither holds.
+    /// Checks that neither rule holds, "discarded attribute" or "repeated attribute".
     fn wastes_no_attribute(&self) -> bool
         ensures { IsTrue result ↔ WastesNoAttribute (found_by self.now) }
     {
         !self.pass.classes.discard && !self.pass.types.has_repeats
     }
 
-    /// Rule "family not in use": it doesn't hold.
+    /// Checks that the rule "family not in use" doesn't hold.
     fn is_of_families_in_use(&self, link: &Link) -> bool
         ensures { IsTrue result ↔ IsOfFamiliesInUse link.now (found_by self.now) }
     {
@@ -95,7 +99,7 @@ impl Survey<'_> {
         !self.unreach.state.is_of_unused_family()
     }
 
-    /// No fault allows a reset.
+    /// Checks that no fault allows a reset.
     fn allows_no_reset(&self) -> bool
         ensures { IsTrue result ↔ ((n : ℕ)
             → ¬ (IsResetSubcode (found_by self.now) n ⊎ IsMereSubcode (found_by self.now) n)) }
@@ -103,7 +107,7 @@ impl Survey<'_> {
         self.reset_subcodes().union(self.mere_subcodes()).is_empty()
     }
 
-    /// No family may be disabled.
+    /// Checks that no family may be disabled.
     fn disables_nothing(&self) -> bool
         ensures { IsTrue result ↔ ((family : Family)
             → ¬ (IsCertain (found_by self.now) family ⊎ IsOptional (found_by self.now) family)) }
@@ -111,7 +115,7 @@ impl Survey<'_> {
         !self.may_disable(Family::V4) & !self.may_disable(Family::V6)
     }
 
-    /// An Apply disables the family, or may.
+    /// Checks whether an Apply disables the family, or may.
     fn may_disable(&self, family: Family) -> bool
         ensures { IsTrue result
             ↔ (IsCertain (found_by self.now) family ⊎ IsOptional (found_by self.now) family) }
@@ -119,7 +123,7 @@ impl Survey<'_> {
         self.is_certain(family) || self.is_optional(family)
     }
 
-    /// Each prefix of the base fields is of a family in use.
+    /// Checks whether each prefix of the base fields is of a family in use.
     fn has_base_in_use(&self, link: &Link) -> bool
         ensures { IsTrue result ↔ (IsTrue (contains link.now.families V4)
             ⊎ (((found_by self.now).withdrawn ≡ Some []) × ((found_by self.now).nlri ≡ Some []))) }
@@ -129,7 +133,7 @@ impl Survey<'_> {
 }
 
 impl MpState<'_> {
-    /// Rule "family not in use": it is IPv4 or IPv6 unicast, and not in use.
+    /// Checks the rule "family not in use": the family is IPv4 or IPv6 unicast, and not in use.
     fn is_of_unused_family(&self) -> bool
         ensures { (¬ IsTrue result) ↔ ((family : Family) → state_of self.now ≢ Unused family) }
     {

@@ -1,4 +1,4 @@
-//! The families that are disabled where an UPDATE is applied (RFC 4760, 7; RFC 7606, 5.3 and 7.11).
+//! The families that are disabled if an UPDATE is applied (RFC 4760, 7; RFC 7606, 5.3 and 7.11).
 
 ghost use Rattle.std.specs.Prelude.{◌↔◌, IsTrue};
 ghost use Rattle.bgp_open.specs.Families.{contains};
@@ -11,21 +11,21 @@ use bgp_open::Families;
 use bgp_prefix::Family;
 
 impl Survey<'_> {
-    /// Whether each Apply disables the family.
+    /// Checks whether each Apply disables the family.
     pub(crate) fn is_certain(&self, family: Family) -> bool
         ensures { IsTrue result ↔ IsCertain (found_by self.now) family }
     {
         self.reach.state.is_broken_of(family) || self.unreach.state.is_broken_of(family)
     }
 
-    /// Whether an Apply may disable it.
+    /// Checks whether an Apply may disable the family.
     pub(crate) fn is_optional(&self, family: Family) -> bool
         ensures { IsTrue result ↔ IsOptional (found_by self.now) family }
     {
         self.reach.is_doubtful(family) || self.unreach.is_doubtful(family)
     }
 
-    /// The families that each Apply disables.
+    /// Returns the families that each Apply disables.
     pub(crate) fn certain_families(&self) -> Families
         ensures { (family : Family)
             → IsTrue (contains result family) ↔ IsCertain (found_by self.now) family }
@@ -36,7 +36,7 @@ impl Survey<'_> {
         }
     }
 
-    /// The families that an Apply may disable, and needn't.
+    /// Returns the families that an Apply may disable, and needn't.
     pub(crate) fn optional_families(&self) -> Families
         ensures { (family : Family) → IsTrue (contains result family)
             ↔ (IsOptional (found_by self.now) family × ¬ IsCertain (found_by self.now) family) }

@@ -25,7 +25,8 @@ pub struct Fields<'a> {
     pub nlri: &'a [u8],
 }
 
-/// The fields of a whole UPDATE: none where its lengths are bad, or where the octets are none.
+/// Splits a whole UPDATE into its fields. Returns none if its lengths are bad, or if the octets are
+/// no UPDATE.
 pub fn split_update(octets: &[u8]) -> Option<Fields<'_>>
     ensures some { IfSome result (λ fields. IsUpdate octets.entry.now (sections_of fields)) }
     ensures none { IfNone result (IsMalformed octets.entry.now) }
@@ -46,7 +47,7 @@ pub fn split_update(octets: &[u8]) -> Option<Fields<'_>>
     })
 }
 
-/// The field behind its length in two octets, and what follows it.
+/// Splits off the field after its length in two octets, and returns it with what follows.
 fn split_counted(octets: &[u8]) -> Option<(&[u8], &[u8])>
     ensures some { IfSome result (λ r. IsCounted octets.entry.now r.0.now r.1.now) }
     ensures none { IfNone result (LacksCounted octets.entry.now) }

@@ -6,6 +6,8 @@ ghost use Rattle.bgp_update.specs.Laws.{
   HasOneChange,
   CleanHasOneOutcome,
   HasCleanUpdate,
+  NextHopsAreByForm,
+  DependsOnForm,
 };
 ghost use Rattle.bgp_update.specs.MpValue.{ReadsMpValues};
 ghost use Rattle.bgp_update.specs.Prefixes.{ReadsPrefixes};
@@ -15,27 +17,27 @@ use crate::survey::survey_of;
 use bgp_attr::FirstAttrs;
 use bgp_open::Link;
 
-/// An UPDATE has its three fields in one way.
+/// A law, with nothing to run: an UPDATE has its three fields in one way.
 pub fn one_split()
     ensures unique { HasOneSplit }
 {}
 
-/// Lists of prefixes and the values of MP attributes, which definitions read by functions, are what
-/// the standards lay out.
+/// A law, with nothing to run: lists of prefixes and the values of MP attributes, which definitions
+/// read by functions, are what the standards lay out.
 pub fn fields_are_read()
     ensures prefixes { ReadsPrefixes }
     ensures mp_values { ReadsMpValues }
 {}
 
-/// Whatever the octets are, some outcome is allowed. What is run decides which one is, and nothing
-/// of it is answered.
+/// Proves a law: whatever the octets are, some outcome is allowed. What is run decides which one
+/// is, and returns nothing of it.
 pub fn some_outcome(link: &Link, octets: &[u8])
     ensures some { HasAnOutcome link.now octets.now }
 {
     let Some(fields) = split_update(octets) else {
         return;
     };
-    let found = survey_of(link, &fields, &mut FirstAttrs::none());
+    let found = survey_of(link, link.received, &fields, &mut FirstAttrs::none());
     if !found.reset_subcodes().is_empty() {
         return;
     }
@@ -43,17 +45,34 @@ pub fn some_outcome(link: &Link, octets: &[u8])
     let _disabled = found.certain_families();
 }
 
-/// Wherever an UPDATE is applied, it changes the same.
+/// A law, with nothing to run: every Apply of an UPDATE changes the same.
 pub fn one_change()
     ensures same { HasOneChange }
 {}
 
-/// A clean UPDATE has one outcome: it is applied, and nothing is disabled.
+/// A law, with nothing to run: an UPDATE that is clean when it is sent has one outcome where it is
+/// received. It is applied, and nothing is disabled.
 pub fn clean_is_applied()
     ensures outcome { CleanHasOneOutcome }
 {}
 
-/// An UPDATE whose fields are all empty is clean on every link, and a whole frame of every limit.
+/// A law, with nothing to run: an IPv4 route that an UPDATE puts has an IPv6 next hop only if the
+/// form in which it was received has them (RFC 8950, 4). In the plain form each route has a next
+/// hop of its own family.
+pub fn next_hops_are_by_form()
+    ensures next_hops { NextHopsAreByForm }
+{}
+
+/// A law, with nothing to run: the outcomes of an UPDATE depend on the link only by the width of AS
+/// numbers, by whether the peer is internal, by the families in use, and by whether IPv4 routes
+/// have IPv6 next hops in the received form. Whether an UPDATE is clean depends on the same of the
+/// sent form, and on how long it may be.
+pub fn outcomes_depend_on_form()
+    ensures form { DependsOnForm }
+{}
+
+/// A law, with nothing to run: an UPDATE whose fields are all empty is clean on every link, and a
+/// whole frame of every limit.
 pub fn empty_is_clean()
     ensures empty { HasCleanUpdate }
 {}

@@ -1,5 +1,9 @@
 //! What an UPDATE asks of a BGP speaker: every outcome that the standards allow (RFC 4271, 4.3 and
-//! 6.3; RFC 4760; RFC 7606).
+//! 6.3; RFC 4760; RFC 7606; RFC 8950).
+//!
+//! What is received is read by the link's received form, and what is sent is clean by its sent
+//! form. A form's identified families aren't read here yet: prefixes stand without path
+//! identifiers.
 //!
 //! ```text
 //! let outcomes = read_update(alloc, &link, octets)?;
@@ -32,7 +36,8 @@ mod withdraw_faults;
 pub use clean::{is_clean, most_octets};
 pub use fields::{Fields, split_update};
 pub use laws::{
-    clean_is_applied, empty_is_clean, fields_are_read, one_change, one_split, some_outcome,
+    clean_is_applied, empty_is_clean, fields_are_read, next_hops_are_by_form, one_change,
+    one_split, outcomes_depend_on_form, some_outcome,
 };
 pub use link_side::side;
 pub use outcomes::{Changes, Outcomes, Put};

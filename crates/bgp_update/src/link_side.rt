@@ -6,7 +6,8 @@ ghost use Rattle.bgp_update.specs.Found.{side_of};
 use bgp_attr::Side;
 use bgp_open::Link;
 
-/// The side of a link: whether AS numbers have four octets, and whether the peer is internal.
+/// Returns the side of a link: whether AS numbers have four octets, and whether the peer is
+/// internal.
 pub fn side(link: &Link) -> Side
     ensures { result ≡ side_of link.now }
 {

@@ -1,5 +1,5 @@
-//! The MP attributes of an UPDATE (RFC 4760, 3 and 4), and what is wrong with them (RFC 7606, 5.3,
-//! 7.11 and 7.12).
+//! The MP attributes of an UPDATE (RFC 4760, 3 and 4; RFC 8950, 3), and what is wrong with them
+//! (RFC 7606, 5.3, 7.11 and 7.12).
 //!
 //! ```text
 //! MP_REACH_NLRI    AFI 2 | SAFI 1 | next-hop length 1 | next hop | reserved 1 | NLRI
@@ -10,13 +10,13 @@ ghost use Rattle.std.specs.Prelude.{◌≡◌, ◌≤◌, length, option_map, is
 ghost use Rattle.bgp_attr.specs.Field.{attribute_of};
 ghost use Rattle.bgp_update.specs.Mp.{has_other_bits, mp_state};
 ghost use Rattle.bgp_update.specs.MpShown.{contents_of, contents_read, state_of, type_of_mp};
-ghost use Rattle.bgp_update.specs.MpValue.{family_in, next_hop_in};
+ghost use Rattle.bgp_update.specs.MpValue.{family_in, ipv6_hop_in, next_hop_in};
 ghost use Rattle.bgp_update.specs.MpValue.{reach_contents, unreach_contents};
 ghost use Rattle.bgp_update.specs.Prefixes.{prefixes_of};
 
 use crate::prefixes::count_prefixes;
 use bgp_attr::{Attr, AttrType};
-use bgp_open::Families;
+use bgp_open::{Families, RouteForm};
 use bgp_path::NextHop;
 use bgp_prefix::Family;
 use byteorder::{BigEndian, ByteOrder};
@@ -60,7 +60,7 @@ pub(crate) enum MpState<'a> {
 }
 
 impl MpType {
-    /// The attribute type.
+    /// Returns the attribute type.
     pub(crate) fn attr_type(self) -> AttrType
         ensures { result ≡ type_of_mp self }
     {
@@ -71,10 +71,16 @@ impl MpType {
     }
 }
 
-/// The state of the first attribute of a type, where those families are in use.
-pub(crate) fn mp_state<'a>(used: Families, mp_type: MpType, attr: Option<Attr<'a>>) -> MpState<'a>
+/// Returns the state of the first attribute of a type, if those families are in use and routes are
+/// spelled in this form.
+pub(crate) fn mp_state<'a>(
+    used: Families,
+    form: RouteForm,
+    mp_type: MpType,
+    attr: Option<Attr<'a>>,
+) -> MpState<'a>
     ensures { state_of result
-        ≡ mp_state used (contents_read mp_type) (option_map attribute_of attr.entry) }
+        ≡ mp_state used (contents_read form mp_type) (option_map attribute_of attr.entry) }
 {
     let Some(attr) = attr else {
         return MpState::Absent;
@@ -88,13 +94,13 @@ pub(crate) fn mp_state<'a>(used: Families, mp_type: MpType, attr: Option<Attr<'a
     if !used.contains(family) {
         return MpState::Unused(family);
     }
-    match contents(mp_type, family, attr.value) {
+    match contents(form, mp_type, family, attr.value) {
         Some(contents) => MpState::Sound(family, contents),
         None => MpState::Broken(family),
     }
 }
 
-/// Whether its Optional and Transitive bits are in conflict with its type (RFC 7606, 3 c).
+/// Checks whether its Optional and Transitive bits are in conflict with its type (RFC 7606, 3 c).
 pub(crate) fn has_other_bits(mp_type: MpType, attr: Option<Attr<'_>>) -> bool
     ensures { result ≡ has_other_bits (type_of_mp mp_type) (option_map attribute_of attr.entry) }
 {
@@ -104,7 +110,7 @@ pub(crate) fn has_other_bits(mp_type: MpType, attr: Option<Attr<'_>>) -> bool
     }
 }
 
-/// The family that AFI and SAFI name.
+/// Returns the family that AFI and SAFI name.
 fn family_in(value: &[u8]) -> Option<Family>
     requires { 3 ≤ length value.now }
     ensures { result ≡ family_in value.now }
@@ -119,21 +125,27 @@ fn family_in(value: &[u8]) -> Option<Family>
     }
 }
 
-/// The contents of an attribute of this family: none where they are wrong.
-fn contents<'a>(mp_type: MpType, family: Family, value: &'a [u8]) -> Option<MpContents<'a>>
+/// Reads the contents of an attribute of this family, or returns none if they are wrong.
+fn contents<'a>(
+    form: RouteForm,
+    mp_type: MpType,
+    family: Family,
+    value: &'a [u8],
+) -> Option<MpContents<'a>>
     requires { 3 ≤ length value.now }
     ensures { option_map (contents_of family) result
-        ≡ contents_read mp_type family value.entry.now }
+        ≡ contents_read form mp_type family value.entry.now }
 {
     match mp_type {
-        MpType::Reach => reach_contents(family, value),
+        MpType::Reach => reach_contents(form, family, value),
         MpType::Unreach => unreach_contents(family, value),
     }
 }
 
-/// Those of MP_REACH_NLRI.
-fn reach_contents(family: Family, value: &[u8]) -> Option<MpContents<'_>>
-    ensures { option_map (contents_of family) result ≡ reach_contents family value.entry.now }
+/// Reads the contents of MP_REACH_NLRI.
+fn reach_contents(form: RouteForm, family: Family, value: &[u8]) -> Option<MpContents<'_>>
+    ensures { option_map (contents_of family) result
+        ≡ reach_contents form family value.entry.now }
 {
     if value.len() < 5 {
         return None;
@@ -144,7 +156,7 @@ fn reach_contents(family: Family, value: &[u8]) -> Option<MpContents<'_>>
         return None;
     }
     let (hop, rest) = rest.split_at(hop_len);
-    let Some(next_hop) = next_hop_in(family, hop) else {
+    let Some(next_hop) = next_hop_in(form, family, hop) else {
         return None;
     };
     let prefixes = rest.split_at(1).1;
@@ -157,7 +169,7 @@ fn reach_contents(family: Family, value: &[u8]) -> Option<MpContents<'_>>
     })
 }
 
-/// Those of MP_UNREACH_NLRI.
+/// Reads the contents of MP_UNREACH_NLRI.
 fn unreach_contents(family: Family, value: &[u8]) -> Option<MpContents<'_>>
     requires { 3 ≤ length value.now }
     ensures { option_map (contents_of family) result ≡ unreach_contents family value.entry.now }
@@ -172,21 +184,31 @@ fn unreach_contents(family: Family, value: &[u8]) -> Option<MpContents<'_>>
     })
 }
 
-/// Whether a field is a list of prefixes.
+/// Checks whether a field is a list of prefixes.
 fn are_prefixes(family: Family, octets: &[u8]) -> bool
     ensures { result ≡ is_some (prefixes_of family octets.now) }
 {
     count_prefixes(family, octets).is_some()
 }
 
-/// The next hop that so many octets are (RFC 4760, 3; RFC 2545, 3).
-fn next_hop_in(family: Family, octets: &[u8]) -> Option<NextHop>
-    ensures { result ≡ next_hop_in family octets.now }
+/// Reads the next hop that so many octets are (RFC 4760, 3; RFC 2545, 3; RFC 8950, 3).
+fn next_hop_in(form: RouteForm, family: Family, octets: &[u8]) -> Option<NextHop>
+    ensures { result ≡ next_hop_in form.ipv6_next_hops family octets.now }
 {
-    match (family, octets.len()) {
-        (Family::V4, 4) => Some(NextHop::V4(BigEndian::read_u32(octets))),
-        (Family::V6, 16) => Some(NextHop::V6(BigEndian::read_u128(octets))),
-        (Family::V6, 32) => {
+    match family {
+        Family::V4 if octets.len() == 4 => Some(NextHop::V4(BigEndian::read_u32(octets))),
+        Family::V4 if !form.ipv6_next_hops => None,
+        _ => ipv6_hop_in(octets),
+    }
+}
+
+/// Reads an IPv6 next hop: 16 octets, or 32 with a link-local address (RFC 2545, 3).
+fn ipv6_hop_in(octets: &[u8]) -> Option<NextHop>
+    ensures { result ≡ ipv6_hop_in octets.now }
+{
+    match octets.len() {
+        16 => Some(NextHop::V6(BigEndian::read_u128(octets))),
+        32 => {
             let (address, link_local) = octets.split_at(16);
             Some(NextHop::V6WithLinkLocal(
                 BigEndian::read_u128(address),

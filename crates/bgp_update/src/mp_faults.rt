@@ -19,21 +19,21 @@ use crate::survey::MpSurvey;
 use bgp_prefix::Family;
 
 impl MpState<'_> {
-    /// Its family isn't in use, or is neither IPv4 nor IPv6 unicast.
+    /// Checks whether its family isn't in use, or is neither IPv4 nor IPv6 unicast.
     fn is_unused(&self) -> bool
         ensures { IsTrue result ↔ IsUnused (state_of self.now) }
     {
         matches!(self, MpState::Other | MpState::Unused(_))
     }
 
-    /// Its family is in use, and its contents are right.
+    /// Checks whether its family is in use, and its contents are right.
     fn is_sound(&self) -> bool
         ensures { IsTrue result ↔ IsSound (state_of self.now) }
     {
         matches!(self, MpState::Sound(..))
     }
 
-    /// It is broken, and of this family.
+    /// Checks whether it is broken, and of this family.
     pub(crate) fn is_broken_of(&self, family: Family) -> bool
         ensures { IsTrue result ↔ (state_of self.now ≡ Broken family) }
     {
@@ -45,35 +45,35 @@ impl MpState<'_> {
 }
 
 impl MpSurvey<'_> {
-    /// Rule "cut MP attribute".
+    /// Checks the rule "cut MP attribute".
     pub(crate) fn is_cut(&self) -> bool
         ensures { IsTrue result ↔ IsCut (mp_found_by self.now) }
     {
         matches!(self.state, MpState::Cut)
     }
 
-    /// Rule "broken MP attribute".
+    /// Checks the rule "broken MP attribute".
     pub(crate) fn is_broken(&self) -> bool
         ensures { IsTrue result ↔ IsBroken (mp_found_by self.now) }
     {
         matches!(self.state, MpState::Broken(_))
     }
 
-    /// Rule "MP bits in conflict".
+    /// Checks the rule "MP bits in conflict".
     pub(crate) fn has_bits_in_conflict(&self) -> bool
         ensures { IsTrue result ↔ HasBitsInConflict (mp_found_by self.now) }
     {
         self.other_bits && (self.state.is_unused() || self.state.is_sound())
     }
 
-    /// A reset is allowed and not demanded.
+    /// Checks whether a reset is allowed and not demanded.
     pub(crate) fn may_reset(&self) -> bool
         ensures { IsTrue result ↔ MayReset (mp_found_by self.now) }
     {
         self.is_broken() || self.has_bits_in_conflict()
     }
 
-    /// It is of this family, and has nothing wrong but its bits.
+    /// Checks whether it is of this family, and has nothing wrong but its bits.
     pub(crate) fn is_doubtful(&self, family: Family) -> bool
         ensures { IsTrue result ↔ IsDoubtful (mp_found_by self.now) family }
     {
@@ -84,7 +84,7 @@ impl MpSurvey<'_> {
     }
 }
 
-/// Whether both are one family.
+/// Checks whether both are one family.
 fn is_same(one: Family, other: Family) -> bool
     ensures { IsTrue result ↔ (one ≡ other) }
 {

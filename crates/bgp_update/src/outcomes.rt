@@ -16,29 +16,30 @@ pub struct Put<A: Allocator = Global> {
     pub prefixes: Vec<Prefix, A>,
 }
 
-/// What an UPDATE changes where it is applied: first prefixes are removed, and then routes put, so
-/// that a prefix which is withdrawn and announced is there afterwards.
+/// What an UPDATE changes if it is applied: first prefixes are removed, and then routes put, so
+/// that a prefix that is withdrawn and announced is there afterwards.
 #[derive(Drop)]
 #[derive_where(Debug)]
 pub struct Changes<A: Allocator = Global> {
     /// The prefixes to remove.
     pub remove: Vec<Prefix, A>,
-    /// The routes of the NLRI field to put: none where it announces no prefix.
+    /// The routes of the NLRI field to put: none if it announces no prefix.
     pub nlri: Option<Put<A>>,
-    /// Those of MP_REACH_NLRI.
+    /// The routes of MP_REACH_NLRI to put. If the form in which they were received has IPv6 next
+    /// hops of IPv4 routes, IPv4 prefixes may have an IPv6 next hop (RFC 8950, 3).
     pub mp_reach_nlri: Option<Put<A>>,
 }
 
-/// Every outcome that is allowed of an UPDATE: to apply its changes, with some families disabled
-/// then, or to reset the session. At least one is.
+/// The outcomes that are allowed of an UPDATE: to apply its changes, with some families disabled
+/// then, or to reset the session. At least one is allowed.
 #[derive(Drop)]
 #[derive_where(Debug)]
 pub struct Outcomes<A: Allocator = Global> {
-    /// What it changes wherever it is applied; `None` where the session has to be reset.
+    /// What it changes if it is applied; `None` if the session has to be reset.
     pub changes: Option<Changes<A>>,
-    /// The families that are disabled wherever it is applied; none where it isn't.
+    /// The families that are disabled whenever it is applied; none if it isn't.
     pub certain: Families,
-    /// The other families that may be disabled, or not, where it is applied.
+    /// The other families that may be disabled, or not, when it is applied.
     pub optional: Families,
     /// The subcodes of UPDATE Message Error by which the session may be reset, instead or because
     /// it has to.

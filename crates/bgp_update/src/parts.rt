@@ -9,7 +9,7 @@ use crate::prefixes::Prefixes;
 use bgp_attr::Attrs;
 use bgp_prefix::Family;
 
-/// The parts of an UPDATE, each of which is gone through in wire order.
+/// The parts of an UPDATE, each in wire order.
 #[derive(Debug, Drop)]
 pub struct Parts<'a> {
     /// The prefixes that the Withdrawn Routes field withdraws.
@@ -20,8 +20,11 @@ pub struct Parts<'a> {
     pub nlri: Prefixes<'a>,
 }
 
-/// The parts of a whole UPDATE: none where a length, one of both lists of IPv4 prefixes or the end
-/// of the attributes is at fault, or where the octets are no UPDATE. It takes no memory.
+/// Reads the parts of a whole UPDATE. Returns none if a length, one of the two lists of IPv4
+/// prefixes or the end of the attributes is at fault, or if the octets are no UPDATE. It takes no
+/// memory.
+///
+/// It knows no link: prefixes stand without path identifiers.
 pub fn read_parts(octets: &[u8]) -> Option<Parts<'_>>
     ensures some { IfSome result (λ parts. SpellsParts octets.entry.now (parts_of parts)) }
     ensures none { IfNone result (LacksParts octets.entry.now) }

@@ -11,7 +11,7 @@ ghost use Rattle.bgp_update.specs.Noted.{classes_of, noted_with, types_of};
 
 use bgp_attr::{Attr, AttrVerdict, Attrs, FirstAttrs, Side, Tail, class};
 
-/// Whether some first attribute of a type is of a class. Those of types 14 and 15 are judged apart.
+/// The classes that some first attribute of a type has. Types 14 and 15 are judged apart.
 #[derive(Clone, Copy)]
 pub(crate) struct Classes {
     pub(crate) reset: bool,
@@ -41,7 +41,7 @@ pub(crate) struct Pass {
 }
 
 impl Classes {
-    /// No attribute.
+    /// Returns what is found of no attribute.
     const NONE: Classes = Classes {
         reset: false,
         withdraw: false,
@@ -49,7 +49,7 @@ impl Classes {
         discard: false,
     };
 
-    /// With one attribute more.
+    /// Returns what is found with one attribute more.
     fn noted(self, side: Side, attr: &Attr<'_>) -> Classes
         ensures { classes_of result ≡ noted_with side (classes_of self) (attribute_of attr.now) }
     {
@@ -68,7 +68,7 @@ impl Classes {
     }
 }
 
-/// An index for an attribute type.
+/// Returns the index of an attribute type.
 fn index_of(kind: u8) -> usize
     ensures same { result ≡ kind }
     ensures below { result < 256 }
@@ -76,8 +76,8 @@ fn index_of(kind: u8) -> usize
     usize::from(kind)
 }
 
-/// Walks over the attributes of a field, and notes the first of each type. Answers too what stands
-/// behind the last of them. It takes no memory.
+/// Walks over the attributes of a field, and notes the first of each type. Returns also what stands
+/// after the last of them. It takes no memory.
 pub(crate) fn pass_over<'a>(
     side: Side,
     field: &'a [u8],
@@ -116,7 +116,7 @@ pub(crate) fn pass_over<'a>(
     (Pass { classes, types }, attrs.tail())
 }
 
-/// Whether a type stands more than once.
+/// Checks whether a type stands more than once.
 pub(crate) fn is_repeated(field: &[u8], kind: u8) -> bool
     ensures { result ≡ is_repeated kind (attributes_of field.now) }
 {

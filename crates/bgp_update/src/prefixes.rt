@@ -10,7 +10,7 @@ use bgp_prefix::{Family, Prefix};
 use std::alloc::{AllocError, Allocator};
 use std::marker::Model;
 
-/// The prefixes of a field, in the order in which they stand there. It takes no memory.
+/// The prefixes of a field, in wire order. It takes no memory.
 ///
 /// Contracts see it as the list of what is left.
 #[derive(Debug, Drop)]
@@ -37,8 +37,8 @@ impl<'a> Prefixes<'a> {
     ghost use Rattle.bgp_prefix.specs.Prefix.{PrefixBits};
     ghost use Rattle.bgp_update.specs.Prefixes.{ArePrefixes};
 
-    /// The prefixes of this field: none where it is incorrect, since a length is above that of an
-    /// address, or the last prefix runs over (RFC 7606, 5.3).
+    /// Reads the prefixes of this field. Returns none if it is incorrect, since a length is above
+    /// that of an address, or the last prefix runs over (RFC 7606, 5.3).
     pub fn new(family: Family, field: &'a [u8]) -> Option<Prefixes<'a>>
         ensures some { IfSome result (λ prefixes. ArePrefixes family field.entry.now prefixes) }
         ensures none { IfNone result ((prefixes : List PrefixBits)
@@ -73,7 +73,8 @@ impl<'a> Iterator for Prefixes<'a> {
     }
 }
 
-/// How many octets spell the prefix at the front: none where no prefix of the family stands there.
+/// Counts the octets that spell the prefix at the front. Returns none if no prefix of the family
+/// stands there.
 #[tactic(auto, unfolding(crate::specs::Prefixes::has_prefix, crate::specs::Prefixes::prefix_len))]
 fn first_len(family: Family, octets: &[u8]) -> Option<usize>
     ensures some { IfSome result (λ len. has_prefix family octets.now ≡ true) }
@@ -94,8 +95,8 @@ fn first_len(family: Family, octets: &[u8]) -> Option<usize>
     Some(len)
 }
 
-/// How many prefixes a field has: none where it is incorrect, since a length is above that of an
-/// address, or the last prefix runs over (RFC 7606, 5.3).
+/// Counts the prefixes of a field. Returns none if it is incorrect, since a length is above that of
+/// an address, or the last prefix runs over (RFC 7606, 5.3).
 pub(crate) fn count_prefixes(family: Family, octets: &[u8]) -> Option<usize>
     ensures { result ≡ option_map length (prefixes_of family octets.now) }
 {
@@ -111,7 +112,7 @@ pub(crate) fn count_prefixes(family: Family, octets: &[u8]) -> Option<usize>
     Some(count)
 }
 
-/// Appends the prefixes of a field, and none where it is incorrect.
+/// Appends the prefixes of a field, or none if it is incorrect.
 #[inline(always)]
 pub(crate) fn push_prefixes<A: Allocator>(
     out: &mut Vec<Prefix, A>,

@@ -15,11 +15,16 @@ use bgp_attr::FirstAttrs;
 use bgp_open::{Families, Link};
 use std::alloc::{AllocError, Allocator};
 
-/// Every outcome that is allowed of an UPDATE that came over this link. Octets that are no whole
-/// UPDATE have the one of bad lengths: a reset as Malformed Attribute List.
+/// Reads an UPDATE that was received over this link, and returns the outcomes that are allowed.
+/// Octets that are no whole UPDATE have the one of bad lengths: a reset as Malformed Attribute
+/// List.
 ///
-/// The attributes are walked over and none is copied. Where the session has to be reset no memory
-/// is taken.
+/// MP_REACH_NLRI of IPv4 has a next hop of 4 octets, or of 16 or 32, too, if the link's received
+/// form has IPv6 next hops (RFC 8950, 3). The identified families of that form aren't read here
+/// yet: prefixes stand without path identifiers (RFC 7911, 3).
+///
+/// The attributes are walked over and none is copied. If the session has to be reset, no memory is
+/// taken.
 pub fn read_update<A: Allocator + Copy>(
     alloc: A,
     link: &Link,
@@ -38,14 +43,14 @@ pub fn read_update<A: Allocator + Copy>(
     ensures groups { IfOk result (λ outcomes. IfSome outcomes.changes
         (λ changes. AreGroups link.now octets.now (groups_of changes))) }
 
-    // It doesn't answer that memory was refused where the only outcome is a reset.
+    // It never runs out of memory if the only outcome is a reset.
     ensures memory { IsOnlyReset link.now octets.now → IsOk result }
 {
     let Some(fields) = split_update(octets) else {
         return Ok(only_reset(Subcodes::MALFORMED_ATTRIBUTE_LIST)); // Rule "bad lengths".
     };
     let mut first = FirstAttrs::none();
-    let found = survey_of(link, &fields, &mut first);
+    let found = survey_of(link, link.received, &fields, &mut first);
     let resets = found.reset_subcodes();
     let mere = found.mere_subcodes();
     if !resets.is_empty() {
@@ -60,7 +65,7 @@ pub fn read_update<A: Allocator + Copy>(
     })
 }
 
-/// The session has to be reset, with one of these subcodes.
+/// Returns that the session has to be reset, with one of these subcodes.
 fn only_reset<A: Allocator>(reset: Subcodes) -> Outcomes<A>
     ensures changes { result.changes ≡ None }
     ensures certain { result.certain ≡ no_families }

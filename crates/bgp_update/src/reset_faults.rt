@@ -30,7 +30,7 @@ use bgp_attr::Tail;
 use bgp_prefix::Family;
 
 impl Survey<'_> {
-    /// Rule "bad prefix field".
+    /// Checks the rule "bad prefix field".
     fn has_bad_prefixes(&self) -> bool
         ensures { IsTrue result ↔ HasBadPrefixes (found_by self.now) }
     {
@@ -38,28 +38,28 @@ impl Survey<'_> {
             || count_prefixes(Family::V4, self.nlri).is_none()
     }
 
-    /// Rule "repeated MP attribute".
+    /// Checks the rule "repeated MP attribute".
     fn has_repeated_mp(&self) -> bool
         ensures { IsTrue result ↔ HasRepeatedMp (found_by self.now) }
     {
         self.reach.is_repeated || self.unreach.is_repeated
     }
 
-    /// Rule "MP attribute overruns".
+    /// Checks the rule "MP attribute overruns".
     fn has_mp_overrun(&self) -> bool
         ensures { IsTrue result ↔ HasMpOverrun self.now.tail }
     {
         matches!(self.tail, Some(Tail::Overrun(14 | 15)))
     }
 
-    /// Rule "unknown well-known attribute".
+    /// Checks the rule "unknown well-known attribute".
     fn has_unknown_well_known(&self) -> bool
         ensures { IsTrue result ↔ HasUnknownWellKnown (found_by self.now) }
     {
         self.pass.classes.reset
     }
 
-    /// An attribute of another type than MP_UNREACH_NLRI overruns.
+    /// Checks whether an attribute of another type than MP_UNREACH_NLRI overruns.
     fn has_other_overrun(&self) -> bool
         ensures { IsTrue result ↔ HasOtherOverrun self.now.tail }
     {
@@ -69,7 +69,7 @@ impl Survey<'_> {
         }
     }
 
-    /// MP_REACH_NLRI isn't there, or is right and without a prefix.
+    /// Checks whether MP_REACH_NLRI isn't there, or is right and without a prefix.
     fn reaches_nothing(&self) -> bool
         ensures { IsTrue result ↔ ReachesNothing (found_by self.now) }
     {
@@ -80,7 +80,7 @@ impl Survey<'_> {
         }
     }
 
-    /// MP_REACH_NLRI is of a family in use, right, and has a prefix.
+    /// Checks whether MP_REACH_NLRI is of a family in use, right, and has a prefix.
     fn has_reachable(&self) -> bool
         ensures { IsTrue result ↔ HasReachable (found_by self.now) }
     {
@@ -90,8 +90,8 @@ impl Survey<'_> {
         }
     }
 
-    /// MP_UNREACH_NLRI is broken, or there is a withdraw-class fault other than the class of an
-    /// ATOMIC_AGGREGATE or AGGREGATOR.
+    /// Checks whether MP_UNREACH_NLRI is broken, or there is a withdraw-class fault other than the
+    /// class of an ATOMIC_AGGREGATE or AGGREGATOR.
     fn has_fault_that_hides(&self) -> bool
         ensures { IsTrue result ↔ (IsBroken (mp_found_by self.now.unreach)
             ⊎ IsTrue self.now.pass.classes.plain_withdraw ⊎ HasFormFault (found_by self.now)) }
@@ -99,7 +99,7 @@ impl Survey<'_> {
         self.unreach.is_broken() || self.pass.classes.plain_withdraw || self.has_form_fault()
     }
 
-    /// Rule "fault without prefixes".
+    /// Checks the rule "fault without prefixes".
     fn has_fault_without_prefixes(&self) -> bool
         ensures { IsTrue result ↔ HasFaultWithoutPrefixes (found_by self.now) }
     {
@@ -109,14 +109,14 @@ impl Survey<'_> {
             && self.has_fault_that_hides()
     }
 
-    /// Rule "fault with nothing announced".
+    /// Checks the rule "fault with nothing announced".
     fn has_fault_with_nothing_announced(&self) -> bool
         ensures { IsTrue result ↔ HasFaultWithNothingAnnounced (found_by self.now) }
     {
         self.has_withdraw_fault() && self.has_empty_nlri() && !self.has_reachable()
     }
 
-    /// The subcodes that the faults of a kind of their own name.
+    /// Returns the subcodes of the faults that have subcodes of their own.
     fn fixed_subcodes(&self) -> Subcodes
         ensures { (n : ℕ) → HasSubcode result n ↔ IsFixedSubcode (found_by self.now) n }
     {
@@ -131,7 +131,7 @@ impl Survey<'_> {
         }
     }
 
-    /// The subcodes of the faults for which the session has to be reset.
+    /// Returns the subcodes of the faults for which the session has to be reset.
     pub(crate) fn reset_subcodes(&self) -> Subcodes
         ensures { (n : ℕ) → HasSubcode result n ↔ IsResetSubcode (found_by self.now) n }
     {
@@ -141,7 +141,7 @@ impl Survey<'_> {
             .union(Subcodes::all_if(self.has_fault_without_prefixes()))
     }
 
-    /// The subcodes of those for which it may be.
+    /// Returns the subcodes of the faults for which the session may be reset.
     pub(crate) fn mere_subcodes(&self) -> Subcodes
         ensures { (n : ℕ) → HasSubcode result n ↔ IsMereSubcode (found_by self.now) n }
     {
@@ -151,7 +151,7 @@ impl Survey<'_> {
     }
 }
 
-/// Whether a field of a family has prefixes.
+/// Checks whether a field of a family has prefixes.
 fn has_prefixes(family: Family, octets: &[u8]) -> bool
     ensures { IsTrue result ↔ (listed (prefixes_of family octets.now) ≢ []) }
 {
@@ -161,7 +161,8 @@ fn has_prefixes(family: Family, octets: &[u8]) -> bool
     }
 }
 
-/// What an MP attribute names where that holds: 9, and 4 where its bits are in conflict.
+/// Returns the subcodes that an MP attribute names if that holds: 9, and 4 if its bits are in
+/// conflict.
 fn named_if(holds: bool, mp: &MpSurvey<'_>) -> Subcodes
     ensures { (n : ℕ) → HasSubcode result n ↔ (IsTrue holds × Names (mp_found_by mp.now) n) }
 {

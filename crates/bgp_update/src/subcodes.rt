@@ -53,7 +53,7 @@ impl Subcodes {
         ..Subcodes::NONE
     };
 
-    /// Whether a NOTIFICATION with this subcode names one of the set.
+    /// Checks whether the subcode is in the set.
     pub fn contains(self, subcode: u8) -> bool
         ensures { IsTrue result ↔ HasSubcode self subcode }
     {
@@ -73,7 +73,7 @@ impl Subcodes {
         }
     }
 
-    /// The least subcode of the set.
+    /// Returns the least subcode of the set, or none if it is empty.
     pub fn least(self) -> Option<u8>
         ensures some { IfSome result (λ n. HasSubcode self n) }
         ensures first { IfSome result (λ n. (m : ℕ) → HasSubcode self m → n ≤ m) }
@@ -87,14 +87,14 @@ impl Subcodes {
         None
     }
 
-    /// Whether no subcode is in the set.
+    /// Checks whether no subcode is in the set.
     pub fn is_empty(self) -> bool
         ensures { MatchBool result ((n : ℕ) → ¬ HasSubcode self n) ((n : ℕ) × HasSubcode self n) }
     {
         self.least().is_none()
     }
 
-    /// The subcodes of either set.
+    /// Returns the subcodes that are in one set or the other.
     pub fn union(self, other: Subcodes) -> Subcodes
         ensures { (n : ℕ) → HasSubcode result n ↔ (HasSubcode self n ⊎ HasSubcode other n) }
     {
@@ -114,7 +114,7 @@ impl Subcodes {
         }
     }
 
-    /// All subcodes where that holds, else none.
+    /// Returns all subcodes if that holds, else none.
     pub(crate) fn all_if(holds: bool) -> Subcodes
         ensures { (n : ℕ) → HasSubcode result n ↔ (IsTrue holds × IsAny n) }
     {

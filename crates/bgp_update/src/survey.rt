@@ -5,7 +5,7 @@ ghost use Rattle.bgp_attr.specs.First.{first_at, first_by_type, has_repeats};
 ghost use Rattle.bgp_attr.specs.Split.{attributes_of};
 ghost use Rattle.bgp_attr.specs.declared.types.AttrType.{AttrType};
 ghost use Rattle.bgp_update.specs.Fields.{sections_of};
-ghost use Rattle.bgp_update.specs.Found.{found, is_repeated, mp_found};
+ghost use Rattle.bgp_update.specs.Found.{found_by_form, is_repeated, mp_found};
 ghost use Rattle.bgp_update.specs.MpShown.{contents_read, type_of_mp};
 ghost use Rattle.bgp_update.specs.Surveyed.{found_by, mp_found_by};
 
@@ -14,7 +14,7 @@ use crate::link_side::side;
 use crate::mp::{MpState, MpType, has_other_bits, mp_state};
 use crate::pass::{Pass, is_repeated, pass_over};
 use bgp_attr::{FirstAttrs, Tail};
-use bgp_open::Link;
+use bgp_open::{Link, RouteForm};
 
 /// An MP attribute, by its first occurrence.
 #[derive(Clone, Copy)]
@@ -39,20 +39,22 @@ pub(crate) struct Survey<'a> {
     pub(crate) unreach: MpSurvey<'a>,
     /// The attributes, walked over once.
     pub(crate) pass: Pass,
-    /// What stands behind the last whole attribute.
+    /// What stands after the last whole attribute.
     pub(crate) tail: Option<Tail>,
 }
 
-/// Surveys an UPDATE, and notes the first attribute of each type.
+/// Surveys an UPDATE whose routes are spelled in this form, and notes the first attribute of each
+/// type.
 ///
 /// Those have many octets, so the caller lends the room for them.
 pub(crate) fn survey_of<'a>(
     link: &Link,
+    form: RouteForm,
     fields: &Fields<'a>,
     first: &mut FirstAttrs<'a>,
 ) -> Survey<'a>
     requires none { (t : AttrType) → first_at first.old t ≡ None }
-    ensures found { found_by result ≡ found link.now (sections_of fields.now) }
+    ensures found { found_by result ≡ found_by_form link.now form (sections_of fields.now) }
     ensures first { first_at first.new
         ≡ first_by_type (attributes_of (sections_of fields.now).attributes) }
 {
@@ -61,8 +63,22 @@ pub(crate) fn survey_of<'a>(
     Survey {
         withdrawn: fields.withdrawn,
         nlri: fields.nlri,
-        reach: mp_survey(link, MpType::Reach, field, first, pass.types.has_repeats),
-        unreach: mp_survey(link, MpType::Unreach, field, first, pass.types.has_repeats),
+        reach: mp_survey(
+            link,
+            form,
+            MpType::Reach,
+            field,
+            first,
+            pass.types.has_repeats,
+        ),
+        unreach: mp_survey(
+            link,
+            form,
+            MpType::Unreach,
+            field,
+            first,
+            pass.types.has_repeats,
+        ),
         pass,
         tail,
     }
@@ -71,6 +87,7 @@ pub(crate) fn survey_of<'a>(
 /// Surveys an MP attribute.
 fn mp_survey<'a>(
     link: &Link,
+    form: RouteForm,
     mp_type: MpType,
     field: &'a [u8],
     first: &FirstAttrs<'a>,
@@ -79,19 +96,19 @@ fn mp_survey<'a>(
     requires repeats { repeats ≡ has_repeats (attributes_of field.now) }
     requires first { first_at first.now ≡ first_by_type (attributes_of field.now) }
     ensures { mp_found_by result
-        ≡ mp_found link.now (contents_read mp_type) (type_of_mp mp_type)
+        ≡ mp_found link.now (contents_read form mp_type) (type_of_mp mp_type)
         (attributes_of field.entry.now) }
 {
     let attr_type = mp_type.attr_type();
     let attr = first.get(attr_type);
     MpSurvey {
-        state: mp_state(link.families, mp_type, attr),
+        state: mp_state(link.families, form, mp_type, attr),
         other_bits: has_other_bits(mp_type, attr),
         is_repeated: repeats_in(field, attr_type.row().number, repeats),
     }
 }
 
-/// Whether a type stands more than once, which it can only where some type does.
+/// Checks whether a type stands more than once, which it can only if some type does.
 #[tactic(auto, using(crate::proofs::Seen::single))]
 fn repeats_in(field: &[u8], kind: u8, repeats: bool) -> bool
     requires { repeats ≡ has_repeats (attributes_of field.now) }

@@ -19,35 +19,35 @@ use crate::survey::Survey;
 use bgp_attr::Tail;
 
 impl Survey<'_> {
-    /// The NLRI field is empty.
+    /// Checks whether the NLRI field is empty.
     pub(crate) fn has_empty_nlri(&self) -> bool
         ensures { IsTrue result ↔ IsEmptyNlri (found_by self.now) }
     {
         self.nlri.is_empty()
     }
 
-    /// The Withdrawn Routes field is empty.
+    /// Checks whether the Withdrawn Routes field is empty.
     pub(crate) fn has_empty_withdrawn(&self) -> bool
         ensures { IsTrue result ↔ ((found_by self.now).withdrawn ≡ Some []) }
     {
         self.withdrawn.is_empty()
     }
 
-    /// MP_REACH_NLRI isn't there.
+    /// Checks whether MP_REACH_NLRI isn't there.
     pub(crate) fn lacks_reach(&self) -> bool
         ensures { IsTrue result ↔ (state_of self.now.reach.state ≡ Absent) }
     {
         matches!(self.reach.state, MpState::Absent)
     }
 
-    /// Rule "withdrawn attribute".
+    /// Checks the rule "withdrawn attribute".
     fn has_withdrawn_attribute(&self) -> bool
         ensures { IsTrue result ↔ HasWithdrawnAttribute (found_by self.now) }
     {
         self.pass.classes.withdraw
     }
 
-    /// Rule "broken tail".
+    /// Checks the rule "broken tail".
     fn has_broken_tail(&self) -> bool
         ensures { IsTrue result ↔ HasBrokenTail self.now.tail }
     {
@@ -58,7 +58,7 @@ impl Survey<'_> {
         }
     }
 
-    /// Rule "missing ORIGIN or AS_PATH".
+    /// Checks the rule "missing ORIGIN or AS_PATH".
     fn lacks_origin_or_path(&self) -> bool
         ensures { IsTrue result ↔ LacksOriginOrPath (found_by self.now) }
     {
@@ -66,14 +66,14 @@ impl Survey<'_> {
         (!types.origin || !types.as_path) && (!self.has_empty_nlri() || !self.lacks_reach())
     }
 
-    /// Rule "missing NEXT_HOP".
+    /// Checks the rule "missing NEXT_HOP".
     fn lacks_next_hop(&self) -> bool
         ensures { IsTrue result ↔ LacksNextHop (found_by self.now) }
     {
         !self.pass.types.next_hop && !self.has_empty_nlri()
     }
 
-    /// A withdraw-class fault other than an attribute's own class.
+    /// Checks whether there is a withdraw-class fault other than an attribute's own class.
     pub(crate) fn has_form_fault(&self) -> bool
         ensures { IsTrue result ↔ HasFormFault (found_by self.now) }
     {
@@ -84,7 +84,7 @@ impl Survey<'_> {
             || self.lacks_next_hop()
     }
 
-    /// A withdraw-class fault.
+    /// Checks whether there is a withdraw-class fault.
     pub(crate) fn has_withdraw_fault(&self) -> bool
         ensures { IsTrue result ↔ HasWithdrawFault (found_by self.now) }
     {

@@ -31,7 +31,7 @@ fn assert_row(rt: &impl Abort, holds: bool, lesson: &str) {
 /// of 2 to the power of N.
 fn has_just(errors: &OpenSubcodes, wanted: u16) -> bool {
     let mut has_just = errors.is_empty() == (wanted == 0);
-    for subcode in 0..9u8 {
+    for subcode in 0..12u8 {
         let is_wanted = wanted >> subcode & 1 == 1;
         let is_free = is_wanted && subcode != 1;
         let version_4 = [0x00, 0x04];

@@ -1,7 +1,8 @@
-//! UPDATEs with little memory, the greatest one, and how long one may be that is sent. (Outcomes
-//! are compared by the program `real_captures`.)
+//! UPDATEs with little memory, the greatest one, how long one may be that is sent, and next hops by
+//! the form of each direction. (Outcomes are compared by the program `real_captures`.)
 
 mod extended;
+mod forms;
 mod memory;
 
 use bgp_open::{Config, Link, negotiate, read_open};

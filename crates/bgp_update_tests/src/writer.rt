@@ -18,6 +18,11 @@ use std::alloc::{AllocError, Global};
 
 const BOTH: Families = Families { v4: true, v6: true };
 
+const NEITHER: Families = Families {
+    v4: false,
+    v6: false,
+};
+
 /// 192.0.2.2
 const HOP: NextHop = NextHop::V4(0xc000_0202);
 
@@ -59,6 +64,8 @@ struct Row<'a> {
     internal: bool,
     /// Whether the peer offers extended messages.
     extended: bool,
+    /// The families whose prefixes are sent with path identifiers.
+    identified: Families,
     /// By which path the prefixes are reachable; `None` where they are withdrawn.
     path: Option<Said<'a>>,
     family: Family,
@@ -104,6 +111,7 @@ const ANNOUNCE: Row<'static> = Row {
     as4: true,
     internal: false,
     extended: false,
+    identified: NEITHER,
     path: Some(BY_V4),
     family: Family::V4,
     prefixes: &[(1, "10.0.0.0/8")],
@@ -126,6 +134,7 @@ fn link_of(row: &Row<'_>) -> Option<Link> {
     link.as4 = row.as4;
     link.internal = row.internal;
     link.extended = row.extended;
+    link.sent.identified = row.identified;
     Some(link)
 }
 

@@ -10,6 +10,7 @@ use Rattle.byteorder.specs.Numbers.{big_number-reads_back}
 use Rattle.bgp_prefix.specs.declared.family.Family.TheVariants as families
 use Rattle.bgp_prefix.specs.Prefix.{PrefixBits, IsPrefix}
 use Rattle.bgp_open.specs.declared.link.Link.{Link}
+use Rattle.bgp_open.specs.declared.route_form.RouteForm.{RouteForm}
 use Rattle.bgp_open.specs.Families.{contains}
 use Rattle.bgp_wire.proofs.WrittenMessage.{length-message_octets}
 use Rattle.bgp_attr.specs.declared.classes.AttrVerdict.{AttrVerdict}
@@ -31,13 +32,11 @@ use Rattle.bgp_attr.specs.Writing.{flags_for, attribute_with, attribute_in, path
 use Rattle.bgp_attr.proofs.FirstOfType.{first_is, all_first, value_counts, read_back, is_writable}
 use Rattle.bgp_attr.proofs.OneField.{is_split}
 use Rattle.bgp_attr.proofs.WrittenField.{is_a_field, is_attribute, each}
-use Rattle.bgp_update.specs.Found.{Found, found, found_of, side_of, has_class, is_class, is_repeated}
+use Rattle.bgp_update.specs.Found.{Found, found_by_form, found_of, side_of, has_class, is_class, is_repeated}
 use Rattle.bgp_update.specs.Mp.{Sound, mp_state, has_other_bits}
 use Rattle.bgp_update.specs.MpValue.{reach_contents, unreach_contents, next_hop_in}
 use Rattle.bgp_update.specs.Changes.{RouteChanges, withdrawals, announcements, routes_with}
 use Rattle.bgp_update.specs.Clean.{IsClean, IsCleanBy, most_octets}
-use Rattle.bgp_update.specs.Laws.{no_families}
-use Rattle.bgp_update.specs.Outcome.{Applied, IsOutcome, IsOutcomeBy}
 use Rattle.bgp_update.specs.Prefixes.{prefixes_of}
 use Rattle.bgp_update.specs.Sections.{Sections, section_octets, IsUpdate}
 use Rattle.bgp_update_writer.specs.Update.{UpdateValue, Announces, Withdraws}
@@ -45,7 +44,7 @@ use Rattle.bgp_update_writer.specs.Written.{nlri_octets, hop_octets, reach_octet
 use Rattle.bgp_update_writer.specs.Refusals.{IsHopOf, IsSendable, IsFamilyUsed}
 use Rattle.bgp_update_writer.specs.Applied.{changes_of_update, IsJustApplied, IsFitUpdate, WritesWhatIsApplied}
 use Rattle.bgp_update_writer.proofs.WrittenSections.{written_update, length-section_octets}
-use Rattle.bgp_update.proofs.OneOutcome.{one_outcome, alone_outcome}
+use Rattle.bgp_update.proofs.OneOutcome.{applied_alone}
 use Rattle.bgp_wire.specs.Header.{limit_with}
 use Rattle.bgp_wire.specs.declared.header.MessageType.{MessageType}
 use Rattle.bgp_wire.specs.Framing.{IsFrame}
@@ -56,9 +55,9 @@ use Rattle.bgp_update_writer.proofs.PlainUpdate.{HasMissing, IsRight, IsPlain, I
 
 -- ---- what is found in fields that were written
 
-pub found_by : (link : Link) (s : Sections) (w n : List PrefixBits) (attributes : List Attribute) → prefixes_of families.V4 s.withdrawn ≡ Some w → prefixes_of families.V4 s.nlri ≡ Some n
-    → IsAttributeField s.attributes attributes None → found link s ≡ found_of link (Some w) (Some n) attributes None
-found_by link s w n attributes we ne field =
+pub found_by : (link : Link) (form : RouteForm) (s : Sections) (w n : List PrefixBits) (attributes : List Attribute) → prefixes_of families.V4 s.withdrawn ≡ Some w → prefixes_of families.V4 s.nlri ≡ Some n
+    → IsAttributeField s.attributes attributes None → found_by_form link form s ≡ found_of link form (Some w) (Some n) attributes None
+found_by link form s w n attributes we ne field =
     let split = is_split s.attributes attributes None field in
     let read = ap (λ (t : Split). t.attributes) split in
     let tail = ap (λ (t : Split). t.tail) split in
@@ -102,8 +101,8 @@ once kind (a ∷ rest) e = elim (cases_Bool (a.kind == kind)) [
 
 -- ---- a withdrawal in the base field
 
-plain_withdrawal_4 : (link : Link) (ps : List PrefixBits) → IsPlain (found_of link (Some ps) (Some []) [] None)
-plain_withdrawal_4 link ps = record {
+plain_withdrawal_4 : (link : Link) (form : RouteForm) (ps : List PrefixBits) → IsPlain (found_of link form (Some ps) (Some []) [] None)
+plain_withdrawal_4 link form ps = record {
   withdrawn = (ps, refl);
   nlri = ([], refl);
   reach = (inl refl, refl, refl);
@@ -132,19 +131,19 @@ bits_unreach n = elim (cases_Bool (nat_lt 255 n)) [ inl e ↦ rw e refl | inr e 
 
 -- ---- one MP_REACH_NLRI
 
-hop_back : (hop : NextHop) → IsHopOf families.V6 hop → IsFitHop hop → next_hop_in families.V6 (hop_octets hop) ≡ Some hop
-hop_back (hops.V4 a) of fits = absurd of
-hop_back (hops.V6 a) of fits = ap (λ (n : ℕ). Some (hops.V6 n)) (big_number-reads_back 16 a [] fits)
-hop_back (hops.V6WithLinkLocal a b) of fits =
+hop_back : (ipv6_next_hops : Bool) (hop : NextHop) → IsHopOf families.V6 hop → IsFitHop hop → next_hop_in ipv6_next_hops families.V6 (hop_octets hop) ≡ Some hop
+hop_back b (hops.V4 a) of fits = absurd of
+hop_back either (hops.V6 a) of fits = ap (λ (n : ℕ). Some (hops.V6 n)) (big_number-reads_back 16 a [] fits)
+hop_back either (hops.V6WithLinkLocal a b) of fits =
     ap₂ (λ (n m : ℕ). Some (hops.V6WithLinkLocal n m)) (big_number-reads_back 16 a (big_bytes 16 b) fits.0) (big_number-reads_back 16 b [] fits.1)
 
 five : (n : ℕ) → 5 + n ≡ suc (suc (suc (suc (n + 1))))
 five n = omega arith
 
-reach_sound : (link : Link) (hop : NextHop) (ps : List PrefixBits) → IsTrue link.families.v6 → IsHopOf families.V6 hop → IsFitHop hop
+reach_sound : (link : Link) (form : RouteForm) (hop : NextHop) (ps : List PrefixBits) → IsTrue link.families.v6 → IsHopOf families.V6 hop → IsFitHop hop
     → prefixes_of families.V6 (nlri_octets ps) ≡ Some ps
-    → mp_state link.families reach_contents (Some (attribute_with types.MpReachNlri (reach_octets hop ps))) ≡ Sound families.V6 (record { next_hop = Some hop; prefixes = ps })
-reach_sound link hop ps used of fits read =
+    → mp_state link.families (reach_contents form) (Some (attribute_with types.MpReachNlri (reach_octets hop ps))) ≡ Sound families.V6 (record { next_hop = Some hop; prefixes = ps })
+reach_sound link form hop ps used of fits read =
     let h = hop_octets hop in
     let value = reach_octets hop ps in
     let rest = 0 ∷ nlri_octets ps in
@@ -152,7 +151,7 @@ reach_sound link hop ps used of fits read =
     let own : take (length h) (h ++ rest) ≡ h = take-append_seam h rest in
     let after : drop (5 + length h) value ≡ nlri_octets ps =
     ap (λ (k : ℕ). drop k value) (five (length h)) ∙ drop-append-add h rest 1 in
-    rw (le-ltb (length value) 3 (omega arith), used, le-ltb (length value) (5 + length h) (omega arith), own, hop_back hop of fits, after, read) refl
+    rw (le-ltb (length value) 3 (omega arith), used, le-ltb (length value) (5 + length h) (omega arith), own, hop_back form.ipv6_next_hops hop of fits, after, read) refl
 
 -- ---- without repeats and with Good attributes alone nothing is wrong
 
@@ -172,12 +171,12 @@ once_of kind (a ∷ rest) e = elim (cases_Bool (a.kind == kind)) [
 abbrev IsFor : Link → List Attribute → Type 0
 IsFor link attributes = All (IsHarmless (side_of link)) attributes
 
-plain_of : (link : Link) (w n : List PrefixBits) (attributes : List Attribute) (reach unreach : Option Attribute) → first_of 14 attributes ≡ reach → first_of 15 attributes ≡ unreach
+plain_of : (link : Link) (form : RouteForm) (w n : List PrefixBits) (attributes : List Attribute) (reach unreach : Option Attribute) → first_of 14 attributes ≡ reach → first_of 15 attributes ≡ unreach
     → has_repeats attributes ≡ false → IsFor link attributes
-    → IsRight (record { state = mp_state link.families reach_contents reach; other_bits = has_other_bits types.MpReachNlri reach; is_repeated = false })
+    → IsRight (record { state = mp_state link.families (reach_contents form) reach; other_bits = has_other_bits types.MpReachNlri reach; is_repeated = false })
     → IsRight (record { state = mp_state link.families unreach_contents unreach; other_bits = has_other_bits types.MpUnreachNlri unreach; is_repeated = false })
-    → ¬ HasMissing (found_of link (Some w) (Some n) attributes None) → IsPlain (found_of link (Some w) (Some n) attributes None)
-plain_of link w n attributes reach unreach re ue e good r u missing =
+    → ¬ HasMissing (found_of link form (Some w) (Some n) attributes None) → IsPlain (found_of link form (Some w) (Some n) attributes None)
+plain_of link form w n attributes reach unreach re ue e good r u missing =
     let first = all_first attributes e in
     record {
       withdrawn = (w, refl);
@@ -196,9 +195,9 @@ based : (link : Link) (w n : List PrefixBits) → IsTrue (contains link.families
 based link w n (inl used) = inl used
 based link w n (inr none) = inr (ap Some none.0, ap Some none.1)
 
-tidy_of : (link : Link) (w n : List PrefixBits) (attributes : List Attribute) → has_repeats attributes ≡ false → IsFor link attributes
-    → IsTrue (contains link.families families.V4) ⊎ ((w ≡ []) × (n ≡ [])) → IsTidy link (found_of link (Some w) (Some n) attributes None)
-tidy_of link w n attributes e good base = record {
+tidy_of : (link : Link) (form : RouteForm) (w n : List PrefixBits) (attributes : List Attribute) → has_repeats attributes ≡ false → IsFor link attributes
+    → IsTrue (contains link.families families.V4) ⊎ ((w ≡ []) × (n ≡ [])) → IsTidy link (found_of link form (Some w) (Some n) attributes None)
+tidy_of link form w n attributes e good base = record {
   discard = rw (all_first attributes e) (none_by (side_of link) Discard refl refl attributes good);
   repeats = e;
   base = based link w n base;
@@ -206,24 +205,18 @@ tidy_of link w n attributes e good base = record {
 
 -- ---- one body, one outcome
 
-total : (link : Link) (octets : List ℕ) → length octets ≤ most_octets link → (s : Sections) (x : Found) (attributes : List Attribute) (changes : RouteChanges) → IsUpdate octets s → found link s ≡ x
-    → attributes_of s.attributes ≡ attributes → IsPlain x → IsTidy link x → changes ≡ record { remove = withdrawals link x; put = announcements link x attributes }
+total : (link : Link) (octets : List ℕ) → length octets ≤ most_octets link → (s : Sections) (x : RouteForm → Found) (attributes : List Attribute) (changes : RouteChanges) → IsUpdate octets s
+    → ((form : RouteForm) → found_by_form link form s ≡ x form) → attributes_of s.attributes ≡ attributes → ((form : RouteForm) → IsPlain (x form)) → ((form : RouteForm) → IsTidy link (x form))
+    → changes ≡ record { remove = withdrawals link (x link.received); put = announcements link (x link.received) attributes }
     → IsClean link octets × IsJustApplied link octets changes
 total link octets few s x attributes changes is e a plain tidy same =
-    let by : IsCleanBy link x = clean link x plain tidy in
-    let cleans : IsClean link octets = (few, s, is, subst (IsCleanBy link) (sym e) by) in
-    let one = one_outcome link octets cleans in
-    let applied : IsOutcomeBy link x attributes (Applied changes no_families) =
-    subst (λ (c : RouteChanges). IsOutcomeBy link x attributes (Applied c no_families)) (sym same) (alone_outcome link x attributes by.alone) in
-    let here : IsOutcome link octets (Applied changes no_families) =
-    inr (
-      s,
-      is,
-      subst (λ (y : Found). IsOutcomeBy link y (attributes_of s.attributes) (Applied changes no_families)) (sym e)
-          (subst (λ (t : List Attribute). IsOutcomeBy link x t (Applied changes no_families)) (sym a) applied),
-    ) in
-    let only : Applied changes no_families ≡ Applied one.0 no_families = (one.1 (Applied changes no_families)).0 here in
-    (cleans, λ outcome. (λ o. (one.1 outcome).0 o ∙ sym only, λ is_it. subst (IsOutcome link octets) (sym is_it) here))
+    let by : (form : RouteForm) → IsCleanBy link (found_by_form link form s) = λ form. subst (IsCleanBy link) (sym (e form)) (clean link (x form) (plain form) (tidy form)) in
+    let all : changes
+    ≡ record { remove = withdrawals link (found_by_form link link.received s); put = announcements link (found_by_form link link.received s) (attributes_of s.attributes) } =
+    same ∙ sym (λ i. record { remove = withdrawals link (e link.received i); put = announcements link (e link.received i) (a i) }) in (
+      (few, s, is, by link.sent),
+      subst (IsJustApplied link octets) (sym all) (applied_alone link octets s is (by link.received).alone),
+    )
 
 -- ---- each kind of update
 
@@ -236,8 +229,8 @@ one_long t value rest =
     )
 
 -- an UPDATE of one MP_UNREACH_NLRI misses nothing
-nothing_missing_6 : (link : Link) (ps : List PrefixBits) → ¬ HasMissing (found_of link (Some []) (Some []) (attribute_with types.MpUnreachNlri (unreach_octets ps) ∷ []) None)
-nothing_missing_6 link ps m = elim m [
+nothing_missing_6 : (link : Link) (form : RouteForm) (ps : List PrefixBits) → ¬ HasMissing (found_of link form (Some []) (Some []) (attribute_with types.MpUnreachNlri (unreach_octets ps) ∷ []) None)
+nothing_missing_6 link form ps m = elim m [
   | inl some ↦ elim some.1 [ inl nlri ↦ nlri refl | inr state ↦ state refl ]
   | inr some ↦ some.1 refl
 ]
@@ -263,12 +256,12 @@ withdraw_4 : (link : Link) (ps : List PrefixBits) → All IsPrefix ps → IsTrue
 withdraw_4 link ps fits used of small =
     let value = Withdraws families.V4 ps in
     let s = written_sections link value in
-    let x = found_of link (Some ps) (Some []) [] None in
+    let x = λ (form : RouteForm). found_of link form (Some ps) (Some []) [] None in
     let field : IsAttributeField [] [] None = record { rest = []; whole = refl; each = All-nil IsAttribute; last = refl } in
-    let e : found link s ≡ x = found_by link s ps [] [] (written_prefixes families.V4 ps fits of) (written_prefixes families.V4 [] (All-nil IsPrefix) (All-nil (λ p. p.family ≡ families.V4))) field in
+    let e : (form : RouteForm) → found_by_form link form s ≡ x form = λ form. found_by link form s ps [] [] (written_prefixes families.V4 ps fits of) (written_prefixes families.V4 [] (All-nil IsPrefix) (All-nil (λ p. p.family ≡ families.V4))) field in
     total link (update_octets link value) small s x [] (record { remove = ps; put = [] }) (written_update s (all_octets link value small)) e
-    (ap (λ (t : Split). t.attributes) (is_split [] [] None field)) (plain_withdrawal_4 link ps)
-    (record { discard = refl; repeats = refl; base = inl used })
+    (ap (λ (t : Split). t.attributes) (is_split [] [] None field)) (λ form. plain_withdrawal_4 link form ps)
+    (λ form. record { discard = refl; repeats = refl; base = inl used })
     (rw (used, append-nil ps) refl)
 
 withdraw_6 : (link : Link) (ps : List PrefixBits) → All IsPrefix ps → IsTrue link.families.v6 → All (λ p. p.family ≡ families.V6) ps
@@ -279,7 +272,7 @@ withdraw_6 link ps fits used of small =
     let s = written_sections link value in
     let mp = attribute_with types.MpUnreachNlri (unreach_octets ps) in
     let attributes = mp ∷ [] in
-    let x = found_of link (Some []) (Some []) attributes None in
+    let x = λ (form : RouteForm). found_of link form (Some []) (Some []) attributes None in
     let field : IsAttributeField s.attributes attributes None = record {
       rest = [];
       whole = sym (append-nil (flat_map attribute_octets attributes));
@@ -287,14 +280,14 @@ withdraw_6 link ps fits used of small =
       last = refl;
     } in
     let none = written_prefixes families.V4 [] (All-nil IsPrefix) (All-nil (λ p. p.family ≡ families.V4)) in
-    let e : found link s ≡ x = found_by link s [] [] attributes none none field in
+    let e : (form : RouteForm) → found_by_form link form s ≡ x form = λ form. found_by link form s [] [] attributes none none field in
     let good : IsFor link attributes = All-cons (IsHarmless (side_of link)) mp [] (inl refl) (All-nil (IsHarmless (side_of link))) in
     let state = unreach_sound link ps used (written_prefixes families.V6 ps fits of) in
-    let plain = plain_of link [] [] attributes None (Some mp) refl refl refl good (inl refl, refl, refl)
-    (inr (families.V6, record { next_hop = None; prefixes = ps }, state), bits_unreach (length (unreach_octets ps)), refl) (nothing_missing_6 link ps) in
+    let plain : (form : RouteForm) → IsPlain (x form) = λ form. plain_of link form [] [] attributes None (Some mp) refl refl refl good (inl refl, refl, refl)
+    (inr (families.V6, record { next_hop = None; prefixes = ps }, state), bits_unreach (length (unreach_octets ps)), refl) (nothing_missing_6 link form ps) in
     total link (update_octets link value) small s x attributes (record { remove = ps; put = [] }) (written_update s (all_octets link value small)) e
     (ap (λ (t : Split). t.attributes) (is_split s.attributes attributes None field)) plain
-    (tidy_of link [] [] attributes refl good (inr (refl, refl)))
+    (λ form. tidy_of link form [] [] attributes refl good (inr (refl, refl)))
     (rw (nothing link.families.v4, state) refl)
 
 -- what is written for a path
@@ -330,8 +323,8 @@ hop_there side path (hops.V6WithLinkLocal a b) e of = absurd of
 has_hop : (link : Link) (path : PathValue) → IsHopOf families.V4 path.next_hop → is_some (first_of 3 (P link path)) ≡ true
 has_hop link path of = ap is_some (first_is (value_in (side_of link) path) types.NextHop) ∙ hop_there (side_of link) path path.next_hop refl of
 
-nothing_missing : (link : Link) (ps : List PrefixBits) (path : PathValue) → IsHopOf families.V4 path.next_hop → ¬ HasMissing (found_of link (Some []) (Some ps) (P link path) None)
-nothing_missing link ps path of m = elim m [
+nothing_missing : (link : Link) (form : RouteForm) (ps : List PrefixBits) (path : PathValue) → IsHopOf families.V4 path.next_hop → ¬ HasMissing (found_of link form (Some []) (Some ps) (P link path) None)
+nothing_missing link form ps path of m = elim m [
   | inl some ↦ elim some.0 [ inl origin ↦ origin (has_origin link path) | inr as_path ↦ as_path (has_as_path link path) ]
   | inr some ↦ some.0 (has_hop link path of)
 ]
@@ -344,20 +337,20 @@ announce_4 link ps path prefixes fits used of hop peer small =
     let value = Announces families.V4 ps path in
     let s = written_sections link value in
     let attributes = P link path in
-    let x = found_of link (Some []) (Some ps) attributes None in
+    let x = λ (form : RouteForm). found_of link form (Some []) (Some ps) attributes None in
     let back = read_back (side_of link) path fits peer in
     let field : IsAttributeField s.attributes attributes None = is_a_field (side_of link) path (is_writable (side_of link) path (omega (arith, field_octets link value small))) in
-    let e : found link s ≡ x = found_by link s [] ps attributes (written_prefixes families.V4 [] (All-nil IsPrefix) (All-nil (λ p. p.family ≡ families.V4))) (written_prefixes families.V4 ps prefixes of) field in
+    let e : (form : RouteForm) → found_by_form link form s ≡ x form = λ form. found_by link form s [] ps attributes (written_prefixes families.V4 [] (All-nil IsPrefix) (All-nil (λ p. p.family ≡ families.V4))) (written_prefixes families.V4 ps prefixes of) field in
     let reach = first_is (value_in (side_of link) path) types.MpReachNlri in
     let unreach = first_is (value_in (side_of link) path) types.MpUnreachNlri in
-    let plain = plain_of link [] ps attributes None None reach unreach back.1 (harmless (side_of link) attributes back.0) (inl refl, refl, refl) (inl refl, refl, refl) (nothing_missing link ps path hop) in
+    let plain : (form : RouteForm) → IsPlain (x form) = λ form. plain_of link form [] ps attributes None None reach unreach back.1 (harmless (side_of link) attributes back.0) (inl refl, refl, refl) (inl refl, refl, refl) (nothing_missing link form ps path hop) in
     total link (update_octets link value) small s x attributes (record { remove = []; put = routes_with path ps }) (written_update s (all_octets link value small)) e
     (ap (λ (t : Split). t.attributes) (is_split s.attributes attributes None field)) plain
-    (tidy_of link [] ps attributes back.1 (harmless (side_of link) attributes back.0) (inl used))
+    (λ form. tidy_of link form [] ps attributes back.1 (harmless (side_of link) attributes back.0) (inl used))
     (rw (used, reach, unreach, hop_read link path fits peer hop, path_read link path fits peer, append-nil (routes_with path ps)) refl)
 
-nothing_missing_v6 : (link : Link) (mp : Attribute) (path : PathValue) → mp.kind ≡ 14 → ¬ HasMissing (found_of link (Some []) (Some []) (mp ∷ P link path) None)
-nothing_missing_v6 link mp path is m = elim m [
+nothing_missing_v6 : (link : Link) (form : RouteForm) (mp : Attribute) (path : PathValue) → mp.kind ≡ 14 → ¬ HasMissing (found_of link form (Some []) (Some []) (mp ∷ P link path) None)
+nothing_missing_v6 link form mp path is m = elim m [
   | inl some ↦ elim some.0 [
     | inl origin ↦ origin (rw is (has_origin link path))
     | inr as_path ↦ as_path (rw is (has_as_path link path))
@@ -376,7 +369,7 @@ announce_6 link ps path prefixes fits used of hop peer small =
     let mp = attribute_with types.MpReachNlri mp_value in
     let others = P link path in
     let attributes = mp ∷ others in
-    let x = found_of link (Some []) (Some []) attributes None in
+    let x = λ (form : RouteForm). found_of link form (Some []) (Some []) attributes None in
     let back = read_back (side_of link) path fits peer in
     let writable = is_writable (side_of link) path (omega (arith, field_octets link value small, length-append (attribute_octets mp) (flat_map attribute_octets others))) in
     let field : IsAttributeField s.attributes attributes None = record {
@@ -386,19 +379,19 @@ announce_6 link ps path prefixes fits used of hop peer small =
       last = refl;
     } in
     let none = written_prefixes families.V4 [] (All-nil IsPrefix) (All-nil (λ p. p.family ≡ families.V4)) in
-    let e : found link s ≡ x = found_by link s [] [] attributes none none field in
+    let e : (form : RouteForm) → found_by_form link form s ≡ x form = λ form. found_by link form s [] [] attributes none none field in
     let good : IsFor link attributes = All-cons (IsHarmless (side_of link)) mp others (inl refl) (harmless (side_of link) others back.0) in
     let reach = first_is (value_in (side_of link) path) types.MpReachNlri in
     let unreach = first_is (value_in (side_of link) path) types.MpUnreachNlri in
     let repeats : has_repeats attributes ≡ false = rw (reach, back.1) refl in
-    let state = reach_sound link path.next_hop ps used hop fits.next_hop (written_prefixes families.V6 ps prefixes of) in
-    let plain = plain_of link [] [] attributes (Some mp) None refl unreach repeats good
-    (inr (families.V6, record { next_hop = Some path.next_hop; prefixes = ps }, state), bits_reach (length mp_value), refl) (inl refl, refl, refl)
-    (nothing_missing_v6 link mp path refl) in
+    let state = λ (form : RouteForm). reach_sound link form path.next_hop ps used hop fits.next_hop (written_prefixes families.V6 ps prefixes of) in
+    let plain : (form : RouteForm) → IsPlain (x form) = λ form. plain_of link form [] [] attributes (Some mp) None refl unreach repeats good
+    (inr (families.V6, record { next_hop = Some path.next_hop; prefixes = ps }, state form), bits_reach (length mp_value), refl) (inl refl, refl, refl)
+    (nothing_missing_v6 link form mp path refl) in
     total link (update_octets link value) small s x attributes (record { remove = []; put = routes_with path ps }) (written_update s (all_octets link value small)) e
     (ap (λ (t : Split). t.attributes) (is_split s.attributes attributes None field)) plain
-    (tidy_of link [] [] attributes repeats good (inr (refl, refl)))
-    (rw (nothing link.families.v4, unreach, state, path_read link path fits peer) refl)
+    (λ form. tidy_of link form [] [] attributes repeats good (inr (refl, refl)))
+    (rw (nothing link.families.v4, unreach, state link.received, path_read link path fits peer) refl)
 
 -- ---- each update
 
@@ -414,10 +407,10 @@ framed link value small =
 
 each_applied : (link : Link) (value : UpdateValue) → IsFitUpdate value → IsFamilyUsed link value → IsSendable link value → length (update_octets link value) ≤ most_octets link
     → IsClean link (update_octets link value) × IsJustApplied link (update_octets link value) (changes_of_update value)
-each_applied link (Announces families.V4 ps path) fits used sendable small = announce_4 link ps path fits.0 fits.1 used sendable.0 sendable.1 sendable.2 small
-each_applied link (Announces families.V6 ps path) fits used sendable small = announce_6 link ps path fits.0 fits.1 used sendable.0 sendable.1 sendable.2 small
-each_applied link (Withdraws families.V4 ps) fits used sendable small = withdraw_4 link ps fits used sendable small
-each_applied link (Withdraws families.V6 ps) fits used sendable small = withdraw_6 link ps fits used sendable small
+each_applied link (Announces families.V4 ps path) fits used sendable small = announce_4 link ps path fits.0 fits.1 used sendable.1.0 sendable.1.1 sendable.1.2 small
+each_applied link (Announces families.V6 ps path) fits used sendable small = announce_6 link ps path fits.0 fits.1 used sendable.1.0 sendable.1.1 sendable.1.2 small
+each_applied link (Withdraws families.V4 ps) fits used sendable small = withdraw_4 link ps fits used sendable.1 small
+each_applied link (Withdraws families.V6 ps) fits used sendable small = withdraw_6 link ps fits used sendable.1 small
 
 pub written_applied : WritesWhatIsApplied
 written_applied link value fits used sendable small =

@@ -28,13 +28,22 @@ IsHopOf families.V6 (hops.V4 address) = ⊥
 IsHopOf families.V6 (hops.V6 address) = Unit {0}
 IsHopOf families.V6 (hops.V6WithLinkLocal address link_local) = Unit {0}
 
+-- what is sent has path identifiers before the prefixes of the family (RFC 7911, 3), which aren't
+-- written here yet
+abbrev pub WantsIdentifiers : Link → UpdateValue → Type 0
+WantsIdentifiers link value = IsTrue (contains link.sent.identified (family_of_update value))
+
 -- each prefix is of the family, and so is the next hop, and the path may be sent to this peer: it
 -- would discard no attribute, and no large community stands twice
-abbrev pub IsSendable : Link → UpdateValue → Type 0
-IsSendable link (Announces family prefixes path) =
+abbrev pub IsTakenAsMeant : Link → UpdateValue → Type 0
+IsTakenAsMeant link (Announces family prefixes path) =
     All (λ prefix. prefix.family ≡ family) prefixes
     × IsHopOf family path.next_hop × IsForPeer (side_of link) path
-IsSendable link (Withdraws family prefixes) = All (λ prefix. prefix.family ≡ family) prefixes
+IsTakenAsMeant link (Withdraws family prefixes) = All (λ prefix. prefix.family ≡ family) prefixes
+
+-- it may be sent
+abbrev pub IsSendable : Link → UpdateValue → Type 0
+IsSendable link value = (¬ WantsIdentifiers link value) × IsTakenAsMeant link value
 
 -- it has more octets than an UPDATE may have on the link (RFC 4271, 4.1; RFC 8654, 4)
 abbrev pub IsTooLarge : Link → UpdateValue → Type 0

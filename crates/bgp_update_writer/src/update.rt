@@ -8,7 +8,7 @@ ghost use Rattle.bgp_update.specs.Clean.{IsClean};
 ghost use Rattle.bgp_update_writer.specs.Update.{family_of_update, update_value};
 ghost use Rattle.bgp_update_writer.specs.Written.{update_octets};
 ghost use Rattle.bgp_update_writer.specs.Refusals.{IsFamilyUsed, IsHopOf, IsSendable, IsTooLarge};
-ghost use Rattle.bgp_update_writer.specs.Refusals.{update_number};
+ghost use Rattle.bgp_update_writer.specs.Refusals.{IsTakenAsMeant, update_number};
 ghost use Rattle.bgp_update_writer.specs.Applied.{IsJustApplied, changes_of_update};
 
 use crate::lengths::measured;
@@ -53,8 +53,9 @@ pub enum UpdateFault {
     /// The session doesn't exchange routes of the family.
     #[error("the session exchanges no routes of this family")]
     FamilyNotInUse = 2,
-    /// A prefix or the next hop isn't of the family, the peer would discard an attribute, or a
-    /// large community stands twice (RFC 8092, 5).
+    /// A prefix or the next hop isn't of the family, the peer would discard an attribute, a large
+    /// community stands twice (RFC 8092, 5), or the peer expects path identifiers before prefixes
+    /// of the family (RFC 7911, 3), which aren't written yet.
     #[error("the peer would not take the UPDATE as it is meant")]
     NotClean = 3,
     /// There was no memory for it.
@@ -63,8 +64,8 @@ pub enum UpdateFault {
 }
 
 impl UpdateFault {
-    /// The fault's number: 1 for too many octets, 2 for the family, 3 for what isn't clean, 4 for
-    /// memory.
+    /// Returns the fault's number: 1 for too many octets, 2 for the family, 3 for what isn't clean,
+    /// 4 for memory.
     pub fn number(self) -> u8
         ensures { result ≡ update_number self }
     {
@@ -73,7 +74,7 @@ impl UpdateFault {
 }
 
 impl<'a, A: Allocator> Update<'a, A> {
-    /// The family that it names.
+    /// Returns the family that it names.
     pub fn family(&self) -> Family
         ensures { result ≡ family_of_update (update_value self.now) }
     {
@@ -84,14 +85,15 @@ impl<'a, A: Allocator> Update<'a, A> {
     }
 }
 
-/// Whether each prefix is of the family.
+/// Checks whether each prefix is of the family.
 fn are_of_family(family: Family, prefixes: &[Prefix]) -> bool
     ensures { IsTrue result ↔ All (λ prefix. prefix.family ≡ family) prefixes.now }
 {
     prefixes.iter().all(|prefix| prefix.family() == family)
 }
 
-/// Whether a next hop can stand in an announcement of the family (RFC 4271, 5.1.3; RFC 2545, 3).
+/// Checks whether a next hop can stand in an announcement of the family (RFC 4271, 5.1.3; RFC 2545,
+/// 3). An IPv6 next hop of IPv4 routes (RFC 8950) can't: those are written in the NLRI field.
 fn is_hop_of(family: Family, hop: NextHop) -> bool
     ensures { IsTrue result ↔ IsHopOf family hop }
 {
@@ -103,9 +105,17 @@ fn is_hop_of(family: Family, hop: NextHop) -> bool
     }
 }
 
-/// Whether the peer takes the update as it is meant.
+/// Checks whether the update may be sent: the peer expects no path identifiers, and takes it as it
+/// is meant.
 fn is_sendable<A: Allocator>(link: &Link, update: &Update<'_, A>) -> bool
     ensures { IsTrue result ↔ IsSendable link.now (update_value update.now) }
+{
+    !link.sent.identified.contains(update.family()) && is_taken_as_meant(link, update)
+}
+
+/// Checks whether the peer takes the update as it is meant.
+fn is_taken_as_meant<A: Allocator>(link: &Link, update: &Update<'_, A>) -> bool
+    ensures { IsTrue result ↔ IsTakenAsMeant link.now (update_value update.now) }
 {
     match update {
         Update::Announce {

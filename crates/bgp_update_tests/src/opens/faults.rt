@@ -4,10 +4,10 @@ use super::*;
 use bgp_open::OpenFaults;
 use bgp_wire::vectors::OPEN_B;
 
-const ALL_OF_MALFORMED: u16 = 1 | 1 << 2 | 1 << 3 | 1 << 4 | 1 << 6 | 1 << 7;
+const ALL_BUT_1: u16 = 1 | 1 << 2 | 1 << 3 | 1 << 4 | 1 << 6 | 1 << 7 | 1 << 11;
 
 /// A set of each subcode alone.
-static ONE_EACH: [OpenSubcodes; 7] = [
+static ONE_EACH: [OpenSubcodes; 8] = [
     OpenSubcodes {
         unspecific: true,
         ..OpenSubcodes::NONE
@@ -33,11 +33,15 @@ static ONE_EACH: [OpenSubcodes; 7] = [
         capability: true,
         ..OpenSubcodes::NONE
     },
+    OpenSubcodes {
+        role: true,
+        ..OpenSubcodes::NONE
+    },
 ];
 
 /// The subcodes of [`ONE_EACH`], and the data that a NOTIFICATION gives with them: the version that
 /// is spoken, and else none.
-static NAMED: [(u8, &[u8]); 7] = [
+static NAMED: [(u8, &[u8]); 8] = [
     (0, &[]),
     (1, &[0x00, 0x04]),
     (2, &[]),
@@ -45,6 +49,7 @@ static NAMED: [(u8, &[u8]); 7] = [
     (4, &[]),
     (6, &[]),
     (7, &[]),
+    (11, &[]),
 ];
 
 const OF_VERSION: OpenSubcodes = OpenSubcodes {
@@ -66,6 +71,7 @@ const ALL_BUT_VERSION: OpenSubcodes = OpenSubcodes {
     parameter: true,
     hold: true,
     capability: true,
+    role: true,
 };
 
 /// Whether this subcode of OPEN Message Error is named first, with these data.
@@ -132,7 +138,7 @@ fn a_union_has_the_subcodes_of_both_sets(rt: HostRuntime) {
     let all = ALL_BUT_VERSION.union(OF_VERSION);
     assert!(rt;
         has_just(&with_none, 1 << 1)
-            && has_just(&with_itself, ALL_OF_MALFORMED)
-            && has_just(&all, ALL_OF_MALFORMED | 1 << 1)
+            && has_just(&with_itself, ALL_BUT_1)
+            && has_just(&all, ALL_BUT_1 | 1 << 1)
     );
 }

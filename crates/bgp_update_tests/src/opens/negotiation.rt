@@ -14,12 +14,21 @@ fn twice<T: Copy>(value: T) -> (T, T) {
 fn differs(link: Link) -> bool {
     let (mut hold, mut as4, mut families) = (link, link, link);
     let (mut internal, mut extended) = (link, link);
+    let (mut received, mut sent) = (link, link);
     hold.hold = 30;
     as4.as4 = false;
     families.families = Families::V4;
     internal.internal = true;
     extended.extended = true;
-    link != hold && link != as4 && link != families && link != internal && link != extended
+    received.received.ipv6_next_hops = true;
+    sent.sent.identified = BOTH;
+    let forms_differ = link != received && link != sent;
+    link != hold
+        && link != as4
+        && link != families
+        && link != internal
+        && link != extended
+        && forms_differ
 }
 
 /// Whether a link is copied and compared, and so is what is found in an OPEN.
@@ -43,5 +52,5 @@ fn are_copied_of_b() -> bool {
 
 #[test]
 fn links_and_faults_are_small_copied_and_compared(rt: HostRuntime) {
-    assert!(rt; are_copied_of_b() && size_of::<Link>() == 8 && size_of::<OpenFaults>() == 14);
+    assert!(rt; are_copied_of_b() && size_of::<Link>() == 14 && size_of::<OpenFaults>() == 16);
 }

@@ -55,7 +55,7 @@ const LATER: LargeCommunity = LargeCommunity {
     ..LARGE
 };
 
-static ROWS: [Row<'static>; 19] = [
+static ROWS: [Row<'static>; 23] = [
     // A family that isn't in use.
     Row {
         lesson: "the family is told before a prefix and a next hop that aren't of it",
@@ -156,6 +156,31 @@ static ROWS: [Row<'static>; 19] = [
         path: Some(WITH_A_REPEAT),
         internal: true,
         ..NOT_CLEAN
+    },
+    // Prefixes with path identifiers aren't written yet.
+    Row {
+        lesson: "prefixes of IPv4 are sent with path identifiers",
+        identified: V4,
+        wanted: Wanted::Fault(UpdateFault::NotClean),
+        ..ANNOUNCE
+    },
+    Row {
+        lesson: "they are withdrawn with path identifiers",
+        identified: V4,
+        wanted: Wanted::Fault(UpdateFault::NotClean),
+        ..WITHDRAW
+    },
+    Row {
+        lesson: "prefixes of IPv6 alone are sent with path identifiers",
+        identified: V6,
+        ..ANNOUNCE
+    },
+    Row {
+        lesson: "the family is told before path identifiers",
+        families: V6,
+        identified: V4,
+        wanted: Wanted::Fault(UpdateFault::FamilyNotInUse),
+        ..ANNOUNCE
     },
     // What is not clean is told before what is too large.
     Row {

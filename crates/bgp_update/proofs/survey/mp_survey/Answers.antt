@@ -13,7 +13,7 @@ pub returns : goal.returns
 returns c =
     let attributes = attributes_of c.args.field.now in
     let same = c.attr_type-attr_type.ensures in
-    is_found c.args.link.now (contents_read c.args.mp_type) (type_of_mp c.args.mp_type) attributes (option_map attribute_of c.get-attr.result) (state_of c.mp_state.result) c.has_other_bits.result c.repeats_in.result
+    is_found c.args.link.now (contents_read c.args.form c.args.mp_type) (type_of_mp c.args.mp_type) attributes (option_map attribute_of c.get-attr.result) (state_of c.mp_state.result) c.has_other_bits.result c.repeats_in.result
     (c.get-attr.ensures.first ∙ ap (λ (f : AttrType → Option Attribute). f c.attr_type-attr_type.result) c.requires.first ∙ ap (first_by_type attributes) same)
     c.mp_state.ensures c.has_other_bits.ensures
     (c.repeats_in.ensures ∙ ap (λ (n : ℕ). is_repeated n attributes) (c.row.ensures.number ∙ ap type_number same))
