@@ -7,7 +7,7 @@ use Rattle.bgp_rib.specs.Routes.{Routes, AreRoutes, no_routes}
 use Rattle.bgp_judge.specs.Member.{Member, fresh_member}
 use Rattle.bgp_judge.proofs.Standing.{fresh_stands}
 use Rattle.bgp_compact.specs.declared.falls.Fall.{Fall}
-use Rattle.bgp_compact.specs.declared.falls.Fall.TheVariants.{Silent, Ceased, Expired, Erred, Faulted}
+use Rattle.bgp_compact.specs.declared.falls.Fall.TheVariants.{Silent, Ceased, Expired, SendExpired, Erred, Faulted}
 use Rattle.bgp_compact.specs.declared.words.Words.{Words}
 use Rattle.bgp_compact.specs.Disabled.{holds}
 use Rattle.bgp_compact.specs.Members.{HasFall, IsMember, front_member, fallen_member}
@@ -21,6 +21,7 @@ fresh_fall : (f : Fall) → HasFall fresh_words.falls f → f ≡ Silent
 fresh_fall Silent h = refl
 fresh_fall Ceased h = absurd (let k : ⊥ = cc in k)
 fresh_fall Expired h = absurd (let k : ⊥ = cc in k)
+fresh_fall SendExpired h = absurd (let k : ⊥ = cc in k)
 fresh_fall Erred h = absurd (let k : ⊥ = cc in k)
 fresh_fall (Faulted s) h = absurd (let k : ⊥ = cc in k)
 

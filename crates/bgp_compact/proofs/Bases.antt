@@ -12,7 +12,7 @@ use Rattle.bgp_rib.specs.Routes.{Routes, no_routes, routes_without}
 use Rattle.bgp_judge.specs.Member.{Member, IsFree}
 use Rattle.bgp_compact.specs.declared.base.Base.{Base}
 use Rattle.bgp_compact.specs.declared.falls.Fall.{Fall}
-use Rattle.bgp_compact.specs.declared.falls.Fall.TheVariants.{Silent, Ceased, Expired, Erred, Faulted}
+use Rattle.bgp_compact.specs.declared.falls.Fall.TheVariants.{Silent, Ceased, Expired, SendExpired, Erred, Faulted}
 use Rattle.bgp_compact.specs.declared.words.Words.{Words}
 use Rattle.bgp_compact.specs.Disabled.{holds, only_none}
 use Rattle.bgp_compact.specs.Members.{HasFall, GoesOn, front_member, fallen_member, left_of, sends_of}
@@ -55,6 +55,7 @@ free_fall : (n : Words) (fall : Fall) → AreFine n → HasFall n.falls fall →
 free_fall n Silent fine has e = refl
 free_fall n Ceased fine has e = absurd (let k : ⊥ = cc in k)
 free_fall n Expired fine has e = absurd (let k : ⊥ = cc in k)
+free_fall n SendExpired fine has e = absurd (let k : ⊥ = cc in k)
 free_fall n Erred fine has e = absurd (fine.errors has e)
 free_fall n (Faulted s) fine has e = absurd (let k : ⊥ = cc in k)
 

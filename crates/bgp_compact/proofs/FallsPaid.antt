@@ -15,7 +15,7 @@ use Rattle.bgp_machine.specs.Want.{wants_of}
 use Rattle.bgp_judge.specs.Member.{Member, link_for}
 use Rattle.bgp_judge.specs.Next.{Continues}
 use Rattle.bgp_compact.specs.declared.falls.Fall.{Fall}
-use Rattle.bgp_compact.specs.declared.falls.Fall.TheVariants.{Silent, Ceased, Expired, Erred, Faulted}
+use Rattle.bgp_compact.specs.declared.falls.Fall.TheVariants.{Silent, Ceased, Expired, SendExpired, Erred, Faulted}
 use Rattle.bgp_compact.specs.declared.words.Words.{Words}
 use Rattle.bgp_compact.specs.Members.{HasFall, sends_of, error_of, left_where, left_of, link_in, link_before, fallen_member}
 use Rattle.bgp_judge.specs.declared.unshown.Unshown.{Unshown}
@@ -53,6 +53,7 @@ one_sent : (left : Fsm) (fall : Fall) (w : Want) (ws : List Want) → sends_of l
 one_sent left Silent w ws e = cc
 one_sent left Ceased w ws e = cc
 one_sent left Expired w ws e = cc
+one_sent left SendExpired w ws e = cc
 one_sent left Erred w ws e = one_error left w ws e
 one_sent left (Faulted s) w ws e = cc
 
@@ -124,6 +125,7 @@ same_one : (left : Fsm) (fall : Fall) (w : Want) → w ∷ [] ≡ sends_of left 
 same_one left Silent wants.OwnOpen e = absurd (let k : ⊥ = cc in k)
 same_one left Ceased wants.OwnOpen e = absurd (let k : ⊥ = cc in k)
 same_one left Expired wants.OwnOpen e = absurd (let k : ⊥ = cc in k)
+same_one left SendExpired wants.OwnOpen e = absurd (let k : ⊥ = cc in k)
 same_one left (Faulted s) wants.OwnOpen e = absurd (let k : ⊥ = cc in k)
 same_one fsms.Idle Erred wants.OwnOpen e = absurd (let k : ⊥ = cc in k)
 same_one fsms.Connect Erred wants.OwnOpen e = absurd (let k : ⊥ = cc in k)
@@ -134,6 +136,7 @@ same_one fsms.Established Erred wants.OwnOpen e = absurd (let k : ⊥ = cc in k)
 same_one left Silent wants.KeepAlive e = absurd (let k : ⊥ = cc in k)
 same_one left Ceased wants.KeepAlive e = absurd (let k : ⊥ = cc in k)
 same_one left Expired wants.KeepAlive e = absurd (let k : ⊥ = cc in k)
+same_one left SendExpired wants.KeepAlive e = absurd (let k : ⊥ = cc in k)
 same_one left (Faulted s) wants.KeepAlive e = absurd (let k : ⊥ = cc in k)
 same_one fsms.Idle Erred wants.KeepAlive e = absurd (let k : ⊥ = cc in k)
 same_one fsms.Connect Erred wants.KeepAlive e = absurd (let k : ⊥ = cc in k)
@@ -144,6 +147,7 @@ same_one fsms.Established Erred wants.KeepAlive e = absurd (let k : ⊥ = cc in 
 same_one left Silent wants.CleanUpdate e = absurd (let k : ⊥ = cc in k)
 same_one left Ceased wants.CleanUpdate e = absurd (let k : ⊥ = cc in k)
 same_one left Expired wants.CleanUpdate e = absurd (let k : ⊥ = cc in k)
+same_one left SendExpired wants.CleanUpdate e = absurd (let k : ⊥ = cc in k)
 same_one left (Faulted s) wants.CleanUpdate e = absurd (let k : ⊥ = cc in k)
 same_one fsms.Idle Erred wants.CleanUpdate e = absurd (let k : ⊥ = cc in k)
 same_one fsms.Connect Erred wants.CleanUpdate e = absurd (let k : ⊥ = cc in k)
@@ -154,6 +158,7 @@ same_one fsms.Established Erred wants.CleanUpdate e = absurd (let k : ⊥ = cc i
 same_one left Silent wants.Cease e = absurd (let k : ⊥ = cc in k)
 same_one left Ceased wants.Cease e = inr refl
 same_one left Expired wants.Cease e = absurd (let k : ⊥ = cc in k)
+same_one left SendExpired wants.Cease e = absurd (let k : ⊥ = cc in k)
 same_one left (Faulted s) wants.Cease e = absurd (let k : ⊥ = cc in k)
 same_one fsms.Idle Erred wants.Cease e = absurd (let k : ⊥ = cc in k)
 same_one fsms.Connect Erred wants.Cease e = absurd (let k : ⊥ = cc in k)
@@ -164,6 +169,7 @@ same_one fsms.Established Erred wants.Cease e = absurd (let k : ⊥ = cc in k)
 same_one left Silent wants.HoldExpired e = absurd (let k : ⊥ = cc in k)
 same_one left Ceased wants.HoldExpired e = absurd (let k : ⊥ = cc in k)
 same_one left Expired wants.HoldExpired e = inr refl
+same_one left SendExpired wants.HoldExpired e = absurd (let k : ⊥ = cc in k)
 same_one left (Faulted s) wants.HoldExpired e = absurd (let k : ⊥ = cc in k)
 same_one fsms.Idle Erred wants.HoldExpired e = absurd (let k : ⊥ = cc in k)
 same_one fsms.Connect Erred wants.HoldExpired e = absurd (let k : ⊥ = cc in k)
@@ -171,9 +177,21 @@ same_one fsms.Active Erred wants.HoldExpired e = absurd (let k : ⊥ = cc in k)
 same_one fsms.OpenSent Erred wants.HoldExpired e = absurd (let k : ⊥ = cc in k)
 same_one fsms.OpenConfirm Erred wants.HoldExpired e = absurd (let k : ⊥ = cc in k)
 same_one fsms.Established Erred wants.HoldExpired e = absurd (let k : ⊥ = cc in k)
+same_one left Silent wants.SendHoldExpired e = absurd (let k : ⊥ = cc in k)
+same_one left Ceased wants.SendHoldExpired e = absurd (let k : ⊥ = cc in k)
+same_one left Expired wants.SendHoldExpired e = absurd (let k : ⊥ = cc in k)
+same_one left SendExpired wants.SendHoldExpired e = inr refl
+same_one left (Faulted s) wants.SendHoldExpired e = absurd (let k : ⊥ = cc in k)
+same_one fsms.Idle Erred wants.SendHoldExpired e = absurd (let k : ⊥ = cc in k)
+same_one fsms.Connect Erred wants.SendHoldExpired e = absurd (let k : ⊥ = cc in k)
+same_one fsms.Active Erred wants.SendHoldExpired e = absurd (let k : ⊥ = cc in k)
+same_one fsms.OpenSent Erred wants.SendHoldExpired e = absurd (let k : ⊥ = cc in k)
+same_one fsms.OpenConfirm Erred wants.SendHoldExpired e = absurd (let k : ⊥ = cc in k)
+same_one fsms.Established Erred wants.SendHoldExpired e = absurd (let k : ⊥ = cc in k)
 same_one left Silent (wants.MachineError st) e = absurd (let k : ⊥ = cc in k)
 same_one left Ceased (wants.MachineError st) e = absurd (let k : ⊥ = cc in k)
 same_one left Expired (wants.MachineError st) e = absurd (let k : ⊥ = cc in k)
+same_one left SendExpired (wants.MachineError st) e = absurd (let k : ⊥ = cc in k)
 same_one left (Faulted s) (wants.MachineError st) e = absurd (let k : ⊥ = cc in k)
 same_one fsms.Idle Erred (wants.MachineError st) e = inr refl
 same_one fsms.Connect Erred (wants.MachineError st) e = inr refl
@@ -184,6 +202,7 @@ same_one fsms.Established Erred (wants.MachineError st) e = inr refl
 same_one left Silent (wants.Faults t) e = absurd (let k : ⊥ = cc in k)
 same_one left Ceased (wants.Faults t) e = absurd (let k : ⊥ = cc in k)
 same_one left Expired (wants.Faults t) e = absurd (let k : ⊥ = cc in k)
+same_one left SendExpired (wants.Faults t) e = absurd (let k : ⊥ = cc in k)
 same_one left (Faulted s) (wants.Faults t) e = inr (let k : t ≡ s = cc in ap (λ (v : FaultSet). Faulted v) k)
 same_one fsms.Idle Erred (wants.Faults t) e = absurd (let k : ⊥ = cc in k)
 same_one fsms.Connect Erred (wants.Faults t) e = absurd (let k : ⊥ = cc in k)
@@ -344,33 +363,38 @@ paid_faults config n r m o e y =
 no_more : (n : Words) (f : Falls) (m : Member) → f ≡ no_falls → FallsTo n f m → ⊥
 no_more n f m e h = none_falls h.0 (subst (λ (v : Falls). HasFall v h.0) e h.1)
 
-pub all_fallen : (config : Config) (n : Words) (r : ShownRecord) (m : Member) (o1 o2 o3 o4 o5 : Option Fall) (f0 f1 f2 f3 f4 f5 : Falls) → f0 ≡ no_falls
+pub all_fallen : (config : Config) (n : Words) (r : ShownRecord) (m : Member) (o1 o2 o3 o4 o5 o6 : Option Fall) (f0 f1 f2 f3 f4 f5 f6 : Falls) → f0 ≡ no_falls
     → o1 ≡ (if n.falls.silent then Some Silent else None) → o2 ≡ (if n.falls.ceased then Some Ceased else None)
-    → o3 ≡ (if n.falls.expired then Some Expired else None) → o4 ≡ (if n.falls.erred then Some Erred else None) → o5 ≡ faulted_by n.falls.faulted
+    → o3 ≡ (if n.falls.expired then Some Expired else None) → o4 ≡ (if n.falls.send_expired then Some SendExpired else None)
+    → o5 ≡ (if n.falls.erred then Some Erred else None) → o6 ≡ faulted_by n.falls.faulted
     → Adds config n r m f0 o1 f1 → Adds config n r m f1 o2 f2 → Adds config n r m f2 o3 f3 → Adds config n r m f3 o4 f4 → Adds config n r m f4 o5 f5
-    → FallsTo (shown_by n r) f5 m ↔ FallPaid config n r m
-all_fallen config n r m o1 o2 o3 o4 o5 f0 f1 f2 f3 f4 f5 e0 e1 e2 e3 e4 e5 a1 a2 a3 a4 a5 = (
-  λ h. elim (a5.0 h) [
-    | inr y ↦ paid_faults config n r m o5 e5 y
-    | inl h4 ↦ elim (a4.0 h4) [
-      | inr y ↦ paid_if config n r m o4 n.falls.erred Erred e4 (λ b. b) y
-      | inl h3 ↦ elim (a3.0 h3) [
-        | inr y ↦ paid_if config n r m o3 n.falls.expired Expired e3 (λ b. b) y
-        | inl h2 ↦ elim (a2.0 h2) [
-          | inr y ↦ paid_if config n r m o2 n.falls.ceased Ceased e2 (λ b. b) y
-          | inl h1 ↦ elim (a1.0 h1) [
-            | inr y ↦ paid_if config n r m o1 n.falls.silent Silent e1 (λ b. b) y
-            | inl h0 ↦ absurd (no_more (shown_by n r) f0 m e0 h0)
+    → Adds config n r m f5 o6 f6 → FallsTo (shown_by n r) f6 m ↔ FallPaid config n r m
+all_fallen config n r m o1 o2 o3 o4 o5 o6 f0 f1 f2 f3 f4 f5 f6 e0 e1 e2 e3 e4 e5 e6 a1 a2 a3 a4 a5 a6 = (
+  λ h. elim (a6.0 h) [
+    | inr y ↦ paid_faults config n r m o6 e6 y
+    | inl h5 ↦ elim (a5.0 h5) [
+      | inr y ↦ paid_if config n r m o5 n.falls.erred Erred e5 (λ b. b) y
+      | inl h4 ↦ elim (a4.0 h4) [
+        | inr y ↦ paid_if config n r m o4 n.falls.send_expired SendExpired e4 (λ b. b) y
+        | inl h3 ↦ elim (a3.0 h3) [
+          | inr y ↦ paid_if config n r m o3 n.falls.expired Expired e3 (λ b. b) y
+          | inl h2 ↦ elim (a2.0 h2) [
+            | inr y ↦ paid_if config n r m o2 n.falls.ceased Ceased e2 (λ b. b) y
+            | inl h1 ↦ elim (a1.0 h1) [
+              | inr y ↦ paid_if config n r m o1 n.falls.silent Silent e1 (λ b. b) y
+              | inl h0 ↦ absurd (no_more (shown_by n r) f0 m e0 h0)
+            ]
           ]
         ]
       ]
     ]
   ],
-  λ k. (elim k.0 as (λ (f : Fall). HasFall n.falls f → Continues config r (fallen_member n f) m → FallsTo (shown_by n r) f5 m) [
-    | Silent ↦ λ has c. a5.1 (inl (a4.1 (inl (a3.1 (inl (a2.1 (inl (a1.1 (inr (Silent, e1 ∙ there_if n.falls.silent Silent has, c))))))))))
-    | Ceased ↦ λ has c. a5.1 (inl (a4.1 (inl (a3.1 (inl (a2.1 (inr (Ceased, e2 ∙ there_if n.falls.ceased Ceased has, c))))))))
-    | Expired ↦ λ has c. a5.1 (inl (a4.1 (inl (a3.1 (inr (Expired, e3 ∙ there_if n.falls.expired Expired has, c))))))
-    | Erred ↦ λ has c. a5.1 (inl (a4.1 (inr (Erred, e4 ∙ there_if n.falls.erred Erred has, c))))
-    | Faulted s ↦ λ has c. a5.1 (inr (Faulted s, e5 ∙ ap faulted_by has, c))
+  λ k. (elim k.0 as (λ (f : Fall). HasFall n.falls f → Continues config r (fallen_member n f) m → FallsTo (shown_by n r) f6 m) [
+    | Silent ↦ λ has c. a6.1 (inl (a5.1 (inl (a4.1 (inl (a3.1 (inl (a2.1 (inl (a1.1 (inr (Silent, e1 ∙ there_if n.falls.silent Silent has, c))))))))))))
+    | Ceased ↦ λ has c. a6.1 (inl (a5.1 (inl (a4.1 (inl (a3.1 (inl (a2.1 (inr (Ceased, e2 ∙ there_if n.falls.ceased Ceased has, c))))))))))
+    | Expired ↦ λ has c. a6.1 (inl (a5.1 (inl (a4.1 (inl (a3.1 (inr (Expired, e3 ∙ there_if n.falls.expired Expired has, c))))))))
+    | SendExpired ↦ λ has c. a6.1 (inl (a5.1 (inl (a4.1 (inr (SendExpired, e4 ∙ there_if n.falls.send_expired SendExpired has, c))))))
+    | Erred ↦ λ has c. a6.1 (inl (a5.1 (inr (Erred, e5 ∙ there_if n.falls.erred Erred has, c))))
+    | Faulted s ↦ λ has c. a6.1 (inr (Faulted s, e6 ∙ ap faulted_by has, c))
   ]) k.1 k.2,
 )

@@ -16,9 +16,9 @@ use Rattle.bgp_machine.specs.declared.want.FaultSet.TheVariants as sets
 use Rattle.bgp_machine.specs.declared.want.Want.{Want}
 use Rattle.bgp_machine.specs.declared.want.Want.TheVariants as wants
 use Rattle.bgp_machine.specs.Going.{Shape, Falling, HiddenShape, ReceivedShape, told, shown_after, undelayed, going_on, error_at, fall_wants}
-use Rattle.bgp_machine.specs.Going.{Fall as TheFall, Silently, Ceased as LawCeased, Expired as LawExpired, Erred as LawErred, Faulted as LawFaulted}
+use Rattle.bgp_machine.specs.Going.{Fall as TheFall, Silently, Ceased as LawCeased, Expired as LawExpired, SendExpired as LawSendExpired, Erred as LawErred, Faulted as LawFaulted}
 use Rattle.bgp_compact.specs.declared.falls.Fall.{Fall}
-use Rattle.bgp_compact.specs.declared.falls.Fall.TheVariants.{Silent, Ceased, Expired, Erred, Faulted}
+use Rattle.bgp_compact.specs.declared.falls.Fall.TheVariants.{Silent, Ceased, Expired, SendExpired, Erred, Faulted}
 use Rattle.bgp_compact.specs.Members.{error_of, sends_of}
 use Rattle.bgp_machine.specs.Listed.{IsShown}
 use Rattle.bgp_machine.specs.Shows.{Pays}
@@ -222,6 +222,7 @@ falling_sends head left turn f = (elim f.fall as (λ (g : TheFall). left ≡ fal
   | Silently ↦ λ e. (Silent, e)
   | LawCeased ↦ λ e. (Ceased, e)
   | LawExpired ↦ λ e. (Expired, e)
+  | LawSendExpired ↦ λ e. (SendExpired, e)
   | LawErred ↦ λ e. (Erred, e ∙ sym (errs_so head))
   | LawFaulted s ↦ λ e. (Faulted s, e)
 ]) f.wants

@@ -6,7 +6,7 @@ use Rattle.bgp_machine.specs.declared.state.Head.TheVariants.{Idle, Connect, Act
 use Rattle.bgp_machine.specs.declared.hearing.Heard.{Heard}
 use Rattle.bgp_machine.specs.declared.hearing.Heard.TheVariants as heard
 use Rattle.bgp_machine.specs.declared.rows.HiddenRow.{HiddenRow}
-use Rattle.bgp_machine.specs.declared.rows.HiddenRow.TheVariants.{Starts, Listens, ConnectionOpens, DelayBegins, DelayExpires, ConnectionFails, RetryExpires, Stops, Ceases, HoldExpires, KeepaliveExpires, Announces, Notes}
+use Rattle.bgp_machine.specs.declared.rows.HiddenRow.TheVariants.{Starts, Listens, ConnectionOpens, DelayBegins, DelayExpires, ConnectionFails, RetryExpires, Stops, Ceases, HoldExpires, SendHoldExpires, KeepaliveExpires, Announces, Notes}
 use Rattle.bgp_machine.specs.declared.rows.ReceivedRow.{ReceivedRow}
 use Rattle.bgp_machine.specs.declared.rows.ReceivedRow.TheVariants.{Ignores, Drops, NamesFault, Accepts, Collides, ReportsError, Overlooks, Establishes, Renews, Applies}
 use Rattle.bgp_machine.specs.declared.want.FaultSet.{FaultSet}
@@ -54,6 +54,7 @@ hidden_sends (OpenConfirm link timer) config t ConnectionFails ws turn h = inl h
 hidden_sends (OpenConfirm link timer) config t Notes ws turn h = inl h.0
 hidden_sends (Established link timer) config t Ceases ws turn h = inr (wants.Cease, h.0, λ s e. cc)
 hidden_sends (Established link timer) config t HoldExpires ws turn h = inr (wants.HoldExpired, h.1, λ s e. cc)
+hidden_sends (Established link timer) config t SendHoldExpires ws turn h = inr (wants.SendHoldExpired, h.1, λ s e. cc)
 hidden_sends (Established link timer) config t KeepaliveExpires ws turn h = inr (wants.KeepAlive, h.1, λ s e. cc)
 hidden_sends (Established link timer) config t ConnectionFails ws turn h = inl h.0
 hidden_sends (Established link timer) config t Announces ws turn h = inr (wants.CleanUpdate, h.0, λ s e. cc)
@@ -80,6 +81,7 @@ hidden_stays (OpenConfirm link timer) config t ConnectionFails ws turn has h = i
 hidden_stays (OpenConfirm link timer) config t Notes ws turn has h = inr h.1
 hidden_stays (Established link timer) config t Ceases ws turn has h = inl h.1
 hidden_stays (Established link timer) config t HoldExpires ws turn has h = inl h.2
+hidden_stays (Established link timer) config t SendHoldExpires ws turn has h = inl h.2
 hidden_stays (Established link timer) config t KeepaliveExpires ws turn has h = inr h.2
 hidden_stays (Established link timer) config t ConnectionFails ws turn has h = inl h.1
 hidden_stays (Established link timer) config t Announces ws turn has h = inr h.1
@@ -126,6 +128,7 @@ hidden_delays (OpenConfirm link timer) config t ConnectionFails ws turn h on = a
 hidden_delays (OpenConfirm link timer) config t Notes ws turn h on = absurd (on_there turn (enters (OpenConfirm link timer)) h.1 refl on)
 hidden_delays (Established link timer) config t Ceases ws turn h on = absurd (on_there turn falls h.1 refl on)
 hidden_delays (Established link timer) config t HoldExpires ws turn h on = absurd (on_there turn falls h.2 refl on)
+hidden_delays (Established link timer) config t SendHoldExpires ws turn h on = absurd (on_there turn falls h.2 refl on)
 hidden_delays (Established link timer) config t KeepaliveExpires ws turn h on = absurd (on_there turn (enters (Established link timer)) h.2 refl on)
 hidden_delays (Established link timer) config t ConnectionFails ws turn h on = absurd (on_there turn falls h.1 refl on)
 hidden_delays (Established link timer) config t Announces ws turn h on = absurd (on_there turn (enters (Established link timer)) h.1 refl on)

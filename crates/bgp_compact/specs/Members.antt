@@ -15,8 +15,8 @@ use Rattle.bgp_rib.specs.Routes.{Routes, routes_without}
 use Rattle.bgp_judge.specs.Member.{Member, link_for}
 use Rattle.bgp_compact.specs.declared.disabled.DisabledSets.{DisabledSets}
 use Rattle.bgp_compact.specs.declared.falls.Fall.{Fall}
-use Rattle.bgp_compact.specs.declared.falls.Fall.TheVariants.{Silent, Ceased, Expired, Erred}
-use Rattle.bgp_compact.specs.declared.falls.Fall.TheVariants.{Faulted}
+use Rattle.bgp_compact.specs.declared.falls.Fall.TheVariants.{Silent, Ceased, Expired, SendExpired}
+use Rattle.bgp_compact.specs.declared.falls.Fall.TheVariants.{Erred, Faulted}
 use Rattle.bgp_compact.specs.declared.falls.Falls.{Falls}
 use Rattle.bgp_compact.specs.declared.words.Words.{Words}
 use Rattle.bgp_compact.specs.Disabled.{holds, no_sets}
@@ -28,6 +28,7 @@ abbrev pub HasFall : Falls → Fall → Type 0
 HasFall falls Silent = IsTrue falls.silent
 HasFall falls Ceased = IsTrue falls.ceased
 HasFall falls Expired = IsTrue falls.expired
+HasFall falls SendExpired = IsTrue falls.send_expired
 HasFall falls Erred = IsTrue falls.erred
 HasFall falls (Faulted faults) = falls.faulted ≡ Some faults
 
@@ -36,6 +37,7 @@ no_falls = record {
   silent = false;
   ceased = false;
   expired = false;
+  send_expired = false;
   erred = false;
   faulted = None;
 }
@@ -52,6 +54,7 @@ abbrev pub sends_of : Fsm → Fall → List Want
 sends_of left Silent = []
 sends_of left Ceased = wants.Cease ∷ []
 sends_of left Expired = wants.HoldExpired ∷ []
+sends_of left SendExpired = wants.SendHoldExpired ∷ []
 sends_of left Erred = error_of left
 sends_of left (Faulted faults) = wants.Faults faults ∷ []
 

@@ -12,8 +12,8 @@ use Rattle.bgp_machine.specs.declared.step.Routes.{Routes as RoutesOfStep}
 use Rattle.bgp_machine.specs.declared.step.Routes.TheVariants as routes
 use Rattle.bgp_machine.specs.declared.want.FaultSet.{FaultSet}
 use Rattle.bgp_machine.specs.declared.want.Want.{Want}
-use Rattle.bgp_machine.specs.declared.want.Want.TheVariants.{Cease, HoldExpired, MachineError}
-use Rattle.bgp_machine.specs.declared.want.Want.TheVariants.{Faults}
+use Rattle.bgp_machine.specs.declared.want.Want.TheVariants.{Cease, HoldExpired, SendHoldExpired}
+use Rattle.bgp_machine.specs.declared.want.Want.TheVariants.{MachineError, Faults}
 use Rattle.bgp_machine.specs.declared.want.Wants.{Wants}
 use Rattle.bgp_machine.specs.declared.want.Wants.TheVariants.{One}
 use Rattle.bgp_machine.specs.Going.{told, shown_after}
@@ -27,8 +27,8 @@ use Rattle.bgp_judge.specs.Member.{Member, IsFree}
 use Rattle.bgp_judge.specs.Next.{Continues}
 use Rattle.bgp_compact.specs.declared.base.Base.{Base}
 use Rattle.bgp_compact.specs.declared.falls.Fall.{Fall}
-use Rattle.bgp_compact.specs.declared.falls.Fall.TheVariants.{Silent, Ceased, Expired, Erred}
-use Rattle.bgp_compact.specs.declared.falls.Fall.TheVariants.{Faulted}
+use Rattle.bgp_compact.specs.declared.falls.Fall.TheVariants.{Silent, Ceased, Expired, SendExpired}
+use Rattle.bgp_compact.specs.declared.falls.Fall.TheVariants.{Erred, Faulted}
 use Rattle.bgp_compact.specs.declared.falls.Falls.{Falls}
 use Rattle.bgp_compact.specs.declared.words.Words.{Words}
 use Rattle.bgp_open.specs.declared.families.Families.{Families}
@@ -41,6 +41,7 @@ use Rattle.bgp_compact.specs.Standing.{IsTableOf}
 abbrev pub fall_for : Wants → Fall
 fall_for (One Cease) = Ceased
 fall_for (One HoldExpired) = Expired
+fall_for (One SendHoldExpired) = SendExpired
 fall_for (One (MachineError state)) = Erred
 fall_for (One (Faults faults)) = Faulted faults
 fall_for wants = Silent
@@ -50,6 +51,7 @@ abbrev pub with_fall : Falls → Fall → Falls
 with_fall falls Silent = record falls { silent = true }
 with_fall falls Ceased = record falls { ceased = true }
 with_fall falls Expired = record falls { expired = true }
+with_fall falls SendExpired = record falls { send_expired = true }
 with_fall falls Erred = record falls { erred = true }
 with_fall falls (Faulted faults) = record falls { faulted = Some faults }
 

@@ -18,6 +18,8 @@ pub(crate) enum Fall {
     Ceased,
     /// Hold Timer Expired.
     Expired,
+    /// Send Hold Timer Expired.
+    SendExpired,
     /// Finite State Machine Error, with the subcode of the state that was left.
     Erred,
     /// One that names a fault of the set.
@@ -33,6 +35,8 @@ pub(crate) struct Falls {
     pub ceased: bool,
     /// Some sends Hold Timer Expired.
     pub expired: bool,
+    /// Some sends Send Hold Timer Expired.
+    pub send_expired: bool,
     /// Some sends Finite State Machine Error.
     pub erred: bool,
     /// Some sends a fault of this set.
@@ -48,6 +52,7 @@ impl Fall {
             Fall::Silent => Wants::Nothing,
             Fall::Ceased => Wants::One(Want::Cease),
             Fall::Expired => Wants::One(Want::HoldExpired),
+            Fall::SendExpired => Wants::One(Want::SendHoldExpired),
             Fall::Erred => error_at(left),
             Fall::Faulted(faults) => Wants::One(Want::Faults(faults)),
         }
@@ -60,6 +65,7 @@ impl Fall {
         match wants {
             Wants::One(Want::Cease) => Fall::Ceased,
             Wants::One(Want::HoldExpired) => Fall::Expired,
+            Wants::One(Want::SendHoldExpired) => Fall::SendExpired,
             Wants::One(Want::MachineError(_)) => Fall::Erred,
             Wants::One(Want::Faults(faults)) => Fall::Faulted(faults),
             _ => Fall::Silent,
@@ -88,6 +94,7 @@ impl Falls {
             silent: false,
             ceased: false,
             expired: false,
+            send_expired: false,
             erred: false,
             faulted: None,
         }
@@ -98,7 +105,9 @@ impl Falls {
         ensures yes { IsTrue result → (fall : TheFall) → ¬ HasFall self fall }
         ensures no { ¬ IsTrue result → (fall : TheFall) × HasFall self fall }
     {
-        if or(or(self.silent, self.ceased), or(self.expired, self.erred)) {
+        let is_silent_or_ceased = or(self.silent, self.ceased);
+        let is_of_a_timer = or(self.expired, self.send_expired);
+        if or(is_silent_or_ceased, or(is_of_a_timer, self.erred)) {
             return false;
         }
         match self.faulted {
@@ -122,6 +131,10 @@ impl Falls {
             },
             Fall::Expired => Falls {
                 expired: true,
+                ..self
+            },
+            Fall::SendExpired => Falls {
+                send_expired: true,
                 ..self
             },
             Fall::Erred => Falls {

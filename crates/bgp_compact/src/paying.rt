@@ -127,11 +127,13 @@ fn paid_falls(config: &Config, words: Words, shown: &Record<'_>) -> Falls
     let silent = if_so(words.falls.silent, Fall::Silent);
     let ceased = if_so(words.falls.ceased, Fall::Ceased);
     let expired = if_so(words.falls.expired, Fall::Expired);
+    let send_expired = if_so(words.falls.send_expired, Fall::SendExpired);
     let erred = if_so(words.falls.erred, Fall::Erred);
     let faulted = faulted(words.falls.faulted);
     let falls = add_paid(config, words, silent, shown, Falls::none());
     let falls = add_paid(config, words, ceased, shown, falls);
     let falls = add_paid(config, words, expired, shown, falls);
+    let falls = add_paid(config, words, send_expired, shown, falls);
     let falls = add_paid(config, words, erred, shown, falls);
     add_paid(config, words, faulted, shown, falls)
 }

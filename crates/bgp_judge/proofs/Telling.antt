@@ -14,7 +14,7 @@ use Rattle.bgp_machine.specs.declared.fsm.Fsm.TheVariants as fsms
 use Rattle.bgp_machine.specs.declared.hearing.Heard.{Heard}
 use Rattle.bgp_machine.specs.declared.hearing.Heard.TheVariants.{TooShort, ValidOpen, FaultyHeader, InvalidOpen, BadVersion, Notification, Keepalive, Update}
 use Rattle.bgp_machine.specs.declared.rows.HiddenRow.{HiddenRow}
-use Rattle.bgp_machine.specs.declared.rows.HiddenRow.TheVariants.{Starts, Listens, ConnectionOpens, DelayBegins, DelayExpires, ConnectionFails, RetryExpires, Stops, Ceases, HoldExpires, KeepaliveExpires, Announces, Notes}
+use Rattle.bgp_machine.specs.declared.rows.HiddenRow.TheVariants.{Starts, Listens, ConnectionOpens, DelayBegins, DelayExpires, ConnectionFails, RetryExpires, Stops, Ceases, HoldExpires, SendHoldExpires, KeepaliveExpires, Announces, Notes}
 use Rattle.bgp_machine.specs.declared.state.Head.{Head}
 use Rattle.bgp_machine.specs.declared.state.Head.TheVariants.{Idle, Connect, Active, OpenSent, OpenConfirm, Established}
 use Rattle.bgp_machine.specs.declared.want.Want.{Want}
@@ -122,6 +122,7 @@ hidden_held config T (OpenConfirm link timer) routes t ConnectionFails wants tur
 hidden_held config T (OpenConfirm link timer) routes t Notes wants turn r h = at_turn config T (OpenConfirm link timer) routes Notes turn (enters (OpenConfirm link timer)) r.1 (refl, h.1, h.2, h.3)
 hidden_held config T (Established link timer) routes t Ceases wants turn r h = at_turn config T (Established link timer) routes Ceases turn falls r.1 (refl, refl, refl)
 hidden_held config T (Established link timer) routes t HoldExpires wants turn r h = at_turn config T (Established link timer) routes HoldExpires turn falls r.2 (refl, refl, refl)
+hidden_held config T (Established link timer) routes t SendHoldExpires wants turn r h = at_turn config T (Established link timer) routes SendHoldExpires turn falls r.2 (refl, refl, refl)
 hidden_held config T (Established link timer) routes t KeepaliveExpires wants turn r h = at_turn config T (Established link timer) routes KeepaliveExpires turn (enters (Established link timer)) r.2 h
 hidden_held config T (Established link timer) routes t ConnectionFails wants turn r h = at_turn config T (Established link timer) routes ConnectionFails turn falls r.1 (refl, refl, refl)
 hidden_held config T (Established link timer) routes t Announces wants turn r h = at_turn config T (Established link timer) routes Announces turn (enters (Established link timer)) r.1 h

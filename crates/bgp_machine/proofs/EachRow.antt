@@ -6,7 +6,7 @@ use Rattle.bgp_machine.specs.declared.fsm.Fsm.TheVariants as fsms
 use Rattle.bgp_machine.specs.declared.hearing.Heard.{Heard}
 use Rattle.bgp_machine.specs.declared.hearing.Heard.TheVariants as heard
 use Rattle.bgp_machine.specs.declared.rows.HiddenRow.{HiddenRow}
-use Rattle.bgp_machine.specs.declared.rows.HiddenRow.TheVariants.{Starts, Listens, Stops, Ceases, RetryExpires, HoldExpires, KeepaliveExpires, DelayExpires, ConnectionOpens, DelayBegins, ConnectionFails, Announces, Notes}
+use Rattle.bgp_machine.specs.declared.rows.HiddenRow.TheVariants.{Starts, Listens, Stops, Ceases, RetryExpires, HoldExpires, SendHoldExpires, KeepaliveExpires, DelayExpires, ConnectionOpens, DelayBegins, ConnectionFails, Announces, Notes}
 use Rattle.bgp_machine.specs.declared.rows.ReceivedRow.{ReceivedRow}
 use Rattle.bgp_machine.specs.declared.rows.ReceivedRow.TheVariants.{Ignores, Accepts, Overlooks, Collides, Drops, NamesFault, ReportsError, Establishes, Renews, Applies}
 use Rattle.bgp_machine.specs.declared.state.Head.{Head}
@@ -36,6 +36,7 @@ each_shown config Idle t Stops ws c u h = absurd h.0
 each_shown config Idle t Ceases ws c u h = absurd h.0
 each_shown config Idle t RetryExpires ws c u h = absurd h.0
 each_shown config Idle t HoldExpires ws c u h = absurd h.0
+each_shown config Idle t SendHoldExpires ws c u h = absurd h.0
 each_shown config Idle t KeepaliveExpires ws c u h = absurd h.0
 each_shown config Idle t DelayExpires ws c u h = absurd h.0
 each_shown config Idle t ConnectionOpens ws c u h = absurd h.0
@@ -49,6 +50,7 @@ each_shown config (Connect d) t Stops ws c u h = inl refl
 each_shown config (Connect d) t Ceases ws c u h = absurd h.0
 each_shown config (Connect d) t RetryExpires ws c u h = absurd (shows_nothing ws c h.0.0 (h.1 ∙ in_connect (fsm_of u.head) (ap (λ (v : Turn). fsm_of v.head) h.0.1)) h.2)
 each_shown config (Connect d) t HoldExpires ws c u h = absurd h.0
+each_shown config (Connect d) t SendHoldExpires ws c u h = absurd h.0
 each_shown config (Connect d) t KeepaliveExpires ws c u h = absurd h.0
 each_shown config (Connect d) t DelayExpires ws c u h = inr (inl refl)
 each_shown config (Connect d) t ConnectionOpens ws c u h = inr (inr (inl refl))
@@ -62,6 +64,7 @@ each_shown config (Active d) t Stops ws c u h = inl refl
 each_shown config (Active d) t Ceases ws c u h = inr (inl refl)
 each_shown config (Active d) t RetryExpires ws c u h = inr (inr (inl refl))
 each_shown config (Active d) t HoldExpires ws c u h = absurd h.0
+each_shown config (Active d) t SendHoldExpires ws c u h = absurd h.0
 each_shown config (Active d) t KeepaliveExpires ws c u h = absurd h.0
 each_shown config (Active d) t DelayExpires ws c u h = inr (inr (inr (inl refl)))
 each_shown config (Active d) t ConnectionOpens ws c u h = inr (inr (inr (inr (inl refl))))
@@ -75,6 +78,7 @@ each_shown config (OpenSent s) t Stops ws c u h = absurd h.0
 each_shown config (OpenSent s) t Ceases ws c u h = inl refl
 each_shown config (OpenSent s) t RetryExpires ws c u h = absurd h.0
 each_shown config (OpenSent s) t HoldExpires ws c u h = inr (inl refl)
+each_shown config (OpenSent s) t SendHoldExpires ws c u h = absurd h.0
 each_shown config (OpenSent s) t KeepaliveExpires ws c u h = absurd h.0
 each_shown config (OpenSent s) t DelayExpires ws c u h = absurd h.0
 each_shown config (OpenSent s) t ConnectionOpens ws c u h = absurd h.0
@@ -88,6 +92,7 @@ each_shown config (OpenConfirm k s) t Stops ws c u h = absurd h.0
 each_shown config (OpenConfirm k s) t Ceases ws c u h = inl refl
 each_shown config (OpenConfirm k s) t RetryExpires ws c u h = absurd h.0
 each_shown config (OpenConfirm k s) t HoldExpires ws c u h = inr (inl refl)
+each_shown config (OpenConfirm k s) t SendHoldExpires ws c u h = absurd h.0
 each_shown config (OpenConfirm k s) t KeepaliveExpires ws c u h = inr (inr (inl refl))
 each_shown config (OpenConfirm k s) t DelayExpires ws c u h = absurd h.0
 each_shown config (OpenConfirm k s) t ConnectionOpens ws c u h = absurd h.0
@@ -101,13 +106,14 @@ each_shown config (Established k s) t Stops ws c u h = absurd h.0
 each_shown config (Established k s) t Ceases ws c u h = inl refl
 each_shown config (Established k s) t RetryExpires ws c u h = absurd h.0
 each_shown config (Established k s) t HoldExpires ws c u h = inr (inl refl)
-each_shown config (Established k s) t KeepaliveExpires ws c u h = inr (inr (inl refl))
+each_shown config (Established k s) t SendHoldExpires ws c u h = inr (inr (inl refl))
+each_shown config (Established k s) t KeepaliveExpires ws c u h = inr (inr (inr (inl refl)))
 each_shown config (Established k s) t DelayExpires ws c u h = absurd h.0
 each_shown config (Established k s) t ConnectionOpens ws c u h = absurd h.0
 each_shown config (Established k s) t DelayBegins ws c u h = absurd h.0
-each_shown config (Established k s) t ConnectionFails ws c u h = inr (inr (inr (inl refl)))
-each_shown config (Established k s) t Announces ws c u h = inr (inr (inr (inr (inl refl))))
-each_shown config (Established k s) t Notes ws c u h = inr (inr (inr (inr (inr (inl refl)))))
+each_shown config (Established k s) t ConnectionFails ws c u h = inr (inr (inr (inr (inl refl))))
+each_shown config (Established k s) t Announces ws c u h = inr (inr (inr (inr (inr (inl refl)))))
+each_shown config (Established k s) t Notes ws c u h = inr (inr (inr (inr (inr (inr (inl refl))))))
 
 pub each_heard : (head : Head) (t : ℕ) (octets : List ℕ) (m : Heard) (row : ReceivedRow) (ws : List Want) (u : Turn) → (NeedsOutcomes head m → ⊥)
     → ReceivedIn head t octets m row ws u → Has (λ r. r ≡ row) (heard_rows head)

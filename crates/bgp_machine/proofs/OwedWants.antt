@@ -27,7 +27,7 @@ use Rattle.bgp_update.specs.Subcodes.{HasSubcode, marks_of}
 use Rattle.bgp_machine.specs.declared.hearing.Heard.{Heard}
 use Rattle.bgp_machine.specs.declared.hearing.Heard.TheVariants as heard
 use Rattle.bgp_machine.specs.declared.rows.HiddenRow.{HiddenRow}
-use Rattle.bgp_machine.specs.declared.rows.HiddenRow.TheVariants.{Starts, Listens, Stops, Ceases, RetryExpires, HoldExpires, KeepaliveExpires, DelayExpires, ConnectionOpens, DelayBegins, ConnectionFails, Announces, Notes}
+use Rattle.bgp_machine.specs.declared.rows.HiddenRow.TheVariants.{Starts, Listens, Stops, Ceases, RetryExpires, HoldExpires, SendHoldExpires, KeepaliveExpires, DelayExpires, ConnectionOpens, DelayBegins, ConnectionFails, Announces, Notes}
 use Rattle.bgp_machine.specs.declared.rows.ReceivedRow.{ReceivedRow}
 use Rattle.bgp_machine.specs.declared.rows.ReceivedRow.TheVariants.{Ignores, Accepts, Overlooks, Collides, Drops, NamesFault, ReportsError, Establishes, Renews, Applies}
 use Rattle.bgp_machine.specs.declared.state.Head.{Head}
@@ -37,7 +37,7 @@ use Rattle.bgp_machine.specs.declared.want.FaultSet.TheVariants as sets
 use Rattle.bgp_machine.specs.declared.want.Unexpected.{Unexpected}
 use Rattle.bgp_machine.specs.declared.want.Unexpected.TheVariants.{InOpenSent, InOpenConfirm, InEstablished}
 use Rattle.bgp_machine.specs.declared.want.Want.{Want}
-use Rattle.bgp_machine.specs.declared.want.Want.TheVariants.{OwnOpen, KeepAlive, CleanUpdate, Cease, HoldExpired, MachineError, Faults}
+use Rattle.bgp_machine.specs.declared.want.Want.TheVariants.{OwnOpen, KeepAlive, CleanUpdate, Cease, HoldExpired, SendHoldExpired, MachineError, Faults}
 use Rattle.bgp_machine.specs.Heard.{Hears, received_limit, open_faults}
 use Rattle.bgp_machine.specs.Lists.{Each}
 use Rattle.bgp_machine.specs.Owed.{CanBeMet, EachOwedCanBeMet, EachOwedSetHasFault, HasFault, NoteKeepsState}
@@ -92,6 +92,10 @@ expired_met : (config : Config) (link : Option Link) → CanBeMet config link Ho
 expired_met config link =
     notification_met config link HoldExpired 4 0 [] (omega arith) (omega arith) none (omega arith) (4, 0, [], written_notification 4 0 [] (omega arith), (refl, refl))
 
+send_expired_met : (config : Config) (link : Option Link) → CanBeMet config link SendHoldExpired
+send_expired_met config link =
+    notification_met config link SendHoldExpired 8 0 [] (omega arith) (omega arith) none (omega arith) (8, 0, [], written_notification 8 0 [] (omega arith), (refl, refl))
+
 error_met : (config : Config) (link : Option Link) (state : Unexpected) → CanBeMet config link (MachineError state)
 error_met config link state =
     notification_met config link (MachineError state) 5 0 [] (omega arith) (omega arith) none (omega arith) (5, 0, [], written_notification 5 0 [] (omega arith), (refl, inl refl))
@@ -132,21 +136,22 @@ header_named limit header faults not each = elim (header_fields faults.marker fa
   | inr n ↦ n
 ]
 
-open_fields : (u v p i a h c : Bool)
-    → IsEmpty (record { unspecific = u; version = v; peer_as = p; identifier = i; parameter = a; hold = h; capability = c })
-    ⊎ Named (sets.Open (record { unspecific = u; version = v; peer_as = p; identifier = i; parameter = a; hold = h; capability = c }))
-open_fields true v p i a h c = inr (record { code = 2; subcode = 0; detail = []; small = omega arith; few = omega arith; octets = none; fits = omega arith; names = (refl, inl (refl, refl)) })
-open_fields false true p i a h c = inr (record { code = 2; subcode = 1; detail = big_bytes 2 4; small = omega arith; few = omega arith; octets = octets-big_bytes 2 4; fits = two_octets 4; names = (refl, inr (inl (refl, refl, refl))) })
-open_fields false false true i a h c = inr (record { code = 2; subcode = 2; detail = []; small = omega arith; few = omega arith; octets = none; fits = omega arith; names = (refl, inr (inr (inl (refl, refl)))) })
-open_fields false false false true a h c = inr (record { code = 2; subcode = 3; detail = []; small = omega arith; few = omega arith; octets = none; fits = omega arith; names = (refl, inr (inr (inr (inl (refl, refl))))) })
-open_fields false false false false true h c = inr (record { code = 2; subcode = 4; detail = []; small = omega arith; few = omega arith; octets = none; fits = omega arith; names = (refl, inr (inr (inr (inr (inl (refl, refl)))))) })
-open_fields false false false false false true c = inr (record { code = 2; subcode = 6; detail = []; small = omega arith; few = omega arith; octets = none; fits = omega arith; names = (refl, inr (inr (inr (inr (inr (inl (refl, refl))))))) })
-open_fields false false false false false false true = inr (record { code = 2; subcode = 7; detail = []; small = omega arith; few = omega arith; octets = none; fits = omega arith; names = (refl, inr (inr (inr (inr (inr (inr ((refl, refl)))))))) })
-open_fields false false false false false false false =
-    inl ((free_is_none (record { unspecific = false; version = false; peer_as = false; identifier = false; parameter = false; hold = false; capability = false })).0 refl)
+open_fields : (u v p i a h c r : Bool)
+    → IsEmpty (record { unspecific = u; version = v; peer_as = p; identifier = i; parameter = a; hold = h; capability = c; role = r })
+    ⊎ Named (sets.Open (record { unspecific = u; version = v; peer_as = p; identifier = i; parameter = a; hold = h; capability = c; role = r }))
+open_fields true v p i a h c r = inr (record { code = 2; subcode = 0; detail = []; small = omega arith; few = omega arith; octets = none; fits = omega arith; names = (refl, inl (refl, refl)) })
+open_fields false true p i a h c r = inr (record { code = 2; subcode = 1; detail = big_bytes 2 4; small = omega arith; few = omega arith; octets = octets-big_bytes 2 4; fits = two_octets 4; names = (refl, inr (inl (refl, refl, refl))) })
+open_fields false false true i a h c r = inr (record { code = 2; subcode = 2; detail = []; small = omega arith; few = omega arith; octets = none; fits = omega arith; names = (refl, inr (inr (inl (refl, refl)))) })
+open_fields false false false true a h c r = inr (record { code = 2; subcode = 3; detail = []; small = omega arith; few = omega arith; octets = none; fits = omega arith; names = (refl, inr (inr (inr (inl (refl, refl))))) })
+open_fields false false false false true h c r = inr (record { code = 2; subcode = 4; detail = []; small = omega arith; few = omega arith; octets = none; fits = omega arith; names = (refl, inr (inr (inr (inr (inl (refl, refl)))))) })
+open_fields false false false false false true c r = inr (record { code = 2; subcode = 6; detail = []; small = omega arith; few = omega arith; octets = none; fits = omega arith; names = (refl, inr (inr (inr (inr (inr (inl (refl, refl))))))) })
+open_fields false false false false false false true r = inr (record { code = 2; subcode = 7; detail = []; small = omega arith; few = omega arith; octets = none; fits = omega arith; names = (refl, inr (inr (inr (inr (inr (inr (inl (refl, refl)))))))) })
+open_fields false false false false false false false true = inr (record { code = 2; subcode = 11; detail = []; small = omega arith; few = omega arith; octets = none; fits = omega arith; names = (refl, inr (inr (inr (inr (inr (inr (inr (refl, refl)))))))) })
+open_fields false false false false false false false false =
+    inl ((free_is_none (record { unspecific = false; version = false; peer_as = false; identifier = false; parameter = false; hold = false; capability = false; role = false })).0 refl)
 
 open_named : (s : OpenSubcodes) → (IsEmpty s → ⊥) → Named (sets.Open s)
-open_named s not = elim (open_fields s.unspecific s.version s.peer_as s.identifier s.parameter s.hold s.capability) [ inl e ↦ absurd (not e) | inr n ↦ n ]
+open_named s not = elim (open_fields s.unspecific s.version s.peer_as s.identifier s.parameter s.hold s.capability s.role) [ inl e ↦ absurd (not e) | inr n ↦ n ]
 
 invalid_named : (config : Config) (octets : List ℕ) (s : OpenSubcodes) → (IsValid config octets → ⊥) → AreSubcodesOf (open_faults config octets) s → Named (sets.Open s)
 invalid_named config octets s not are = open_named s (λ empty. not (λ n d fault. empty n d ((are n d).1 (inl fault))))
@@ -215,6 +220,7 @@ hidden_met clean (OpenConfirm k s) config t ConnectionFails ws u h = none_owed c
 hidden_met clean (OpenConfirm k s) config t Notes ws u h = none_owed config (Some k) ws h.0
 hidden_met clean (Established k s) config t Ceases ws u h = one_owed config (Some k) Cease ws h.0 (cease_met config (Some k))
 hidden_met clean (Established k s) config t HoldExpires ws u h = one_owed config (Some k) HoldExpired ws h.1 (expired_met config (Some k))
+hidden_met clean (Established k s) config t SendHoldExpires ws u h = one_owed config (Some k) SendHoldExpired ws h.1 (send_expired_met config (Some k))
 hidden_met clean (Established k s) config t KeepaliveExpires ws u h = one_owed config (Some k) KeepAlive ws h.1 (alive_met config (Some k))
 hidden_met clean (Established k s) config t ConnectionFails ws u h = none_owed config (Some k) ws h.0
 hidden_met clean (Established k s) config t Announces ws u h = one_owed config (Some k) CleanUpdate ws h.0 (clean_met config k clean)

@@ -6,7 +6,7 @@ use Rattle.bgp_open.specs.declared.config.Config.{Config}
 use Rattle.bgp_machine.specs.declared.fsm.Fsm.{Fsm}
 use Rattle.bgp_machine.specs.declared.fsm.Fsm.TheVariants as fsms
 use Rattle.bgp_machine.specs.declared.rows.HiddenRow.{HiddenRow}
-use Rattle.bgp_machine.specs.declared.rows.HiddenRow.TheVariants.{Starts, Listens, Stops, Ceases, RetryExpires, HoldExpires, KeepaliveExpires, DelayExpires, ConnectionOpens, DelayBegins, ConnectionFails, Announces, Notes}
+use Rattle.bgp_machine.specs.declared.rows.HiddenRow.TheVariants.{Starts, Listens, Stops, Ceases, RetryExpires, HoldExpires, SendHoldExpires, KeepaliveExpires, DelayExpires, ConnectionOpens, DelayBegins, ConnectionFails, Announces, Notes}
 use Rattle.bgp_machine.specs.declared.state.Head.{Head}
 use Rattle.bgp_machine.specs.declared.state.Head.TheVariants.{Idle, Connect, Active, OpenSent, OpenConfirm, Established}
 use Rattle.bgp_machine.specs.declared.want.Want.{Want}
@@ -104,6 +104,7 @@ silent_row config (OpenConfirm k s) t ConnectionFails ws turn h e f = absurd (mo
 silent_row config (OpenConfirm k s) t Notes ws turn h e f = absurd (notes (fsms.OpenConfirm, fsm_of turn.head) f)
 silent_row config (Established k s) t Ceases ws turn h e f = absurd (speaks _ ws _ h.0 e)
 silent_row config (Established k s) t HoldExpires ws turn h e f = absurd (speaks _ ws _ h.1 e)
+silent_row config (Established k s) t SendHoldExpires ws turn h e f = absurd (speaks _ ws _ h.1 e)
 silent_row config (Established k s) t KeepaliveExpires ws turn h e f = absurd (speaks _ ws _ h.1 e)
 silent_row config (Established k s) t ConnectionFails ws turn h e f = absurd (moves fsms.Established turn (falls) (fsms.Established, fsms.Idle) h.1 refl f)
 silent_row config (Established k s) t Announces ws turn h e f = absurd (speaks _ ws _ h.0 e)

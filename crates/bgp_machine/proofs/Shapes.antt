@@ -9,12 +9,12 @@ use Rattle.bgp_machine.specs.declared.state.Head.TheVariants.{Idle, Connect, Act
 use Rattle.bgp_machine.specs.declared.hearing.Heard.{Heard}
 use Rattle.bgp_machine.specs.declared.hearing.Heard.TheVariants as heard
 use Rattle.bgp_machine.specs.declared.rows.HiddenRow.{HiddenRow}
-use Rattle.bgp_machine.specs.declared.rows.HiddenRow.TheVariants.{Starts, Listens, ConnectionOpens, DelayBegins, DelayExpires, ConnectionFails, RetryExpires, Stops, Ceases, HoldExpires, KeepaliveExpires, Announces, Notes}
+use Rattle.bgp_machine.specs.declared.rows.HiddenRow.TheVariants.{Starts, Listens, ConnectionOpens, DelayBegins, DelayExpires, ConnectionFails, RetryExpires, Stops, Ceases, HoldExpires, SendHoldExpires, KeepaliveExpires, Announces, Notes}
 use Rattle.bgp_machine.specs.declared.rows.ReceivedRow.TheVariants.{Ignores, Drops, NamesFault, Accepts, Collides, ReportsError, Overlooks, Establishes, Renews, Applies}
 use Rattle.bgp_machine.specs.declared.want.FaultSet.TheVariants as sets
 use Rattle.bgp_machine.specs.declared.want.Want.{Want}
 use Rattle.bgp_machine.specs.declared.want.Want.TheVariants as wants
-use Rattle.bgp_machine.specs.Going.{Shape, Falling, GoingOn, GoOnWith, Fall, Silently, Ceased, Expired, Erred, Faulted, fall_wants, told, shown_after, going, going_wants, undelayed, going_on, going_on_wants, HiddenShape, ReceivedShape}
+use Rattle.bgp_machine.specs.Going.{Shape, Falling, GoingOn, GoOnWith, Fall, Silently, Ceased, Expired, SendExpired, Erred, Faulted, fall_wants, told, shown_after, going, going_wants, undelayed, going_on, going_on_wants, HiddenShape, ReceivedShape}
 use Rattle.bgp_machine.specs.State.{Turn, Kept, fsm_of, link_at, enters, falls, waiting, settled, renewed}
 use Rattle.bgp_machine.specs.Shows.{Pays}
 use Rattle.bgp_machine.specs.Step.{changed, hidden_change}
@@ -170,6 +170,10 @@ shape_hidden config (Established k s) (Sent u m) HoldExpires ws0 ws c a h pays =
     at_row config (Established k s) (Sent u m) ws0 (wants.HoldExpired ∷ []) a (falls) HoldExpires ws c h.1 h.2 pays (λ q. falling config (Established k s) (Sent u m) Silently ws c q.1 q.2)
 shape_hidden config (Established k s) (Changed u x y) HoldExpires ws0 ws c a h pays =
     at_row config (Established k s) (Changed u x y) ws0 (wants.HoldExpired ∷ []) a (falls) HoldExpires ws c h.1 h.2 pays (λ q. at_change config (Established k s) u x y 1 falls ws c q.1 (falling config (Established k s) (Changed u x 1) Expired ws c q.2 q.3))
+shape_hidden config (Established k s) (Sent u m) SendHoldExpires ws0 ws c a h pays =
+    at_row config (Established k s) (Sent u m) ws0 (wants.SendHoldExpired ∷ []) a (falls) SendHoldExpires ws c h.1 h.2 pays (λ q. falling config (Established k s) (Sent u m) Silently ws c q.1 q.2)
+shape_hidden config (Established k s) (Changed u x y) SendHoldExpires ws0 ws c a h pays =
+    at_row config (Established k s) (Changed u x y) ws0 (wants.SendHoldExpired ∷ []) a (falls) SendHoldExpires ws c h.1 h.2 pays (λ q. at_change config (Established k s) u x y 1 falls ws c q.1 (falling config (Established k s) (Changed u x 1) SendExpired ws c q.2 q.3))
 shape_hidden config (Established k s) (Sent u m) KeepaliveExpires ws0 ws c a h pays =
     at_row config (Established k s) (Sent u m) ws0 (wants.KeepAlive ∷ []) a (enters (Established k s)) KeepaliveExpires ws c h.1 h.2 pays (λ q. goes config (Established k s) (Sent u m) (Established k s) ws c (λ z. cc) refl q.1 q.2)
 shape_hidden config (Established k s) (Changed u x y) KeepaliveExpires ws0 ws c a h pays =

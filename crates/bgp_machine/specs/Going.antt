@@ -102,6 +102,7 @@ pub data Fall : Type 0 where
   Silently : Fall
   Ceased : Fall
   Expired : Fall
+  SendExpired : Fall
   Erred : Fall
   Faulted : FaultSet → Fall
 
@@ -109,6 +110,7 @@ abbrev pub fall_wants : Head → Fall → List Want
 fall_wants head Silently = []
 fall_wants head Ceased = wants.Cease ∷ []
 fall_wants head Expired = wants.HoldExpired ∷ []
+fall_wants head SendExpired = wants.SendHoldExpired ∷ []
 fall_wants head Erred = error_at head
 fall_wants head (Faulted faults) = wants.Faults faults ∷ []
 

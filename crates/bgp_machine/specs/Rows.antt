@@ -20,8 +20,9 @@ use Rattle.bgp_machine.specs.declared.hearing.Heard.TheVariants.{Update}
 use Rattle.bgp_machine.specs.declared.rows.HiddenRow.{HiddenRow}
 use Rattle.bgp_machine.specs.declared.rows.HiddenRow.TheVariants.{Starts, Listens, Stops, Ceases}
 use Rattle.bgp_machine.specs.declared.rows.HiddenRow.TheVariants.{RetryExpires, HoldExpires}
-use Rattle.bgp_machine.specs.declared.rows.HiddenRow.TheVariants.{KeepaliveExpires, DelayExpires}
-use Rattle.bgp_machine.specs.declared.rows.HiddenRow.TheVariants.{ConnectionOpens, ConnectionFails}
+use Rattle.bgp_machine.specs.declared.rows.HiddenRow.TheVariants.{SendHoldExpires, KeepaliveExpires}
+use Rattle.bgp_machine.specs.declared.rows.HiddenRow.TheVariants.{DelayExpires, ConnectionOpens}
+use Rattle.bgp_machine.specs.declared.rows.HiddenRow.TheVariants.{ConnectionFails}
 use Rattle.bgp_machine.specs.declared.rows.HiddenRow.TheVariants.{Announces, Notes}
 use Rattle.bgp_machine.specs.declared.rows.ReceivedRow.{ReceivedRow}
 use Rattle.bgp_machine.specs.declared.rows.ReceivedRow.TheVariants.{Ignores, Accepts, Overlooks}
@@ -110,7 +111,8 @@ shown_rows (OpenSent timer) = Ceases ∷ HoldExpires ∷ ConnectionFails ∷ Not
 shown_rows (OpenConfirm link timer) =
     Ceases ∷ HoldExpires ∷ KeepaliveExpires ∷ ConnectionFails ∷ Notes ∷ []
 shown_rows (Established link timer) =
-    Ceases ∷ HoldExpires ∷ KeepaliveExpires ∷ ConnectionFails ∷ Announces ∷ Notes ∷ []
+    Ceases ∷ HoldExpires ∷ SendHoldExpires ∷ KeepaliveExpires ∷ ConnectionFails ∷ Announces
+    ∷ Notes ∷ []
 
 -- what a state does about this message depends on what an UPDATE says
 abbrev pub NeedsOutcomes : Head → Heard → Type 0

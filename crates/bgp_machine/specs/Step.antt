@@ -1,7 +1,8 @@
--- The rows of the session machine (RFC 4271, 8.2.2, 6.1 to 6.8; RFC 6608): what a state does by
--- itself, and what it does about a message. A row says what is sent, in order, and how the step
--- ends. The states stand in the order of the standard (8.2.2), a state's own rows in that of its
--- events (8.1), and those about messages in the order of messages.
+-- The rows of the session machine (RFC 4271, 8.2.2, 6.1 to 6.8; RFC 6608; RFC 9687): what a state
+-- does by itself, and what it does about a message. A row says what is sent, in order, and how the
+-- step ends. The states stand in the order of the standard (8.2.2), a state's own rows in that of
+-- its events (8.1; event 29 of RFC 9687 comes behind event 10), and those about messages in the
+-- order of messages.
 use Rattle.std.specs.Prelude.{◌≡◌, ◌<◌, ◌≤◌, ◌+◌, ◌↔◌, ℕ, Bool, false, true, List, [], ◌∷◌}
 use Rattle.std.specs.Prelude.{IsTrue, if◌then◌else◌, Option, None, Some}
 use Rattle.bgp_open.specs.declared.config.Config.{Config}
@@ -23,9 +24,10 @@ use Rattle.bgp_machine.specs.declared.hearing.Heard.TheVariants.{Notification, K
 use Rattle.bgp_machine.specs.declared.rows.HiddenRow.{HiddenRow}
 use Rattle.bgp_machine.specs.declared.rows.HiddenRow.TheVariants.{Starts, Listens, Stops, Ceases}
 use Rattle.bgp_machine.specs.declared.rows.HiddenRow.TheVariants.{RetryExpires, HoldExpires}
-use Rattle.bgp_machine.specs.declared.rows.HiddenRow.TheVariants.{KeepaliveExpires, DelayExpires}
-use Rattle.bgp_machine.specs.declared.rows.HiddenRow.TheVariants.{ConnectionOpens, DelayBegins}
-use Rattle.bgp_machine.specs.declared.rows.HiddenRow.TheVariants.{ConnectionFails, Announces, Notes}
+use Rattle.bgp_machine.specs.declared.rows.HiddenRow.TheVariants.{SendHoldExpires, KeepaliveExpires}
+use Rattle.bgp_machine.specs.declared.rows.HiddenRow.TheVariants.{DelayExpires, ConnectionOpens}
+use Rattle.bgp_machine.specs.declared.rows.HiddenRow.TheVariants.{DelayBegins, ConnectionFails}
+use Rattle.bgp_machine.specs.declared.rows.HiddenRow.TheVariants.{Announces, Notes}
 use Rattle.bgp_machine.specs.declared.rows.ReceivedRow.{ReceivedRow}
 use Rattle.bgp_machine.specs.declared.rows.ReceivedRow.TheVariants.{Ignores, Accepts, Overlooks}
 use Rattle.bgp_machine.specs.declared.rows.ReceivedRow.TheVariants.{Collides, Drops, NamesFault}
@@ -36,8 +38,8 @@ use Rattle.bgp_machine.specs.declared.want.Unexpected.TheVariants.{InOpenSent, I
 use Rattle.bgp_machine.specs.declared.want.Unexpected.TheVariants.{InEstablished}
 use Rattle.bgp_machine.specs.declared.want.Want.{Want}
 use Rattle.bgp_machine.specs.declared.want.Want.TheVariants.{OwnOpen, KeepAlive, CleanUpdate}
-use Rattle.bgp_machine.specs.declared.want.Want.TheVariants.{Cease, HoldExpired, MachineError}
-use Rattle.bgp_machine.specs.declared.want.Want.TheVariants.{Faults}
+use Rattle.bgp_machine.specs.declared.want.Want.TheVariants.{Cease, HoldExpired, SendHoldExpired}
+use Rattle.bgp_machine.specs.declared.want.Want.TheVariants.{MachineError, Faults}
 use Rattle.bgp_machine.specs.Heard.{Hears}
 use Rattle.bgp_machine.specs.State.{Turn, Given, moved, enters, falls, waiting, settled}
 use Rattle.bgp_machine.specs.State.{renewed, SessionState}
@@ -107,6 +109,11 @@ HiddenIn (Established link timer) config t Ceases wants turn =
     (wants ≡ Cease ∷ []) × (turn ≡ falls)
 HiddenIn (Established link timer) config t HoldExpires wants turn =
     IsExpired timer t × (wants ≡ HoldExpired ∷ []) × (turn ≡ falls)
+-- No record shows what TCP took of what was sent, and since when it takes nothing; and the standard
+-- leaves the time to the operator. So the SendHoldTimer may expire at any second (profile). With a
+-- Hold Time of 0 it is stopped (RFC 9687, 4).
+HiddenIn (Established link timer) config t SendHoldExpires wants turn =
+    IsRunning timer × (wants ≡ SendHoldExpired ∷ []) × (turn ≡ falls)
 HiddenIn (Established link timer) config t KeepaliveExpires wants turn =
     IsRunning timer × (wants ≡ KeepAlive ∷ []) × (turn ≡ enters (Established link timer))
 HiddenIn (Established link timer) config t ConnectionFails wants turn =
@@ -123,46 +130,31 @@ pub record AreRefusals (link : Link) (octets : List ℕ) (subcodes : Subcodes) :
   pub one : (n : ℕ) × IsOutcome link octets (Reset n)
 
 -- ---- what a state does about a message that it receives at a second
+
+-- what Connect and Active do, which are alike: the own OPEN isn't sent yet
+abbrev pub UnopenedIn : Bool → ℕ → Heard → ReceivedRow → List Want → Turn → Type 0
+UnopenedIn delay t (ValidOpen link e) Accepts wants turn =
+    IsTrue delay × (wants ≡ OwnOpen ∷ KeepAlive ∷ [])
+    × (turn ≡ enters (OpenConfirm link (settled link t)))
+UnopenedIn delay t (ValidOpen link e) Drops wants turn = (wants ≡ []) × (turn ≡ falls)
+UnopenedIn delay t (ValidOpen link e) NamesFault wants turn =
+    (wants ≡ Faults (sets.Open e) ∷ []) × (turn ≡ falls)
+UnopenedIn delay t (FaultyHeader f) Drops wants turn = (wants ≡ []) × (turn ≡ falls)
+UnopenedIn delay t (FaultyHeader f) NamesFault wants turn =
+    (wants ≡ Faults (sets.Header f) ∷ []) × (turn ≡ falls)
+UnopenedIn delay t (InvalidOpen e) Drops wants turn = (wants ≡ []) × (turn ≡ falls)
+UnopenedIn delay t (InvalidOpen e) NamesFault wants turn =
+    (wants ≡ Faults (sets.Open e) ∷ []) × (turn ≡ falls)
+UnopenedIn delay t BadVersion Drops wants turn = (wants ≡ []) × (turn ≡ falls)
+UnopenedIn delay t Notification Drops wants turn = (wants ≡ []) × (turn ≡ falls)
+UnopenedIn delay t Keepalive Drops wants turn = (wants ≡ []) × (turn ≡ falls)
+UnopenedIn delay t Update Drops wants turn = (wants ≡ []) × (turn ≡ falls)
+UnopenedIn delay t heard row wants turn = ⊥
+
 abbrev pub ReceivedIn : Head → ℕ → List ℕ → Heard → ReceivedRow → List Want → Turn → Type 0
 ReceivedIn Idle t octets heard Ignores wants turn = (wants ≡ []) × (turn ≡ enters Idle)
-ReceivedIn (Connect delay) t octets (ValidOpen link e) Accepts wants turn =
-    IsTrue delay × (wants ≡ OwnOpen ∷ KeepAlive ∷ [])
-    × (turn ≡ enters (OpenConfirm link (settled link t)))
-ReceivedIn (Connect delay) t octets (ValidOpen link e) Drops wants turn =
-    (wants ≡ []) × (turn ≡ falls)
-ReceivedIn (Connect delay) t octets (ValidOpen link e) NamesFault wants turn =
-    (wants ≡ Faults (sets.Open e) ∷ []) × (turn ≡ falls)
-ReceivedIn (Connect delay) t octets (FaultyHeader f) Drops wants turn =
-    (wants ≡ []) × (turn ≡ falls)
-ReceivedIn (Connect delay) t octets (FaultyHeader f) NamesFault wants turn =
-    (wants ≡ Faults (sets.Header f) ∷ []) × (turn ≡ falls)
-ReceivedIn (Connect delay) t octets (InvalidOpen e) Drops wants turn =
-    (wants ≡ []) × (turn ≡ falls)
-ReceivedIn (Connect delay) t octets (InvalidOpen e) NamesFault wants turn =
-    (wants ≡ Faults (sets.Open e) ∷ []) × (turn ≡ falls)
-ReceivedIn (Connect delay) t octets BadVersion Drops wants turn = (wants ≡ []) × (turn ≡ falls)
-ReceivedIn (Connect delay) t octets Notification Drops wants turn = (wants ≡ []) × (turn ≡ falls)
-ReceivedIn (Connect delay) t octets Keepalive Drops wants turn = (wants ≡ []) × (turn ≡ falls)
-ReceivedIn (Connect delay) t octets Update Drops wants turn = (wants ≡ []) × (turn ≡ falls)
-ReceivedIn (Active delay) t octets (ValidOpen link e) Accepts wants turn =
-    IsTrue delay × (wants ≡ OwnOpen ∷ KeepAlive ∷ [])
-    × (turn ≡ enters (OpenConfirm link (settled link t)))
-ReceivedIn (Active delay) t octets (ValidOpen link e) Drops wants turn =
-    (wants ≡ []) × (turn ≡ falls)
-ReceivedIn (Active delay) t octets (ValidOpen link e) NamesFault wants turn =
-    (wants ≡ Faults (sets.Open e) ∷ []) × (turn ≡ falls)
-ReceivedIn (Active delay) t octets (FaultyHeader f) Drops wants turn =
-    (wants ≡ []) × (turn ≡ falls)
-ReceivedIn (Active delay) t octets (FaultyHeader f) NamesFault wants turn =
-    (wants ≡ Faults (sets.Header f) ∷ []) × (turn ≡ falls)
-ReceivedIn (Active delay) t octets (InvalidOpen e) Drops wants turn =
-    (wants ≡ []) × (turn ≡ falls)
-ReceivedIn (Active delay) t octets (InvalidOpen e) NamesFault wants turn =
-    (wants ≡ Faults (sets.Open e) ∷ []) × (turn ≡ falls)
-ReceivedIn (Active delay) t octets BadVersion Drops wants turn = (wants ≡ []) × (turn ≡ falls)
-ReceivedIn (Active delay) t octets Notification Drops wants turn = (wants ≡ []) × (turn ≡ falls)
-ReceivedIn (Active delay) t octets Keepalive Drops wants turn = (wants ≡ []) × (turn ≡ falls)
-ReceivedIn (Active delay) t octets Update Drops wants turn = (wants ≡ []) × (turn ≡ falls)
+ReceivedIn (Connect delay) t octets heard row wants turn = UnopenedIn delay t heard row wants turn
+ReceivedIn (Active delay) t octets heard row wants turn = UnopenedIn delay t heard row wants turn
 ReceivedIn (OpenSent timer) t octets (ValidOpen link e) Accepts wants turn =
     (wants ≡ KeepAlive ∷ []) × (turn ≡ enters (OpenConfirm link (settled link t)))
 ReceivedIn (OpenSent timer) t octets (ValidOpen link e) Collides wants turn =

@@ -1,4 +1,4 @@
--- What a step sends, and which messages are that (RFC 4271, 6; RFC 6608, 3).
+-- What a step sends, and which messages are that (RFC 4271, 6; RFC 6608, 3; RFC 9687, 5).
 use Rattle.std.specs.Prelude.{◌≡◌, ◌≤◌, ◌⊎◌, ℕ, List, [], ◌∷◌, Option, None, Some}
 use Rattle.bgp_wire.specs.declared.header.Limit.{Limit}
 use Rattle.bgp_wire.specs.declared.header.Limit.TheVariants.{Plain}
@@ -20,7 +20,8 @@ use Rattle.bgp_machine.specs.declared.want.FaultSet.{FaultSet}
 use Rattle.bgp_machine.specs.declared.want.FaultSet.TheVariants.{Header, Open, Update}
 use Rattle.bgp_machine.specs.declared.want.Want.{Want}
 use Rattle.bgp_machine.specs.declared.want.Want.TheVariants.{OwnOpen, KeepAlive, CleanUpdate, Cease}
-use Rattle.bgp_machine.specs.declared.want.Want.TheVariants.{HoldExpired, MachineError, Faults}
+use Rattle.bgp_machine.specs.declared.want.Want.TheVariants.{HoldExpired, SendHoldExpired}
+use Rattle.bgp_machine.specs.declared.want.Want.TheVariants.{MachineError, Faults}
 use Rattle.bgp_machine.specs.declared.want.Wants.{Wants}
 use Rattle.bgp_machine.specs.declared.want.Wants.TheVariants.{Nothing, One, Two}
 
@@ -76,6 +77,9 @@ Fulfils config link Cease octets = Tells octets (λ code subcode detail. code �
 -- Hold Timer Expired, with any data
 Fulfils config link HoldExpired octets =
     Tells octets (λ code subcode detail. (code ≡ 4) × (subcode ≡ 0))
+-- Send Hold Timer Expired, with any data
+Fulfils config link SendHoldExpired octets =
+    Tells octets (λ code subcode detail. (code ≡ 8) × (subcode ≡ 0))
 -- Finite State Machine Error, with the subcode of the state; 0, and any data, too (profile)
 Fulfils config link (MachineError state) octets =
     Tells octets (λ code subcode detail.

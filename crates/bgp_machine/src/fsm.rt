@@ -9,8 +9,8 @@
 //!     └───────────▶ Active ───────────────────┘  Active
 //!     passive start          connection up
 //!
-//!   Connect and Active take an OPEN while their own is delayed: OpenConfirm. All else that ends
-//!   a state leads to Idle.
+//!   Connect and Active accept an OPEN while their own is delayed: OpenConfirm. Everything else
+//!   that ends a state leads to Idle.
 //! ```
 
 ghost use Rattle.std.specs.Prelude.{◌≡◌};
@@ -34,7 +34,7 @@ pub enum Fsm {
 }
 
 impl Fsm {
-    /// The state's number.
+    /// Returns the state's number.
     pub fn number(self) -> u16
         ensures { result ≡ number_of self }
     {

@@ -15,12 +15,12 @@ use bgp_wire::{HeaderFaults, HeaderVerdict, Limit, MessageType, check_header, he
 pub enum Heard {
     /// Fewer octets than a header has.
     TooShort,
-    /// An OPEN that need not be refused, what both OPENs settle, and what it may be refused for all
+    /// An OPEN that need not be refused: what both OPENs settle, and what it may be refused for all
     /// the same.
     ValidOpen(Link, OpenSubcodes),
     /// A message whose header has these faults.
     FaultyHeader(HeaderFaults),
-    /// An OPEN that has to be refused, and what it may be refused for.
+    /// An OPEN that has to be refused: what it may be refused for.
     InvalidOpen(OpenSubcodes),
     /// The NOTIFICATION Unsupported Version Number.
     BadVersion,
@@ -81,15 +81,15 @@ fn hear_type(config: &Config, octets: &[u8], kind: MessageType) -> Heard
     }
 }
 
-/// How long a message may be that the local system receives, in every state: as long as an extended
-/// one where it offers those (RFC 8654, 4), whatever the peer offers.
+/// Returns how long a message may be that the local system receives, in every state: as long as an
+/// extended one if it offers those (RFC 8654, 4), whatever the peer offers.
 pub fn received_limit(config: &Config) -> Limit
     ensures { result ≡ received_limit config.now }
 {
     Limit::with_extended(config.parts.session.extended)
 }
 
-/// What octets are heard as. It takes no memory.
+/// Returns what octets are heard as. It takes no memory.
 pub fn hear(config: &Config, octets: &[u8]) -> Heard
     ensures { Hears config.now octets.now result }
 {

@@ -1,4 +1,5 @@
-//! What a state does by itself (RFC 4271, 8.2.2).
+//! What a state does by itself (RFC 4271, 8.2.2; RFC 9687, 4). Each arm names its event (RFC 4271,
+//! 8.1.2 to 8.1.4).
 
 ghost use Rattle.std.specs.Prelude.{◌≡◌, ◌≤◌, ◌<◌, ◌+◌, ◌++◌, ℕ, List, [], ◌∷◌, length};
 ghost use Rattle.arrayvec.specs.ArrayVec.{array_vec_len};
@@ -28,8 +29,11 @@ fn idle_step(row: HiddenRow) -> Option<Step>
 {
     let head = Head::Idle;
     match row {
+        // Events 1 and 3, ManualStart and AutomaticStart.
         HiddenRow::Starts => Some(entering(head, Wants::Nothing, Head::Connect(false))),
+        // Events 4 and 5, the same with PassiveTcpEstablishment.
         HiddenRow::Listens => Some(entering(head, Wants::Nothing, Head::Active(false))),
+        // No event.
         HiddenRow::Notes => Some(noting(head)),
         _ => None,
     }
@@ -43,10 +47,15 @@ fn connect_step(config: &Config, delay: bool, t: Seconds, row: HiddenRow) -> Opt
     let head = Head::Connect(delay);
     let opened = entering(head, Wants::One(Want::OwnOpen), waiting(config, t));
     match row {
+        // Events 2 and 8, ManualStop and AutomaticStop.
         HiddenRow::Stops => Some(falling(head, Wants::Nothing)),
+        // Event 12, DelayOpenTimer_Expires.
         HiddenRow::DelayExpires => only_if(delay, opened),
+        // Events 16 and 17, Tcp_CR_Acked and TcpConnectionConfirmed.
         HiddenRow::ConnectionOpens => Some(opened),
+        // Event 18, TcpConnectionFails.
         HiddenRow::ConnectionFails => Some(failing(delay)),
+        // No event.
         HiddenRow::Notes => Some(noting(head)),
         _ => None,
     }
@@ -59,12 +68,19 @@ fn active_step(config: &Config, delay: bool, t: Seconds, row: HiddenRow) -> Opti
     let head = Head::Active(delay);
     let opened = entering(head, Wants::One(Want::OwnOpen), waiting(config, t));
     match row {
+        // Events 2 and 8, ManualStop and AutomaticStop.
         HiddenRow::Stops => Some(falling(head, Wants::Nothing)),
+        // Events 2 and 8, ManualStop and AutomaticStop, while the OPEN is delayed.
         HiddenRow::Ceases => only_if(delay, falling(head, Wants::One(Want::Cease))),
+        // Event 9, ConnectRetryTimer_Expires.
         HiddenRow::RetryExpires => Some(entering(head, Wants::Nothing, Head::Connect(false))),
+        // Event 12, DelayOpenTimer_Expires.
         HiddenRow::DelayExpires => only_if(delay, opened),
+        // Events 16 and 17, Tcp_CR_Acked and TcpConnectionConfirmed.
         HiddenRow::ConnectionOpens => Some(opened),
+        // Event 18, TcpConnectionFails.
         HiddenRow::ConnectionFails => Some(falling(head, Wants::Nothing)),
+        // No event.
         HiddenRow::Notes => Some(noting(head)),
         _ => None,
     }
@@ -77,9 +93,13 @@ fn open_sent_step(timer: HoldTimer, t: Seconds, row: HiddenRow) -> Option<Step>
     let head = Head::OpenSent(timer);
     let expired = falling(head, Wants::One(Want::HoldExpired));
     match row {
+        // Events 2 and 8, ManualStop and AutomaticStop; event 23, OpenCollisionDump.
         HiddenRow::Ceases => Some(falling(head, Wants::One(Want::Cease))),
+        // Event 10, HoldTimer_Expires.
         HiddenRow::HoldExpires => only_if(timer.is_expired(t), expired),
+        // Event 18, TcpConnectionFails.
         HiddenRow::ConnectionFails => Some(entering(head, Wants::Nothing, Head::Active(false))),
+        // No event.
         HiddenRow::Notes => Some(noting(head)),
         _ => None,
     }
@@ -94,10 +114,15 @@ fn open_confirm_step(link: Link, timer: HoldTimer, t: Seconds, row: HiddenRow) -
     let expired = falling(head, Wants::One(Want::HoldExpired));
     let alive = entering(head, Wants::One(Want::KeepAlive), head);
     match row {
+        // Events 2 and 8, ManualStop and AutomaticStop; event 23, OpenCollisionDump.
         HiddenRow::Ceases => Some(falling(head, Wants::One(Want::Cease))),
+        // Event 10, HoldTimer_Expires.
         HiddenRow::HoldExpires => only_if(timer.is_expired(t), expired),
+        // Event 11, KeepaliveTimer_Expires.
         HiddenRow::KeepaliveExpires => only_if(timer.is_running(), alive),
+        // Event 18, TcpConnectionFails.
         HiddenRow::ConnectionFails => Some(falling(head, Wants::Nothing)),
+        // No event.
         HiddenRow::Notes => Some(noting(head)),
         _ => None,
     }
@@ -110,20 +135,29 @@ fn established_step(link: Link, timer: HoldTimer, t: Seconds, row: HiddenRow) ->
 {
     let head = Head::Established(link, timer);
     let expired = falling(head, Wants::One(Want::HoldExpired));
+    let send_expired = falling(head, Wants::One(Want::SendHoldExpired));
     let alive = entering(head, Wants::One(Want::KeepAlive), head);
     match row {
+        // Events 2 and 8, ManualStop and AutomaticStop; event 23, OpenCollisionDump.
         HiddenRow::Ceases => Some(falling(head, Wants::One(Want::Cease))),
+        // Event 10, HoldTimer_Expires.
         HiddenRow::HoldExpires => only_if(timer.is_expired(t), expired),
+        // Event 29, SendHoldTimer_Expires.
+        HiddenRow::SendHoldExpires => only_if(timer.is_running(), send_expired),
+        // Event 11, KeepaliveTimer_Expires.
         HiddenRow::KeepaliveExpires => only_if(timer.is_running(), alive),
+        // Event 18, TcpConnectionFails.
         HiddenRow::ConnectionFails => Some(falling(head, Wants::Nothing)),
+        // No event: routes are sent (RFC 4271, 9.2).
         HiddenRow::Announces => Some(entering(head, Wants::One(Want::CleanUpdate), head)),
+        // No event.
         HiddenRow::Notes => Some(noting(head)),
         _ => None,
     }
 }
 
-/// The step that one row of the table makes at a second: none where the row isn't the state's, or
-/// doesn't hold then.
+/// Returns the step that one row of the table makes at a second: none if the row isn't the state's,
+/// or doesn't hold then.
 pub fn hidden_step(config: &Config, head: Head, t: Seconds, row: HiddenRow) -> Option<Step>
     ensures { MakesHidden config.now head t row result }
 {
@@ -212,9 +246,10 @@ const OPEN_CONFIRM: [HiddenRow; 5] = [
     HiddenRow::Notes,
 ];
 
-const ESTABLISHED: [HiddenRow; 6] = [
+const ESTABLISHED: [HiddenRow; 7] = [
     HiddenRow::Ceases,
     HiddenRow::HoldExpires,
+    HiddenRow::SendHoldExpires,
     HiddenRow::KeepaliveExpires,
     HiddenRow::ConnectionFails,
     HiddenRow::Announces,
@@ -243,8 +278,8 @@ fn shown_rows_are_all()
         → rows ≡ shown_rows head → ListsHidden config head t steps }
 {}
 
-/// The steps that a session may take by itself at a second and that show a record: just those that
-/// the table's rows allow, each once. It takes no memory.
+/// Lists the steps that a session may take by itself at a second and that show a record: exactly
+/// those that the table's rows allow, each once. It takes no memory.
 pub fn hidden_steps(config: &Config, head: Head, t: Seconds) -> ArrayVec<Step, MOST_STEPS>
     ensures { ListsHidden config.now head t result.items }
 {

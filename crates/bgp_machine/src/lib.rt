@@ -1,11 +1,13 @@
-//! The session machine (RFC 4271, 8.2.2): the steps that a session may take, and what each sends,
-//! shows and leaves. Each row of its tables has a name (docs/SESSION-MACHINE.md).
+//! The session machine (RFC 4271, 8.2.2; RFC 9687): the steps that a session may take, and what
+//! each sends, shows and leaves. Each row of its tables has a name (docs/SESSION-MACHINE.md).
 //!
 //! ```text
-//! let by_itself = hidden_steps(&config, head, second);
-//! let about_octets = message_steps(alloc, &config, head, second, octets)?;
-//! for step in about_octets.steps.as_slice() {
-//!     let owed = step.owed(); // what it sends is met by octets where `meets` says so
+//! let by_itself = hidden_steps(&config, state.head, second);
+//! let mut about = ArrayVec::new();
+//! let changes = list_message_steps(alloc, &config, state.head, second, octets, &mut about)?;
+//! if let Some(step) = about.as_slice().first() {
+//!     // `meets` checks whether octets are what `step.wants` sends
+//!     state.take(step.after, changes.as_ref())?;
 //! }
 //! ```
 #![tactic(auto)]
@@ -36,12 +38,12 @@ pub use laws::{
 };
 pub use listing::MOST_STEPS;
 pub use meeting::meets;
-pub use messages::{MessageSteps, list_message_steps, message_steps};
+pub use messages::list_message_steps;
 pub use received::heard_step;
 pub use rows::{HiddenRow, ReceivedRow};
 pub use sameness::{same_change, same_head, same_link, same_wants};
 pub use silent::silent_steps;
 pub use state::{Head, HoldTimer, State};
-pub use step::{After, Owed, Routes, Step};
+pub use step::{After, Routes, Step};
 pub use updates::update_step;
 pub use want::{FaultSet, Unexpected, Want, Wants};

@@ -1,4 +1,4 @@
-//! Which messages meet a want (RFC 4271, 6; RFC 6608, 3).
+//! Which messages meet a want (RFC 4271, 6; RFC 6608, 3; RFC 9687, 5).
 
 ghost use Rattle.std.specs.Prelude.{◌≡◌, ◌↔◌, ◌⊎◌, IsTrue};
 ghost use Rattle.bgp_wire.specs.Message.{IsMessage};
@@ -47,6 +47,15 @@ fn is_hold_expired(octets: &[u8]) -> bool
     notification.code == 4 && notification.subcode == 0
 }
 
+fn is_send_hold_expired(octets: &[u8]) -> bool
+    ensures { IsTrue result ↔ Tells octets.now (λ code subcode detail. (code ≡ 8) × (subcode ≡ 0)) }
+{
+    let Some(notification) = read_notification(octets) else {
+        return false;
+    };
+    notification.code == 8 && notification.subcode == 0
+}
+
 fn is_machine_error(state: Unexpected, octets: &[u8]) -> bool
     ensures { IsTrue result ↔ Tells octets.now (λ code subcode detail.
         (code ≡ 5) × ((subcode ≡ 0) ⊎ (subcode ≡ subcode_of state))) }
@@ -59,7 +68,8 @@ fn is_machine_error(state: Unexpected, octets: &[u8]) -> bool
 }
 
 impl FaultSet {
-    /// Whether a NOTIFICATION with this code, this subcode and these data names a fault of the set.
+    /// Checks whether a NOTIFICATION with this code, this subcode and these data names a fault of
+    /// the set.
     pub fn contains(self, code: u8, subcode: u8, detail: &[u8]) -> bool
         ensures { IsTrue result ↔ NamesFault self code subcode detail.now }
     {
@@ -100,13 +110,14 @@ fn fulfils(config: &Config, link: Option<Link>, want: Want, octets: &[u8]) -> bo
         Want::CleanUpdate => is_clean_on(link, octets),
         Want::Cease => is_cease(octets),
         Want::HoldExpired => is_hold_expired(octets),
+        Want::SendHoldExpired => is_send_hold_expired(octets),
         Want::MachineError(state) => is_machine_error(state, octets),
         Want::Faults(faults) => tells_fault(faults, octets),
     }
 }
 
-/// Whether a message meets a want, on the link that stood before the step: it is one whole message,
-/// and what is wanted. It takes no memory.
+/// Checks whether a message meets a want, on the link before the step: it is one whole message, and
+/// what is wanted. It takes no memory.
 pub fn meets(config: &Config, link: Option<Link>, want: Want, octets: &[u8]) -> bool
     ensures { IsTrue result ↔ Meets config.now link want octets.now }
 {

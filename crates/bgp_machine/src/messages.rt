@@ -20,17 +20,7 @@ use arrayvec::ArrayVec;
 use bgp_open::{Config, Link};
 use bgp_prefix::Seconds;
 use bgp_update::{Changes, read_update};
-use std::alloc::{AllocError, Allocator, Global};
-
-/// The steps that a state takes about a message.
-#[derive(Drop)]
-pub struct MessageSteps<A: Allocator = Global> {
-    /// The steps.
-    pub steps: ArrayVec<Step, MOST_STEPS>,
-    /// The changes of the UPDATE, which each step makes whose routes are
-    /// [given](crate::Routes::Given); `None` where there is no such step.
-    pub changes: Option<Changes<A>>,
-}
+use std::alloc::{AllocError, Allocator};
 
 /// Lists the steps about a message whose outcomes needn't be known, and answers that no changes
 /// stand beside them.
@@ -94,9 +84,13 @@ fn steps_on_update<A: Allocator + Copy>(
     }
 }
 
-/// Lists what [`message_steps`] lists, in a list that is empty, and answers the changes beside the
-/// steps. A list has many octets, which this doesn't move. Where memory is refused the list stays
-/// empty.
+/// Lists the steps that a session may take about octets which it receives at a second: exactly
+/// those that the table's rows allow, each once, whatever the octets are. Returns the changes of
+/// the UPDATE, which each step makes whose routes are [given](crate::Routes::Given): there are some
+/// exactly if one of the steps makes them.
+///
+/// It needs an empty list. Only an UPDATE in Established that may be applied takes memory; if that
+/// runs out the list stays empty.
 pub fn list_message_steps<A: Allocator + Copy>(
     alloc: A,
     config: &Config,
@@ -116,25 +110,4 @@ pub fn list_message_steps<A: Allocator + Copy>(
         Heard::Update => steps_on_update(alloc, head, t, octets, steps),
         heard => Ok(plain_steps(head, t, heard, steps)),
     }
-}
-
-/// The steps that a session may take about octets which it receives at a second: just those that
-/// the table's rows allow, each once, whatever the octets are. Changes stand beside them exactly
-/// where one of them makes them. Only for an UPDATE in Established that may be applied does it take
-/// memory.
-pub fn message_steps<A: Allocator + Copy>(
-    alloc: A,
-    config: &Config,
-    head: Head,
-    t: Seconds,
-    octets: &[u8],
-) -> Result<MessageSteps<A>, AllocError>
-    ensures exact { IfOk result (λ m. ListsReceived config.now head t octets.now
-        (changes_of m.changes) m.steps.items) }
-    ensures given { IfOk result (λ m. IsSome m.changes ↔ Has MakesChanges m.steps.items) }
-    ensures memory { IsErr result → TakesMemory head octets.now }
-{
-    let mut steps = ArrayVec::new();
-    let changes = list_message_steps(alloc, config, head, t, octets, &mut steps)?;
-    Ok(MessageSteps { steps, changes })
 }

@@ -16,11 +16,11 @@ use bgp_update::Changes;
 use std::alloc::{AllocError, Allocator};
 
 impl<A: Allocator + Copy> State<A> {
-    /// Moves the state by what a step leaves, whose message has these changes: those that stand
-    /// beside its list.
+    /// Moves the state by what a step leaves. `changes` are those of the step's message, which
+    /// stand beside the list of steps.
     ///
-    /// It takes memory where routes are given alone. Refused for memory it leaves everything as it
-    /// was, and called again it does what it would have done.
+    /// It takes memory only if routes are given. If memory runs out it leaves everything as it was,
+    /// and called again it does what it would have done.
     pub fn take(&mut self, after: After, changes: Option<&Changes<A>>) -> Result<(), AllocError>
         ensures ok { let given = changes_of (option_copied changes.entry) in
             OnOk result (state_value self.new

@@ -1,5 +1,5 @@
 //! What a state does about a message (RFC 4271, 8.2.2 and 6.1 to 6.8), an UPDATE in Established
-//! apart.
+//! apart. Each arm names its event (RFC 4271, 8.1.5).
 
 ghost use Rattle.std.specs.Prelude.{◌≡◌, ◌≢◌, ◌≤◌, ◌<◌, ◌+◌, ◌++◌, List, [], ◌∷◌, length, ℕ, ◌⊎◌};
 ghost use Rattle.std.specs.Prelude.{MatchOption, IsTrue, false};
@@ -36,6 +36,7 @@ fn idle_on(row: ReceivedRow) -> Option<Step>
         → MakesHeard heads.Idle t octets message row result }
 {
     match row {
+        // Any event of 8.1.5.
         ReceivedRow::Ignores => Some(entering(Head::Idle, Wants::Nothing, Head::Idle)),
         _ => None,
     }
@@ -70,22 +71,26 @@ fn unopened_on(
     ensures { (octets : List ℕ) → MakesHeard head t octets message row result }
 {
     match message {
+        // Event 19, BGPOpen; event 20, the same with the DelayOpenTimer running, is accepted.
         Heard::ValidOpen(link, subcodes) => match row {
             ReceivedRow::Accepts => accepting(head, delay, link, t),
             ReceivedRow::Drops => Some(falling(head, Wants::Nothing)),
             ReceivedRow::NamesFault => Some(naming(head, FaultSet::Open(subcodes))),
             _ => None,
         },
+        // Event 21, BGPHeaderErr.
         Heard::FaultyHeader(faults) => match row {
             ReceivedRow::Drops => Some(falling(head, Wants::Nothing)),
             ReceivedRow::NamesFault => Some(naming(head, FaultSet::Header(faults))),
             _ => None,
         },
+        // Event 22, BGPOpenMsgErr.
         Heard::InvalidOpen(subcodes) => match row {
             ReceivedRow::Drops => Some(falling(head, Wants::Nothing)),
             ReceivedRow::NamesFault => Some(naming(head, FaultSet::Open(subcodes))),
             _ => None,
         },
+        // Events 24 to 28: NotifMsgVerErr, NotifMsg, KeepAliveMsg, UpdateMsg, UpdateMsgErr.
         Heard::BadVersion | Heard::Notification | Heard::Keepalive | Heard::Update => match row {
             ReceivedRow::Drops => Some(falling(head, Wants::Nothing)),
             _ => None,
@@ -109,8 +114,11 @@ fn open_sent_on_open(
     let head = Head::OpenSent(timer);
     let accepted = Head::OpenConfirm(link, settled(link, t));
     match row {
+        // Event 19, BGPOpen.
         ReceivedRow::Accepts => Some(entering(head, Wants::One(Want::KeepAlive), accepted)),
+        // Event 23, OpenCollisionDump.
         ReceivedRow::Collides => Some(falling(head, Wants::One(Want::Cease))),
+        // Event 22, BGPOpenMsgErr.
         ReceivedRow::NamesFault => Some(naming(head, FaultSet::Open(subcodes))),
         _ => None,
     }
@@ -139,19 +147,24 @@ fn open_sent_on(timer: HoldTimer, t: Seconds, message: Heard, row: ReceivedRow) 
     let unexpected = reporting(head, Unexpected::InOpenSent);
     match message {
         Heard::ValidOpen(link, subcodes) => open_sent_on_open(timer, t, link, subcodes, row),
+        // Event 21, BGPHeaderErr.
         Heard::FaultyHeader(faults) => match row {
             ReceivedRow::NamesFault => Some(naming(head, FaultSet::Header(faults))),
             _ => None,
         },
+        // Event 22, BGPOpenMsgErr.
         Heard::InvalidOpen(subcodes) => match row {
             ReceivedRow::NamesFault => Some(naming(head, FaultSet::Open(subcodes))),
             _ => None,
         },
+        // Event 24, NotifMsgVerErr.
         Heard::BadVersion => match row {
             ReceivedRow::Drops => Some(falling(head, Wants::Nothing)),
             _ => None,
         },
+        // Event 25, NotifMsg.
         Heard::Notification => open_sent_on_notification(timer, row),
+        // Events 26 to 28: KeepAliveMsg, UpdateMsg, UpdateMsgErr.
         Heard::Keepalive | Heard::Update => match row {
             ReceivedRow::ReportsError => Some(unexpected),
             _ => None,
@@ -173,9 +186,13 @@ fn open_confirm_on_open(
 {
     let head = Head::OpenConfirm(own, timer);
     match row {
+        // Event 19, BGPOpen.
         ReceivedRow::Overlooks => Some(entering(head, Wants::Nothing, head)),
+        // Event 23, OpenCollisionDump.
         ReceivedRow::Collides => Some(falling(head, Wants::One(Want::Cease))),
+        // Event 22, BGPOpenMsgErr.
         ReceivedRow::NamesFault => Some(naming(head, FaultSet::Open(subcodes))),
+        // Event 19, BGPOpen, as a message that isn't expected.
         ReceivedRow::ReportsError => Some(reporting(head, Unexpected::InOpenConfirm)),
         _ => None,
     }
@@ -214,19 +231,24 @@ fn open_confirm_on(
     let confirmed = Head::Established(own, renewed(timer, t));
     match message {
         Heard::ValidOpen(_, subcodes) => open_confirm_on_open(own, timer, subcodes, row),
+        // Event 21, BGPHeaderErr.
         Heard::FaultyHeader(faults) => { open_confirm_on_header(own, timer, faults, row) }
+        // Event 22, BGPOpenMsgErr.
         Heard::InvalidOpen(subcodes) => match row {
             ReceivedRow::NamesFault => Some(naming(head, FaultSet::Open(subcodes))),
             _ => None,
         },
+        // Events 24 and 25, NotifMsgVerErr and NotifMsg.
         Heard::BadVersion | Heard::Notification => match row {
             ReceivedRow::Drops => Some(falling(head, Wants::Nothing)),
             _ => None,
         },
+        // Event 26, KeepAliveMsg.
         Heard::Keepalive => match row {
             ReceivedRow::Establishes => Some(entering(head, Wants::Nothing, confirmed)),
             _ => None,
         },
+        // Events 27 and 28, UpdateMsg and UpdateMsgErr.
         Heard::Update => match row {
             ReceivedRow::ReportsError => Some(reporting(head, Unexpected::InOpenConfirm)),
             _ => None,
@@ -248,9 +270,13 @@ fn established_on_open(
 {
     let head = Head::Established(own, timer);
     match row {
+        // Event 19, BGPOpen.
         ReceivedRow::Overlooks => Some(entering(head, Wants::Nothing, head)),
+        // Event 23, OpenCollisionDump.
         ReceivedRow::Collides => Some(falling(head, Wants::One(Want::Cease))),
+        // Event 22, BGPOpenMsgErr.
         ReceivedRow::NamesFault => Some(naming(head, FaultSet::Open(subcodes))),
+        // Event 19, BGPOpen, as a message that isn't expected.
         ReceivedRow::ReportsError => Some(reporting(head, Unexpected::InEstablished)),
         _ => None,
     }
@@ -291,16 +317,20 @@ fn established_on(
     let alive = Head::Established(own, renewed(timer, t));
     match message {
         Heard::ValidOpen(_, subcodes) => established_on_open(own, timer, subcodes, row),
+        // Event 21, BGPHeaderErr.
         Heard::FaultyHeader(faults) => { established_on_header(own, timer, faults, row) }
+        // Event 22, BGPOpenMsgErr.
         Heard::InvalidOpen(subcodes) => match row {
             ReceivedRow::NamesFault => Some(naming(head, FaultSet::Open(subcodes))),
             ReceivedRow::ReportsError => Some(reporting(head, Unexpected::InEstablished)),
             _ => None,
         },
+        // Events 24 and 25, NotifMsgVerErr and NotifMsg.
         Heard::BadVersion | Heard::Notification => match row {
             ReceivedRow::Drops => Some(falling(head, Wants::Nothing)),
             _ => None,
         },
+        // Event 26, KeepAliveMsg.
         Heard::Keepalive => match row {
             ReceivedRow::Renews => Some(entering(head, Wants::Nothing, alive)),
             _ => None,
@@ -309,8 +339,8 @@ fn established_on(
     }
 }
 
-/// The step that one row of the table makes about a message that is heard so ([`hear`]) at a
-/// second (RFC 4271, 8.2.2 and 6.1 to 6.8): none where the row isn't the state's for that message.
+/// Returns the step that one row of the table makes about a message that is heard so ([`hear`]) at
+/// a second (RFC 4271, 8.2.2 and 6.1 to 6.8): none if the row isn't the state's for that message.
 ///
 /// It needs that the message isn't an UPDATE in Established, whose rows are [`update_step`]'s.
 ///

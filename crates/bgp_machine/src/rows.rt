@@ -12,12 +12,15 @@ pub enum HiddenRow {
     Listens,
     /// A manual or automatic stop without a word: events 2 and 8.
     Stops,
-    /// A stop of which the peer is told, or a connection that lost a collision: events 2, 8 and 23.
+    /// A stop with a NOTIFICATION to the peer, or a connection that lost a collision: events 2, 8
+    /// and 23.
     Ceases,
     /// The ConnectRetryTimer expires: event 9.
     RetryExpires,
     /// The HoldTimer expires: event 10.
     HoldExpires,
+    /// The SendHoldTimer expires, since the peer reads nothing more: event 29 (RFC 9687, 4).
+    SendHoldExpires,
     /// The KeepaliveTimer expires: event 11.
     KeepaliveExpires,
     /// The DelayOpenTimer expires: event 12.
@@ -30,7 +33,7 @@ pub enum HiddenRow {
     ConnectionFails,
     /// Routes are announced or withdrawn (RFC 4271, 9.2).
     Announces,
-    /// A capture tells a state that didn't change.
+    /// An MRT file shows a state that didn't change.
     Notes,
 }
 

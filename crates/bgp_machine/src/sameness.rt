@@ -6,7 +6,7 @@ use crate::fsm::Fsm;
 use crate::state::{Head, HoldTimer};
 use crate::step::{Routes, Step};
 use crate::want::{FaultSet, Want, Wants};
-use bgp_open::{Families, Link, OpenSubcodes};
+use bgp_open::{Families, Link, OpenSubcodes, RouteForm};
 use bgp_update::Subcodes;
 use bgp_wire::HeaderFaults;
 
@@ -22,7 +22,16 @@ fn same_families(a: Families, b: Families) -> bool
     a == b
 }
 
-/// Whether both are one link.
+fn same_form(a: RouteForm, b: RouteForm) -> bool
+    ensures { IsTrue result ↔ (a ≡ b) }
+{
+    if a.ipv6_next_hops != b.ipv6_next_hops {
+        return false;
+    }
+    same_families(a.identified, b.identified)
+}
+
+/// Checks whether both are one link.
 pub fn same_link(a: Link, b: Link) -> bool
     ensures { IsTrue result ↔ (a ≡ b) }
 {
@@ -38,10 +47,16 @@ pub fn same_link(a: Link, b: Link) -> bool
     if a.extended != b.extended {
         return false;
     }
-    same_families(a.families, b.families)
+    if !same_families(a.families, b.families) {
+        return false;
+    }
+    if !same_form(a.received, b.received) {
+        return false;
+    }
+    same_form(a.sent, b.sent)
 }
 
-/// Whether both are one head.
+/// Checks whether both are one head.
 pub fn same_head(a: Head, b: Head) -> bool
     ensures { IsTrue result ↔ (a ≡ b) }
 {
@@ -66,8 +81,12 @@ pub fn same_head(a: Head, b: Head) -> bool
     }
 }
 
-fn same_open_subcodes(a: OpenSubcodes, b: OpenSubcodes) -> bool
-    ensures { IsTrue result ↔ (a ≡ b) }
+fn same_first_of_open(a: OpenSubcodes, b: OpenSubcodes) -> bool
+    ensures { IsTrue result ↔ (
+        (a.unspecific ≡ b.unspecific)
+        × (a.version ≡ b.version)
+        × (a.peer_as ≡ b.peer_as)
+        × (a.identifier ≡ b.identifier)) }
 {
     if a.unspecific != b.unspecific {
         return false;
@@ -78,16 +97,35 @@ fn same_open_subcodes(a: OpenSubcodes, b: OpenSubcodes) -> bool
     if a.peer_as != b.peer_as {
         return false;
     }
-    if a.identifier != b.identifier {
-        return false;
-    }
+    a.identifier == b.identifier
+}
+
+fn same_second_of_open(a: OpenSubcodes, b: OpenSubcodes) -> bool
+    ensures { IsTrue result ↔ (
+        (a.parameter ≡ b.parameter)
+        × (a.hold ≡ b.hold)
+        × (a.capability ≡ b.capability)
+        × (a.role ≡ b.role)) }
+{
     if a.parameter != b.parameter {
         return false;
     }
     if a.hold != b.hold {
         return false;
     }
-    a.capability == b.capability
+    if a.capability != b.capability {
+        return false;
+    }
+    a.role == b.role
+}
+
+fn same_open_subcodes(a: OpenSubcodes, b: OpenSubcodes) -> bool
+    ensures { IsTrue result ↔ (a ≡ b) }
+{
+    if !same_first_of_open(a, b) {
+        return false;
+    }
+    same_second_of_open(a, b)
 }
 
 fn same_first(a: Subcodes, b: Subcodes) -> bool
@@ -181,13 +219,14 @@ fn same_want(a: Want, b: Want) -> bool
         (Want::CleanUpdate, Want::CleanUpdate) => true,
         (Want::Cease, Want::Cease) => true,
         (Want::HoldExpired, Want::HoldExpired) => true,
+        (Want::SendHoldExpired, Want::SendHoldExpired) => true,
         (Want::MachineError(x), Want::MachineError(y)) => x == y,
         (Want::Faults(x), Want::Faults(y)) => same_faults(x, y),
         _ => false,
     }
 }
 
-/// Whether both are the same messages in the same order.
+/// Checks whether both are the same messages in the same order.
 pub fn same_wants(a: Wants, b: Wants) -> bool
     ensures { IsTrue result ↔ (a ≡ b) }
 {
@@ -210,7 +249,7 @@ fn same_fsm(a: Fsm, b: Fsm) -> bool
     a == b
 }
 
-/// Whether both are one change of state, or none.
+/// Checks whether both are one change of state, or none.
 pub fn same_change(a: Option<(Fsm, Fsm)>, b: Option<(Fsm, Fsm)>) -> bool
     ensures { IsTrue result ↔ (a ≡ b) }
 {

@@ -64,8 +64,8 @@ fn heads_after(config: &Config, head: Head) -> ArrayVec<Head, 2>
     }
 }
 
-/// The heads that a session may reach by steps that show no record, its own one among them, each
-/// once, and those without a delay first. It takes no memory.
+/// Lists the heads that a session may reach by steps that show no record: its own one among them,
+/// each once, and those without a delay first. It takes no memory.
 pub fn silent_steps(config: &Config, head: Head) -> ArrayVec<Head, 2>
     ensures { (routes : Routes)
         → ListsSilent config.now (record { head = head; routes = routes }) result.items }

@@ -20,14 +20,14 @@ pub struct HoldTimer {
 }
 
 impl HoldTimer {
-    /// Whether it runs.
+    /// Checks whether it runs.
     pub fn is_running(self) -> bool
         ensures { IsTrue result ↔ IsRunning self }
     {
         self.span > 0
     }
 
-    /// Whether it has run out at this second.
+    /// Checks whether it has run out at this second.
     pub fn is_expired(self, t: Seconds) -> bool
         ensures { IsTrue result ↔ IsExpired self t }
     {
@@ -35,22 +35,21 @@ impl HoldTimer {
     }
 }
 
-/// What of a session its rows look at. It says by its form that the OPEN may be delayed in Connect
-/// and Active alone, that the HoldTimer is set from OpenSent on, and that there is a link from
-/// OpenConfirm on.
+/// What the rows look at in a session. By its form the OPEN may be delayed only in Connect and
+/// Active, the HoldTimer is set from OpenSent on, and there is a link from OpenConfirm on.
 #[derive(Clone, Copy, Debug, PartialEq, Eq)]
 pub enum Head {
     /// Nothing happens.
     Idle,
     /// Whether the OPEN is delayed, since the DelayOpenTimer runs.
     Connect(bool),
-    /// The same.
+    /// The same as in Connect.
     Active(bool),
     /// With a large HoldTimer.
     OpenSent(HoldTimer),
     /// What both OPENs settled, and the HoldTimer by it.
     OpenConfirm(Link, HoldTimer),
-    /// The same.
+    /// The same as in OpenConfirm.
     Established(Link, HoldTimer),
 }
 
@@ -61,7 +60,7 @@ impl Default for Head {
 }
 
 impl Head {
-    /// The state's name.
+    /// Returns the state's name.
     pub fn fsm(self) -> Fsm
         ensures { result ≡ fsm_of self }
     {
@@ -75,7 +74,7 @@ impl Head {
         }
     }
 
-    /// What both OPENs settled, where the peer's was accepted.
+    /// Returns what both OPENs settled, if the peer's was accepted.
     pub fn link(self) -> Option<Link>
         ensures { result ≡ link_at self }
     {
@@ -97,7 +96,7 @@ pub struct State<A: Allocator = Global> {
 }
 
 impl<A: Allocator + Copy> State<A> {
-    /// The state of a session that nothing happened to; it takes no memory.
+    /// Returns the state of a session that nothing happened to. It takes no memory.
     pub fn fresh(alloc: A) -> State<A>
         ensures { state_value result ≡ fresh_state }
     {

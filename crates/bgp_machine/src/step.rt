@@ -1,12 +1,8 @@
-//! A step of the session machine: what it owes, and what it leaves.
-
-ghost use Rattle.std.specs.Prelude.{◌≡◌};
-ghost use Rattle.bgp_machine.specs.Want.{wants_of};
+//! A step of the session machine: what it sends and shows, and what it leaves.
 
 use crate::fsm::Fsm;
 use crate::state::Head;
-use crate::want::{Want, Wants};
-use arrayvec::ArrayVec;
+use crate::want::Wants;
 use bgp_open::Families;
 
 /// What becomes of the routes. An UPDATE's changes stand once beside a list of steps.
@@ -49,37 +45,6 @@ impl Default for Step {
                 head: Head::Idle,
                 routes: Routes::Kept,
             },
-        }
-    }
-}
-
-/// What a step has still to show.
-#[derive(Debug, Drop)]
-pub struct Owed {
-    /// What it has still to send, in order.
-    pub wants: ArrayVec<Want, 2>,
-    /// The change of state that isn't shown yet.
-    pub change: Option<(Fsm, Fsm)>,
-}
-
-impl Step {
-    /// What the step owes before any of its records is shown, its own message apart.
-    pub fn owed(self) -> Owed
-        ensures wants { result.wants.items ≡ wants_of self.wants }
-        ensures change { result.change ≡ self.change }
-    {
-        let mut wants = ArrayVec::new();
-        match self.wants {
-            Wants::Nothing => {}
-            Wants::One(want) => wants.push(want),
-            Wants::Two(first, second) => {
-                wants.push(first);
-                wants.push(second);
-            }
-        }
-        Owed {
-            wants,
-            change: self.change,
         }
     }
 }

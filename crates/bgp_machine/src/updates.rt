@@ -84,12 +84,12 @@ fn refusing<A: Allocator>(own: Link, timer: HoldTimer, outcomes: &Outcomes<A>) -
     Some(naming(head, FaultSet::Update(outcomes.reset)))
 }
 
-/// The step that one row of the table makes at a second in Established about an UPDATE with these
-/// outcomes (RFC 4271, 6.3 and 8.2.2, events 27 and 28; RFC 7606): `Applies` makes one where it may
-/// be applied with just these families disabled, `NamesFault` where the session may be reset, and
+/// Returns the step that one row of the table makes at a second in Established about an UPDATE with
+/// these outcomes (RFC 4271, 6.3 and 8.2.2, events 27 and 28; RFC 7606): `Applies` makes one if it
+/// may be applied with just these families disabled, `NamesFault` if the session may be reset, and
 /// any other row makes none. `own` and `timer` are the link and the HoldTimer of the state.
 ///
-/// The outcomes are those that [`read_update`](bgp_update::read_update) answers on this link.
+/// The outcomes are those that [`read_update`](bgp_update::read_update) returns on this link.
 pub fn update_step<A: Allocator>(
     own: Link,
     timer: HoldTimer,

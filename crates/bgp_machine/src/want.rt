@@ -23,7 +23,7 @@ pub enum Unexpected {
 }
 
 impl Unexpected {
-    /// The subcode that names the state.
+    /// Returns the subcode that names the state.
     pub fn subcode(self) -> u8
         ensures { result ≡ subcode_of self }
     {
@@ -43,8 +43,8 @@ pub enum FaultSet {
 }
 
 impl FaultSet {
-    /// The fault of the set with the least subcode, with its data where they are fixed, and else
-    /// without data. `None` where the set is empty.
+    /// Returns the fault of the set with the least subcode: with its data if they are fixed, and
+    /// else without data. `None` if the set is empty.
     pub fn least(&self) -> Option<NamedFault>
         ensures some { IfSome result
             (λ fault. IsLeastFault self.now fault.code fault.subcode fault.detail.items) }
@@ -75,6 +75,8 @@ pub enum Want {
     Cease,
     /// The NOTIFICATION Hold Timer Expired.
     HoldExpired,
+    /// The NOTIFICATION Send Hold Timer Expired (RFC 9687, 5).
+    SendHoldExpired,
     /// The NOTIFICATION Finite State Machine Error.
     MachineError(Unexpected),
     /// A NOTIFICATION that names one of the faults.

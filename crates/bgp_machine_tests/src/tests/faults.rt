@@ -18,10 +18,18 @@ const BAD_VERSION: FaultSet = FaultSet::Open(OpenSubcodes {
     ..OpenSubcodes::NONE
 });
 
-/// What any speaker may refuse an OPEN for: its Hold Time, or that a capability is missing.
+/// What any speaker may refuse an OPEN for: its Hold Time, that a capability is missing, or its
+/// role.
 const ANY_SPEAKERS: FaultSet = FaultSet::Open(OpenSubcodes {
     hold: true,
     capability: true,
+    role: true,
+    ..OpenSubcodes::NONE
+});
+
+/// Role Mismatch alone.
+const BAD_ROLE: FaultSet = FaultSet::Open(OpenSubcodes {
+    role: true,
     ..OpenSubcodes::NONE
 });
 
@@ -33,10 +41,11 @@ const BAD_ATTRIBUTES: FaultSet = FaultSet::Update(Subcodes {
 });
 
 /// Sets of faults, and of each the code, the subcode and the data that are named first.
-static LEAST: [(FaultSet, Option<(u8, u8, &[u8])>); 6] = [
+static LEAST: [(FaultSet, Option<(u8, u8, &[u8])>); 7] = [
     (BAD_LENGTH, Some((1, 2, &[0x00, 0x12]))),
     (BAD_VERSION, Some((2, 1, &[0x00, 0x04]))),
     (ANY_SPEAKERS, Some((2, 6, &[]))),
+    (BAD_ROLE, Some((2, 11, &[]))),
     (BAD_ATTRIBUTES, Some((3, 6, &[]))),
     (FaultSet::Open(OpenSubcodes::NONE), None),
     (FaultSet::Update(Subcodes::NONE), None),

@@ -1,7 +1,8 @@
-//! How many steps a state has.
+//! How many steps a state has, and which messages one sends.
 
 use super::*;
-use bgp_machine::{Want, hidden_steps, meets, message_steps};
+use arrayvec::ArrayVec;
+use bgp_machine::{HiddenRow, Want, hidden_step, hidden_steps, list_message_steps, meets};
 use bgp_wire::vectors::{
     ADMINISTRATIVE_SHUTDOWN, ANNOUNCES_10, KEEPALIVE, MP_REACH_TRANSITIVE, MP_UNREACH_TWICE,
     NEXT_HOP_OF_5, ORIGIN_OF_3,
@@ -48,15 +49,17 @@ const STOPPED_SENT: Place = Place::Before(Head::OpenSent(STOPPED));
 const STOPPED_UP: Place = Place::Up(STOPPED);
 
 /// Whether the OPEN may be delayed, a state, a second, and how many steps there are.
-static HIDDEN: [(bool, Place, u32, usize); 9] = [
+static HIDDEN: [(bool, Place, u32, usize); 11] = [
     (false, IDLE, 100, 3),
     (false, CONNECT, 100, 3),
     (true, ACTIVE_DELAYED, 100, 5),
     (false, SENT, 339, 3),
     (false, SENT, 340, 4),
     (false, STOPPED_SENT, 340, 3),
-    (false, UP, 191, 5),
-    (false, UP, 192, 6),
+    (false, Place::Confirm, 191, 4),
+    (false, Place::Confirm, 192, 5),
+    (false, UP, 191, 6),
+    (false, UP, 192, 7),
     (false, STOPPED_UP, 192, 4),
 ];
 
@@ -151,8 +154,10 @@ static UPDATES: [Row; 6] = [
 /// Whether a state has so many steps about a message, at 120, and changes beside them or not.
 fn has_steps(alloc: Global, config: &Config, link: Link, row: &'static Row) -> bool {
     let (place, message, count, has_changes) = *row;
-    match message_steps(alloc, config, head_of(place, link), 120, message) {
-        Ok(told) => told.steps.len() == count && told.changes.is_some() == has_changes,
+    let head = head_of(place, link);
+    let mut steps = ArrayVec::new();
+    match list_message_steps(alloc, config, head, 120, message, &mut steps) {
+        Ok(changes) => steps.len() == count && changes.is_some() == has_changes,
         Err(_) => false,
     }
 }
@@ -189,4 +194,35 @@ fn no_update_is_clean_without_a_link_and_no_octets_are_behind_a_message(rt: Host
     assert!(rt; meets(&config, None, Want::KeepAlive, &KEEPALIVE));
     assert!(rt; !meets(&config, None, Want::KeepAlive, &BEHIND));
     assert!(rt; !meets(&config, None, Want::CleanUpdate, &EMPTY_UPDATE));
+}
+
+/// The NOTIFICATION with this code and subcode, and without data.
+const fn notification(code: u8, subcode: u8) -> [u8; 21] {
+    [
+        255, 255, 255, 255, 255, 255, 255, 255, 255, 255, 255, 255, 255, 255, 255, 255, // marker
+        0x00, 0x15, // Length: 21
+        0x03, // Type: NOTIFICATION
+        code, subcode,
+    ]
+}
+
+/// Whether the SendHoldTimer may expire in a state.
+fn may_expire(config: &Config, place: Place, link: Link) -> bool {
+    let row = HiddenRow::SendHoldExpires;
+    hidden_step(config, head_of(place, link), 102, row).is_some()
+}
+
+#[test]
+fn the_send_hold_timer_expires_in_established_and_sends_8_0(rt: HostRuntime) {
+    let config = router_a(&rt, false);
+    let link = link_of_a_and_b(&rt);
+    assert!(rt; may_expire(&config, UP, link));
+    assert!(rt; !may_expire(&config, STOPPED_UP, link));
+    assert!(rt; !may_expire(&config, Place::Confirm, link));
+    assert!(rt; !may_expire(&config, SENT, link));
+    let want = Want::SendHoldExpired;
+    assert!(rt; meets(&config, Some(link), want, &notification(8, 0)));
+    assert!(rt; !meets(&config, Some(link), want, &notification(8, 1)));
+    assert!(rt; !meets(&config, Some(link), want, &notification(4, 0)));
+    assert!(rt; !meets(&config, Some(link), Want::HoldExpired, &notification(8, 0)));
 }

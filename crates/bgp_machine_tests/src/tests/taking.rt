@@ -1,12 +1,13 @@
 //! What a step leaves of a state, and refused memory.
 
 use super::*;
-use bgp_machine::{After, MessageSteps, Routes, State, message_steps};
+use arrayvec::ArrayVec;
+use bgp_machine::{After, Routes, State, list_message_steps};
 use bgp_rib::RibIn;
 use bgp_update::Changes;
 use bgp_wire::vectors::{ANNOUNCES_10, KEEPALIVE};
 use linked_list_allocator::LocalHeap;
-use std::alloc::{Allocator, Global};
+use std::alloc::{AllocError, Allocator, Global};
 
 const V4: Families = Families {
     v4: true,
@@ -80,9 +81,20 @@ fn takes<A: Allocator + Copy>(
     (is_moved && is_right).then_some(is_taken)
 }
 
+/// The changes that stand beside the steps about a message, at 120.
+fn changes_beside<A: Allocator + Copy>(
+    alloc: A,
+    config: &Config,
+    up: Head,
+    message: &[u8],
+) -> Result<Option<Changes<A>>, AllocError> {
+    let mut steps = ArrayVec::new();
+    list_message_steps(alloc, config, up, 120, message, &mut steps)
+}
+
 /// Whether the changes of an UPDATE take no prefix away and put one.
-fn put_one<A: Allocator>(told: &MessageSteps<A>) -> bool {
-    match &told.changes {
+fn put_one<A: Allocator>(changes: Told<'_, A>) -> bool {
+    match changes {
         Some(changes) => match &changes.nlri {
             Some(group) => changes.remove.is_empty() && group.prefixes.len() == 1,
             None => false,
@@ -93,19 +105,18 @@ fn put_one<A: Allocator>(told: &MessageSteps<A>) -> bool {
 
 /// Whether an UPDATE's steps are told in this memory: `None` where its changes are wrong.
 fn is_told<A: Allocator + Copy>(alloc: A, config: &Config, up: Head) -> Option<bool> {
-    match message_steps(alloc, config, up, 120, &ANNOUNCES_10) {
-        Ok(told) => put_one(&told).then_some(true),
+    match changes_beside(alloc, config, up, &ANNOUNCES_10) {
+        Ok(changes) => put_one(changes.as_ref()).then_some(true),
         Err(_) => Some(false),
     }
 }
 
 /// Whether a fresh state whose routes are kept in this heap takes its changes.
 fn is_taken<A: Allocator + Copy>(heap: A, ample: A, config: &Config, up: Head) -> Option<bool> {
-    let told = message_steps(ample, config, up, 120, &ANNOUNCES_10).ok()?;
-    let silent = message_steps(ample, config, up, 120, &KEEPALIVE).ok()?;
+    let changes = changes_beside(ample, config, up, &ANNOUNCES_10).ok()?;
+    let nothing = changes_beside(ample, config, up, &KEEPALIVE).ok()?;
     let mut state = State::fresh(heap);
-    let changes = told.changes.as_ref();
-    takes(heap, &mut state, up, changes, silent.changes.as_ref())
+    takes(heap, &mut state, up, changes.as_ref(), nothing.as_ref())
 }
 
 /// Whether its steps are told in a heap of this size.
