@@ -1,5 +1,5 @@
 -- What is kept of records, one after another, and the verdict on them in the end.
-use Rattle.std.proofs.Common.{◌≡◌, ◌∙◌, ◌+◌, ◌<◌, ◌++◌, ◌∷◌, [], ℕ, false, List, Option, None, Some, IfSome, IsTrue, is_some, length, length-append, take, refl, sym, ap, subst, append_assoc, arith}
+use Rattle.std.proofs.Common.{◌≡◌, ◌∙◌, ◌+◌, ◌<◌, ◌++◌, ◌∷◌, [], ℕ, false, List, Option, None, Some, IfSome, IsTrue, is_some, length, length-append, take, refl, sym, ap, subst, append_assoc, arith, inl, inr}
 use Rattle.std.proofs.Math.Seq.{take-append_seam, take-append-add}
 use Rattle.bgp_prefix.specs.Shown.{ShownRecord, Received, Sent, Changed}
 use Rattle.bgp_open.specs.declared.config.Config.{Config}
@@ -17,6 +17,9 @@ use Rattle.bgp_explain.specs.declared.explained.Reason.{Reason}
 use Rattle.bgp_explain.specs.Progress.{IsAtBy, IsNamed, IsToldOf, StopsAt}
 use Rattle.bgp_explain.specs.Reason.{HasReason, IsImpossible, IsNext, IsReasonAt}
 use Rattle.bgp_explain.specs.Sending.{IsSendingAt}
+use Rattle.bgp_explain.specs.declared.left_out.LeftOut.{LeftOut}
+use Rattle.bgp_explain.specs.LeftOut.{AreJudged, JudgesWithout, LeavesOut}
+use Rattle.bgp_explain.specs.Offers.{AreOffersAt}
 use Rattle.bgp_explain.specs.declared.tally.Tally.{Tally}
 use Rattle.bgp_explain.specs.Tally.{no_tally, tally_from, tally_of, tally_with}
 use Rattle.bgp_judge.specs.Told.{Told as JudgedTold, fresh_told, told as judged_told, told_from, told_next}
@@ -83,6 +86,29 @@ module _ {X : Type 0} (stands : Config → List ShownRecord → Type 0) (config 
   pub some_stop : (records : List ShownRecord) (p : Progress X) (o : Option (Stop X)) (i : Stop X) → o ≡ Some i → IsAtBy stands config records p o
       → StopsAt config records p i
   some_stop records p o i some at = subst (λ (v : Option (Stop X)). IsAtBy stands config records p v) some at
+
+-- the records that were judged, and what they tell
+pub record JudgedSoFar {X : Type 0} (config : Config) (records : List ShownRecord) (p : Progress X) : Type 0 where
+  pub judged : List ShownRecord
+  pub are_judged : AreJudged config records judged
+  pub tells : IsToldOf config judged p
+
+pub judged_so_far : {X : Type 0} (stands : Config → List ShownRecord → Type 0) (config : Config) (records : List ShownRecord) (p : Progress X) (o : Option (Stop X))
+    → IsAtBy stands config records p o → JudgedSoFar config records p
+judged_so_far stands config records p None at = record { judged = records; are_judged = (at.1, inl refl); tells = at.2 }
+judged_so_far stands config records p (Some i) at = record {
+  judged = at.before;
+  are_judged = (at.begins, inr (at.shown, at.after, at.split, at.stops));
+  tells = at.tells;
+}
+
+-- what is left out of them is left out
+pub judges_without : {X : Type 0} (stands : Config → List ShownRecord → Type 0) (config : Config) (records : List ShownRecord) (p : Progress X) (left_out : LeftOut)
+    → IsAtBy stands config records p p.stop → ((some : List ShownRecord) → AreOffersAt some p.sending.offers → LeavesOut config some left_out)
+    → JudgesWithout config records left_out
+judges_without stands config records p left_out at leaves =
+    let so = judged_so_far stands config records p p.stop at in
+    record { judged = so.judged; are_judged = so.are_judged; leaves_out = leaves so.judged so.tells.sending.offers }
 
 -- ---- the verdict
 

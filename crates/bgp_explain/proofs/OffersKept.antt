@@ -7,10 +7,12 @@ use Rattle.bgp_machine.specs.declared.fsm.Fsm.TheVariants as fsms
 use Rattle.bgp_judge.specs.Told.{Told, fresh_told, told, told_from, told_next}
 use Rattle.bgp_judge.proofs.Telling.{told_one_more}
 use Rattle.bgp_parts.specs.Opens.{FirstSent, IsSent, SendsNone}
-use Rattle.bgp_parts.specs.Unjudged.{IsUnjudgedOffer, both_offer, no_offer}
-use Rattle.bgp_parts.specs.declared.unjudged.Unjudged.{Unjudged}
-use Rattle.bgp_parts.specs.declared.unjudged.UnjudgedOffer.{UnjudgedOffer}
-use Rattle.bgp_explain.specs.Offers.{AreUnjudged, IsOfferOf, IsOwnOffer, settling_by, settling_from, settling_in, settling_next, settling_open}
+use Rattle.bgp_open.specs.declared.config.Config.{Config}
+use Rattle.bgp_open.specs.declared.route_offer.RouteOffer.{RouteOffer}
+use Rattle.bgp_open.specs.RouteOffer.{IsRouteOffer, nothing}
+use Rattle.bgp_explain.specs.declared.left_out.LeftOut.{LeftOut}
+use Rattle.bgp_explain.specs.LeftOut.{IsLeftOut, LeavesOut}
+use Rattle.bgp_explain.specs.Offers.{IsOfferOf, IsOwnOffer, settling_by, settling_from, settling_in, settling_next, settling_open}
 
 -- ---- the first OPEN that was sent
 
@@ -57,8 +59,8 @@ module _ (Is : List ℕ → Type 0) where
 nothing_is_unread : IsReadable [] → ⊥
 nothing_is_unread is = let few = is.whole.fields in let k : ⊥ = search rules in k
 
-pub nothing_offered : IsUnjudgedOffer [] no_offer
-nothing_offered = inr (nothing_is_unread, refl)
+pub nothing_offered : IsRouteOffer [] nothing
+nothing_offered = record { readable = λ is. absurd (nothing_is_unread is); unreadable = λ unread. refl }
 
 settling_joined : (t : Told) (before : Option (List ℕ)) (xs : List ShownRecord) (r : ShownRecord)
     → settling_from t before (xs ++ r ∷ []) ≡ settling_next (told_next (told_from t xs) r) (settling_from t before xs)
@@ -71,7 +73,7 @@ settling_more records r =
     settling_joined fresh_told None records r
     ∙ ap (λ (t : Told). settling_next t (settling_open records)) (sym (told_one_more records r))
 
-by_state : (f : Fsm) (octets : List ℕ) (stood : Option (List ℕ)) (before offer : UnjudgedOffer) → IsOfferOf stood before → IsUnjudgedOffer octets offer
+by_state : (f : Fsm) (octets : List ℕ) (stood : Option (List ℕ)) (before offer : RouteOffer) → IsOfferOf stood before → IsRouteOffer octets offer
     → IsOfferOf (settling_in f stood octets) (settling_by f before offer)
 by_state fsms.Idle octets stood before offer stands is = stands
 by_state fsms.Connect octets stood before offer stands is = refl
@@ -80,8 +82,8 @@ by_state fsms.OpenSent octets stood before offer stands is = refl
 by_state fsms.OpenConfirm octets stood before offer stands is = is
 by_state fsms.Established octets stood before offer stands is = is
 
-pub settling_kept : (records : List ShownRecord) (r : ShownRecord) (after : Fsm) (before offer : UnjudgedOffer) → after ≡ (told (records ++ r ∷ [])).fsm
-    → IsOfferOf (settling_open records) before → IsUnjudgedOffer (told (records ++ r ∷ [])).peer_open offer
+pub settling_kept : (records : List ShownRecord) (r : ShownRecord) (after : Fsm) (before offer : RouteOffer) → after ≡ (told (records ++ r ∷ [])).fsm
+    → IsOfferOf (settling_open records) before → IsRouteOffer (told (records ++ r ∷ [])).peer_open offer
     → IsOfferOf (settling_open (records ++ r ∷ [])) (settling_by after before offer)
 settling_kept records r after before offer e stands is =
     let t = told (records ++ r ∷ []) in
@@ -89,53 +91,53 @@ settling_kept records r after before offer e stands is =
     (subst (λ (f : Fsm). IsOfferOf (settling_next t (settling_open records)) (settling_by f before offer)) (sym e)
     (by_state t.fsm t.peer_open (settling_open records) before offer stands is))
 
-pub peers_then : (records : List ShownRecord) (shown : ShownRecord) (offer : UnjudgedOffer)
-    → IsUnjudgedOffer (told_next (told records) shown).peer_open offer → IsUnjudgedOffer (told (records ++ shown ∷ [])).peer_open offer
+pub peers_then : (records : List ShownRecord) (shown : ShownRecord) (offer : RouteOffer)
+    → IsRouteOffer (told_next (told records) shown).peer_open offer → IsRouteOffer (told (records ++ shown ∷ [])).peer_open offer
 peers_then records shown offer is =
-    subst (λ (t : Told). IsUnjudgedOffer t.peer_open offer) (sym (told_one_more records shown)) is
+    subst (λ (t : Told). IsRouteOffer t.peer_open offer) (sym (told_one_more records shown)) is
 
 -- ---- what is kept of both
 
-own_stays : (records : List ShownRecord) (r : ShownRecord) (offer : UnjudgedOffer) → IsOwnOffer records (Some offer) → IsOwnOffer (records ++ r ∷ []) (Some offer)
+own_stays : (records : List ShownRecord) (r : ShownRecord) (offer : RouteOffer) → IsOwnOffer records (Some offer) → IsOwnOffer (records ++ r ∷ []) (Some offer)
 own_stays records r offer is = (is.0, first_stays IsWellFormed records r is.0 is.1, is.2)
 
-own_begins : (records : List ShownRecord) (r : ShownRecord) (found : Option UnjudgedOffer) → IsOwnOffer records None
-    → IfSome found (λ offer. (octets : List ℕ) × IsSent IsWellFormed r octets × IsUnjudgedOffer octets offer) → IfNone found (SendsNone IsWellFormed r)
+own_begins : (records : List ShownRecord) (r : ShownRecord) (found : Option RouteOffer) → IsOwnOffer records None
+    → IfSome found (λ offer. (octets : List ℕ) × IsSent IsWellFormed r octets × IsRouteOffer octets offer) → IfNone found (SendsNone IsWellFormed r)
     → IsOwnOffer (records ++ r ∷ []) found
 own_begins records r None none some sends = none_here IsWellFormed records r none sends
 own_begins records r (Some offer) none is sends = (is.0, first_here IsWellFormed records r is.0 none is.1, is.2)
 
-pub own_then : (records : List ShownRecord) (r : ShownRecord) (before : Option UnjudgedOffer) (offer : UnjudgedOffer) → before ≡ Some offer → IsOwnOffer records before
+pub own_then : (records : List ShownRecord) (r : ShownRecord) (before : Option RouteOffer) (offer : RouteOffer) → before ≡ Some offer → IsOwnOffer records before
     → IsOwnOffer (records ++ r ∷ []) (Some offer)
-own_then records r before offer e is = own_stays records r offer (subst (λ (o : Option UnjudgedOffer). IsOwnOffer records o) e is)
+own_then records r before offer e is = own_stays records r offer (subst (λ (o : Option RouteOffer). IsOwnOffer records o) e is)
 
-pub own_now : (records : List ShownRecord) (r : ShownRecord) (before found : Option UnjudgedOffer) → before ≡ None → IsOwnOffer records before
-    → IfSome found (λ offer. (octets : List ℕ) × IsSent IsWellFormed r octets × IsUnjudgedOffer octets offer) → IfNone found (SendsNone IsWellFormed r)
+pub own_now : (records : List ShownRecord) (r : ShownRecord) (before found : Option RouteOffer) → before ≡ None → IsOwnOffer records before
+    → IfSome found (λ offer. (octets : List ℕ) × IsSent IsWellFormed r octets × IsRouteOffer octets offer) → IfNone found (SendsNone IsWellFormed r)
     → IsOwnOffer (records ++ r ∷ []) found
-own_now records r before found e is some none = own_begins records r found (subst (λ (o : Option UnjudgedOffer). IsOwnOffer records o) e is) some none
+own_now records r before found e is some none = own_begins records r found (subst (λ (o : Option RouteOffer). IsOwnOffer records o) e is) some none
 
 -- the first OPEN's offer, or none
-abbrev pub IsGiven : Option UnjudgedOffer → UnjudgedOffer → Type 0
-IsGiven None own = own ≡ no_offer
+abbrev pub IsGiven : Option RouteOffer → RouteOffer → Type 0
+IsGiven None own = own ≡ nothing
 IsGiven (Some offer) own = own ≡ offer
 
-pub unjudged_of : (records : List ShownRecord) (o : Option UnjudgedOffer) (own settling : UnjudgedOffer) (unjudged : Unjudged) → IsOwnOffer records o
-    → IsOfferOf (settling_open records) settling → IsGiven o own → unjudged ≡ both_offer own settling → AreUnjudged records unjudged
-unjudged_of records None own settling unjudged has is e both = record {
+pub left_out_of : (config : Config) (records : List ShownRecord) (o : Option RouteOffer) (own settling : RouteOffer) (left_out : LeftOut) → IsOwnOffer records o
+    → IsOfferOf (settling_open records) settling → IsGiven o own → IsLeftOut config own settling left_out → LeavesOut config records left_out
+left_out_of config records None own settling left_out has is e left = record {
   own = None;
   has_own = has;
   own_offer = own;
   is_own = e;
   peers_offer = settling;
   is_peers = is;
-  both = both;
+  is_left_out = left;
 }
-unjudged_of records (Some offer) own settling unjudged has is e both = record {
+left_out_of config records (Some offer) own settling left_out has is e left = record {
   own = Some has.0;
   has_own = has.1;
   own_offer = own;
-  is_own = subst (λ (o : UnjudgedOffer). IsUnjudgedOffer has.0 o) (sym e) has.2;
+  is_own = subst (λ (o : RouteOffer). IsRouteOffer has.0 o) (sym e) has.2;
   peers_offer = settling;
   is_peers = is;
-  both = both;
+  is_left_out = left;
 }

@@ -54,7 +54,8 @@ length_of_notified p d (inr (inl x)) = absurd (let k : 1 ≡ 2 = x.0 in cc)
 length_of_notified p d (inr (inr (inl x))) = absurd (let k : 1 ≡ 3 = x.0 in cc)
 length_of_notified p d (inr (inr (inr (inl x)))) = absurd (let k : 1 ≡ 4 = x.0 in cc)
 length_of_notified p d (inr (inr (inr (inr (inl x))))) = absurd (let k : 1 ≡ 5 = x.0 in cc)
-length_of_notified p d (inr (inr (inr (inr (inr x))))) = absurd (let k : 1 ≡ 6 = x.0 in cc)
+length_of_notified p d (inr (inr (inr (inr (inr (inl x)))))) = absurd (let k : 1 ≡ 6 = x.0 in cc)
+length_of_notified p d (inr (inr (inr (inr (inr (inr x)))))) = absurd (let k : 1 ≡ 8 = x.0 in cc)
 
 kind_of_notified : (p : Possible) (d : List ℕ) → IsNotified p 0 1 3 d → IsSomeAnd p.header_errors.kind (λ kind. d ≡ big_bytes 1 kind)
 kind_of_notified p d (inl (e, inl x)) = absurd (let k : 3 ≡ 1 = x.0 in cc)
@@ -64,7 +65,8 @@ kind_of_notified p d (inr (inl x)) = absurd (let k : 1 ≡ 2 = x.0 in cc)
 kind_of_notified p d (inr (inr (inl x))) = absurd (let k : 1 ≡ 3 = x.0 in cc)
 kind_of_notified p d (inr (inr (inr (inl x)))) = absurd (let k : 1 ≡ 4 = x.0 in cc)
 kind_of_notified p d (inr (inr (inr (inr (inl x))))) = absurd (let k : 1 ≡ 5 = x.0 in cc)
-kind_of_notified p d (inr (inr (inr (inr (inr x))))) = absurd (let k : 1 ≡ 6 = x.0 in cc)
+kind_of_notified p d (inr (inr (inr (inr (inr (inl x)))))) = absurd (let k : 1 ≡ 6 = x.0 in cc)
+kind_of_notified p d (inr (inr (inr (inr (inr (inr x)))))) = absurd (let k : 1 ≡ 8 = x.0 in cc)
 
 module _ (config : Config) (records : List ShownRecord) where
   -- a NOTIFICATION that is among those that are possible is possible by what it says
@@ -122,6 +124,7 @@ module _ (config : Config) (records : List ShownRecord) where
         let parameter = same _ p.open_errors.parameter q.open_errors.parameter h.open_errors.parameter k.open_errors.parameter in
         let hold = same _ p.open_errors.hold q.open_errors.hold h.open_errors.hold k.open_errors.hold in
         let capability = same _ p.open_errors.capability q.open_errors.capability h.open_errors.capability k.open_errors.capability in
+        let role = same _ p.open_errors.role q.open_errors.role h.open_errors.role k.open_errors.role in
         λ i. record {
           unspecific = unspecific i;
           version = version i;
@@ -130,6 +133,7 @@ module _ (config : Config) (records : List ShownRecord) where
           parameter = parameter i;
           hold = hold i;
           capability = capability i;
+          role = role i;
         }
 
     one_update : p.update_errors ≡ q.update_errors
@@ -185,6 +189,7 @@ module _ (config : Config) (records : List ShownRecord) where
         let keepalive = same _ p.keepalive q.keepalive h.keepalive k.keepalive in
         let update = same _ p.update q.update h.update k.update in
         let expired = one_least p.hold_timer_expired q.hold_timer_expired h.hold_timer_expired k.hold_timer_expired few fewer in
+        let send = same _ p.send_hold_timer_expired q.send_hold_timer_expired h.send_hold_timer_expired k.send_hold_timer_expired in
         let cease = same _ p.cease q.cease h.cease k.cease in
         λ i. record {
           state = state i;
@@ -196,6 +201,7 @@ module _ (config : Config) (records : List ShownRecord) where
           open_errors = one_open i;
           update_errors = one_update i;
           hold_timer_expired = expired i;
+          send_hold_timer_expired = send i;
           fsm_errors = one_fsm i;
           cease = cease i;
           changes = one_changes i;

@@ -12,6 +12,9 @@ use Rattle.bgp_open.specs.declared.config.Config.{Config}
 use Rattle.bgp_open.specs.declared.families.Families.{Families}
 use Rattle.bgp_open.specs.declared.fault.OpenFault.TheVariants.{Version, Malformed}
 use Rattle.bgp_open.specs.declared.link.Link.{Link}
+use Rattle.bgp_open.specs.declared.route_form.RouteForm.{RouteForm}
+use Rattle.bgp_open.specs.declared.route_offer.RouteOffer.{RouteOffer}
+use Rattle.bgp_open.specs.RouteOffer.{route_offer_in}
 use Rattle.bgp_open.specs.Families.{contains}
 use Rattle.bgp_open.specs.Offer.{as_number_of, families_of, offers_extended}
 use Rattle.bgp_open.specs.Open.{open_of}
@@ -163,11 +166,11 @@ module _ (config : Config) (octets : List ℕ) where
 
 -- ---- what an UPDATE asks for
 
-pub one_parts : (link : Link) (octets : List ℕ) (p q : List Part) → AreUpdateParts link octets p → AreUpdateParts link octets q → p ≡ q
-one_parts link octets p q (inl a) (inl b) = a.1 ∙ sym b.1
-one_parts link octets p q (inl a) (inr b) = absurd (a.0 b.0 b.1)
-one_parts link octets p q (inr a) (inl b) = absurd (b.0 a.0 a.1)
-one_parts link octets p q (inr a) (inr b) = a.2 ∙ ap (section_parts link) (one_split octets a.0 b.0 a.1 b.1) ∙ sym b.2
+pub one_parts : (link : Link) (form : RouteForm) (octets : List ℕ) (p q : List Part) → AreUpdateParts link form octets p → AreUpdateParts link form octets q → p ≡ q
+one_parts link form octets p q (inl a) (inl b) = a.1 ∙ sym b.1
+one_parts link form octets p q (inl a) (inr b) = absurd (a.0 b.0 b.1)
+one_parts link form octets p q (inr a) (inl b) = absurd (b.0 a.0 a.1)
+one_parts link form octets p q (inr a) (inr b) = a.2 ∙ ap (section_parts link form) (one_split octets a.0 b.0 a.1 b.1) ∙ sym b.2
 
 both : (a b : Bool) → IsTrue (a && b) → IsTrue a × IsTrue b
 both true true h = (refl, refl)
@@ -242,7 +245,7 @@ module _ (link : Link) (octets : List ℕ) where
     one_said : asking_said n a ≡ asking_said n b
     unfolding asking_said
     one_said =
-        let parts = one_parts link octets a.parts b.parts h.parts k.parts in
+        let parts = one_parts link link.received octets a.parts b.parts h.parts k.parts in
         λ i. codes "last received record " ++ (decimal n ++ (codes " update" ++ (one_outcomes i ++ why_text (parts i))))
 
     one_line : (style : Style) → update_line style n packet a ≡ update_line style n packet b
@@ -305,6 +308,14 @@ one_difference sent configured (Some a) (Some b) h k =
     let other = h.2 ∙ sym k.2 in
     λ i. Some (record { sent = one i; configured = other i })
 
+one_offers_part : (sent configured : RouteOffer) (a b : Option (Differing RouteOffer)) → fields.IsOffersPart sent configured a → fields.IsOffersPart sent configured b → a ≡ b
+one_offers_part sent configured None None h k = refl
+one_offers_part sent configured None (Some b) (inl none) k = absurd (k.0 none)
+one_offers_part sent configured None (Some b) (inr same) k = absurd (k.1.0 same)
+one_offers_part sent configured (Some a) None h (inl none) = absurd (h.0 none)
+one_offers_part sent configured (Some a) None h (inr same) = absurd (h.1.0 same)
+one_offers_part sent configured (Some a) (Some b) h k = one_difference sent configured (Some a) (Some b) h.1 k.1
+
 one_own_parts : (config : Config) (octets : List ℕ) (a b : opens.OwnOpenParts) → AreOwnOpenParts config octets a → AreOwnOpenParts config octets b → a ≡ b
 one_own_parts config octets (own.Malformed f) (own.Malformed g) h k = ap own.Malformed (one_fault octets f g h k)
 one_own_parts config octets (own.Malformed f) (own.Differing b) h k = absurd (none_if_well_formed octets f k.0 h)
@@ -316,7 +327,8 @@ one_own_parts config octets (own.Differing a) (own.Differing b) h k =
     let families = one_difference (families_of (open_of octets).capabilities) config.parts.families a.families b.families h.1.families k.1.families in
     let number = one_difference (as_number_of (open_of octets).capabilities) (if config.parts.as4 then Some config.parts.local_as else None) a.as_number b.as_number h.1.as_number k.1.as_number in
     let extended = one_difference (offers_extended (open_of octets).capabilities) config.parts.session.extended a.extended b.extended h.1.extended k.1.extended in
-    λ i. own.Differing (record { my_as = my_as i; hold = hold i; id = id i; families = families i; as_number = number i; extended = extended i })
+    let offers = one_offers_part (route_offer_in (open_of octets)) config.parts.offers a.offers b.offers h.1.offers k.1.offers in
+    λ i. own.Differing (record { my_as = my_as i; hold = hold i; id = id i; families = families i; as_number = number i; extended = extended i; offers = offers i })
 
 module _ (possible : Possible) (code subcode : ℕ) (detail : List ℕ) where
   one_word : (a b : Option NotificationPart) → IsPart possible code subcode detail a → IsPart possible code subcode detail b → word_piece a ≡ word_piece b
@@ -360,16 +372,16 @@ of_one_type limit octets h k = let e = sym h.1 ∙ k.1 in omega (arith, e)
 
 module _ (style : Style) (config : Config) (link : Option Link) (p : Possible) (second : ℕ) (octets : List ℕ) where
   unlike : (parts : List Part) → IsNone link ⊎ (¬ IsWholeOf (limit_on link) 2 octets)
-      → IsWholeOf (limit_on link) 2 octets × IsSomeAnd link (λ l. AreUpdateParts l octets parts) → ⊥
+      → IsWholeOf (limit_on link) 2 octets × IsSomeAnd link (λ l. AreUpdateParts l l.sent octets parts) → ⊥
   unlike parts (inl none) k = some_none link parts none k.1 where
-    some_none : (l : Option Link) (parts : List Part) → IsNone l → IsSomeAnd l (λ v. AreUpdateParts v octets parts) → ⊥
+    some_none : (l : Option Link) (parts : List Part) → IsNone l → IsSomeAnd l (λ v. AreUpdateParts v v.sent octets parts) → ⊥
     some_none None parts none some = some
     some_none (Some l) parts none some = never (sym none)
   unlike parts (inr other) k = other k.0
 
-  one_lists : (l : Option Link) (a b : List Part) → IsSomeAnd l (λ v. AreUpdateParts v octets a) → IsSomeAnd l (λ v. AreUpdateParts v octets b) → a ≡ b
+  one_lists : (l : Option Link) (a b : List Part) → IsSomeAnd l (λ v. AreUpdateParts v v.sent octets a) → IsSomeAnd l (λ v. AreUpdateParts v v.sent octets b) → a ≡ b
   one_lists None a b h k = absurd h
-  one_lists (Some l) a b h k = one_parts l octets a b h k
+  one_lists (Some l) a b h k = one_parts l l.sent octets a b h k
 
   one_sent_lacks : (a b : Lacked) → SentLacks config link p second octets a → SentLacks config link p second octets b → following_lines style p a ≡ following_lines style p b
   one_sent_lacks Nothing Nothing h k = refl

@@ -31,9 +31,12 @@ use Rattle.bgp_reason_text.specs.Notes.{notes_text, with_offers}
 use Rattle.bgp_reason_text.specs.NotWhole.{not_whole_line}
 use Rattle.bgp_reason_text.specs.Record.{state_line}
 use Rattle.bgp_tool.specs.Judging.{SaysVerdict}
-use Rattle.bgp_parts.specs.declared.unjudged.Unjudged.{Unjudged}
-use Rattle.bgp_parts.specs.declared.unjudged.UnjudgedOffer.{UnjudgedOffer}
-use Rattle.bgp_parts.specs.Unjudged.{IsUnjudgedOffer, both_offer}
+use Rattle.bgp_open.specs.declared.route_offer.RouteOffer.{RouteOffer}
+use Rattle.bgp_open.specs.RouteOffer.{IsRouteOffer}
+use Rattle.bgp_parts.specs.BothOffers.{identified_families}
+use Rattle.bgp_parts.proofs.ReadableOpen.{readable_or_not}
+use Rattle.bgp_explain.specs.declared.left_out.LeftOut.{LeftOut}
+use Rattle.bgp_explain.specs.LeftOut.{IsLeftOut, IsWithout, LeavesOut}
 use Rattle.bgp_parts.proofs.OneOwnOpen.{one_own}
 use Rattle.bgp_reason_text.specs.declared.style.Style.{Style}
 use Rattle.bgp_reason_text.specs.Style.{plain}
@@ -42,7 +45,7 @@ use Rattle.bgp_explain.specs.declared.places.Place.{Place}
 use Rattle.bgp_explain.specs.Places.{counted_places}
 use Rattle.bgp_explain.specs.Skipped.{skipped_of}
 use Rattle.bgp_explain.specs.declared.skipped.Skipped.{Skipped}
-use Rattle.bgp_explain.specs.Offers.{AreUnjudged, IsOfferOf, settling_open}
+use Rattle.bgp_explain.specs.Offers.{IsOfferOf, settling_open}
 use Rattle.bgp_explain.specs.Text.{AreNotesOf, AreNotesOn, IsWhy, line_at, received_text, teller}
 use Rattle.bgp_explain.proofs.OnePossible.{same, same_possible}
 use Rattle.bgp_explain.proofs.OneReason.{one_asking, one_lack, one_received, one_unwhole}
@@ -124,13 +127,12 @@ one_record_text session (Changed t x y) text other h k = h ∙ sym k
 -- ---- the notes
 
 module _ (config : Config) (t : Told) (link : Option Link) (octets : List ℕ) (p : Possible) where
-  with_notes : (next : Option (ℕ × ShownRecord)) (u : Unjudged) (a b : Notes) → AreNotesOn config t link octets p next a → AreNotesOn config t link octets p next b
-      → with_offers u.add_path u.ipv6_next_hops a ≡ with_offers u.add_path u.ipv6_next_hops b
+  with_notes : (next : Option (ℕ × ShownRecord)) (u : LeftOut) (a b : Notes) → AreNotesOn config t link octets p next a → AreNotesOn config t link octets p next b
+      → with_offers u.add_path u.without a ≡ with_offers u.add_path u.without b
   with_notes None u a b h k =
       let elsewhere = h.begins_elsewhere ∙ sym k.begins_elsewhere in
       let first = h.open_came_first ∙ sym k.open_came_first in
       let parameters = same _ a.extended_parameters b.extended_parameters h.extended_parameters k.extended_parameters in
-      let timer = h.send_hold_timer ∙ sym k.send_hold_timer in
       let alive = h.keepalive_without_hold ∙ sym k.keepalive_without_hold in
       let ended = h.may_have_ended ∙ sym k.may_have_ended in
       let missing = h.may_be_missing ∙ sym k.may_be_missing in
@@ -138,9 +140,8 @@ module _ (config : Config) (t : Told) (link : Option Link) (octets : List ℕ) (
         begins_elsewhere = elsewhere i;
         open_came_first = first i;
         add_path = u.add_path;
-        ipv6_next_hops = u.ipv6_next_hops;
+        without = u.without;
         extended_parameters = parameters i;
-        send_hold_timer = timer i;
         keepalive_without_hold = alive i;
         may_have_ended = ended i;
         may_be_missing = missing i;
@@ -149,7 +150,6 @@ module _ (config : Config) (t : Told) (link : Option Link) (octets : List ℕ) (
       let elsewhere = same _ a.begins_elsewhere b.begins_elsewhere h.begins_elsewhere k.begins_elsewhere in
       let first = same _ a.open_came_first b.open_came_first h.open_came_first k.open_came_first in
       let parameters = same _ a.extended_parameters b.extended_parameters h.extended_parameters k.extended_parameters in
-      let timer = same _ a.send_hold_timer b.send_hold_timer h.send_hold_timer k.send_hold_timer in
       let alive = same _ a.keepalive_without_hold b.keepalive_without_hold h.keepalive_without_hold k.keepalive_without_hold in
       let ended = same _ a.may_have_ended b.may_have_ended h.may_have_ended k.may_have_ended in
       let missing = same _ a.may_be_missing b.may_be_missing h.may_be_missing k.may_be_missing in
@@ -157,40 +157,53 @@ module _ (config : Config) (t : Told) (link : Option Link) (octets : List ℕ) (
         begins_elsewhere = elsewhere i;
         open_came_first = first i;
         add_path = u.add_path;
-        ipv6_next_hops = u.ipv6_next_hops;
+        without = u.without;
         extended_parameters = parameters i;
-        send_hold_timer = timer i;
         keepalive_without_hold = alive i;
         may_have_ended = ended i;
         may_be_missing = missing i;
       }
 
-  one_notes : (next : Option (ℕ × ShownRecord)) (u : Unjudged) (a b : Notes) → AreNotesOf config t link u octets p next a → AreNotesOf config t link u octets p next b → a ≡ b
+  one_notes : (next : Option (ℕ × ShownRecord)) (u : LeftOut) (a b : Notes) → AreNotesOf config t link u octets p next a → AreNotesOf config t link u octets p next b → a ≡ b
   one_notes next u a b h k = h.2 ∙ with_notes next u h.0 k.0 h.1 k.1 ∙ sym k.2
 
 -- ---- what both OPENs offer
 
-one_offer : (octets : List ℕ) (a b : UnjudgedOffer) → IsUnjudgedOffer octets a → IsUnjudgedOffer octets b → a ≡ b
-one_offer octets a b (inl h) (inl k) = h.1 ∙ sym k.1
-one_offer octets a b (inl h) (inr k) = absurd (k.0 h.0)
-one_offer octets a b (inr h) (inl k) = absurd (h.0 k.0)
-one_offer octets a b (inr h) (inr k) = h.1 ∙ sym k.1
+one_offer : (octets : List ℕ) (a b : RouteOffer) → IsRouteOffer octets a → IsRouteOffer octets b → a ≡ b
+one_offer octets a b h k = elim (readable_or_not octets) [
+  | inl is ↦ h.readable is ∙ sym (k.readable is)
+  | inr not ↦ h.unreadable not ∙ sym (k.unreadable not)
+]
 
-one_offer_of : (o : Option (List ℕ)) (a b : UnjudgedOffer) → IsOfferOf o a → IsOfferOf o b → a ≡ b
+one_offer_of : (o : Option (List ℕ)) (a b : RouteOffer) → IsOfferOf o a → IsOfferOf o b → a ≡ b
 one_offer_of None a b h k = h ∙ sym k
 one_offer_of (Some octets) a b h k = one_offer octets a b h k
 
-one_unjudged : (records : List ShownRecord) (a b : Unjudged) → AreUnjudged records a → AreUnjudged records b → a ≡ b
-one_unjudged records a b h k =
+one_without : (configured own peers : RouteOffer) (a b : Option RouteOffer) → IsWithout configured own peers a → IsWithout configured own peers b → a ≡ b
+one_without configured own peers None None h k = refl
+one_without configured own peers None (Some y) h k = absurd (h k.0)
+one_without configured own peers (Some x) None h k = absurd (k h.0)
+one_without configured own peers (Some x) (Some y) h k = ap (λ (o : RouteOffer). Some o) (h.1 ∙ sym k.1)
+
+both_left_out : (x y : LeftOut) → x.add_path ≡ y.add_path → x.without ≡ y.without → x ≡ y
+both_left_out x y add_path without = λ i. record { add_path = add_path i; without = without i }
+
+one_left : (config : Config) (own peers : RouteOffer) (a b : LeftOut) → IsLeftOut config own peers a → IsLeftOut config own peers b → a ≡ b
+one_left config own peers a b h k =
+    both_left_out a b (h.add_path ∙ sym k.add_path) (one_without config.parts.offers own peers a.without b.without h.without k.without)
+
+one_left_out : (config : Config) (records : List ShownRecord) (a b : LeftOut) → LeavesOut config records a → LeavesOut config records b → a ≡ b
+one_left_out config records a b h k =
     let mine = one_own records h.own k.own h.has_own k.has_own in
     let own = one_offer_of h.own h.own_offer k.own_offer h.is_own (subst (λ (o : Option (List ℕ)). IsOfferOf o k.own_offer) (sym mine) k.is_own) in
     let peers = one_offer_of (settling_open records) h.peers_offer k.peers_offer h.is_peers k.is_peers in
-    h.both ∙ (λ i. both_offer (own i) (peers i)) ∙ sym k.both
+    one_left config h.own_offer h.peers_offer a b h.is_left_out
+    (subst (λ (o : RouteOffer). IsLeftOut config o h.peers_offer b) (sym own) (subst (λ (o : RouteOffer). IsLeftOut config k.own_offer o b) (sym peers) k.is_left_out))
 
 -- ---- why
 
 module _ (sets : SubcodesAreSets) (config : Config) where
-  one_is_why : (style : Style) (places : ℕ → Place) (t : Told) (link : Option Link) (u : Unjudged) (octets : List ℕ) (p : Possible) (next : Option (ℕ × ShownRecord)) (text other : List ℕ) → IsHeaded t octets
+  one_is_why : (style : Style) (places : ℕ → Place) (t : Told) (link : Option Link) (u : LeftOut) (octets : List ℕ) (p : Possible) (next : Option (ℕ × ShownRecord)) (text other : List ℕ) → IsHeaded t octets
       → IsWhy config style places t link u octets p next text → IsWhy config style places t link u octets p next other → text ≡ other
   one_is_why style places t link u octets p next text other whole h k =
       let received = one_received config octets places t t.last_received h.received k.received h.is_received k.is_received whole in
@@ -204,10 +217,10 @@ module _ (sets : SubcodesAreSets) (config : Config) where
       → TellsWhy config style places records next other → text ≡ other
   one_why style places records next text other each h k =
       let possible = same_possible config records h.possible k.possible h.asked k.asked h.are k.are h.timely k.timely in
-      let unjudged = one_unjudged records h.unjudged k.unjudged h.are_unjudged k.are_unjudged in
-      one_is_why style places (told records) (sending_link config records) h.unjudged (last_message records) h.possible next text other (headed records each) h.why
-      (subst (λ (v : Unjudged). IsWhy config style places (told records) (sending_link config records) v (last_message records) h.possible next other) (sym unjudged)
-      (subst (λ (v : Possible). IsWhy config style places (told records) (sending_link config records) k.unjudged (last_message records) v next other) (sym possible) k.why))
+      let left_out = one_left_out config records h.left_out k.left_out h.leaves_out k.leaves_out in
+      one_is_why style places (told records) (sending_link config records) h.left_out (last_message records) h.possible next text other (headed records each) h.why
+      (subst (λ (v : LeftOut). IsWhy config style places (told records) (sending_link config records) v (last_message records) h.possible next other) (sym left_out)
+      (subst (λ (v : Possible). IsWhy config style places (told records) (sending_link config records) k.left_out (last_message records) v next other) (sym possible) k.why))
 
   -- the one record behind others
   one_last : (before : List ShownRecord) (a b : ShownRecord) → before ++ a ∷ [] ≡ before ++ b ∷ [] → a ≡ b

@@ -22,6 +22,7 @@ use Rattle.bgp_explain.specs.declared.explained.Reason.{Reason}
 use Rattle.bgp_explain.specs.declared.explained.Totals.{Totals}
 use Rattle.bgp_explain.specs.declared.skipped.Skipped.{Skipped}
 use Rattle.bgp_explain.specs.Explaining.{ExplainsBy, IsExplained, ReadsAll}
+use Rattle.bgp_explain.specs.LeftOut.{JudgesWithout}
 use Rattle.bgp_explain.specs.Reason.{AreSummed, HasReason}
 
 module _ {S : Type 0} (gives : S → S → List ℕ → Type 0) (has_ended : S → Bool)
@@ -95,9 +96,11 @@ module _ {S : Type 0} (gives : S → S → List ℕ → Type 0) (has_ended : S �
     pub explained : {X Y : Type 0} (answer : Verdict X) (why : Option (Reason Y)) (totals : Totals) → IsVerdict config (records_of reads.pieces) answer
         → HasReason config (records_of reads.pieces) answer why → AreSummed (records_of reads.pieces) answer totals.tally totals.seen → totals.octets ≡ reader.place
         → totals.skipped ≡ record { counts = reader.skipped; first_other = reader.other } → (IsTrue totals.confederation ↔ SomeShowConfederations (records_of reads.pieces))
+        → JudgesWithout config (records_of reads.pieces) totals.left_out
         → IsExplained gives has_ended config source new may_lack answer why totals
-    explained answer why totals is has sums place skips confederation = record {
+    explained answer why totals is has sums place skips confederation without = record {
       confederation = confederation;
+      left_out = without;
       skips = skips ∙ ap (λ (k : SkippedRecords). let s : Skipped = record { counts = k; first_other = reader.other } in s) reads.knows.2
           ∙ ap (λ (o : Option Endpoints). let s : Skipped = record { counts = skipped_in reads.pieces; first_other = o } in s) reads.knows.1;
       count = place ∙ reads.place;

@@ -16,15 +16,17 @@ use Rattle.bgp_tool.specs.declared.seen.Seen.{Seen}
 use Rattle.bgp_tool.proofs.CaptureJudged.{told_in, tells}
 use Rattle.bgp_explain.specs.declared.explained.Explained.{Explained}
 use Rattle.bgp_explain.specs.Explaining.{Explains}
-use Rattle.bgp_explain.specs.Opened.{IsOfConfederation, confederation_in}
+use Rattle.bgp_explain.specs.declared.left_out.LeftOut.{LeftOut}
+use Rattle.bgp_explain.specs.LeftOut.{IsLeftOutBy}
+use Rattle.bgp_explain.specs.Opened.{IsOfConfederation, confederation_in, left_out_in}
 use Rattle.bgp_explain.proofs.Reading.{as_judged}
-use Rattle.bgp_explain.proofs.Telling.{is_of_one, same_lacking, shows, viewed}
+use Rattle.bgp_explain.proofs.Telling.{is_left_out, is_of_one, same_lacking, shows, viewed}
 
 -- What was read by a reader of captures, and what is told of it.
 module _ {R W : Type 0} (takes : W → W → List ℕ → Type 0) (failures : W → ℕ) (gives : R → R → List ℕ → Type 0)
     (has_ended : R → Bool) (counts : R → ℕ) (config : Config) (source source' : R)
     (may_lack : Config → List ShownRecord → ShownRecord → Type 0) (sink sink' : W) where
-  pub record JudgedOf (reader : ReaderState) (status : ℕ) (first : List ℕ) (refused : Option CaptureFault) (seen : Seen) (confederation : Bool) : Type 0 where
+  pub record JudgedOf (reader : ReaderState) (status : ℕ) (first : List ℕ) (refused : Option CaptureFault) (seen : Seen) (confederation : Bool) (left_out : LeftOut) : Type 0 where
     pub read : ReadBy gives config.parts.session source source' reader
         (λ given. JudgesCapture given has_ended takes counts failures config source source' may_lack sink sink' status)
     pub ends : EndsBy read.pieces read.rest (fault_answered read.holds.answer)
@@ -32,6 +34,7 @@ module _ {R W : Type 0} (takes : W → W → List ℕ → Type 0) (failures : W 
     pub fault : refused ≡ fault_answered read.holds.answer
     pub lacking : lacking_by (read.holds.code == 0) seen ≡ lacking_in read.holds.code (records_of read.pieces)
     pub is_of_one : IsTrue confederation ↔ IsOfConfederation read.holds.code (records_of read.pieces)
+    pub is_left_out : IsLeftOutBy config read.holds.code (records_of read.pieces) left_out
 
 module _ {F R W : Type 0} (view : F → R) (takes : W → W → List ℕ → Type 0) (failures : W → ℕ) (gives : R → R → List ℕ → Type 0)
     (has_ended : R → Bool) (counts : R → ℕ) (config : Config) (source source' : F)
@@ -45,7 +48,7 @@ module _ {F R W : Type 0} (view : F → R) (takes : W → W → List ℕ → Typ
       → IsWritten takes failures (answer_text explained.answer) (answer_status explained.answer) sink sink' status
       → refused ≡ fault_in explained.answer
       → JudgedOf takes failures gives has_ended counts config (view source) (view source') may_lack sink sink' reader status (front_of source') refused
-      explained.totals.seen (confederation_in explained.answer explained.totals)
+      explained.totals.seen (confederation_in explained.answer explained.totals) (left_out_in explained.answer explained.totals)
   judges_read front_of reader explained status refused nothing (by, ends) counted wrote is =
       let code = answer_status explained.answer in
       let octets = joined by.pieces ++ by.rest in
@@ -75,4 +78,5 @@ module _ {F R W : Type 0} (view : F → R) (takes : W → W → List ℕ → Typ
         fault = is ∙ told;
         lacking = same_lacking code explained.totals.seen (records_of by.pieces) (shows view takes failures gives has_ended counts config source source' may_lack sink sink' explained by.pieces by.rest seen by.each ends);
         is_of_one = is_of_one view takes failures gives has_ended counts config source source' may_lack sink sink' explained by.pieces by.rest seen by.each ends;
+        is_left_out = is_left_out view takes failures gives has_ended counts config source source' may_lack sink sink' explained by.pieces by.rest seen by.each ends;
       }

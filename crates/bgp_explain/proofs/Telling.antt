@@ -42,7 +42,9 @@ use Rattle.bgp_explain.specs.Capture.{ExplainsCapture, SaysExplained, SaysUnexpl
 use Rattle.bgp_explain.specs.Details.{next_in}
 use Rattle.bgp_explain.specs.Explaining.{Explains, ExplainsBy, IsExplained}
 use Rattle.bgp_explain.specs.Kept.{shown_by}
-use Rattle.bgp_explain.specs.Opened.{IsOfConfederation, confederation_in, fault_told}
+use Rattle.bgp_explain.specs.declared.left_out.LeftOut.{LeftOut}
+use Rattle.bgp_explain.specs.LeftOut.{IsLeftOutBy, JudgesWithout, LeavesOut}
+use Rattle.bgp_explain.specs.Opened.{IsOfConfederation, confederation_in, fault_told, left_out_in}
 use Rattle.bgp_explain.specs.Reason.{AreSummed, HasReason, IsNext, IsReasonAt}
 use Rattle.bgp_explain.specs.Text.{CanBePutOf, IsExplainedText, IsImpossibleLine, IsMoreBy, IsMoreOf, IsReasonText, IsWhy, line_at, no_memory_line}
 use Rattle.bgp_explain.specs.declared.places.Place.{Place}
@@ -56,28 +58,28 @@ use Rattle.bgp_tool.specs.declared.seen.Seen.{Seen}
 
 module _ {X : Type 0} (config : Config) (style : Style) (session : Session) (places : ℕ → Place) where
   same_why : (records : List ShownRecord) (reason : Reason X) (next : Option (ℕ × ShownRecord)) (text : List ℕ) → IsReasonAt config records reason
-      → IsWhy config style places reason.told reason.link reason.unjudged reason.last_message.items reason.possible next text
-      → IsWhy config style places (told records) (sending_link config records) reason.unjudged (last_message records) reason.possible next text
+      → IsWhy config style places reason.told reason.link reason.left_out reason.last_message.items reason.possible next text
+      → IsWhy config style places (told records) (sending_link config records) reason.left_out (last_message records) reason.possible next text
   same_why records reason next text at why =
-      subst (λ (t : Told). IsWhy config style places t (sending_link config records) reason.unjudged (last_message records) reason.possible next text) at.told
-      (subst (λ (l : Option Link). IsWhy config style places reason.told l reason.unjudged (last_message records) reason.possible next text) at.link
-      (subst (λ (o : List ℕ). IsWhy config style places reason.told reason.link reason.unjudged o reason.possible next text) at.last_message why))
+      subst (λ (t : Told). IsWhy config style places t (sending_link config records) reason.left_out (last_message records) reason.possible next text) at.told
+      (subst (λ (l : Option Link). IsWhy config style places reason.told l reason.left_out (last_message records) reason.possible next text) at.link
+      (subst (λ (o : List ℕ). IsWhy config style places reason.told reason.link reason.left_out o reason.possible next text) at.last_message why))
 
   tells_why : (records : List ShownRecord) (reason : Reason X) (next : Option (ℕ × ShownRecord)) (text : List ℕ) → IsReasonAt config records reason
-      → IsWhy config style places reason.told reason.link reason.unjudged reason.last_message.items reason.possible next text → TellsWhy config style places records next text
+      → IsWhy config style places reason.told reason.link reason.left_out reason.last_message.items reason.possible next text → TellsWhy config style places records next text
   tells_why records reason next text at why = record {
     possible = reason.possible;
     are = at.possible;
     asked = at.asked;
     timely = at.timely;
-    unjudged = reason.unjudged;
-    are_unjudged = at.unjudged;
+    left_out = reason.left_out;
+    leaves_out = at.left_out;
     why = same_why records reason next text at why;
   }
 
   tells_not : (before records : List ShownRecord) (reason : Reason X) (o : Option (Impossible X)) (first rest : List ℕ)
       → IsNext config before o records → IsImpossibleLine style session places o first → IsReasonAt config before reason
-      → IsWhy config style places reason.told reason.link reason.unjudged reason.last_message.items reason.possible (next_in o) rest
+      → IsWhy config style places reason.told reason.link reason.left_out reason.last_message.items reason.possible (next_in o) rest
       → TellsWhyNot config style session places before records (first ++ rest)
   tells_not before records reason None first rest next line at why = absurd next
   tells_not before records reason (Some i) first rest next line at why = record {
@@ -87,7 +89,7 @@ module _ {X : Type 0} (config : Config) (style : Style) (session : Session) (pla
     is_line = line.1;
     rest = rest;
     why = tells_why before reason (Some (length before + 1, shown_by i.«record»)) rest at
-        (subst (λ (n : ℕ). IsWhy config style places reason.told reason.link reason.unjudged reason.last_message.items reason.possible (Some (n, shown_by i.«record»)) rest) next.0.number why);
+        (subst (λ (n : ℕ). IsWhy config style places reason.told reason.link reason.left_out reason.last_message.items reason.possible (Some (n, shown_by i.«record»)) rest) next.0.number why);
     whole = ap (λ (f : List ℕ). f ++ rest) (line.2 ∙ ap (λ (n : ℕ). line_at style (places n) line.0) next.0.number);
   }
 
@@ -103,7 +105,7 @@ module _ {X : Type 0} (config : Config) (style : Style) (session : Session) (pla
       → IsReasonText config style session places reason more → TellsWhy config style places records None more
   why_unfinished Y records reason more has is =
       let none : is.first ≡ [] = subst (λ (o : Option (Impossible X)). IsImpossibleLine style session places o is.first) has.1 is.impossible in
-      let why = subst (λ (o : Option (Impossible X)). IsWhy config style places reason.told reason.link reason.unjudged reason.last_message.items reason.possible (next_in o) is.rest) has.1 is.why in
+      let why = subst (λ (o : Option (Impossible X)). IsWhy config style places reason.told reason.link reason.left_out reason.last_message.items reason.possible (next_in o) is.rest) has.1 is.why in
       let whole = is.whole ∙ ap (λ (f : List ℕ). f ++ is.rest) none in
       subst (λ (t : List ℕ). TellsWhy config style places records None t) (sym whole) (tells_why records reason None is.rest has.0 why)
 
@@ -284,6 +286,7 @@ module _ {F R : Type 0} (view : F → R) (has_ended : R → Bool) (config : Conf
   viewed (Ok verdict) why totals is = record {
     count = is.count;
     confederation = is.confederation;
+    left_out = is.left_out;
     summed = is.summed;
     skips = is.skips;
     octets = is.octets;
@@ -325,7 +328,7 @@ same_lacking (suc code) seen records shows =
 module _ {R W : Type 0} (takes : W → W → List ℕ → Type 0) (failures : W → ℕ) (gives : R → R → List ℕ → Type 0)
     (has_ended : R → Bool) (counts : R → ℕ) (config : Config) (source source' : R)
     (may_lack : Config → List ShownRecord → ShownRecord → Type 0) (sink sink' : W) where
-  pub record ToldOf (reader : ReaderState) (status : ℕ) (first : List ℕ) (refused : Option CaptureFault) (seen : Seen) (confederation : Bool) : Type 0 where
+  pub record ToldOf (reader : ReaderState) (status : ℕ) (first : List ℕ) (refused : Option CaptureFault) (seen : Seen) (confederation : Bool) (left_out : LeftOut) : Type 0 where
     pub read : ReadBy gives config.parts.session source source' reader
         (λ given. ExplainsCapture given has_ended takes counts failures config source source' may_lack sink sink' status)
     pub ends : EndsBy read.pieces read.rest (fault_told read.holds.answer)
@@ -333,6 +336,7 @@ module _ {R W : Type 0} (takes : W → W → List ℕ → Type 0) (failures : W 
     pub fault : refused ≡ fault_told read.holds.answer
     pub lacking : lacking_by (read.holds.code == 0) seen ≡ lacking_in read.holds.code (records_of read.pieces)
     pub is_of_one : IsTrue confederation ↔ IsOfConfederation read.holds.code (records_of read.pieces)
+    pub is_left_out : IsLeftOutBy config read.holds.code (records_of read.pieces) left_out
 
 -- And it is told of just the octets of which a reader of captures knows all pieces.
 module _ {F R W : Type 0} (view : F → R) (takes : W → W → List ℕ → Type 0) (failures : W → ℕ) (gives : R → R → List ℕ → Type 0)
@@ -394,6 +398,28 @@ module _ {F R W : Type 0} (view : F → R) (takes : W → W → List ℕ → Typ
             )
         go (Err fault) why totals is none = (λ flag. absurd (let k : ⊥ = cc in k), λ one. absurd (fault_above fault.kind one.0))
 
+  -- and so is what was left out of what both OPENs offer
+  pub is_left_out : {X : Type 0} (explained : Explained X) (pieces : List Piece) (rest : List ℕ)
+      → ExplainsBy (λ from to some. some ≡ joined pieces ++ rest) has_ended config (view source) (view source') may_lack explained.answer explained.reason explained.totals
+      → ArePieces config.parts.session None pieces → EndsBy pieces rest (fault_in explained.answer)
+      → IsLeftOutBy config (answer_status explained.answer) (records_of pieces) (left_out_in explained.answer explained.totals)
+  is_left_out explained pieces rest is each ends =
+      go explained.answer explained.reason explained.totals is ends where
+        go : {X Y : Type 0} (answer : Result (Verdict X) CaptureFault) (why : Option (Reason Y)) (totals : Totals)
+            → ExplainsBy (λ from to some. some ≡ joined pieces ++ rest) has_ended config (view source) (view source') may_lack answer why totals
+            → EndsBy pieces rest (fault_in answer) → IsLeftOutBy config (answer_status answer) (records_of pieces) (left_out_in answer totals)
+        go (Ok verdict) why totals is none =
+            let octets : is.octets ≡ joined pieces = is.gave ∙ ap (λ (o : List ℕ). joined pieces ++ o) none ∙ append-nil (joined pieces) in
+            let same : is.records ≡ records_of pieces =
+            one_spelling config.parts.session (joined pieces) is.records (records_of pieces)
+            (subst (λ (o : List ℕ). Spells config.parts.session o is.records) octets is.spells) (spelled config pieces each) in
+            let below = verdict_below verdict in
+            record {
+              verdict = λ b. subst (λ (r : List ShownRecord). JudgesWithout config r totals.left_out) same is.left_out;
+              none = λ above. absurd (omega (arith, below, above));
+            }
+        go (Err fault) why totals is none = record { verdict = λ below. absurd (fault_above fault.kind below); none = λ above. refl }
+
   -- and the source keeps its front
   pub explains_read : {X : Type 0} (front_of : F → List ℕ) (reader : ReaderState) (explained : Explained X) (status : ℕ) (refused : Option CaptureFault)
       → front_of source ≡ []
@@ -403,7 +429,7 @@ module _ {F R W : Type 0} (view : F → R) (takes : W → W → List ℕ → Typ
       → (text : List ℕ) × (detailed : Bool) × IsExplainedText config explained detailed text × IsWritten takes failures text (answer_status explained.answer) sink sink' status
       → refused ≡ fault_in explained.answer
       → ToldOf takes failures gives has_ended counts config (view source) (view source') may_lack sink sink' reader status (front_of source') refused
-      explained.totals.seen (confederation_in explained.answer explained.totals)
+      explained.totals.seen (confederation_in explained.answer explained.totals) (left_out_in explained.answer explained.totals)
   explains_read front_of reader explained status refused nothing (by, ends) counted (text, detailed, said, wrote) is =
       let code = answer_status explained.answer in
       let octets = joined by.pieces ++ by.rest in
@@ -428,6 +454,7 @@ module _ {F R W : Type 0} (view : F → R) (takes : W → W → List ℕ → Typ
         fault = is ∙ told;
         lacking = same_lacking code explained.totals.seen (records_of by.pieces) (shows explained by.pieces by.rest seen by.each ends);
         is_of_one = is_of_one explained by.pieces by.rest seen by.each ends;
+        is_left_out = is_left_out explained by.pieces by.rest seen by.each ends;
       }
 
 -- what is explained of octets that were given is explained of what was given
@@ -465,6 +492,7 @@ module _ {S : Type 0} (has_ended : S → Bool) (config : Config) (source new : S
   explains_given (Ok verdict) why totals is = record {
     count = is.count;
     confederation = is.confederation;
+    left_out = is.left_out;
     summed = is.summed;
     skips = is.skips;
     octets = is.octets;

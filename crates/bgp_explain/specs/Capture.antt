@@ -17,8 +17,8 @@ use Rattle.bgp_text.specs.Capture.{IsRecordText}
 use Rattle.bgp_tool.specs.Answer.{IsWritten}
 use Rattle.bgp_tool.specs.Judging.{SaysVerdict, TellsFault}
 use Rattle.bgp_tool.specs.Seen.{seen_in}
-use Rattle.bgp_parts.specs.declared.unjudged.Unjudged.{Unjudged}
-use Rattle.bgp_explain.specs.Offers.{AreUnjudged}
+use Rattle.bgp_explain.specs.declared.left_out.LeftOut.{LeftOut}
+use Rattle.bgp_explain.specs.LeftOut.{LeavesOut}
 use Rattle.bgp_explain.specs.declared.places.Place.{Place}
 use Rattle.bgp_explain.specs.Places.{counted_places}
 use Rattle.bgp_explain.specs.declared.skipped.Skipped.{Skipped}
@@ -35,9 +35,9 @@ pub record TellsWhy (config : Config) (style : Style) (places : ℕ → Place)
   pub are : ArePossible config records possible
   pub asked : AreAsked config records possible
   pub timely : IfSome possible.hold_timer_expired (λ from. from < 2 ^ 32)
-  pub unjudged : Unjudged
-  pub are_unjudged : AreUnjudged records unjudged
-  pub why : IsWhy config style places (told records) (sending_link config records) unjudged
+  pub left_out : LeftOut
+  pub leaves_out : LeavesOut config records left_out
+  pub why : IsWhy config style places (told records) (sending_link config records) left_out
       (last_message records) possible next text
 
 -- the line of the record after these, as of a capture of this session, and then the lines on those

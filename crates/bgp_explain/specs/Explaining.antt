@@ -15,6 +15,7 @@ use Rattle.bgp_judge.specs.Verdict.{IsVerdict}
 use Rattle.bgp_explain.specs.declared.explained.Explained.{Explained}
 use Rattle.bgp_explain.specs.declared.explained.Reason.{Reason}
 use Rattle.bgp_explain.specs.declared.explained.Totals.{Totals}
+use Rattle.bgp_explain.specs.LeftOut.{JudgesWithout}
 use Rattle.bgp_explain.specs.Reason.{AreSummed, HasReason}
 use Rattle.bgp_explain.specs.Skipped.{skipped_of}
 
@@ -35,6 +36,7 @@ module _ {S : Type 0} (gives : S → S → List ℕ → Type 0) (has_ended : S �
     pub count : totals.octets ≡ length octets
     pub summed : AreSummed records answer totals.tally totals.seen
     pub confederation : IsTrue totals.confederation ↔ SomeShowConfederations records
+    pub left_out : JudgesWithout config records totals.left_out
     pub skips : totals.skipped ≡ skipped_of spells.pieces
 
   abbrev pub ExplainsBy : {X Y : Type 0} → Result (Verdict X) CaptureFault → Option (Reason Y)

@@ -52,7 +52,8 @@ abbrev pub SentLacks : Config → Option Link → Possible → ℕ → List ℕ 
 SentLacks config link possible second octets (Open parts) =
     IsWholeOf (limit_on link) 1 octets × AreOwnOpenParts config octets parts
 SentLacks config link possible second octets (Update parts) =
-    IsWholeOf (limit_on link) 2 octets × IsSomeAnd link (λ l. AreUpdateParts l octets parts)
+    IsWholeOf (limit_on link) 2 octets
+    × IsSomeAnd link (λ l. AreUpdateParts l l.sent octets parts)
 SentLacks config link possible second octets lacked =
     (¬ IsWholeOf (limit_on link) 1 octets)
     × (IsNone link ⊎ (¬ IsWholeOf (limit_on link) 2 octets))

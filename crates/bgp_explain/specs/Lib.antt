@@ -1,6 +1,7 @@
 pub mod Settled
 pub mod Places
 pub mod Offers
+pub mod LeftOut
 pub mod Sending
 pub mod Kept
 pub mod Skipped

@@ -1,14 +1,13 @@
--- What both OPENs of a session offer that isn't judged, as its records tell them: the first one
--- that was sent, and the one that settles the link on which the local system sends.
+-- What both OPENs of a session offer about routes, as its records tell them: the first one that was
+-- sent, and the one that settles the link on which the local system sends.
 use Rattle.std.specs.Prelude.{◌≡◌, ℕ, List, [], ◌∷◌, Option, None, Some}
 use Rattle.bgp_prefix.specs.Shown.{ShownRecord}
 use Rattle.bgp_machine.specs.declared.fsm.Fsm.{Fsm}
 use Rattle.bgp_machine.specs.declared.fsm.Fsm.TheVariants as fsms
 use Rattle.bgp_judge.specs.Told.{Told, fresh_told, told, told_next}
 use Rattle.bgp_parts.specs.Opens.{HasOwnOpen}
-use Rattle.bgp_parts.specs.Unjudged.{IsUnjudgedOffer, both_offer, no_offer}
-use Rattle.bgp_parts.specs.declared.unjudged.Unjudged.{Unjudged}
-use Rattle.bgp_parts.specs.declared.unjudged.UnjudgedOffer.{UnjudgedOffer}
+use Rattle.bgp_open.specs.RouteOffer.{IsRouteOffer, nothing}
+use Rattle.bgp_open.specs.declared.route_offer.RouteOffer.{RouteOffer}
 use Rattle.bgp_explain.specs.declared.offers.Offers.{Offers}
 
 -- ---- the OPEN that settles the link
@@ -35,44 +34,34 @@ settling_from t before (shown ∷ records) =
 abbrev pub settling_open : List ShownRecord → Option (List ℕ)
 settling_open records = settling_from fresh_told None records
 
--- ---- what both offer
+-- ---- what they offer
 
 -- what an OPEN offers, where there is one
-abbrev pub IsOfferOf : Option (List ℕ) → UnjudgedOffer → Type 0
-IsOfferOf None offer = offer ≡ no_offer
-IsOfferOf (Some octets) offer = IsUnjudgedOffer octets offer
-
--- what the first OPEN offers that was sent, and the one that settles the link
-pub record AreUnjudged (records : List ShownRecord) (unjudged : Unjudged) : Type 0 where
-  pub own : Option (List ℕ)
-  pub has_own : HasOwnOpen records own
-  pub own_offer : UnjudgedOffer
-  pub is_own : IsOfferOf own own_offer
-  pub peers_offer : UnjudgedOffer
-  pub is_peers : IsOfferOf (settling_open records) peers_offer
-  pub both : unjudged ≡ both_offer own_offer peers_offer
+abbrev pub IsOfferOf : Option (List ℕ) → RouteOffer → Type 0
+IsOfferOf None offer = offer ≡ nothing
+IsOfferOf (Some octets) offer = IsRouteOffer octets offer
 
 -- ---- what is kept of it
 
 abbrev pub no_offers : Offers
-no_offers = record { own = None; peers = no_offer; settling = no_offer }
+no_offers = record { own = None; peers = nothing; settling = nothing }
 
 -- the first OPEN that was sent offers this, if one was
-abbrev pub IsOwnOffer : List ShownRecord → Option UnjudgedOffer → Type 0
+abbrev pub IsOwnOffer : List ShownRecord → Option RouteOffer → Type 0
 IsOwnOffer records None = HasOwnOpen records None
 IsOwnOffer records (Some offer) =
-    (octets : List ℕ) × HasOwnOpen records (Some octets) × IsUnjudgedOffer octets offer
+    (octets : List ℕ) × HasOwnOpen records (Some octets) × IsRouteOffer octets offer
 
 -- by what was offered before and what the message offers that was received last before OpenConfirm
-abbrev pub settling_by : Fsm → UnjudgedOffer → UnjudgedOffer → UnjudgedOffer
+abbrev pub settling_by : Fsm → RouteOffer → RouteOffer → RouteOffer
 settling_by fsms.Idle before offer = before
-settling_by fsms.Connect before offer = no_offer
-settling_by fsms.Active before offer = no_offer
-settling_by fsms.OpenSent before offer = no_offer
+settling_by fsms.Connect before offer = nothing
+settling_by fsms.Active before offer = nothing
+settling_by fsms.OpenSent before offer = nothing
 settling_by fsms.OpenConfirm before offer = offer
 settling_by fsms.Established before offer = offer
 
 pub record AreOffersAt (records : List ShownRecord) (offers : Offers) : Type 0 where
   pub own : IsOwnOffer records offers.own
-  pub peers : IsUnjudgedOffer (told records).peer_open offers.peers
+  pub peers : IsRouteOffer (told records).peer_open offers.peers
   pub settling : IsOfferOf (settling_open records) offers.settling

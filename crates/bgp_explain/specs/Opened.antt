@@ -24,7 +24,9 @@ use Rattle.bgp_explain.specs.declared.explained.Totals.{Totals}
 use Rattle.bgp_explain.specs.declared.opened.JudgedCapture.{JudgedCapture}
 use Rattle.bgp_explain.specs.declared.report.Report.{Report}
 use Rattle.bgp_explain.specs.declared.report.Report.TheVariants.{VerdictAlone, WithReason}
+use Rattle.bgp_explain.specs.declared.left_out.LeftOut.{LeftOut}
 use Rattle.bgp_explain.specs.Capture.{ExplainsCapture, TellsExplained, TellsVerdict}
+use Rattle.bgp_explain.specs.LeftOut.{IsLeftOutBy, nothing_left_out}
 
 -- From one state of a writer to another a reader's octets were judged, from a source that had given
 -- nothing, and it is told how that ended.
@@ -93,8 +95,13 @@ abbrev pub confederation_in : {X : Type 0} → Result (Verdict X) CaptureFault �
 confederation_in (Ok verdict) totals = totals.confederation
 confederation_in (Err fault) totals = false
 
+-- what is left out of what both OPENs offer, by what was found, if there is a verdict
+abbrev pub left_out_in : {X : Type 0} → Result (Verdict X) CaptureFault → Totals → LeftOut
+left_out_in (Ok verdict) totals = totals.left_out
+left_out_in (Err fault) totals = nothing_left_out
+
 -- The reader's octets were judged, and explained if a reason is wanted; and it is told whether they
--- are of a confederation.
+-- are of a confederation, and what was left out of what both OPENs offer.
 module _ {R W : Type 0} (remaining : R → Option (List ℕ)) (contents : W → Option (List ℕ))
     (config : Config) (may_lack : Config → List ShownRecord → ShownRecord → Type 0)
     (file : Bor (List ℕ)) (reader : R) (old new : WriterState W) (judged : JudgedCapture) where
@@ -102,12 +109,16 @@ module _ {R W : Type 0} (remaining : R → Option (List ℕ)) (contents : W → 
     pub opened : JudgesOpened remaining contents config may_lack file reader old new judged.outcome
     pub confederation : IsTrue judged.confederation
         ↔ IsOfConfederation opened.judged.holds.code (records_of opened.judged.pieces)
+    pub left_out : IsLeftOutBy config opened.judged.holds.code (records_of opened.judged.pieces)
+        judged.left_out
 
   pub record ReportsReason : Type 0 where
     pub opened : ExplainsOpened remaining contents config may_lack file reader old new
         judged.outcome
     pub confederation : IsTrue judged.confederation
         ↔ IsOfConfederation opened.explained.holds.code (records_of opened.explained.pieces)
+    pub left_out : IsLeftOutBy config opened.explained.holds.code
+        (records_of opened.explained.pieces) judged.left_out
 
   abbrev pub ReportsOpened : Report → Type 0
   ReportsOpened VerdictAlone = ReportsVerdict

@@ -16,7 +16,7 @@ use Rattle.bgp_tool.specs.declared.seen.Seen.{Seen}
 use Rattle.bgp_tool.specs.Seen.{seen_in}
 use Rattle.bgp_explain.specs.declared.tally.Tally.{Tally}
 use Rattle.bgp_explain.specs.Kept.{shown_by}
-use Rattle.bgp_explain.specs.Offers.{AreUnjudged}
+use Rattle.bgp_explain.specs.LeftOut.{LeavesOut}
 use Rattle.bgp_explain.specs.Tally.{tally_of}
 
 -- It is the reason at the end of these records: what they tell, and what may follow them. Each kind
@@ -26,7 +26,7 @@ pub record IsReasonAt {X : Type 0} (config : Config) (records : List ShownRecord
     (reason : Reason X) : Type 0 where
   pub told : reason.told ≡ told records
   pub link : reason.link ≡ sending_link config records
-  pub unjudged : AreUnjudged records reason.unjudged
+  pub left_out : LeavesOut config records reason.left_out
   pub last_message : reason.last_message.items ≡ last_message records
   pub possible : ArePossible config records reason.possible
   pub asked : AreAsked config records reason.possible

@@ -13,6 +13,7 @@ use Rattle.bgp_tool.specs.Seen.{seen_in}
 use Rattle.bgp_explain.specs.declared.places.Place.{Place}
 use Rattle.bgp_explain.specs.declared.records.ExplainedRecords.{ExplainedRecords}
 use Rattle.bgp_explain.specs.Capture.{TellsWhy, TellsWhyNot}
+use Rattle.bgp_explain.specs.LeftOut.{JudgesWithout}
 use Rattle.bgp_explain.specs.Reason.{AreSummed, HasReason}
 use Rattle.bgp_explain.specs.Tally.{tally_of, yes_lines}
 use Rattle.bgp_explain.specs.Text.{no_memory_line}
@@ -27,6 +28,7 @@ pub record AreExplained {X : Type 0} (config : Config) (records : List ShownReco
   pub verdict : IsVerdict config records explained.verdict
   pub reason : HasReason config records explained.verdict explained.reason
   pub summed : AreSummed records explained.verdict explained.tally explained.seen
+  pub left_out : JudgesWithout config records explained.left_out
 
 -- What is told after the verdict on records that stand there: of a no why the next record is
 -- impossible, with its line as of a capture of this session, of an unfinished what may follow, and

@@ -1,5 +1,5 @@
--- The link on which the local system sends, and what both OPENs offer that isn't judged, by what is
--- kept record by record.
+-- The link on which the local system sends, and what both OPENs offer about routes, by what is kept
+-- record by record.
 use Rattle.std.specs.Prelude.{◌≡◌, ℕ, List, Option, None, Some}
 use Rattle.bgp_prefix.specs.Shown.{ShownRecord}
 use Rattle.bgp_open.specs.declared.config.Config.{Config}

@@ -19,13 +19,13 @@ use Rattle.bgp_reason_text.specs.Notes.{AreEndNotes, AreNotes, notes_text, with_
 use Rattle.bgp_reason_text.specs.Record.{record_line, state_line}
 use Rattle.bgp_reason_text.specs.declared.style.Style.{Style}
 use Rattle.bgp_reason_text.specs.Style.{plain}
-use Rattle.bgp_parts.specs.declared.unjudged.Unjudged.{Unjudged}
 use Rattle.bgp_text.specs.Capture.{IsRecordText}
 use Rattle.bgp_tool.specs.Answer.{answer_text}
 use Rattle.bgp_explain.specs.declared.explained.Explained.{Explained}
 use Rattle.bgp_explain.specs.declared.explained.Impossible.{Impossible}
 use Rattle.bgp_explain.specs.declared.explained.Reason.{Reason}
 use Rattle.bgp_explain.specs.declared.explained.Totals.{Totals}
+use Rattle.bgp_explain.specs.declared.left_out.LeftOut.{LeftOut}
 use Rattle.bgp_explain.specs.declared.places.Place.{Place}
 use Rattle.bgp_explain.specs.declared.texts.Received.{Received}
 use Rattle.bgp_explain.specs.Details.{AreLacksOf, IsAskedBy, next_in}
@@ -81,11 +81,11 @@ AreNotesOn config told link octets possible (Some next) notes =
     AreNotes config told link octets possible next.0 next.1 notes
 
 -- these, with those on what both OPENs offer
-abbrev pub AreNotesOf : Config → Told → Option Link → Unjudged → List ℕ → Possible
+abbrev pub AreNotesOf : Config → Told → Option Link → LeftOut → List ℕ → Possible
     → Option (ℕ × ShownRecord) → Notes → Type 0
-AreNotesOf config told link unjudged octets possible next notes =
+AreNotesOf config told link left_out octets possible next notes =
     (others : Notes) × AreNotesOn config told link octets possible next others
-    × (notes ≡ with_offers unjudged.add_path unjudged.ipv6_next_hops others)
+    × (notes ≡ with_offers left_out.add_path left_out.without others)
 
 -- what the records tell; the message received last; whether the next record is whole; what may
 -- follow, and what the next record lacks of it; and the notes
@@ -99,7 +99,7 @@ why_text style places told received asking unwhole possible lacked notes =
 -- In this style. The records stand at these places, and the next one is given with its count
 -- among them.
 pub record IsWhy (config : Config) (style : Style) (places : ℕ → Place) (told : Told)
-    (link : Option Link) (unjudged : Unjudged) (octets : List ℕ) (possible : Possible)
+    (link : Option Link) (left_out : LeftOut) (octets : List ℕ) (possible : Possible)
     (next : Option (ℕ × ShownRecord)) (text : List ℕ) : Type 0 where
   pub received : Option Received
   pub asking : Option Asking
@@ -110,7 +110,7 @@ pub record IsWhy (config : Config) (style : Style) (places : ℕ → Place) (tol
   pub is_asked : IsAskedBy config told link octets asking
   pub is_unwhole : IsUnwholeOf link next unwhole
   pub are_lacks : AreLacksOf config link possible next lacked
-  pub are_notes : AreNotesOf config told link unjudged octets possible next notes
+  pub are_notes : AreNotesOf config told link left_out octets possible next notes
   pub whole : text ≡ why_text style places told received asking unwhole possible lacked notes
 
 -- ---- of a reason
@@ -128,7 +128,7 @@ pub record IsReasonText {X : Type 0} (config : Config) (style : Style) (session 
   pub first : List ℕ
   pub rest : List ℕ
   pub impossible : IsImpossibleLine style session places reason.impossible first
-  pub why : IsWhy config style places reason.told reason.link reason.unjudged
+  pub why : IsWhy config style places reason.told reason.link reason.left_out
       reason.last_message.items reason.possible (next_in reason.impossible) rest
   pub whole : text ≡ first ++ rest
 

@@ -32,7 +32,7 @@ pub record Asks (link : Link) (octets : List ℕ) (asking : Asking) : Type 0 whe
   pub applied : MatchOption asking.applied
       ((disabled : Families) → ¬ MayBeApplied link octets disabled) (IsApplying link octets)
   pub refused : (n : ℕ) → HasSubcode asking.refused n ↔ IsOutcome link octets (Reset n)
-  pub parts : AreUpdateParts link octets asking.parts
+  pub parts : AreUpdateParts link link.received octets asking.parts
 
 -- the number of its record, and what it asks for
 unfoldable pub asking_said : ℕ → Asking → List ℕ

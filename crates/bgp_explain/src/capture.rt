@@ -11,6 +11,7 @@ ghost use Rattle.bgp_explain.specs.Explaining.{Explains, Follows};
 ghost use Rattle.bgp_explain.specs.Progress.{IsAt};
 
 use crate::explained::{Explained, Totals};
+use crate::left_out::LeftOut;
 use crate::skipped::Skipped;
 use crate::so_far::Progress;
 use crate::tally::Tally;
@@ -44,6 +45,7 @@ pub(crate) fn refused<A: Allocator>(fault: CaptureFault) -> Explained<A>
             tally: Tally::nothing(),
             seen: Seen::nothing(),
             confederation: false,
+            left_out: LeftOut::nothing(),
             skipped: Skipped::nothing(),
         },
     }
@@ -139,6 +141,7 @@ pub fn explain_with<A: Allocator + Copy, T: Tracker<A>, S: Source>(
         tally: progress.tally,
         seen: progress.seen,
         confederation,
+        left_out: progress.sending.offers.left_out(config),
         skipped: Skipped::by(reader),
     };
     match progress.conclude(alloc, &tracker, config) {

@@ -1,11 +1,11 @@
 //! What is answered of a capture that is explained.
 
 use crate::kept::KeptRecord;
+use crate::left_out::LeftOut;
 use crate::skipped::Skipped;
 use crate::tally::Tally;
 use bgp_judge::Verdict;
 use bgp_open::Link;
-use bgp_parts::Unjudged;
 use bgp_reason::{Possible, Told};
 use bgp_tool::Seen;
 use mrt::CaptureFault;
@@ -28,9 +28,9 @@ pub struct Reason<A: Allocator = Global> {
     pub told: Told,
     /// The link on which a message is sent that follows them.
     pub link: Option<Link>,
-    /// What both OPENs offer that isn't judged: the first one that was sent, and the one that
-    /// settles the link.
-    pub unjudged: Unjudged,
+    /// What judging leaves out of what both OPENs offer: the first one that was sent, and the one
+    /// that settles the link.
+    pub left_out: LeftOut,
     /// The message that was received last; empty where none was.
     pub last_message: Vec<u8, A>,
     /// The first impossible record, where the verdict is a no.
@@ -51,6 +51,9 @@ pub struct Totals {
     pub seen: Seen,
     /// Whether these show an UPDATE of a confederation, also after the first impossible one.
     pub confederation: bool,
+    /// What judging leaves out of what both OPENs offer, by the records up to the first impossible
+    /// one.
+    pub left_out: LeftOut,
     /// What it holds beside the records of the session.
     pub skipped: Skipped,
 }

@@ -16,6 +16,7 @@ mod explained;
 mod headline;
 mod kept;
 mod laws;
+mod left_out;
 mod offers;
 mod opened;
 mod places;
@@ -37,6 +38,7 @@ pub use laws::{
     a_no_at_a_message_tells_what_is_owed, a_no_names_what_lacks,
     each_verdict_is_explained_in_one_way, the_last_message_is_told, what_could_have_stood_is_told,
 };
+pub use left_out::LeftOut;
 pub use opened::{JudgedCapture, judge_opened};
 pub use places::{Place, Places};
 pub use records::{ExplainedRecords, explain_records, put_explained_records};

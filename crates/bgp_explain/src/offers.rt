@@ -1,4 +1,4 @@
-//! What both OPENs of a session offer that isn't judged, kept record by record.
+//! What both OPENs of a session offer about routes, kept record by record.
 
 ghost use Rattle.std.specs.Prelude.{◌≡◌, ◌↔◌, ◌++◌, ◌∷◌, [], ℕ, List, IsTrue};
 ghost use Rattle.std.specs.Prelude.{IfSome, IfNone};
@@ -7,27 +7,28 @@ ghost use Rattle.bgp_open.specs.OpenFault.{IsWellFormed};
 ghost use Rattle.mrt.specs.Reader.{shown_of};
 ghost use Rattle.bgp_judge.specs.Told as judged;
 ghost use Rattle.bgp_parts.specs.Opens.{IsSent, SendsNone};
-ghost use Rattle.bgp_parts.specs.Unjudged.{IsUnjudgedOffer};
-ghost use Rattle.bgp_explain.specs.Offers.{AreOffersAt, AreUnjudged, IsOwnOffer};
+ghost use Rattle.bgp_open.specs.RouteOffer.{IsRouteOffer};
+ghost use Rattle.bgp_explain.specs.LeftOut.{LeavesOut};
+ghost use Rattle.bgp_explain.specs.Offers.{AreOffersAt, IsOwnOffer};
 ghost use Rattle.bgp_explain.specs.Offers.{no_offers, settling_by};
 
+use crate::left_out::LeftOut;
 use bgp_machine::Fsm;
-use bgp_open::read_open;
-use bgp_parts::{Unjudged, UnjudgedOffer};
+use bgp_open::{Config, RouteOffer, read_open};
 use mrt::Record;
 
 /// Idle's number in a record (RFC 6396, 4.4.1).
 const IDLE: u16 = 1;
 
-/// What the OPENs of a session offer that isn't judged, as far as its records tell them.
+/// What the OPENs of a session offer about routes, as far as its records tell them.
 #[derive(Clone, Copy)]
 pub(crate) struct Offers {
     /// What the first OPEN offers that was sent, if one was.
-    pub(crate) own: Option<UnjudgedOffer>,
+    pub(crate) own: Option<RouteOffer>,
     /// What the message offers that was received last before OpenConfirm.
-    pub(crate) peers: UnjudgedOffer,
+    pub(crate) peers: RouteOffer,
     /// What the OPEN offers that settles the link.
-    pub(crate) settling: UnjudgedOffer,
+    pub(crate) settling: RouteOffer,
 }
 
 /// Whether octets are a whole and well-formed OPEN.
@@ -38,19 +39,19 @@ fn is_well_formed(octets: &[u8]) -> bool
 }
 
 /// What a record's message offers, where it is an OPEN that is sent.
-fn sent_offer(shown: &Record<'_>) -> Option<UnjudgedOffer>
+fn sent_offer(shown: &Record<'_>) -> Option<RouteOffer>
     ensures some { IfSome result (λ offer. (octets : List ℕ)
-        × IsSent IsWellFormed (shown_of shown.now) octets × IsUnjudgedOffer octets offer) }
+        × IsSent IsWellFormed (shown_of shown.now) octets × IsRouteOffer octets offer) }
     ensures none { IfNone result (SendsNone IsWellFormed (shown_of shown.now)) }
 {
     match *shown {
-        Record::Out(_, octets) if is_well_formed(octets) => Some(UnjudgedOffer::of(octets)),
+        Record::Out(_, octets) if is_well_formed(octets) => Some(RouteOffer::of(octets)),
         _ => None,
     }
 }
 
 /// What the first OPEN offers that was sent, after one record more.
-fn own_after(before: Option<UnjudgedOffer>, shown: &Record<'_>) -> Option<UnjudgedOffer>
+fn own_after(before: Option<RouteOffer>, shown: &Record<'_>) -> Option<RouteOffer>
     ensures { (records : List ShownRecord) → IsOwnOffer records before
         → IsOwnOffer (records ++ shown_of shown.now ∷ []) result }
 {
@@ -62,19 +63,19 @@ fn own_after(before: Option<UnjudgedOffer>, shown: &Record<'_>) -> Option<Unjudg
 
 /// What the message offers that was received last before OpenConfirm, after one record more, which
 /// comes in this state.
-fn peers_after(before: UnjudgedOffer, state: Fsm, shown: &Record<'_>) -> UnjudgedOffer
-    ensures { (t : judged.Told) → state ≡ t.fsm → IsUnjudgedOffer t.peer_open before
-        → IsUnjudgedOffer (judged.told_next t (shown_of shown.now)).peer_open result }
+fn peers_after(before: RouteOffer, state: Fsm, shown: &Record<'_>) -> RouteOffer
+    ensures { (t : judged.Told) → state ≡ t.fsm → IsRouteOffer t.peer_open before
+        → IsRouteOffer (judged.told_next t (shown_of shown.now)).peer_open result }
 {
     match *shown {
         Record::In(_, octets) => match state {
             Fsm::OpenConfirm | Fsm::Established => before,
-            Fsm::Idle | Fsm::Connect | Fsm::Active | Fsm::OpenSent => UnjudgedOffer::of(octets),
+            Fsm::Idle | Fsm::Connect | Fsm::Active | Fsm::OpenSent => RouteOffer::of(octets),
         },
         Record::Out(_, _) => before,
         Record::Change(_, _, new) => {
             if new == IDLE {
-                UnjudgedOffer::nothing()
+                RouteOffer::NOTHING
             } else {
                 before
             }
@@ -83,12 +84,12 @@ fn peers_after(before: UnjudgedOffer, state: Fsm, shown: &Record<'_>) -> Unjudge
 }
 
 /// What the OPEN offers that settles the link in a state.
-fn settling_in(state: Fsm, before: UnjudgedOffer, peers: UnjudgedOffer) -> UnjudgedOffer
+fn settling_in(state: Fsm, before: RouteOffer, peers: RouteOffer) -> RouteOffer
     ensures { result ≡ settling_by state before peers }
 {
     match state {
         Fsm::Idle => before,
-        Fsm::Connect | Fsm::Active | Fsm::OpenSent => UnjudgedOffer::nothing(),
+        Fsm::Connect | Fsm::Active | Fsm::OpenSent => RouteOffer::NOTHING,
         Fsm::OpenConfirm | Fsm::Established => peers,
     }
 }
@@ -100,8 +101,8 @@ impl Offers {
     {
         Offers {
             own: None,
-            peers: UnjudgedOffer::nothing(),
-            settling: UnjudgedOffer::nothing(),
+            peers: RouteOffer::NOTHING,
+            settling: RouteOffer::NOTHING,
         }
     }
 
@@ -120,15 +121,15 @@ impl Offers {
         }
     }
 
-    /// What both OPENs offer.
-    pub(crate) fn of_both(self) -> Unjudged
+    /// What judging leaves out of what both OPENs offer.
+    pub(crate) fn left_out(self, config: &Config) -> LeftOut
         ensures { (records : List ShownRecord) → AreOffersAt records self
-            → AreUnjudged records result }
+            → LeavesOut config.now records result }
     {
         let own = match self.own {
             Some(own) => own,
-            None => UnjudgedOffer::nothing(),
+            None => RouteOffer::NOTHING,
         };
-        own.with_peers(self.settling)
+        LeftOut::of(config, own, self.settling)
     }
 }

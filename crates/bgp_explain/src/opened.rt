@@ -5,13 +5,15 @@ ghost use Rattle.std.specs.IoError.{error_kind};
 ghost use Rattle.mrt.specs.FromWrite.{writer_state};
 ghost use Rattle.bgp_judge.specs.Judging.{fault_in};
 ghost use Rattle.bgp_tool.specs.Opened.{IsUnopened};
-ghost use Rattle.bgp_explain.specs.Opened.{ReportsOpened, confederation_in};
+ghost use Rattle.bgp_explain.specs.LeftOut.{nothing_left_out};
+ghost use Rattle.bgp_explain.specs.Opened.{ReportsOpened, confederation_in, left_out_in};
 ghost use Rattle.bgp_explain.specs.Text.{CanBePutOf};
 ghost use Rattle.bgp_explain.specs.Written.{WritesReport};
 
 use crate::capture::explain_with;
 use crate::explained::Explained;
 use crate::headline::write_explained;
+use crate::left_out::LeftOut;
 use crate::report::Report;
 use bgp_judge::Tracker;
 use bgp_open::Config;
@@ -29,6 +31,8 @@ pub struct JudgedCapture<'a> {
     /// Whether there is a verdict, and an UPDATE of a confederation (RFC 5065) among the records,
     /// which isn't judged.
     pub confederation: bool,
+    /// What judging left out of what both OPENs offer, where there is a verdict.
+    pub left_out: LeftOut,
 }
 
 /// Judges a capture that a reader gives, if it could be opened: writes the verdict, as
@@ -54,7 +58,7 @@ pub fn judge_opened<'a, A: Allocator + Copy, T: Tracker<A>, R: Read + Drop, W: W
         result report) }
     ensures unopened { IfErr opened (λ error. IsUnopened file.entry (error_kind error)
         result.outcome × (result.confederation ≡ false)
-        × (writer_state sink.new ≡ writer_state sink.old)) }
+        × (result.left_out ≡ nothing_left_out) × (writer_state sink.new ≡ writer_state sink.old)) }
     ensures statuses { result.outcome.status ≤ 5 }
 {
     match opened {
@@ -62,6 +66,7 @@ pub fn judge_opened<'a, A: Allocator + Copy, T: Tracker<A>, R: Read + Drop, W: W
         Err(error) => JudgedCapture {
             outcome: unopened(file, error.kind()),
             confederation: false,
+            left_out: LeftOut::nothing(),
         },
     }
 }
@@ -91,6 +96,7 @@ fn judge_reader<'a, A: Allocator + Copy, T: Tracker<A>, R: Read + Drop, W: Write
     );
     let refused = refused_by(&explained.answer);
     let confederation = is_of_confederation(&explained);
+    let left_out = left_out_of(&explained);
     let status = write_report(sink, alloc, config, report, &explained);
     let skipped = records.skipped();
     let note = if sink.failures() > failures {
@@ -107,6 +113,7 @@ fn judge_reader<'a, A: Allocator + Copy, T: Tracker<A>, R: Read + Drop, W: Write
             note,
         },
         confederation,
+        left_out,
     }
 }
 
@@ -135,6 +142,16 @@ fn is_of_confederation<A: Allocator>(explained: &Explained<A>) -> bool
     ensures { result ≡ confederation_in explained.now.answer explained.now.totals }
 {
     explained.answer.is_ok() && explained.totals.confederation
+}
+
+/// What judging left out of what both OPENs offer, where there is a verdict.
+fn left_out_of<A: Allocator>(explained: &Explained<A>) -> LeftOut
+    ensures { result ≡ left_out_in explained.now.answer explained.now.totals }
+{
+    match &explained.answer {
+        Ok(_) => explained.totals.left_out,
+        Err(_) => LeftOut::nothing(),
+    }
 }
 
 /// Why a capture is refused, if it is.

@@ -57,15 +57,16 @@ fn message_after<A: Allocator + Copy>(
 
 /// Why records stop being those of a run, as far as there was memory for it.
 fn stopped<A: Allocator>(
+    config: &Config,
     told: Told,
     sending: Sending,
     last_message: Option<Vec<u8, A>>,
     found: Option<Found<A>>,
 ) -> Option<Reason<A>>
-    ensures { (config : TheConfig) (before : List ShownRecord) (shown : ShownRecord)
-        → AreSaidBy config before told sending last_message
-        → IfSome found (IsFound config before shown)
-        → IfSome result (λ reason. IsReasonAt config before reason
+    ensures { (before : List ShownRecord) (shown : ShownRecord)
+        → AreSaidBy config.now before told sending last_message
+        → IfSome found (IsFound config.now before shown)
+        → IfSome result (λ reason. IsReasonAt config.now before reason
         × IsNamed before shown reason.impossible) }
 {
     let Some(last_message) = last_message else {
@@ -83,7 +84,7 @@ fn stopped<A: Allocator>(
     Some(Reason {
         told,
         link: sending.link,
-        unjudged: sending.offers.of_both(),
+        left_out: sending.offers.left_out(config),
         last_message,
         impossible: Some(impossible),
         possible,
@@ -116,7 +117,7 @@ fn unfinished<A: Allocator + Copy, T: Tracker<A>>(
     Some(Reason {
         told,
         link: sending.link,
-        unjudged: sending.offers.of_both(),
+        left_out: sending.offers.left_out(config),
         last_message,
         impossible: None,
         possible,
@@ -252,7 +253,7 @@ impl<A: Allocator + Copy> Progress<A> {
             ..
         } = self;
         if let Some(Stop { found }) = stop {
-            let reason = stopped(told, sending, last_message, found);
+            let reason = stopped(config, told, sending, last_message, found);
             return Ok((Verdict::No(count), reason));
         }
         match verdict_of(tracker)? {

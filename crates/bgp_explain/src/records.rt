@@ -15,6 +15,7 @@ ghost use Rattle.bgp_explain.specs.Text.{CanBePutOf};
 
 use crate::details::{Details, details_of};
 use crate::explained::Reason;
+use crate::left_out::LeftOut;
 use crate::places::Places;
 use crate::so_far::Progress;
 use crate::tally::{Tally, put_yes_lines};
@@ -39,6 +40,8 @@ pub struct ExplainedRecords<A: Allocator = Global> {
     pub tally: Tally,
     /// What these show of what the local system did.
     pub seen: Seen,
+    /// What judging leaves out of what both OPENs offer, by these.
+    pub left_out: LeftOut,
 }
 
 /// What judging records answers, by how far the judging has come with them. Memory is refused where
@@ -57,12 +60,14 @@ fn concluded<A: Allocator + Copy, T: Tracker<A>>(
         → OnErr result (Begins config.now records) }
 {
     let (tally, seen) = (progress.tally, progress.seen);
+    let left_out = progress.sending.offers.left_out(config);
     let (verdict, reason) = progress.conclude(alloc, tracker, config)?;
     Ok(ExplainedRecords {
         verdict,
         reason,
         tally,
         seen,
+        left_out,
     })
 }
 

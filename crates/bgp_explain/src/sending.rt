@@ -23,7 +23,7 @@ pub(crate) struct Sending {
     pub(crate) offered: Option<Link>,
     /// The link on which a message is sent that follows the records.
     pub(crate) link: Option<Link>,
-    /// What the OPENs offer that isn't judged.
+    /// What the OPENs offer about routes.
     pub(crate) offers: Offers,
 }
 

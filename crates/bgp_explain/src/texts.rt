@@ -15,11 +15,11 @@ ghost use Rattle.bgp_explain.specs.Updates.{asking_of, update_line};
 
 use crate::details::Details;
 use crate::explained::{Explained, Impossible, Reason, Totals};
+use crate::left_out::LeftOut;
 use crate::places::{Place, Places, place_of};
 use crate::tally::put_yes_lines;
 use bgp_judge::Verdict;
 use bgp_open::Config;
-use bgp_parts::Unjudged;
 use bgp_prefix::Session;
 use bgp_reason::{Possible, Told};
 use bgp_reason_text::{
@@ -88,14 +88,11 @@ fn notes_on<A: Allocator + Copy>(config: &Config, reason: &Reason<A>) -> Notes
 
 /// The notes on a reason.
 fn notes_of<A: Allocator + Copy>(config: &Config, reason: &Reason<A>) -> Notes
-    ensures { AreNotesOf config.now reason.now.told reason.now.link reason.now.unjudged
+    ensures { AreNotesOf config.now reason.now.told reason.now.link reason.now.left_out
         reason.now.last_message.items reason.now.possible (next_in reason.now.impossible) result }
 {
-    let Unjudged {
-        add_path,
-        ipv6_next_hops,
-    } = reason.unjudged;
-    notes_on(config, reason).with_offers(add_path, ipv6_next_hops)
+    let LeftOut { add_path, without } = reason.left_out;
+    notes_on(config, reason).with_offers(add_path, without)
 }
 
 /// The line of an UPDATE that was received last, with all that may become of it.

@@ -9,6 +9,7 @@ use Rattle.bgp_prefix.specs.declared.family.Family.TheVariants.{V4}
 use Rattle.bgp_wire.specs.Framing.{IsFrame}
 use Rattle.bgp_wire.specs.Header.{header_of, greatest_length, limit_with, length_of}
 use Rattle.bgp_open.specs.declared.link.Link.{Link}
+use Rattle.bgp_open.specs.declared.route_form.RouteForm.{RouteForm}
 use Rattle.bgp_open.specs.Families.{contains}
 use Rattle.bgp_attr.specs.declared.classes.AttrVerdict.{AttrVerdict}
 use Rattle.bgp_attr.specs.declared.classes.AttrVerdict.TheVariants.{Good, Discard, Withdraw, Reset}
@@ -24,7 +25,7 @@ use Rattle.bgp_attr.specs.Split.{attributes_of, rest_of, tail_at}
 use Rattle.bgp_attr.specs.Types.{all_types, type_of, type_number, has_bits_of, is_multiprotocol}
 use Rattle.bgp_attr.proofs.GoodRows.{type_back}
 use Rattle.bgp_update.specs.Clean.{IsClean, IsCleanBy, most_octets}
-use Rattle.bgp_update.specs.Found.{found, mp_found, side_of, is_class}
+use Rattle.bgp_update.specs.Found.{found_by_form, mp_found, side_of, is_class}
 use Rattle.bgp_update.specs.Mp.{Mp, Absent, Cut, Other, Unused, Broken, Sound, mp_state, in_family, with_contents, has_other_bits}
 use Rattle.bgp_update.specs.MpValue.{Contents, family_in, reach_contents, unreach_contents}
 use Rattle.bgp_update.specs.Prefixes.{prefixes_of}
@@ -61,20 +62,20 @@ record IsFineClass (c : Option AttrVerdict) : Type 0 where
   withdraw : is_class Withdraw c ≡ false
   discard : is_class Discard c ≡ false
 
-fine_class : (link : Link) (t : Option AttrType) (a : Attribute) (c : Option AttrVerdict) → faults_with link t a c ≡ [] → IsFineClass c
-fine_class link t a None e = record { reset = refl; withdraw = refl; discard = refl }
-fine_class link t a (Some Good) e = record { reset = refl; withdraw = refl; discard = refl }
-fine_class link t a (Some Discard) e = absurd cc
-fine_class link t a (Some Withdraw) e = absurd cc
-fine_class link t a (Some Reset) e = absurd cc
+fine_class : (link : Link) (form : RouteForm) (t : Option AttrType) (a : Attribute) (c : Option AttrVerdict) → faults_with link form t a c ≡ [] → IsFineClass c
+fine_class link form t a None e = record { reset = refl; withdraw = refl; discard = refl }
+fine_class link form t a (Some Good) e = record { reset = refl; withdraw = refl; discard = refl }
+fine_class link form t a (Some Discard) e = absurd cc
+fine_class link form t a (Some Withdraw) e = absurd cc
+fine_class link form t a (Some Reset) e = absurd cc
 
-no_faults : (link : Link) (t : Option AttrType) (a : Attribute) (c : Option AttrVerdict) → IsFineClass c
-    → (c ≡ None → mp_faults link.families t a ≡ []) → faults_with link t a c ≡ []
-no_faults link t a None fine mp = mp refl
-no_faults link t a (Some Good) fine mp = refl
-no_faults link t a (Some Discard) fine mp = absurd (both fine.discard)
-no_faults link t a (Some Withdraw) fine mp = absurd (both fine.withdraw)
-no_faults link t a (Some Reset) fine mp = absurd (both fine.reset)
+no_faults : (link : Link) (form : RouteForm) (t : Option AttrType) (a : Attribute) (c : Option AttrVerdict) → IsFineClass c
+    → (c ≡ None → mp_faults link.families form t a ≡ []) → faults_with link form t a c ≡ []
+no_faults link form t a None fine mp = mp refl
+no_faults link form t a (Some Good) fine mp = refl
+no_faults link form t a (Some Discard) fine mp = absurd (both fine.discard)
+no_faults link form t a (Some Withdraw) fine mp = absurd (both fine.withdraw)
+no_faults link form t a (Some Reset) fine mp = absurd (both fine.reset)
 
 -- ---- one MP attribute
 
@@ -113,28 +114,28 @@ no_fault true state e = record { bits = refl; quiet = quiet_state state e }
 no_fault false state e = absurd cc
 
 -- the first MP attribute of a type
-fine_mp : (link : Link) (t : AttrType) (once : Bool) (first : Option Attribute) → is_multiprotocol t ≡ true
-    → IfSome first (λ a. (first_faults link a ≡ []) × (a.kind ≡ type_number t))
-    → IsFineMp (record { state = mp_state link.families (mp_contents t) first; other_bits = has_other_bits t first; is_repeated = once })
-fine_mp link t once None mp is = record { bits = refl; cut = λ e. absurd cc; unused = λ family e. absurd cc; broken = λ family e. absurd cc }
-fine_mp link t once (Some a) mp (fine, kind) =
+fine_mp : (link : Link) (form : RouteForm) (t : AttrType) (once : Bool) (first : Option Attribute) → is_multiprotocol t ≡ true
+    → IfSome first (λ a. (first_faults link form a ≡ []) × (a.kind ≡ type_number t))
+    → IsFineMp (record { state = mp_state link.families (mp_contents form t) first; other_bits = has_other_bits t first; is_repeated = once })
+fine_mp link form t once None mp is = record { bits = refl; cut = λ e. absurd cc; unused = λ family e. absurd cc; broken = λ family e. absurd cc }
+fine_mp link form t once (Some a) mp (fine, kind) =
     let known : type_of a.kind ≡ Some t = ap type_of kind ∙ type_back t in
     let class : class_by (side_of link) a (Some t) ≡ None = rw mp refl in
-    let faults : mp_faults link.families (Some t) a ≡ [] =
-    sym (ap (λ (k : Option AttrType). faults_with link k a (class_by (side_of link) a k)) known
-    ∙ ap (faults_with link (Some t) a) class) ∙ fine in
-    let none = no_fault (has_bits_of a.flags t) (state_in link.families t a) faults in
+    let faults : mp_faults link.families form (Some t) a ≡ [] =
+    sym (ap (λ (k : Option AttrType). faults_with link form k a (class_by (side_of link) a k)) known
+    ∙ ap (faults_with link form (Some t) a) class) ∙ fine in
+    let none = no_fault (has_bits_of a.flags t) (state_in link.families form t a) faults in
     record { bits = rw none.bits refl; cut = none.quiet.cut; unused = none.quiet.unused; broken = none.quiet.broken }
 
 -- and the other way
-mp_is_fine : (link : Link) (t : AttrType) (a : Attribute) (all : List Attribute) → first_of (type_number t) all ≡ Some a
-    → IsFineMp (mp_found link (mp_contents t) t all) → mp_faults link.families (Some t) a ≡ []
-mp_is_fine link t a all first fine =
-    let state : mp_state link.families (mp_contents t) (first_of (type_number t) all) ≡ state_in link.families t a =
-    ap (mp_state link.families (mp_contents t)) first in
+mp_is_fine : (link : Link) (form : RouteForm) (t : AttrType) (a : Attribute) (all : List Attribute) → first_of (type_number t) all ≡ Some a
+    → IsFineMp (mp_found link (mp_contents form t) t all) → mp_faults link.families form (Some t) a ≡ []
+mp_is_fine link form t a all first fine =
+    let state : mp_state link.families (mp_contents form t) (first_of (type_number t) all) ≡ state_in link.families form t a =
+    ap (mp_state link.families (mp_contents form t)) first in
     let bits : not (has_bits_of a.flags t) ≡ false = sym (ap (has_other_bits t) first) ∙ fine.bits in
     let has : has_bits_of a.flags t ≡ true = not_not (has_bits_of a.flags t) bits in
-    rw has (no_state_fault (state_in link.families t a) (λ is. fine.cut (state ∙ is)) (λ family is. fine.unused family (state ∙ is))
+    rw has (no_state_fault (state_in link.families form t a) (λ is. fine.cut (state ∙ is)) (λ family is. fine.unused family (state ∙ is))
     (λ family is. fine.broken family (state ∙ is)))
 
 found_holds : (P : AttrType → Bool) (ts : List AttrType) (t : AttrType) → find P ts ≡ Some t → P t ≡ true
@@ -178,23 +179,23 @@ mp_number t mp = elim (or_cases (type_number t == 14) _ mp) [
 
 -- ---- all attributes
 
-record AreFineMp (link : Link) (all : List Attribute) : Type 0 where
-  reach : IsFineMp (mp_found link reach_contents types.MpReachNlri all)
+record AreFineMp (link : Link) (form : RouteForm) (all : List Attribute) : Type 0 where
+  reach : IsFineMp (mp_found link (reach_contents form) types.MpReachNlri all)
   unreach : IsFineMp (mp_found link unreach_contents types.MpUnreachNlri all)
 
-fine_of : (link : Link) (t : AttrType) (all : List Attribute) → is_multiprotocol t ≡ true → AreFineMp link all
-    → IsFineMp (mp_found link (mp_contents t) t all)
-fine_of link t all mp fine = elim (mp_number t mp) [
-  | inl reach ↦ subst (λ (s : AttrType). IsFineMp (mp_found link (mp_contents s) s all)) (sym reach) fine.reach
-  | inr unreach ↦ subst (λ (s : AttrType). IsFineMp (mp_found link (mp_contents s) s all)) (sym unreach) fine.unreach
+fine_of : (link : Link) (form : RouteForm) (t : AttrType) (all : List Attribute) → is_multiprotocol t ≡ true → AreFineMp link form all
+    → IsFineMp (mp_found link (mp_contents form t) t all)
+fine_of link form t all mp fine = elim (mp_number t mp) [
+  | inl reach ↦ subst (λ (s : AttrType). IsFineMp (mp_found link (mp_contents form s) s all)) (sym reach) fine.reach
+  | inr unreach ↦ subst (λ (s : AttrType). IsFineMp (mp_found link (mp_contents form s) s all)) (sym unreach) fine.unreach
 ]
 
-no_mp_fault : (link : Link) (a : Attribute) (all : List Attribute) (known : Option AttrType) → type_of a.kind ≡ known
-    → first_of a.kind all ≡ Some a → AreFineMp link all → class_by (side_of link) a known ≡ None → mp_faults link.families known a ≡ []
-no_mp_fault link a all None is first fine class = refl
-no_mp_fault link a all (Some t) is first fine class =
+no_mp_fault : (link : Link) (form : RouteForm) (a : Attribute) (all : List Attribute) (known : Option AttrType) → type_of a.kind ≡ known
+    → first_of a.kind all ≡ Some a → AreFineMp link form all → class_by (side_of link) a known ≡ None → mp_faults link.families form known a ≡ []
+no_mp_fault link form a all None is first fine class = refl
+no_mp_fault link form a all (Some t) is first fine class =
     let mp = mp_alone (side_of link) a t class in
-    mp_is_fine link t a all (ap (λ (k : ℕ). first_of k all) (sym (of_type a.kind t is)) ∙ first) (fine_of link t all mp fine)
+    mp_is_fine link form t a all (ap (λ (k : ℕ). first_of k all) (sym (of_type a.kind t is)) ∙ first) (fine_of link form t all mp fine)
 
 or_false : (a b : Bool) → (a || b) ≡ false → (a ≡ false) × (b ≡ false)
 or_false true b h = absurd cc
@@ -203,18 +204,18 @@ or_false false b h = (refl, h)
 abbrev has : Side → AttrVerdict → List Attribute → Bool
 has side verdict attributes = list_any (λ a. is_class verdict (class_of side a)) attributes
 
-all_fine : (link : Link) (all xs : List Attribute) → AreFirst all xs → AreFineMp link all
+all_fine : (link : Link) (form : RouteForm) (all xs : List Attribute) → AreFirst all xs → AreFineMp link form all
     → has (side_of link) Reset xs ≡ false → has (side_of link) Withdraw xs ≡ false → has (side_of link) Discard xs ≡ false
-    → AreFine link xs
-all_fine link all [] first fine r w d = tt
-all_fine link all (a ∷ rest) first fine r w d =
+    → AreFine link form xs
+all_fine link form all [] first fine r w d = tt
+all_fine link form all (a ∷ rest) first fine r w d =
     let no_r = or_false _ (has (side_of link) Reset rest) r in
     let no_w = or_false _ (has (side_of link) Withdraw rest) w in
     let no_d = or_false _ (has (side_of link) Discard rest) d in (
-      no_faults link (type_of a.kind) a (class_of (side_of link) a)
+      no_faults link form (type_of a.kind) a (class_of (side_of link) a)
           (record { reset = no_r.0; withdraw = no_w.0; discard = no_d.0 })
-          (λ none. no_mp_fault link a all (type_of a.kind) refl first.0 fine none),
-      all_fine link all rest first.1 fine no_r.1 no_w.1 no_d.1,
+          (λ none. no_mp_fault link form a all (type_of a.kind) refl first.0 fine none),
+      all_fine link form all rest first.1 fine no_r.1 no_w.1 no_d.1,
     )
 
 -- ---- the other parts
@@ -248,9 +249,9 @@ present link read (Some a) some is = elim (cases_Bool (nat_lt (length a.value) 3
       | inr unused ↦ absurd (let not = rw unused at e in cc)
     ]
 
-absent : (link : Link) (first : Option Attribute) → is_some first ≡ false → mp_state link.families reach_contents first ≡ Absent
-absent link None none = refl
-absent link (Some a) none = absurd cc
+absent : (link : Link) (form : RouteForm) (first : Option Attribute) → is_some first ≡ false → mp_state link.families (reach_contents form) first ≡ Absent
+absent link form None none = refl
+absent link form (Some a) none = absurd cc
 
 -- the bits of an attribute that isn't there aren't in conflict
 no_bits : (link : Link) (t : AttrType) (read : Family → List ℕ → Option Contents) (first : Option Attribute)
@@ -309,30 +310,30 @@ base_after link s = missing_parts s.nlri (attributes_of s.attributes) ++ base_pa
 abbrev pub tail_after : Link → Sections → List Part
 tail_after link s = tail_parts (tail_at (rest_of s.attributes)) ++ base_after link s
 
-abbrev pub attributes_after : Link → Sections → List Part
-attributes_after link s = attribute_parts link [] (attributes_of s.attributes) ++ tail_after link s
+abbrev pub attributes_after : Link → RouteForm → Sections → List Part
+attributes_after link form s = attribute_parts link form [] (attributes_of s.attributes) ++ tail_after link s
 
-abbrev pub nlri_after : Link → Sections → List Part
-nlri_after link s = part_if (is_none (prefixes_of V4 s.nlri)) NlriMalformed ++ attributes_after link s
+abbrev pub nlri_after : Link → RouteForm → Sections → List Part
+nlri_after link form s = part_if (is_none (prefixes_of V4 s.nlri)) NlriMalformed ++ attributes_after link form s
 
-record HasNoPart (link : Link) (s : Sections) : Type 0 where
+record HasNoPart (link : Link) (form : RouteForm) (s : Sections) : Type 0 where
   withdrawn : part_if (is_none (prefixes_of V4 s.withdrawn)) WithdrawnMalformed ≡ []
   nlri : part_if (is_none (prefixes_of V4 s.nlri)) NlriMalformed ≡ []
-  attributes : attribute_parts link [] (attributes_of s.attributes) ≡ []
+  attributes : attribute_parts link form [] (attributes_of s.attributes) ≡ []
   tail : tail_parts (tail_at (rest_of s.attributes)) ≡ []
   missing : missing_parts s.nlri (attributes_of s.attributes) ≡ []
   base : base_parts link s ≡ []
 
-each_none : (link : Link) (s : Sections) → section_parts link s ≡ [] → HasNoPart link s
-each_none link s e =
-    let one = back_nil (part_if (is_none (prefixes_of V4 s.withdrawn)) WithdrawnMalformed) (nlri_after link s) e in
-    let two = back_nil (part_if (is_none (prefixes_of V4 s.nlri)) NlriMalformed) (attributes_after link s) one in
-    let three = back_nil (attribute_parts link [] (attributes_of s.attributes)) (tail_after link s) two in
+each_none : (link : Link) (form : RouteForm) (s : Sections) → section_parts link form s ≡ [] → HasNoPart link form s
+each_none link form s e =
+    let one = back_nil (part_if (is_none (prefixes_of V4 s.withdrawn)) WithdrawnMalformed) (nlri_after link form s) e in
+    let two = back_nil (part_if (is_none (prefixes_of V4 s.nlri)) NlriMalformed) (attributes_after link form s) one in
+    let three = back_nil (attribute_parts link form [] (attributes_of s.attributes)) (tail_after link s) two in
     let four = back_nil (tail_parts (tail_at (rest_of s.attributes))) (base_after link s) three in
     record {
-      withdrawn = front_nil (part_if (is_none (prefixes_of V4 s.withdrawn)) WithdrawnMalformed) (nlri_after link s) e;
-      nlri = front_nil (part_if (is_none (prefixes_of V4 s.nlri)) NlriMalformed) (attributes_after link s) one;
-      attributes = front_nil (attribute_parts link [] (attributes_of s.attributes)) (tail_after link s) two;
+      withdrawn = front_nil (part_if (is_none (prefixes_of V4 s.withdrawn)) WithdrawnMalformed) (nlri_after link form s) e;
+      nlri = front_nil (part_if (is_none (prefixes_of V4 s.nlri)) NlriMalformed) (attributes_after link form s) one;
+      attributes = front_nil (attribute_parts link form [] (attributes_of s.attributes)) (tail_after link s) two;
       tail = front_nil (tail_parts (tail_at (rest_of s.attributes))) (base_after link s) three;
       missing = front_nil (missing_parts s.nlri (attributes_of s.attributes)) (base_parts link s) four;
       base = back_nil (missing_parts s.nlri (attributes_of s.attributes)) (base_parts link s) four;
@@ -341,37 +342,37 @@ each_none link s e =
 both_nil : (xs ys : List Part) → xs ≡ [] → ys ≡ [] → xs ++ ys ≡ []
 both_nil xs ys e f = ap (λ (zs : List Part). zs ++ ys) e ∙ f
 
-all_none : (link : Link) (s : Sections) → HasNoPart link s → section_parts link s ≡ []
-all_none link s n =
-    both_nil (part_if (is_none (prefixes_of V4 s.withdrawn)) WithdrawnMalformed) (nlri_after link s) n.withdrawn
-    (both_nil (part_if (is_none (prefixes_of V4 s.nlri)) NlriMalformed) (attributes_after link s) n.nlri
-    (both_nil (attribute_parts link [] (attributes_of s.attributes)) (tail_after link s) n.attributes
+all_none : (link : Link) (form : RouteForm) (s : Sections) → HasNoPart link form s → section_parts link form s ≡ []
+all_none link form s n =
+    both_nil (part_if (is_none (prefixes_of V4 s.withdrawn)) WithdrawnMalformed) (nlri_after link form s) n.withdrawn
+    (both_nil (part_if (is_none (prefixes_of V4 s.nlri)) NlriMalformed) (attributes_after link form s) n.nlri
+    (both_nil (attribute_parts link form [] (attributes_of s.attributes)) (tail_after link s) n.attributes
     (both_nil (tail_parts (tail_at (rest_of s.attributes))) (base_after link s) n.tail
     (both_nil (missing_parts s.nlri (attributes_of s.attributes)) (base_parts link s) n.missing n.base))))
 
-pub announced : (link : Link) (s : Sections) → (¬ IsEmptyNlri (found link s)) ⊎ ((found link s).reach.state ≢ Absent)
+pub announced : (link : Link) (form : RouteForm) (s : Sections) → (¬ IsEmptyNlri (found_by_form link form s)) ⊎ ((found_by_form link form s).reach.state ≢ Absent)
     → (is_filled s.nlri ≡ true) ⊎ (is_some (first_by_type (attributes_of s.attributes) types.MpReachNlri) ≡ true)
-announced link s why = elim why [
+announced link form s why = elim why [
   | inl nlri ↦ elim (cases_Bool (is_filled s.nlri)) [
     | inl full ↦ inl full
     | inr bare ↦ absurd (nlri (not_filled V4 s.nlri bare))
   ]
   | inr reach ↦ elim (cases_Bool (is_some (first_by_type (attributes_of s.attributes) types.MpReachNlri))) [
     | inl full ↦ inr full
-    | inr bare ↦ absurd (reach (absent link (first_by_type (attributes_of s.attributes) types.MpReachNlri) bare))
+    | inr bare ↦ absurd (reach (absent link form (first_by_type (attributes_of s.attributes) types.MpReachNlri) bare))
   ]
 ]
 
-pub why_announced : (link : Link) (s : Sections)
+pub why_announced : (link : Link) (form : RouteForm) (s : Sections)
     → (is_filled s.nlri ≡ true) ⊎ (is_some (first_by_type (attributes_of s.attributes) types.MpReachNlri) ≡ true)
-    → (¬ IsEmptyNlri (found link s)) ⊎ ((found link s).reach.state ≢ Absent)
-why_announced link s announces = elim announces [
+    → (¬ IsEmptyNlri (found_by_form link form s)) ⊎ ((found_by_form link form s).reach.state ≢ Absent)
+why_announced link form s announces = elim announces [
   | inl nlri ↦ inl (filled V4 s.nlri nlri)
-  | inr reach ↦ inr (present link reach_contents (first_by_type (attributes_of s.attributes) types.MpReachNlri) reach)
+  | inr reach ↦ inr (present link (reach_contents form) (first_by_type (attributes_of s.attributes) types.MpReachNlri) reach)
 ]
 
-pub not_empty : (s : Sections) (link : Link) → (¬ IsEmptyNlri (found link s)) → is_filled s.nlri ≡ true
-not_empty s link nlri = elim (cases_Bool (is_filled s.nlri)) [
+pub not_empty : (s : Sections) (link : Link) (form : RouteForm) → (¬ IsEmptyNlri (found_by_form link form s)) → is_filled s.nlri ≡ true
+not_empty s link form nlri = elim (cases_Bool (is_filled s.nlri)) [
   | inl full ↦ full
   | inr bare ↦ absurd (nlri (not_filled V4 s.nlri bare))
 ]
@@ -413,35 +414,35 @@ not_missing s are =
     both_nil (lacks_origin s) (lacks_path s ++ lacks_hop s) (no_part _ (Missing types.Origin) are.origin)
     (both_nil (lacks_path s) (lacks_hop s) (no_part _ (Missing types.AsPath) are.path) (no_part _ (Missing types.NextHop) are.hop))
 
-no_class : (link : Link) (P : Attribute → Bool) (xs : List Attribute) → AreFine link xs → has_repeats xs ≡ false
+no_class : (link : Link) (form : RouteForm) (P : Attribute → Bool) (xs : List Attribute) → AreFine link form xs → has_repeats xs ≡ false
     → ((a : Attribute) → IsFineClass (class_of (side_of link) a) → P a ≡ false) → list_any P (firsts xs) ≡ false
-no_class link P xs fine unique never =
+no_class link form P xs fine unique never =
     ap (list_any P) (firsts_are_all xs unique)
-    ∙ none_of link P xs (λ a f. never a (fine_class link (type_of a.kind) a (class_of (side_of link) a) f)) fine
+    ∙ none_of link form P xs (λ a f. never a (fine_class link form (type_of a.kind) a (class_of (side_of link) a) f)) fine
 
 and_parts : (b x y : Bool) → b ≡ false → (b && x && y) ≡ false
 and_parts b x y e = rw e refl
 
-clean_if_no_parts : (link : Link) (s : Sections) → HasNoPart link s → IsCleanBy link (found link s)
-clean_if_no_parts link s n =
+clean_if_no_parts : (link : Link) (form : RouteForm) (s : Sections) → HasNoPart link form s → IsCleanBy link (found_by_form link form s)
+clean_if_no_parts link form s n =
     let attributes = attributes_of s.attributes in
-    let quiet = fine_if_quiet link attributes n.attributes in
+    let quiet = fine_if_quiet link form attributes n.attributes in
     let are = none_missing s n.missing in
-    let fine : IsFine link (found link s) = record {
+    let fine : IsFine link (found_by_form link form s) = record {
       withdrawn = not_not (is_some (prefixes_of V4 s.withdrawn)) (not_part _ WithdrawnMalformed n.withdrawn);
       nlri = not_not (is_some (prefixes_of V4 s.nlri)) (not_part _ NlriMalformed n.nlri);
-      reach = fine_mp link types.MpReachNlri _ (first_of 14 attributes) refl (first_is_fine link 14 attributes quiet.0);
-      unreach = fine_mp link types.MpUnreachNlri _ (first_of 15 attributes) refl (first_is_fine link 15 attributes quiet.0);
-      reset = no_class link (λ a. is_class Reset (class_of (side_of link) a)) attributes quiet.0 quiet.1 (λ a c. c.reset);
-      withdraw = no_class link (λ a. is_class Withdraw (class_of (side_of link) a)) attributes quiet.0 quiet.1 (λ a c. c.withdraw);
-      discard = no_class link (λ a. is_class Discard (class_of (side_of link) a)) attributes quiet.0 quiet.1 (λ a c. c.discard);
+      reach = fine_mp link form types.MpReachNlri _ (first_of 14 attributes) refl (first_is_fine link form 14 attributes quiet.0);
+      unreach = fine_mp link form types.MpUnreachNlri _ (first_of 15 attributes) refl (first_is_fine link form 15 attributes quiet.0);
+      reset = no_class link form (λ a. is_class Reset (class_of (side_of link) a)) attributes quiet.0 quiet.1 (λ a c. c.reset);
+      withdraw = no_class link form (λ a. is_class Withdraw (class_of (side_of link) a)) attributes quiet.0 quiet.1 (λ a c. c.withdraw);
+      discard = no_class link form (λ a. is_class Discard (class_of (side_of link) a)) attributes quiet.0 quiet.1 (λ a c. c.discard);
       no_repeats = quiet.1;
       tail = quiet_tail (tail_at (rest_of s.attributes)) n.tail;
       path = λ lacks. elim lacks.0 [
-        | inl origin ↦ lacking _ _ _ are.origin origin (announced link s lacks.1)
-        | inr path ↦ lacking _ _ _ are.path path (announced link s lacks.1)
+        | inl origin ↦ lacking _ _ _ are.origin origin (announced link form s lacks.1)
+        | inr path ↦ lacking _ _ _ are.path path (announced link form s lacks.1)
       ];
-      hop = λ lacks. hopless _ _ are.hop lacks.0 (not_empty s link lacks.1);
+      hop = λ lacks. hopless _ _ are.hop lacks.0 (not_empty s link form lacks.1);
       base = elim (in_use (contains link.families V4) (is_filled s.withdrawn) (is_some (prefixes_of V4 s.withdrawn)) (is_filled s.nlri) (is_some (prefixes_of V4 s.nlri))
           (not_not (is_some (prefixes_of V4 s.withdrawn)) (not_part _ WithdrawnMalformed n.withdrawn))
           (not_not (is_some (prefixes_of V4 s.nlri)) (not_part _ NlriMalformed n.nlri)) (not_part _ BaseNotInUse n.base)) [
@@ -449,23 +450,23 @@ clean_if_no_parts link s n =
             | inr none ↦ inr (not_filled V4 s.withdrawn none.0, not_filled V4 s.nlri none.1)
           ];
     } in
-    clean_if_fine link (found link s) fine (single 14 attributes quiet.1) (single 15 attributes quiet.1)
-    (no_class link (λ a. is_class Withdraw (class_of (side_of link) a) && not (a.kind == 6) && not (a.kind == 7)) attributes quiet.0 quiet.1
+    clean_if_fine link (found_by_form link form s) fine (single 14 attributes quiet.1) (single 15 attributes quiet.1)
+    (no_class link form (λ a. is_class Withdraw (class_of (side_of link) a) && not (a.kind == 6) && not (a.kind == 7)) attributes quiet.0 quiet.1
     (λ a c. and_parts _ _ _ c.withdraw))
 
-no_parts_if_clean : (link : Link) (s : Sections) → IsCleanBy link (found link s) → HasNoPart link s
-no_parts_if_clean link s clean =
+no_parts_if_clean : (link : Link) (form : RouteForm) (s : Sections) → IsCleanBy link (found_by_form link form s) → HasNoPart link form s
+no_parts_if_clean link form s clean =
     let attributes = attributes_of s.attributes in
-    let fine = fine_if_clean link (found link s) clean
-    (no_bits link types.MpReachNlri reach_contents (first_of 14 attributes))
+    let fine = fine_if_clean link (found_by_form link form s) clean
+    (no_bits link types.MpReachNlri (reach_contents form) (first_of 14 attributes))
     (no_bits link types.MpUnreachNlri unreach_contents (first_of 15 attributes)) in
     let firsts_all : firsts attributes ≡ attributes = firsts_are_all attributes fine.no_repeats in
     let side = side_of link in
     record {
       withdrawn = no_part _ WithdrawnMalformed (ap not fine.withdrawn);
       nlri = no_part _ NlriMalformed (ap not fine.nlri);
-      attributes = quiet_if_fine link attributes
-          (all_fine link attributes attributes (each_is_first attributes fine.no_repeats)
+      attributes = quiet_if_fine link form attributes
+          (all_fine link form attributes attributes (each_is_first attributes fine.no_repeats)
           (record { reach = fine.reach; unreach = fine.unreach })
           (sym (ap (has side Reset) firsts_all) ∙ fine.reset)
           (sym (ap (has side Withdraw) firsts_all) ∙ fine.withdraw)
@@ -473,8 +474,8 @@ no_parts_if_clean link s clean =
           fine.no_repeats;
       tail = ap tail_parts fine.tail;
       missing = not_missing s (record {
-        origin = not_lacking _ _ _ (λ none why. fine.path (inl none, why_announced link s why));
-        path = not_lacking _ _ _ (λ none why. fine.path (inr none, why_announced link s why));
+        origin = not_lacking _ _ _ (λ none why. fine.path (inl none, why_announced link form s why));
+        path = not_lacking _ _ _ (λ none why. fine.path (inr none, why_announced link form s why));
         hop = not_hopless _ _ (λ none nlri. fine.hop (none, filled V4 s.nlri nlri));
       });
       base = no_part _ BaseNotInUse (not_unused (contains link.families V4) (has_prefixes s.withdrawn) (has_prefixes s.nlri) (elim fine.base [
@@ -488,7 +489,7 @@ no_parts_if_clean link s clean =
 
 -- ---- the law
 
-clean_is : (link : Link) (octets : List ℕ) (told : List Part) → AreUpdateParts link octets told
+clean_is : (link : Link) (octets : List ℕ) (told : List Part) → AreUpdateParts link link.sent octets told
     → IsClean link octets ↔ ((length octets ≤ most_octets link) × (told ≡ []))
 clean_is link octets told (inl (malformed, one)) = (
   λ clean. absurd (malformed clean.1 clean.2),
@@ -497,10 +498,10 @@ clean_is link octets told (inl (malformed, one)) = (
 clean_is link octets told (inr (s, is, all)) = (
   λ clean. (
     clean.0,
-    all ∙ all_none link s (no_parts_if_clean link s
-        (subst (λ (t : Sections). IsCleanBy link (found link t)) (one_split octets clean.1 s clean.2 is) clean.3)),
+    all ∙ all_none link link.sent s (no_parts_if_clean link link.sent s
+        (subst (λ (t : Sections). IsCleanBy link (found_by_form link link.sent t)) (one_split octets clean.1 s clean.2 is) clean.3)),
   ),
-  λ none. (none.0, s, is, clean_if_no_parts link s (each_none link s (sym all ∙ none.1))),
+  λ none. (none.0, s, is, clean_if_no_parts link link.sent s (each_none link link.sent s (sym all ∙ none.1))),
 )
 
 -- a frame isn't longer than its limit allows
@@ -514,7 +515,7 @@ fits link octets s is frame =
       | inr short ↦ subst (λ (n : ℕ). n ≤ most_octets link) (sym frame.whole) short
     ]
 
-framed : (link : Link) (octets : List ℕ) (told : List Part) → AreUpdateParts link octets told
+framed : (link : Link) (octets : List ℕ) (told : List Part) → AreUpdateParts link link.sent octets told
     → IsFrame (limit_with link.extended) octets → (told ≡ []) ↔ IsClean link octets
 framed link octets told (inl (malformed, one)) frame = (
   λ none. absurd (let e = sym one ∙ none in cc),

@@ -7,6 +7,5 @@ pub mod QuietAttributes
 pub mod CleanUpdates
 pub mod Withdrawals
 pub mod ReadableOpen
-pub mod Tuples
 pub mod OneOwnOpen
 mod ConfederationPaths

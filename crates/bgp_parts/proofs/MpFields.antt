@@ -3,6 +3,7 @@ use Rattle.std.proofs.Common.{◌≡◌, ◌+◌, ◌≤◌, ℕ, Bool, true, fa
 use Rattle.std.specs.Prelude.{IfSome, IfNone}
 use Rattle.bgp_prefix.specs.declared.family.Family.{Family}
 use Rattle.bgp_prefix.specs.Prefix.{PrefixBits}
+use Rattle.bgp_open.specs.declared.route_form.RouteForm.{RouteForm}
 use Rattle.bgp_path.specs.declared.path.NextHop.{NextHop}
 use Rattle.bgp_update.specs.MpValue.{next_hop_in, with_hop, reach_contents}
 use Rattle.bgp_update.specs.Prefixes.{ArePrefixes, prefixes_of}
@@ -24,14 +25,14 @@ with_some_hop : (address : NextHop) (prefixes : Option (List PrefixBits)) → is
 with_some_hop address None = refl
 with_some_hop address (Some prefixes) = refl
 
-pub is_reached : (family : Family) (value rest hop after prefixes : List ℕ) (h : ℕ) (are : Bool)
+pub is_reached : (form : RouteForm) (family : Family) (value rest hop after prefixes : List ℕ) (h : ℕ) (are : Bool)
     → h ≡ slice_index value 3 → rest ≡ drop 4 value → hop ≡ take h rest → after ≡ drop h rest → prefixes ≡ drop 1 after
-    → 5 + h ≤ length value → is_some (next_hop_in family hop) ≡ true → are ≡ is_some (prefixes_of family prefixes)
-    → are ≡ is_some (reach_contents family value)
-is_reached family value rest hop after prefixes h are is r o a p enough valid e = go (next_hop_in family hop) refl valid
+    → 5 + h ≤ length value → is_some (next_hop_in form.ipv6_next_hops family hop) ≡ true → are ≡ is_some (prefixes_of family prefixes)
+    → are ≡ is_some (reach_contents form family value)
+is_reached form family value rest hop after prefixes h are is r o a p enough valid e = go (next_hop_in form.ipv6_next_hops family hop) refl valid
   where
-    go : (found : Option NextHop) → found ≡ next_hop_in family hop → is_some found ≡ true → are ≡ is_some (reach_contents family value)
+    go : (found : Option NextHop) → found ≡ next_hop_in form.ipv6_next_hops family hop → is_some found ≡ true → are ≡ is_some (reach_contents form family value)
     go None f none = absurd cc
     go (Some address) f some =
         e ∙ with_some_hop address (prefixes_of family prefixes)
-        ∙ ap is_some (sym (reached family value rest hop after prefixes h address is r o a p enough f))
+        ∙ ap is_some (sym (reached form family value rest hop after prefixes h address is r o a p enough f))

@@ -49,7 +49,7 @@ told_at_some_second possible code subcode detail told = elim told [
             (second, inr (inr (inr (inl (hold.0, hold.1, from))))))
         | inr more4 ↦ elim more4 [
           | inl fsm ↦ (0, inr (inr (inr (inr (inl fsm)))))
-          | inr cease ↦ (0, inr (inr (inr (inr (inr cease)))))
+          | inr more5 ↦ (0, inr (inr (inr (inr (inr more5)))))
         ]
       ]
     ]
@@ -211,7 +211,10 @@ header_code possible code is has = elim has [
         | inl hold ↦ omega (arith, is, hold.0)
         | inr more4 ↦ elim more4 [
           | inl fsm ↦ omega (arith, is, fsm.0)
-          | inr cease ↦ omega (arith, is, cease.0)
+          | inr more5 ↦ elim more5 [
+            | inl cease ↦ omega (arith, is, cease.0)
+            | inr send ↦ omega (arith, is, send.0)
+          ]
         ]
       ]
     ]
@@ -230,7 +233,10 @@ open_code possible code is has = elim has [
         | inl hold ↦ omega (arith, is, hold.0)
         | inr more4 ↦ elim more4 [
           | inl fsm ↦ omega (arith, is, fsm.0)
-          | inr cease ↦ omega (arith, is, cease.0)
+          | inr more5 ↦ elim more5 [
+            | inl cease ↦ omega (arith, is, cease.0)
+            | inr send ↦ omega (arith, is, send.0)
+          ]
         ]
       ]
     ])
@@ -249,7 +255,10 @@ update_code possible code is has = elim has [
         | inl hold ↦ omega (arith, is, hold.0)
         | inr more4 ↦ elim more4 [
           | inl fsm ↦ omega (arith, is, fsm.0)
-          | inr cease ↦ omega (arith, is, cease.0)
+          | inr more5 ↦ elim more5 [
+            | inl cease ↦ omega (arith, is, cease.0)
+            | inr send ↦ omega (arith, is, send.0)
+          ]
         ]
       ])
     ]
@@ -289,7 +298,10 @@ of_code possible code subcode detail told = elim told [
         | inl hold ↦ inr (inr (inr (inl (hold.0, hold.2))))
         | inr more4 ↦ elim more4 [
           | inl fsm ↦ inr (inr (inr (inr (inl (fsm.0, some_fsm_error possible.fsm_errors subcode fsm.1)))))
-          | inr cease ↦ inr (inr (inr (inr (inr cease))))
+          | inr more5 ↦ elim more5 [
+            | inl cease ↦ inr (inr (inr (inr (inr (inl cease)))))
+            | inr send ↦ inr (inr (inr (inr (inr (inr (send.0, send.2))))))
+          ]
         ]
       ]
     ]
@@ -317,7 +329,10 @@ like possible code has none = elim has [
         | inr more4 ↦ elim more4 [
           | inl fsm ↦ (let (subcode, has) = fsm_subcode possible.fsm_errors fsm.1 in
               told_unlike possible code subcode [] none (inr (inr (inr (inr (inl (fsm.0, has)))))))
-          | inr cease ↦ told_unlike possible code 0 [] none (inr (inr (inr (inr (inr cease)))))
+          | inr more5 ↦ elim more5 [
+            | inl cease ↦ told_unlike possible code 0 [] none (inr (inr (inr (inr (inr (inl cease))))))
+            | inr send ↦ told_unlike possible code 0 [] none (inr (inr (inr (inr (inr (inr (send.0, refl, send.1)))))))
+          ]
         ]
       ]
     ]
@@ -361,7 +376,10 @@ never_early possible second code subcode detail told (is_4, later) = elim told [
         | inl hold ↦ is_early possible.hold_timer_expired second later hold.2
         | inr more4 ↦ elim more4 [
           | inl fsm ↦ omega (arith, is_4, fsm.0)
-          | inr cease ↦ omega (arith, is_4, cease.0)
+          | inr more5 ↦ elim more5 [
+            | inl cease ↦ omega (arith, is_4, cease.0)
+            | inr send ↦ omega (arith, is_4, send.0)
+          ]
         ]
       ]
     ]

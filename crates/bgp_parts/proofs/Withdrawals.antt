@@ -120,17 +120,17 @@ first_ones (a ∷ rest) = ap (λ (xs : List Attribute). a ∷ xs) (one_before a 
 
 -- an attribute's parts ask for it
 abbrev asks : Link → Attribute → Bool
-asks link a = list_any (withdraws link) (map (Faulty a) (first_faults link a))
+asks link a = list_any (withdraws link) (map (Faulty a) (first_faults link link.received a))
 
 never_repeated : (link : Link) (a : Attribute) (b : Bool) → list_any (withdraws link) (part_if b (Faulty a faults.Repeated)) ≡ false
 never_repeated link a true = refl
 never_repeated link a false = refl
 
 told_fresh : (link : Link) (before xs : List Attribute)
-    → list_any (withdraws link) (attribute_parts link before xs) ≡ list_any (asks link) (fresh before xs)
+    → list_any (withdraws link) (attribute_parts link link.received before xs) ≡ list_any (asks link) (fresh before xs)
 told_fresh link before [] = refl
 told_fresh link before (a ∷ rest) =
-    list_any-append (withdraws link) (parts_after link before a) (attribute_parts link (a ∷ before) rest)
+    list_any-append (withdraws link) (parts_after link link.received before a) (attribute_parts link link.received (a ∷ before) rest)
     ∙ elim (cases_Bool (is_some (first_of a.kind before))) [
       | inl some ↦ rw (some, never_repeated link a (not (is_repeated a.kind before))) (told_fresh link (a ∷ before) rest)
       | inr none ↦ rw none (ap (λ (b : Bool). asks link a || b) (told_fresh link (a ∷ before) rest))
@@ -140,7 +140,7 @@ told_fresh link before (a ∷ rest) =
 
 -- its bits are in conflict, and nothing else is wrong but that its family isn't in use
 abbrev conflict : Link → AttrType → Attribute → Bool
-conflict link t a = not (has_bits_of a.flags t) && is_mild (state_fault (state_in link.families t a))
+conflict link t a = not (has_bits_of a.flags t) && is_mild (state_fault (state_in link.families link.received t a))
 
 abbrev mp_conflict : Link → Option AttrType → Attribute → Bool
 mp_conflict link None a = false
@@ -148,11 +148,11 @@ mp_conflict link (Some t) a = is_multiprotocol t && conflict link t a
 
 abbrev withdraws_by : Link → Attribute → Option AttrType → Option AttrVerdict → AttributeFault → Bool
 withdraws_by link a known class fault =
-    not (is_repeat fault) && (is_class Withdraw class || (is_flags fault && is_mild_mp link.families known a))
+    not (is_repeat fault) && (is_class Withdraw class || (is_flags fault && is_mild_mp link.families link.received known a))
 
 -- attributes that have a class aren't MP attributes
 no_mp : (link : Link) (a : Attribute) (known : Option AttrType) (v : AttrVerdict) → Some v ≡ class_by (side_of link) a known
-    → (mp_conflict link known a ≡ false) × (is_mild_mp link.families known a ≡ false)
+    → (mp_conflict link known a ≡ false) × (is_mild_mp link.families link.received known a ≡ false)
 no_mp link a None v is = (refl, refl)
 no_mp link a (Some t) v is = elim (cases_Bool (is_multiprotocol t)) [
   | inl mp ↦ absurd (let none = rw mp at is in cc)
@@ -195,7 +195,7 @@ mild_alone false false mild = refl
 
 flags_alone : (link : Link) (a : Attribute) (t : AttrType) (bits : Bool)
     → list_any (withdraws_by link a (Some t) None) (if bits then [] else faults.Flags ∷ [])
-    ≡ (if bits then false else (is_multiprotocol t && is_mild (state_fault (state_in link.families t a))) || false)
+    ≡ (if bits then false else (is_multiprotocol t && is_mild (state_fault (state_in link.families link.received t a))) || false)
 flags_alone link a t true = refl
 flags_alone link a t false = refl
 
@@ -205,13 +205,13 @@ no_flags false true = refl
 no_flags false false = refl
 
 by_class : (link : Link) (a : Attribute) (known : Option AttrType) (class : Option AttrVerdict) → class ≡ class_by (side_of link) a known
-    → list_any (withdraws_by link a known class) (faults_with link known a class) ≡ (is_class Withdraw class || mp_conflict link known a)
+    → list_any (withdraws_by link a known class) (faults_with link link.received known a class) ≡ (is_class Withdraw class || mp_conflict link known a)
 by_class link a None None is = refl
 by_class link a (Some t) None is =
-    list_any-append (withdraws_by link a (Some t) None) (if has_bits_of a.flags t then [] else faults.Flags ∷ []) (fault_if (state_fault (state_in link.families t a)))
-    ∙ ap (λ (b : Bool). list_any (withdraws_by link a (Some t) None) (if has_bits_of a.flags t then [] else faults.Flags ∷ []) || b) (quiet_state link a (Some t) (state_in link.families t a))
+    list_any-append (withdraws_by link a (Some t) None) (if has_bits_of a.flags t then [] else faults.Flags ∷ []) (fault_if (state_fault (state_in link.families link.received t a)))
+    ∙ ap (λ (b : Bool). list_any (withdraws_by link a (Some t) None) (if has_bits_of a.flags t then [] else faults.Flags ∷ []) || b) (quiet_state link a (Some t) (state_in link.families link.received t a))
     ∙ or_none _ ∙ flags_alone link a t (has_bits_of a.flags t)
-    ∙ mild_alone (has_bits_of a.flags t) (is_multiprotocol t) (is_mild (state_fault (state_in link.families t a)))
+    ∙ mild_alone (has_bits_of a.flags t) (is_multiprotocol t) (is_mild (state_fault (state_in link.families link.received t a)))
 by_class link a known (Some Good) is = sym (no_mp link a known Good is).0
 by_class link a known (Some Discard) is =
     let none = no_mp link a known Discard is in
@@ -260,7 +260,7 @@ by_type link a = elim (cases_Bool (a.kind == 14)) [
 one_asks : (link : Link) (a : Attribute)
     → asks link a ≡ (is_class Withdraw (class_of (side_of link) a) || (typed link types.MpReachNlri a || typed link types.MpUnreachNlri a))
 one_asks link a =
-    each_part link a (first_faults link a)
+    each_part link a (first_faults link link.received a)
     ∙ by_class link a (type_of a.kind) (class_of (side_of link) a) refl
     ∙ ap (λ (b : Bool). is_class Withdraw (class_of (side_of link) a) || b) (by_type link a)
 
@@ -316,7 +316,7 @@ first_typed P n (a ∷ rest) =
     ]
 
 of_attributes : (link : Link) (xs : List Attribute)
-    → list_any (withdraws link) (attribute_parts link [] xs)
+    → list_any (withdraws link) (attribute_parts link link.received [] xs)
     ≡ (list_any (λ a. is_class Withdraw (class_of (side_of link) a)) (firsts xs)
     || (at_first (conflict link types.MpReachNlri) (first_of 14 xs) || at_first (conflict link types.MpUnreachNlri) (first_of 15 xs)))
 of_attributes link xs =
@@ -351,10 +351,10 @@ mild_state (Sound family contents) there = (λ e. inr (family, contents, refl), 
 
 in_conflict : (link : Link) (t : AttrType) (once : Bool) (first : Option Attribute)
     → IsTrue (at_first (conflict link t) first)
-    ↔ HasBitsInConflict (record { state = mp_state link.families (mp_contents t) first; other_bits = has_other_bits t first; is_repeated = once })
+    ↔ HasBitsInConflict (record { state = mp_state link.families (mp_contents link.received t) first; other_bits = has_other_bits t first; is_repeated = once })
 in_conflict link t once None = (λ e. absurd cc, λ is. absurd (let e = is.0 in cc))
 in_conflict link t once (Some a) =
-    let state = mild_state (state_in link.families t a) (present link (mp_contents t) (Some a) refl) in (
+    let state = mild_state (state_in link.families link.received t a) (present link (mp_contents link.received t) (Some a) refl) in (
       λ e. let are = and_true (not (has_bits_of a.flags t)) _ e in (are.0, state.0 are.1),
       λ is. rw (is.0, state.1 is.1) refl,
     )
@@ -399,8 +399,8 @@ lacks_one link s t e =
     let are = and_true (not (there s t)) _ e in (
       is_not (there s t) are.0,
       elim (or_cases (is_filled s.nlri) _ are.1) [
-        | inl nlri ↦ why_announced link s (inl nlri)
-        | inr reach ↦ why_announced link s (inr (twice (there s types.MpReachNlri) reach))
+        | inl nlri ↦ why_announced link link.received s (inl nlri)
+        | inr reach ↦ why_announced link link.received s (inr (twice (there s types.MpReachNlri) reach))
       ],
     )
   where
@@ -410,7 +410,7 @@ lacks_one link s t e =
 
 one_lacks : (link : Link) (s : Sections) (t : AttrType) → ¬ IsTrue (there s t)
     → (¬ IsEmptyNlri (found link s)) ⊎ ((found link s).reach.state ≢ Absent) → lacks s t ≡ true
-one_lacks link s t none why = elim (announced link s why) [
+one_lacks link s t none why = elim (announced link link.received s why) [
   | inl nlri ↦ rw (not_true (there s t) none, nlri) refl
   | inr reach ↦ rw (not_true (there s t) none, reach) (filled (is_filled s.nlri))
 ]
@@ -427,7 +427,7 @@ right true b e = refl
 right false b e = e
 
 hop_lacks : (link : Link) (s : Sections) → ¬ IsTrue (there s types.NextHop) → ¬ IsEmptyNlri (found link s) → lacks_next_hop s ≡ true
-hop_lacks link s none nlri = rw (not_true (there s types.NextHop) none, not_empty s link nlri) refl
+hop_lacks link s none nlri = rw (not_true (there s types.NextHop) none, not_empty s link link.received nlri) refl
 
 of_missing : (link : Link) (s : Sections)
     → IsTrue (list_any (withdraws link) (missing_parts s.nlri (attributes_of s.attributes)))
@@ -458,18 +458,18 @@ no_if link true part never = rw never refl
 no_if link false part never = refl
 
 any_section : (link : Link) (s : Sections)
-    → list_any (withdraws link) (section_parts link s)
-    ≡ (list_any (withdraws link) (attribute_parts link [] (attributes_of s.attributes))
+    → list_any (withdraws link) (section_parts link link.received s)
+    ≡ (list_any (withdraws link) (attribute_parts link link.received [] (attributes_of s.attributes))
     || (list_any (withdraws link) (tail_parts (tail_at (rest_of s.attributes)))
     || list_any (withdraws link) (missing_parts s.nlri (attributes_of s.attributes))))
 any_section link s =
     let any = list_any (withdraws link) in
-    list_any-append (withdraws link) (part_if (is_none (prefixes_of V4 s.withdrawn)) WithdrawnMalformed) (nlri_after link s)
-    ∙ ap (λ (b : Bool). b || any (nlri_after link s)) (no_if link (is_none (prefixes_of V4 s.withdrawn)) WithdrawnMalformed refl)
-    ∙ list_any-append (withdraws link) (part_if (is_none (prefixes_of V4 s.nlri)) NlriMalformed) (attributes_after link s)
-    ∙ ap (λ (b : Bool). b || any (attributes_after link s)) (no_if link (is_none (prefixes_of V4 s.nlri)) NlriMalformed refl)
-    ∙ list_any-append (withdraws link) (attribute_parts link [] (attributes_of s.attributes)) (tail_after link s)
-    ∙ ap (λ (b : Bool). any (attribute_parts link [] (attributes_of s.attributes)) || b)
+    list_any-append (withdraws link) (part_if (is_none (prefixes_of V4 s.withdrawn)) WithdrawnMalformed) (nlri_after link link.received s)
+    ∙ ap (λ (b : Bool). b || any (nlri_after link link.received s)) (no_if link (is_none (prefixes_of V4 s.withdrawn)) WithdrawnMalformed refl)
+    ∙ list_any-append (withdraws link) (part_if (is_none (prefixes_of V4 s.nlri)) NlriMalformed) (attributes_after link link.received s)
+    ∙ ap (λ (b : Bool). b || any (attributes_after link link.received s)) (no_if link (is_none (prefixes_of V4 s.nlri)) NlriMalformed refl)
+    ∙ list_any-append (withdraws link) (attribute_parts link link.received [] (attributes_of s.attributes)) (tail_after link s)
+    ∙ ap (λ (b : Bool). any (attribute_parts link link.received [] (attributes_of s.attributes)) || b)
     (list_any-append (withdraws link) (tail_parts (tail_at (rest_of s.attributes))) (base_after link s)
     ∙ ap (λ (b : Bool). any (tail_parts (tail_at (rest_of s.attributes))) || b)
     (list_any-append (withdraws link) (missing_parts s.nlri (attributes_of s.attributes)) (base_parts link s)
@@ -477,14 +477,14 @@ any_section link s =
     (no_if link (not (contains link.families V4) && (has_prefixes s.withdrawn || has_prefixes s.nlri)) BaseNotInUse refl)
     ∙ or_none (any (missing_parts s.nlri (attributes_of s.attributes)))))
 
-of_section : (link : Link) (s : Sections) → IsTrue (list_any (withdraws link) (section_parts link s)) ↔ HasWithdrawFault (found link s)
+of_section : (link : Link) (s : Sections) → IsTrue (list_any (withdraws link) (section_parts link link.received s)) ↔ HasWithdrawFault (found link s)
 of_section link s =
     let xs = attributes_of s.attributes in
     let reach = in_conflict link types.MpReachNlri (is_repeated 14 xs) (first_of 14 xs) in
     let unreach = in_conflict link types.MpUnreachNlri (is_repeated 15 xs) (first_of 15 xs) in
     let tail = of_tail link (tail_at (rest_of s.attributes)) in
     let missing = of_missing link s in (
-      λ e. elim (or_cases (list_any (withdraws link) (attribute_parts link [] xs)) _ (sym (any_section link s) ∙ e)) [
+      λ e. elim (or_cases (list_any (withdraws link) (attribute_parts link link.received [] xs)) _ (sym (any_section link s) ∙ e)) [
         | inl attributes ↦ elim (or_cases _ _ (sym (of_attributes link xs) ∙ attributes)) [
           | inl class ↦ inl class
           | inr mp ↦ elim (or_cases _ _ mp) [
@@ -521,7 +521,7 @@ parts_tell_withdrawals link octets parts (inl malformed) = (
   λ is. absurd (malformed.0 is.0 is.1),
 )
 parts_tell_withdrawals link octets parts (inr told) =
-    let any : list_any (withdraws link) parts ≡ list_any (withdraws link) (section_parts link told.0) = ap (list_any (withdraws link)) told.2 in
+    let any : list_any (withdraws link) parts ≡ list_any (withdraws link) (section_parts link link.received told.0) = ap (list_any (withdraws link)) told.2 in
     let law = of_section link told.0 in (
       λ e. (told.0, told.1, law.0 (sym any ∙ e)),
       λ is. any ∙ law.1 (subst (λ (s : Sections). HasWithdrawFault (found link s)) (one_split octets is.0 told.0 is.1 told.1) is.2),

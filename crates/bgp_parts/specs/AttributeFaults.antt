@@ -6,6 +6,7 @@ use Rattle.std.specs.List.{list_any}
 use Rattle.bgp_prefix.specs.declared.family.Family.{Family}
 use Rattle.bgp_open.specs.declared.families.Families.{Families}
 use Rattle.bgp_open.specs.declared.link.Link.{Link}
+use Rattle.bgp_open.specs.declared.route_form.RouteForm.{RouteForm}
 use Rattle.bgp_attr.specs.declared.classes.AttrVerdict.{AttrVerdict}
 use Rattle.bgp_attr.specs.declared.classes.AttrVerdict.TheVariants as classes
 use Rattle.bgp_attr.specs.declared.types.AttrType.{AttrType}
@@ -45,13 +46,14 @@ class_fault link (Some t) flags verdict =
     else (if not link.internal && is_for_internal_peers t then faults.FromExternalPeer
     else value_fault verdict))
 
--- how the contents of MP_REACH_NLRI and of MP_UNREACH_NLRI are read
-abbrev pub mp_contents : AttrType → Family → List ℕ → Option Contents
-mp_contents t = if type_number t == 14 then reach_contents else unreach_contents
+-- how the contents of MP_REACH_NLRI and of MP_UNREACH_NLRI are read, where routes are spelled in
+-- this form
+abbrev pub mp_contents : RouteForm → AttrType → Family → List ℕ → Option Contents
+mp_contents form t = if type_number t == 14 then reach_contents form else unreach_contents
 
 -- the state of an MP attribute of this type
-abbrev pub state_in : Families → AttrType → Attribute → mp.Mp
-state_in used t a = mp.mp_state used (mp_contents t) (Some a)
+abbrev pub state_in : Families → RouteForm → AttrType → Attribute → mp.Mp
+state_in used form t a = mp.mp_state used (mp_contents form t) (Some a)
 
 -- the fault of an MP attribute in a state; a family that is neither IPv4 nor IPv6 unicast isn't
 -- judged
@@ -69,21 +71,22 @@ fault_if None = []
 fault_if (Some fault) = fault ∷ []
 
 -- the faults of an MP attribute: its flags, and then its state
-abbrev pub mp_faults : Families → Option AttrType → Attribute → List AttributeFault
-mp_faults used None a = []
-mp_faults used (Some t) a =
+abbrev pub mp_faults : Families → RouteForm → Option AttrType → Attribute → List AttributeFault
+mp_faults used form None a = []
+mp_faults used form (Some t) a =
     (if has_bits_of a.flags t then [] else faults.Flags ∷ [])
-    ++ fault_if (state_fault (state_in used t a))
+    ++ fault_if (state_fault (state_in used form t a))
 
 -- by the class, which MP attributes don't have
-abbrev pub faults_with : Link → Option AttrType → Attribute → Option AttrVerdict
+abbrev pub faults_with : Link → RouteForm → Option AttrType → Attribute → Option AttrVerdict
     → List AttributeFault
-faults_with link t a None = mp_faults link.families t a
-faults_with link t a (Some classes.Good) = []
-faults_with link t a (Some classes.Discard) = class_fault link t a.flags classes.Discard ∷ []
-faults_with link t a (Some classes.Withdraw) = class_fault link t a.flags classes.Withdraw ∷ []
-faults_with link t a (Some classes.Reset) = class_fault link t a.flags classes.Reset ∷ []
+faults_with link form t a None = mp_faults link.families form t a
+faults_with link form t a (Some classes.Good) = []
+faults_with link form t a (Some classes.Discard) = class_fault link t a.flags classes.Discard ∷ []
+faults_with link form t a (Some classes.Withdraw) =
+    class_fault link t a.flags classes.Withdraw ∷ []
+faults_with link form t a (Some classes.Reset) = class_fault link t a.flags classes.Reset ∷ []
 
--- what is wrong with an attribute, the first of its type
-abbrev pub first_faults : Link → Attribute → List AttributeFault
-first_faults link a = faults_with link (type_of a.kind) a (class_of (side_of link) a)
+-- what is wrong with an attribute, the first of its type, on the link and in this form
+abbrev pub first_faults : Link → RouteForm → Attribute → List AttributeFault
+first_faults link form a = faults_with link form (type_of a.kind) a (class_of (side_of link) a)

@@ -4,6 +4,6 @@ pub mod NotificationParts
 pub mod AttributeFaults
 pub mod UpdateParts
 pub mod Withdrawal
-pub mod Unjudged
+pub mod BothOffers
 pub mod Opens
 pub mod Confederations

@@ -1,4 +1,4 @@
--- Which NOTIFICATIONs are possible, case by case (RFC 4271, 4.5 and 6).
+-- Which NOTIFICATIONs are possible, case by case (RFC 4271, 4.5 and 6; RFC 9687, 4).
 use Rattle.std.specs.Prelude.{◌≡◌, ◌⊎◌, ℕ, List, IsTrue, IsSome}
 use Rattle.bgp_wire.specs.declared.header.HeaderFaults.{HeaderFaults}
 use Rattle.bgp_wire.specs.Verdict.{Names as NamesHeaderError, IsEmpty as HasNoHeaderError}
@@ -25,6 +25,7 @@ HasOpenSubcode errors subcode =
     ⊎ ((subcode ≡ 4) × IsTrue errors.parameter)
     ⊎ ((subcode ≡ 6) × IsTrue errors.hold)
     ⊎ ((subcode ≡ 7) × IsTrue errors.capability)
+    ⊎ ((subcode ≡ 11) × IsTrue errors.role)
 
 -- some subcode is in the set
 abbrev pub HasSomeFsmError : FsmErrors → Type 0
@@ -42,6 +43,7 @@ module _ (possible : Possible) where
       ⊎ ((code ≡ 4) × IsSome possible.hold_timer_expired)
       ⊎ ((code ≡ 5) × HasSomeFsmError possible.fsm_errors)
       ⊎ ((code ≡ 6) × IsTrue possible.cease)
+      ⊎ ((code ≡ 8) × IsTrue possible.send_hold_timer_expired)
 
   -- one of this code and this subcode is
   abbrev pub IsOfSubcode : ℕ → ℕ → Type 0
@@ -52,6 +54,7 @@ module _ (possible : Possible) where
       ⊎ ((code ≡ 4) × (subcode ≡ 0) × IsSome possible.hold_timer_expired)
       ⊎ ((code ≡ 5) × HasFsmError possible.fsm_errors subcode)
       ⊎ ((code ≡ 6) × IsTrue possible.cease)
+      ⊎ ((code ≡ 8) × (subcode ≡ 0) × IsTrue possible.send_hold_timer_expired)
 
   -- one of this code, this subcode and these data is
   abbrev pub IsOfData : ℕ → ℕ → List ℕ → Type 0
@@ -62,3 +65,4 @@ module _ (possible : Possible) where
       ⊎ ((code ≡ 4) × (subcode ≡ 0) × IsSome possible.hold_timer_expired)
       ⊎ ((code ≡ 5) × HasFsmError possible.fsm_errors subcode)
       ⊎ ((code ≡ 6) × IsTrue possible.cease)
+      ⊎ ((code ≡ 8) × (subcode ≡ 0) × IsTrue possible.send_hold_timer_expired)

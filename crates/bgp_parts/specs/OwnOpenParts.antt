@@ -1,12 +1,15 @@
 -- What an OPEN that was sent lacks of the local system's own, part by part (RFC 4271, 4.2; RFC
--- 4760, 8; RFC 6793, 4.1; RFC 8654, 4).
-use Rattle.std.specs.Prelude.{◌≡◌, ◌≢◌, ◌↔◌, if◌then◌else◌, ℕ, List, Option, None, Some, IsNone}
+-- 4760, 8; RFC 6793, 4.1; RFC 8654, 4; RFC 7911, 4; RFC 8950, 4).
+use Rattle.std.specs.Prelude.{◌≡◌, ◌≢◌, ◌↔◌, ◌⊎◌, if◌then◌else◌, ℕ, List, Option, None, Some}
+use Rattle.std.specs.Prelude.{IsNone}
 use Rattle.bgp_wire.specs.AsNumber.{two_octet_as}
 use Rattle.bgp_open.specs.declared.config.Config.{Config}
 use Rattle.bgp_open.specs.Offer.{families_of, as_number_of, offers_extended}
 use Rattle.bgp_open.specs.Open.{OpenFields, open_of}
 use Rattle.bgp_open.specs.OpenFault.{IsWellFormed, IsAnswered}
 use Rattle.bgp_open.specs.OwnOpen.{IsOwnOpen}
+use Rattle.bgp_open.specs.RouteOffer.{nothing, route_offer_in}
+use Rattle.bgp_open.specs.declared.route_offer.RouteOffer.{RouteOffer}
 use Rattle.bgp_parts.specs.declared.own_open.Differing.{Differing}
 use Rattle.bgp_parts.specs.declared.own_open.OpenDifferences.{OpenDifferences}
 use Rattle.bgp_parts.specs.declared.own_open.OwnOpenParts as declared
@@ -17,6 +20,12 @@ abbrev pub IsPart : {X : Type 0} → X → X → Option (Differing X) → Type 0
 IsPart sent configured None = sent ≡ configured
 IsPart sent configured (Some part) =
     (sent ≢ configured) × (part.sent ≡ sent) × (part.configured ≡ configured)
+
+-- the part on what is offered about routes: there is none either where nothing is configured
+abbrev pub IsOffersPart : RouteOffer → RouteOffer → Option (Differing RouteOffer) → Type 0
+IsOffersPart sent configured None = (configured ≡ nothing) ⊎ (sent ≡ configured)
+IsOffersPart sent configured (Some part) =
+    (configured ≢ nothing) × IsPart sent configured (Some part)
 
 -- each field of an OPEN that may differ
 pub record AreDifferences (config : Config) (message : OpenFields) (told : OpenDifferences)
@@ -29,6 +38,7 @@ pub record AreDifferences (config : Config) (message : OpenFields) (told : OpenD
       (if config.parts.as4 then Some config.parts.local_as else None) told.as_number
   pub extended : IsPart (offers_extended message.capabilities) config.parts.session.extended
       told.extended
+  pub offers : IsOffersPart (route_offer_in message) config.parts.offers told.offers
 
 -- the fault that is answered, or what differs of an OPEN without one
 abbrev pub AreOwnOpenParts : Config → List ℕ → declared.OwnOpenParts → Type 0
@@ -44,6 +54,7 @@ pub record HasNoDifference (told : OpenDifferences) : Type 0 where
   pub families : IsNone told.families
   pub as_number : IsNone told.as_number
   pub extended : IsNone told.extended
+  pub offers : IsNone told.offers
 
 -- there is no part
 abbrev pub LacksNothing : declared.OwnOpenParts → Type 0

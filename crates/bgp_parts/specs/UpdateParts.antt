@@ -1,4 +1,5 @@
--- The parts of an UPDATE: all that keeps it from being clean (RFC 4271, 4.3 and 5; RFC 7606, 3).
+-- The parts of an UPDATE on a link, in one form in which its routes may be spelled: all that keeps
+-- it from being clean (RFC 4271, 4.3 and 5; RFC 7606, 3; RFC 8950, 4).
 use Rattle.std.specs.Prelude.{◌≡◌, ◌≤◌, ◌↔◌, ◌==◌, ◌&&◌, ◌||◌, ◌++◌, ◌⊎◌, ◌∷◌, Bool, not, ℕ}
 use Rattle.std.specs.Prelude.{if◌then◌else◌, List, []}
 use Rattle.std.specs.Prelude.{Option, None, Some, is_some, is_none, length, map}
@@ -6,6 +7,7 @@ use Rattle.bgp_prefix.specs.declared.family.Family.TheVariants.{V4}
 use Rattle.bgp_wire.specs.Framing.{IsFrame}
 use Rattle.bgp_wire.specs.Header.{limit_with}
 use Rattle.bgp_open.specs.declared.link.Link.{Link}
+use Rattle.bgp_open.specs.declared.route_form.RouteForm.{RouteForm}
 use Rattle.bgp_open.specs.Families.{contains}
 use Rattle.bgp_attr.specs.declared.field.Tail.{Tail}
 use Rattle.bgp_attr.specs.declared.field.Tail.TheVariants as tails
@@ -58,17 +60,17 @@ part_if holds part = if holds then part ∷ [] else []
 -- The parts of an attribute after these, the last of which stands first: the faults of the first
 -- of its type; of the second that it is repeated; and none of a further one, since what repeats a
 -- type is discarded unread (RFC 7606, 3 g)
-abbrev pub parts_after : Link → List Attribute → Attribute → List Part
-parts_after link before a =
+abbrev pub parts_after : Link → RouteForm → List Attribute → Attribute → List Part
+parts_after link form before a =
     if is_some (first_of a.kind before)
     then part_if (not (is_repeated a.kind before)) (Faulty a Repeated)
-    else map (Faulty a) (first_faults link a)
+    else map (Faulty a) (first_faults link form a)
 
 -- those of all attributes, in wire order
-abbrev pub attribute_parts : Link → List Attribute → List Attribute → List Part
-attribute_parts link before [] = []
-attribute_parts link before (a ∷ rest) =
-    parts_after link before a ++ attribute_parts link (a ∷ before) rest
+abbrev pub attribute_parts : Link → RouteForm → List Attribute → List Attribute → List Part
+attribute_parts link form before [] = []
+attribute_parts link form before (a ∷ rest) =
+    parts_after link form before a ++ attribute_parts link form (a ∷ before) rest
 
 -- what follows the last attribute
 abbrev pub tail_parts : Option Tail → List Part
@@ -104,25 +106,28 @@ base_parts link s =
     BaseNotInUse
 
 -- all parts of an UPDATE with these fields, in the order in which they are told
-abbrev pub section_parts : Link → Sections → List Part
-section_parts link s =
+abbrev pub section_parts : Link → RouteForm → Sections → List Part
+section_parts link form s =
     part_if (is_none (prefixes_of V4 s.withdrawn)) WithdrawnMalformed
     ++ (part_if (is_none (prefixes_of V4 s.nlri)) NlriMalformed
-    ++ (attribute_parts link [] (attributes_of s.attributes)
+    ++ (attribute_parts link form [] (attributes_of s.attributes)
     ++ (tail_parts (tail_at (rest_of s.attributes))
     ++ (missing_parts s.nlri (attributes_of s.attributes)
     ++ base_parts link s))))
 
 -- the parts of octets; where the lengths run over, or they are no UPDATE at all, nothing else
-abbrev pub AreUpdateParts : Link → List ℕ → List Part → Type 0
-AreUpdateParts link octets told =
+abbrev pub AreUpdateParts : Link → RouteForm → List ℕ → List Part → Type 0
+AreUpdateParts link form octets told =
     (IsMalformed octets × (told ≡ LengthsRunOver ∷ []))
-    ⊎ ((s : Sections) × IsUpdate octets s × (told ≡ section_parts link s))
+    ⊎ ((s : Sections) × IsUpdate octets s × (told ≡ section_parts link form s))
 
--- An UPDATE is clean exactly where it has no part, and no more octets than the link allows. So of a
--- message that is whole on the link, there is no part exactly where it is clean.
+-- An UPDATE is clean exactly where it has no part in the form in which routes are sent on the link,
+-- and no more octets than the link allows. So of a message that is whole on the link, there is no
+-- part exactly where it is clean.
 pub record CleanLacksNothing : Type 0 where
-  pub clean : (link : Link) (octets : List ℕ) (told : List Part) → AreUpdateParts link octets told
+  pub clean : (link : Link) (octets : List ℕ) (told : List Part)
+      → AreUpdateParts link link.sent octets told
       → IsClean link octets ↔ ((length octets ≤ most_octets link) × (told ≡ []))
-  pub frame : (link : Link) (octets : List ℕ) (told : List Part) → AreUpdateParts link octets told
+  pub frame : (link : Link) (octets : List ℕ) (told : List Part)
+      → AreUpdateParts link link.sent octets told
       → IsFrame (limit_with link.extended) octets → (told ≡ []) ↔ IsClean link octets

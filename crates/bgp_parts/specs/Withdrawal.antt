@@ -1,10 +1,12 @@
 -- Where the routes that an UPDATE announces are withdrawn in its place, "treat-as-withdraw" (RFC
--- 7606, 2): which of its parts ask for that.
+-- 7606, 2): which of its parts ask for that. Such an UPDATE is received, so its parts are those in
+-- the link's received form.
 use Rattle.std.specs.Prelude.{◌==◌, ◌&&◌, ◌||◌, ◌↔◌, Bool, true, false, not, ℕ, List, Option, None}
 use Rattle.std.specs.Prelude.{Some, IsTrue}
 use Rattle.std.specs.List.{list_any}
 use Rattle.bgp_open.specs.declared.families.Families.{Families}
 use Rattle.bgp_open.specs.declared.link.Link.{Link}
+use Rattle.bgp_open.specs.declared.route_form.RouteForm.{RouteForm}
 use Rattle.bgp_attr.specs.declared.classes.AttrVerdict.TheVariants.{Withdraw}
 use Rattle.bgp_attr.specs.declared.types.AttrType.{AttrType}
 use Rattle.bgp_attr.specs.Class.{class_of}
@@ -33,9 +35,10 @@ is_mild None = true
 is_mild (Some (faults.NotInUse family)) = true
 is_mild (Some fault) = false
 
-abbrev pub is_mild_mp : Families → Option AttrType → Attribute → Bool
-is_mild_mp used None a = false
-is_mild_mp used (Some t) a = is_multiprotocol t && is_mild (state_fault (state_in used t a))
+abbrev pub is_mild_mp : Families → RouteForm → Option AttrType → Attribute → Bool
+is_mild_mp used form None a = false
+is_mild_mp used form (Some t) a =
+    is_multiprotocol t && is_mild (state_fault (state_in used form t a))
 
 -- a fault of an attribute, the first of its type, asks for it: by the attribute's class, or it is
 -- the bits alone of an MP attribute
@@ -43,7 +46,7 @@ abbrev pub fault_withdraws : Link → Attribute → AttributeFault → Bool
 fault_withdraws link a fault =
     not (is_repeat fault)
     && (is_class Withdraw (class_of (side_of link) a)
-    || (is_flags fault && is_mild_mp link.families (type_of a.kind) a))
+    || (is_flags fault && is_mild_mp link.families link.received (type_of a.kind) a))
 
 -- a part asks for it
 abbrev pub withdraws : Link → told.Part → Bool
@@ -64,5 +67,6 @@ IsWithdrawal link octets =
 -- one of its parts asks for it exactly where it has one
 abbrev pub PartsTellWithdrawals : Type 0
 PartsTellWithdrawals =
-    (link : Link) (octets : List ℕ) (parts : List told.Part) → AreUpdateParts link octets parts
+    (link : Link) (octets : List ℕ) (parts : List told.Part)
+    → AreUpdateParts link link.received octets parts
     → IsTrue (list_any (withdraws link) parts) ↔ IsWithdrawal link octets

@@ -8,7 +8,7 @@ ghost use Rattle.bgp_parts.specs.AttributeFaults.{value_fault};
 
 use crate::multiprotocol::{family_in, has_contents};
 use bgp_attr::{Attr, AttrType, AttrVerdict};
-use bgp_open::{Families, Link};
+use bgp_open::{Families, Link, RouteForm};
 use bgp_prefix::Family;
 
 /// What is wrong with a path attribute.
@@ -88,13 +88,15 @@ pub(crate) fn class_fault(
     value_fault(verdict)
 }
 
-/// The fault of an MP attribute of this type, its flags aside, where those families are in use.
+/// The fault of an MP attribute of this type, its flags aside, where those families are in use and
+/// routes are spelled in this form.
 pub(crate) fn state_fault(
     used: Families,
+    form: RouteForm,
     attr_type: AttrType,
     attr: &Attr<'_>,
 ) -> Option<AttributeFault>
-    ensures { result ≡ state_fault (state_in used attr_type (attribute_of attr.now)) }
+    ensures { result ≡ state_fault (state_in used form attr_type (attribute_of attr.now)) }
 {
     if attr.value.len() < 3 {
         return Some(AttributeFault::BelowThreeOctets);
@@ -105,7 +107,7 @@ pub(crate) fn state_fault(
     if !used.contains(family) {
         return Some(AttributeFault::NotInUse(family));
     }
-    if has_contents(attr_type, family, attr.value) {
+    if has_contents(form, attr_type, family, attr.value) {
         return None;
     }
     Some(AttributeFault::Contents(family))

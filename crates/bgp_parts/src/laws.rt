@@ -16,14 +16,14 @@ pub fn possible_lacks_nothing()
     ensures { PossibleLacksNothing }
 {}
 
-/// An UPDATE is clean exactly where it has no part, and no more octets than the link allows; so
-/// where it is whole on the link, it has no part exactly where it is clean.
+/// An UPDATE is clean exactly where it has no part in the link's sent form, and no more octets than
+/// the link allows; so where it is whole on the link, it has no part exactly where it is clean.
 pub fn clean_lacks_nothing()
     ensures { CleanLacksNothing }
 {}
 
-/// One of the parts of an UPDATE asks for it exactly where the UPDATE has a fault for which its
-/// routes are withdrawn where it is applied (RFC 7606, 2).
+/// One of the parts of an UPDATE, in the link's received form, asks for it exactly where the UPDATE
+/// has a fault for which its routes are withdrawn where it is applied (RFC 7606, 2).
 pub fn parts_tell_withdrawals()
     ensures { PartsTellWithdrawals }
 {}

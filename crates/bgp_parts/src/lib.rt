@@ -1,6 +1,6 @@
 //! What a message that was sent lacks of the messages that could have been sent, part by part, as
-//! data without text; and what of a session isn't judged: what its OPENs offer, and UPDATEs of a
-//! confederation (RFC 5065).
+//! data without text; what both OPENs of a session offer about routes; and whether its records show
+//! an UPDATE of a confederation (RFC 5065), which isn't judged.
 //!
 //! ```text
 //! match own_open_parts(&config, octets) {
@@ -13,30 +13,25 @@
 //! ```
 #![tactic(auto)]
 
-mod add_path;
 mod attribute;
-mod capabilities;
+mod both_offers;
 mod confederations;
-mod fields;
 mod laws;
 mod multiprotocol;
-mod next_hops;
 mod notification;
 mod offer;
 mod own_open;
-mod unjudged;
 mod update;
 mod withdrawal;
 
 pub use attribute::AttributeFault;
-pub use capabilities::Capabilities;
+pub use both_offers::{both_have_next_hops, identified_families};
 pub use confederations::{has_confederation, shows_confederation, some_show_confederations};
-pub use fields::{FIXED_LEN, Fields, read_fields};
 pub use laws::{
     clean_lacks_nothing, own_open_lacks_nothing, parts_tell_withdrawals, possible_lacks_nothing,
 };
 pub use notification::{NotificationPart, NotificationParts, notification_parts};
+pub use offer::offered_as_number;
 pub use own_open::{Differing, OpenDifferences, OwnOpenParts, own_open_parts};
-pub use unjudged::{Unjudged, UnjudgedOffer};
 pub use update::{UpdatePart, update_parts};
 pub use withdrawal::is_withdrawal;

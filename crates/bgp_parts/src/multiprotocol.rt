@@ -1,4 +1,5 @@
-//! Whether the values of MP_REACH_NLRI and MP_UNREACH_NLRI are right (RFC 4760, 3 and 4).
+//! Whether the values of MP_REACH_NLRI and MP_UNREACH_NLRI are right (RFC 4760, 3 and 4; RFC 8950,
+//! 4).
 //!
 //! ```text
 //! MP_REACH_NLRI    AFI 2 | SAFI 1 | next-hop length 1 | next hop | reserved 1 | NLRI
@@ -6,12 +7,13 @@
 //! ```
 
 ghost use Rattle.std.specs.Prelude.{◌≡◌, ◌≤◌, is_some, length};
-ghost use Rattle.bgp_update.specs.MpValue.{family_in, next_hop_in};
+ghost use Rattle.bgp_update.specs.MpValue.{family_in, ipv6_hop_in, next_hop_in};
 ghost use Rattle.bgp_update.specs.MpValue.{reach_contents, unreach_contents};
 ghost use Rattle.bgp_update.specs.Prefixes.{prefixes_of};
 ghost use Rattle.bgp_parts.specs.AttributeFaults.{mp_contents};
 
 use bgp_attr::AttrType;
+use bgp_open::RouteForm;
 use bgp_prefix::Family;
 use bgp_update::Prefixes;
 use byteorder::{BigEndian, ByteOrder};
@@ -37,21 +39,27 @@ pub(crate) fn family_in(value: &[u8]) -> Option<Family>
     }
 }
 
-/// Whether the value of an MP attribute of this type and family is right.
-pub(crate) fn has_contents(attr_type: AttrType, family: Family, value: &[u8]) -> bool
+/// Whether the value of an MP attribute of this type and family is right, where routes are spelled
+/// in this form.
+pub(crate) fn has_contents(
+    form: RouteForm,
+    attr_type: AttrType,
+    family: Family,
+    value: &[u8],
+) -> bool
     requires { 3 ≤ length value.now }
-    ensures { result ≡ is_some (mp_contents attr_type family value.now) }
+    ensures { result ≡ is_some (mp_contents form attr_type family value.now) }
 {
     if attr_type.row().number == MP_REACH_NLRI {
-        is_reach(family, value)
+        is_reach(form, family, value)
     } else {
         is_unreach(family, value)
     }
 }
 
 /// Whether it is right for MP_REACH_NLRI.
-fn is_reach(family: Family, value: &[u8]) -> bool
-    ensures { result ≡ is_some (reach_contents family value.now) }
+fn is_reach(form: RouteForm, family: Family, value: &[u8]) -> bool
+    ensures { result ≡ is_some (reach_contents form family value.now) }
 {
     if value.len() < 5 {
         return false;
@@ -62,7 +70,7 @@ fn is_reach(family: Family, value: &[u8]) -> bool
         return false;
     }
     let (hop, rest) = rest.split_at(hop_len);
-    if !is_next_hop(family, hop) {
+    if !is_next_hop(form.ipv6_next_hops, family, hop) {
         return false;
     }
     are_prefixes(family, rest.split_at(1).1)
@@ -76,13 +84,21 @@ fn is_unreach(family: Family, value: &[u8]) -> bool
     are_prefixes(family, value.split_at(3).1)
 }
 
-/// Whether a next hop has so many octets (RFC 4760, 3; RFC 2545, 3).
-fn is_next_hop(family: Family, octets: &[u8]) -> bool
-    ensures { result ≡ is_some (next_hop_in family octets.now) }
+/// Whether an IPv6 next hop has so many octets (RFC 2545, 3).
+fn is_ipv6_hop(octets: &[u8]) -> bool
+    ensures { result ≡ is_some (ipv6_hop_in octets.now) }
+{
+    octets.len() == 16 || octets.len() == 32
+}
+
+/// Whether a next hop has so many octets (RFC 4760, 3; RFC 2545, 3), where IPv4 routes may have IPv6
+/// ones or not (RFC 8950, 4).
+fn is_next_hop(ipv6_next_hops: bool, family: Family, octets: &[u8]) -> bool
+    ensures { result ≡ is_some (next_hop_in ipv6_next_hops family octets.now) }
 {
     match family {
-        Family::V4 => octets.len() == 4,
-        Family::V6 => octets.len() == 16 || octets.len() == 32,
+        Family::V4 => octets.len() == 4 || (ipv6_next_hops && is_ipv6_hop(octets)),
+        Family::V6 => is_ipv6_hop(octets),
     }
 }
 

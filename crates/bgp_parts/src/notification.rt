@@ -86,6 +86,7 @@ fn has_open_subcode(errors: &OpenSubcodes, subcode: u8) -> bool
         4 => errors.parameter,
         6 => errors.hold,
         7 => errors.capability,
+        11 => errors.role,
         _ => false,
     }
 }
@@ -101,6 +102,7 @@ fn is_of_code(possible: &Possible, code: u8) -> bool
         4 => possible.hold_timer_expired.is_some(),
         5 => has_some_fsm_error(possible.fsm_errors),
         6 => possible.cease,
+        8 => possible.send_hold_timer_expired,
         _ => false,
     }
 }
@@ -116,6 +118,7 @@ fn is_of_subcode(possible: &Possible, code: u8, subcode: u8) -> bool
         4 => subcode == 0 && possible.hold_timer_expired.is_some(),
         5 => has_fsm_error(possible.fsm_errors, subcode),
         6 => possible.cease,
+        8 => subcode == 0 && possible.send_hold_timer_expired,
         _ => false,
     }
 }

@@ -46,8 +46,8 @@ fn is_as4(capability: Capability<'_>) -> bool
     capability.code == FOUR_OCTET_AS && capability.value.len() == 4
 }
 
-/// The four-octet AS number in the first capability that has one (RFC 6793, 3).
-pub(crate) fn offered_as_number(message: &Open<'_>) -> Option<u32>
+/// The four-octet AS number in the first capability of an OPEN that has one (RFC 6793, 3).
+pub fn offered_as_number(message: &Open<'_>) -> Option<u32>
     ensures { result ≡ as_number_of message.now.capabilities }
 {
     for capability in message.caps() {

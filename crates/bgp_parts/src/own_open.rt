@@ -1,12 +1,14 @@
 //! What an OPEN that was sent lacks of the local system's own (RFC 4271, 4.2; RFC 4760, 8;
-//! RFC 6793, 4.1; RFC 8654, 4).
+//! RFC 6793, 4.1; RFC 8654, 4; RFC 7911, 4; RFC 8950, 4).
 
 ghost use Rattle.std.specs.Prelude.{◌≡◌, ◌↔◌, if◌then◌else◌, Some, None, true, false};
 ghost use Rattle.std.specs.Prelude.{IsTrue, IfSome, IfNone};
-ghost use Rattle.bgp_parts.specs.OwnOpenParts.{AreDifferences, AreOwnOpenParts, LacksNothing};
+ghost use Rattle.bgp_open.specs.RouteOffer.{route_offer_in};
+ghost use Rattle.bgp_parts.specs.OwnOpenParts.{AreDifferences, AreOwnOpenParts, IsOffersPart};
+ghost use Rattle.bgp_parts.specs.OwnOpenParts.{LacksNothing};
 
 use crate::offer::{offered_as_number, offered_families, offers_extended};
-use bgp_open::{Config, Families, Open, OpenFault, read_open};
+use bgp_open::{Config, Families, Open, OpenFault, RouteOffer, read_open};
 use bgp_wire::two_octet_as;
 
 /// What was sent in place of what is configured.
@@ -37,6 +39,8 @@ pub struct OpenDifferences {
     /// where it offers them just as configured, so without this part an OPEN could have none and
     /// not be the own.
     pub extended: Option<Differing<bool>>,
+    /// What is offered about routes (RFC 7911, 4; RFC 8950, 4), unless nothing is configured.
+    pub offers: Option<Differing<RouteOffer>>,
 }
 
 /// What an OPEN that was sent lacks of the local system's own.
@@ -68,6 +72,17 @@ fn own_as_number(config: &Config) -> Option<u32>
     config.parts.as4.then_some(config.parts.local_as)
 }
 
+/// What is offered about routes, where something is configured and it isn't that.
+fn offers_part(config: &Config, message: &Open<'_>) -> Option<Differing<RouteOffer>>
+    ensures { IsOffersPart (route_offer_in message.now) config.now.parts.offers result }
+{
+    let configured = config.parts.offers;
+    if configured.is_nothing() {
+        return None;
+    }
+    unless_equal(RouteOffer::in_open(message), configured)
+}
+
 /// What of an OPEN differs from what is configured.
 fn differences(config: &Config, message: &Open<'_>) -> OpenDifferences
     ensures { AreDifferences config.now message.now result }
@@ -80,12 +95,14 @@ fn differences(config: &Config, message: &Open<'_>) -> OpenDifferences
         families: unless_equal(offered_families(config, message), parts.families),
         as_number: unless_equal(offered_as_number(message), own_as_number(config)),
         extended: unless_equal(offers_extended(config, message), parts.session.extended),
+        offers: offers_part(config, message),
     }
 }
 
 /// What an OPEN lacks of the local system's own: the fault of its form, or each of its AS number,
-/// Hold Time, BGP Identifier, families, four-octet AS number and offer of extended messages that
-/// isn't as configured. Its other capabilities are free.
+/// Hold Time, BGP Identifier, families, four-octet AS number, offer of extended messages and offer
+/// about routes that isn't as configured. Its other capabilities are free, and where no offer about
+/// routes is configured, those too.
 pub fn own_open_parts(config: &Config, octets: &[u8]) -> OwnOpenParts
     ensures { AreOwnOpenParts config.now octets.now result }
 {
@@ -109,6 +126,7 @@ impl OwnOpenParts {
                     && told.families.is_none()
                     && told.as_number.is_none()
                     && told.extended.is_none()
+                    && told.offers.is_none()
             }
         }
     }

@@ -13,7 +13,7 @@ ghost use Rattle.bgp_parts.specs.UpdateParts.{section_parts, shown_part, tail_pa
 use crate::attribute::{AttributeFault, class_fault, state_fault};
 use crate::multiprotocol::are_prefixes;
 use bgp_attr::{Attr, AttrType, AttrVerdict, Attrs, Tail, class, first_of};
-use bgp_open::Link;
+use bgp_open::{Link, RouteForm};
 use bgp_prefix::Family;
 use bgp_update::{Fields, side, split_update};
 use std::alloc::{AllocError, Allocator};
@@ -70,12 +70,13 @@ fn push_if<'a, A: Allocator>(
 fn push_mp_faults<'a, A: Allocator>(
     out: &mut Vec<UpdatePart<'a>, A>,
     link: &Link,
+    form: RouteForm,
     attr_type: Option<AttrType>,
     attr: Attr<'a>,
 ) -> Result<(), AllocError>
     ensures { OnOk result (map shown_part out.new.items
         ≡ map shown_part out.old.items ++ map (Faulty (attribute_of attr.entry))
-        (mp_faults link.now.families attr_type (attribute_of attr.entry))) }
+        (mp_faults link.now.families form attr_type (attribute_of attr.entry))) }
 {
     let Some(attr_type) = attr_type else {
         return Ok(());
@@ -86,7 +87,7 @@ fn push_mp_faults<'a, A: Allocator>(
         has_other_bits,
         UpdatePart::Faulty(attr, AttributeFault::Flags),
     )?;
-    let Some(fault) = state_fault(link.families, attr_type, &attr) else {
+    let Some(fault) = state_fault(link.families, form, attr_type, &attr) else {
         return Ok(());
     };
     push(out, UpdatePart::Faulty(attr, fault))
@@ -96,15 +97,16 @@ fn push_mp_faults<'a, A: Allocator>(
 fn push_first_faults<'a, A: Allocator>(
     out: &mut Vec<UpdatePart<'a>, A>,
     link: &Link,
+    form: RouteForm,
     attr: Attr<'a>,
 ) -> Result<(), AllocError>
     ensures { OnOk result (map shown_part out.new.items
         ≡ map shown_part out.old.items ++ map (Faulty (attribute_of attr.entry))
-        (first_faults link.now (attribute_of attr.entry))) }
+        (first_faults link.now form (attribute_of attr.entry))) }
 {
     let attr_type = AttrType::of(attr.kind);
     let Some(verdict) = class(side(link), &attr) else {
-        return push_mp_faults(out, link, attr_type, attr);
+        return push_mp_faults(out, link, form, attr_type, attr);
     };
     if is_good(verdict) {
         return Ok(());
@@ -132,11 +134,12 @@ fn index_of(kind: u8) -> usize
 fn push_attribute_parts<'a, A: Allocator>(
     out: &mut Vec<UpdatePart<'a>, A>,
     link: &Link,
+    form: RouteForm,
     field: &'a [u8],
 ) -> Result<(), AllocError>
     ensures { OnOk result (map shown_part out.new.items
         ≡ map shown_part out.old.items
-        ++ attribute_parts link.now [] (attributes_of field.entry.now)) }
+        ++ attribute_parts link.now form [] (attributes_of field.entry.now)) }
 {
     let mut seen = [false; 256];
     let mut repeated = [false; 256];
@@ -145,7 +148,7 @@ fn push_attribute_parts<'a, A: Allocator>(
         let index = index_of(attr.kind);
         if !seen[index] {
             seen[index] = true;
-            push_first_faults(out, link, attr)?;
+            push_first_faults(out, link, form, attr)?;
         } else if !repeated[index] {
             repeated[index] = true;
             push(out, UpdatePart::Faulty(attr, AttributeFault::Repeated))?;
@@ -221,16 +224,17 @@ fn push_base<'a, A: Allocator>(
 fn push_parts<'a, A: Allocator>(
     out: &mut Vec<UpdatePart<'a>, A>,
     link: &Link,
+    form: RouteForm,
     fields: &Fields<'a>,
 ) -> Result<(), AllocError>
     ensures { OnOk result (map shown_part out.new.items
-        ≡ map shown_part out.old.items ++ section_parts link.now (sections_of fields.now)) }
+        ≡ map shown_part out.old.items ++ section_parts link.now form (sections_of fields.now)) }
 {
     let has_bad_withdrawn = !are_prefixes(Family::V4, fields.withdrawn);
     let has_bad_nlri = !are_prefixes(Family::V4, fields.nlri);
     push_if(out, has_bad_withdrawn, UpdatePart::WithdrawnMalformed)?;
     push_if(out, has_bad_nlri, UpdatePart::NlriMalformed)?;
-    push_attribute_parts(out, link, fields.attributes)?;
+    push_attribute_parts(out, link, form, fields.attributes)?;
     push_tail(out, fields.attributes)?;
     push_missing(out, fields.nlri, fields.attributes)?;
     push_base(out, link, fields)
@@ -239,23 +243,25 @@ fn push_parts<'a, A: Allocator>(
 /// All that keeps an UPDATE on the link from being clean, part by part: its lengths, and then
 /// nothing else; or its lists of prefixes, its attributes in wire order, what follows them,
 /// the mandatory attributes that it lacks, and prefixes of IPv4 that isn't in use. Octets that are
-/// no UPDATE count as one whose lengths run over.
+/// no UPDATE count as one whose lengths run over. Its routes are to be spelled in this form: the
+/// link's `sent` or `received`.
 ///
 /// How long it is isn't told: what a link allows differs for what is sent and what is received.
 /// Each part takes memory, and there is an `Err` where that is refused.
 pub fn update_parts<'a, A: Allocator + Copy>(
     alloc: A,
     link: &Link,
+    form: RouteForm,
     octets: &'a [u8],
 ) -> Result<Vec<UpdatePart<'a>, A>, AllocError>
     ensures { IfOk result (λ told.
-        AreUpdateParts link.now octets.entry.now (map shown_part told.items)) }
+        AreUpdateParts link.now form octets.entry.now (map shown_part told.items)) }
 {
     let mut told = Vec::new(alloc);
     let Some(fields) = split_update(octets) else {
         told.push(UpdatePart::LengthsRunOver)?;
         return Ok(told);
     };
-    push_parts(&mut told, link, &fields)?;
+    push_parts(&mut told, link, form, &fields)?;
     Ok(told)
 }

@@ -15,7 +15,7 @@ use crate::attribute::{AttributeFault, state_fault};
 use crate::laws::parts_tell_withdrawals;
 use crate::update::UpdatePart;
 use bgp_attr::{Attr, AttrType, AttrVerdict, class};
-use bgp_open::{Families, Link};
+use bgp_open::Link;
 use bgp_update::side;
 
 fn is_repeat(fault: AttributeFault) -> bool
@@ -42,15 +42,15 @@ fn is_mild(fault: Option<AttributeFault>) -> bool
 }
 
 /// Whether the attribute is such an MP attribute.
-fn is_mild_mp(used: Families, attr: &Attr<'_>) -> bool
-    ensures { result ≡ is_mild_mp used (type_of attr.now.kind) (attribute_of attr.now) }
+fn is_mild_mp(link: &Link, attr: &Attr<'_>) -> bool
+    ensures { result ≡ is_mild_mp link.now.families link.now.received (type_of attr.now.kind)
+        (attribute_of attr.now) }
 {
-    match AttrType::of(attr.kind) {
-        Some(attr_type) => {
-            attr_type.is_multiprotocol() && is_mild(state_fault(used, attr_type, attr))
-        }
-        None => false,
-    }
+    let Some(attr_type) = AttrType::of(attr.kind) else {
+        return false;
+    };
+    let fault = state_fault(link.families, link.received, attr_type, attr);
+    attr_type.is_multiprotocol() && is_mild(fault)
 }
 
 /// Whether the attribute's class is Withdraw.
@@ -64,8 +64,7 @@ fn is_withdrawn(link: &Link, attr: &Attr<'_>) -> bool
 fn fault_withdraws(link: &Link, attr: &Attr<'_>, fault: AttributeFault) -> bool
     ensures { result ≡ fault_withdraws link.now (attribute_of attr.now) fault }
 {
-    !is_repeat(fault)
-        && (is_withdrawn(link, attr) || (is_flags(fault) && is_mild_mp(link.families, attr)))
+    !is_repeat(fault) && (is_withdrawn(link, attr) || (is_flags(fault) && is_mild_mp(link, attr)))
 }
 
 /// Whether a part asks for it.
@@ -90,10 +89,11 @@ fn some_withdraws(link: &Link, parts: &[UpdatePart<'_>]) -> bool
     parts.iter().any(|part| withdraws(link, part))
 }
 
-/// Whether an UPDATE with these parts has a fault for which its routes are withdrawn where it is
-/// applied, in place of being announced (RFC 7606, 2).
+/// Whether an UPDATE with these parts, in the link's received form, has a fault for which its routes
+/// are withdrawn where it is applied, in place of being announced (RFC 7606, 2).
 pub fn is_withdrawal(link: &Link, parts: &[UpdatePart<'_>]) -> bool
-    ensures { (octets : List ℕ) → AreUpdateParts link.now octets (map shown_part parts.now)
+    ensures { (octets : List ℕ)
+        → AreUpdateParts link.now link.now.received octets (map shown_part parts.now)
         → IsTrue result ↔ IsWithdrawal link.now octets }
 {
     parts_tell_withdrawals();

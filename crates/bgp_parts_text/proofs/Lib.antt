@@ -1,2 +1,3 @@
 mod Separated
 mod PartByPart
+mod Listed

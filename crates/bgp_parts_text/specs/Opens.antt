@@ -1,5 +1,5 @@
 -- What an OPEN lacks of the local system's own (RFC 4271, 4.2; RFC 6793, 4.1; RFC 4760, 8; RFC
--- 8654, 4): what was sent, and what is configured.
+-- 8654, 4; RFC 7911, 4; RFC 8950, 4): what was sent, and what is configured.
 use Rattle.std.specs.Prelude.{◌++◌, ℕ, Bool, List, [], ◌∷◌, Option, None, Some, if◌then◌else◌}
 use Rattle.std.specs.Prelude.{codes}
 use Rattle.std.specs.Fmt.{decimal}
@@ -7,11 +7,13 @@ use Rattle.bgp_prefix.specs.Text.{address_text}
 use Rattle.bgp_prefix.specs.declared.address.Address.TheVariants.{V4}
 use Rattle.bgp_open.specs.OpenFault.{open_fault_number}
 use Rattle.bgp_open.specs.declared.families.Families.{Families}
+use Rattle.bgp_open.specs.declared.route_offer.RouteOffer.{RouteOffer}
 use Rattle.bgp_parts.specs.declared.own_open.Differing.{Differing}
 use Rattle.bgp_parts.specs.declared.own_open.OpenDifferences.{OpenDifferences}
 use Rattle.bgp_parts.specs.declared.own_open.OwnOpenParts as declared
 use Rattle.bgp_parts.specs.declared.own_open.OwnOpenParts.TheVariants as parts
 use Rattle.bgp_parts_text.specs.Names.{families_text}
+use Rattle.bgp_parts_text.specs.Offers.{offer_text}
 use Rattle.bgp_parts_text.specs.Pieces.{separated}
 
 -- a word, what was sent, and what is configured
@@ -54,6 +56,12 @@ extended_piece None = None
 extended_piece (Some d) =
     Some (differing (codes "extended messages ") (yes_or_no d.sent) (yes_or_no d.configured))
 
+-- what is offered about how routes are spelled
+abbrev pub offers_piece : Option (Differing RouteOffer) → Option (List ℕ)
+offers_piece None = None
+offers_piece (Some d) =
+    Some (differing (codes "offers ") (offer_text d.sent) (offer_text d.configured))
+
 -- each field that differs
 abbrev pub differences_text : List ℕ → OpenDifferences → List ℕ
 differences_text before told =
@@ -64,6 +72,7 @@ differences_text before told =
     ∷ families_piece told.families
     ∷ as_number_piece told.as_number
     ∷ extended_piece told.extended
+    ∷ offers_piece told.offers
     ∷ [])
 
 -- the fault of its form, or each field that differs

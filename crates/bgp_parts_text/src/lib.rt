@@ -10,10 +10,12 @@
 
 mod names;
 mod notifications;
+mod offers;
 mod opens;
 mod updates;
 
 pub use names::families_text;
 pub use notifications::put_notification_parts;
+pub use offers::put_offer;
 pub use opens::put_open_parts;
 pub use updates::put_update_parts;

@@ -5,11 +5,13 @@ ghost use Rattle.bgp_text.specs.Lines.{Writes};
 ghost use Rattle.bgp_parts_text.specs.Pieces.{separated, next_separator};
 ghost use Rattle.bgp_parts_text.specs.Opens.{number_piece, id_piece, families_piece};
 ghost use Rattle.bgp_parts_text.specs.Opens.{as_number_text, as_number_piece, extended_piece};
-ghost use Rattle.bgp_parts_text.specs.Opens.{differences_text, open_parts_text, yes_or_no};
+ghost use Rattle.bgp_parts_text.specs.Opens.{differences_text, offers_piece, open_parts_text};
+ghost use Rattle.bgp_parts_text.specs.Opens.{yes_or_no};
 ghost use Rattle.bgp_parts.specs.declared.own_open.OwnOpenParts.TheVariants.{Malformed};
 
 use crate::names::families_text;
-use bgp_open::{Families, OpenFault};
+use crate::offers::put_offer;
+use bgp_open::{Families, OpenFault, RouteOffer};
 use bgp_parts::{Differing, OpenDifferences, OwnOpenParts};
 use bgp_text::Lines;
 use mrt::Sink;
@@ -119,15 +121,36 @@ fn put_extended<W: Sink>(
     lines: &mut Lines<'_, W>,
     before: &'static [u8],
     extended: Option<Differing<bool>>,
-)
-    ensures { Writes lines.old lines.new (separated before.now (extended_piece extended ∷ [])) }
+) -> &'static [u8]
+    ensures writes { Writes lines.old lines.new
+        (separated before.now (extended_piece extended ∷ [])) }
+    ensures next { result.now ≡ next_separator before.now (extended_piece extended) }
 {
-    if let Some(extended) = extended {
+    let Some(extended) = extended else {
+        return before;
+    };
+    lines.put(before);
+    lines.put(b"extended messages ");
+    lines.put(yes_or_no(extended.sent));
+    lines.put(b", configured ");
+    lines.put(yes_or_no(extended.configured));
+    b"; "
+}
+
+/// What is offered about how routes are spelled.
+fn put_offers<W: Sink>(
+    lines: &mut Lines<'_, W>,
+    before: &'static [u8],
+    offers: Option<Differing<RouteOffer>>,
+)
+    ensures { Writes lines.old lines.new (separated before.now (offers_piece offers ∷ [])) }
+{
+    if let Some(offers) = offers {
         lines.put(before);
-        lines.put(b"extended messages ");
-        lines.put(yes_or_no(extended.sent));
+        lines.put(b"offers ");
+        put_offer(lines, offers.sent);
         lines.put(b", configured ");
-        lines.put(yes_or_no(extended.configured));
+        put_offer(lines, offers.configured);
     }
 }
 
@@ -140,7 +163,8 @@ fn put_differences<W: Sink>(lines: &mut Lines<'_, W>, before: &'static [u8], tol
     let third = put_id(lines, second, told.id);
     let fourth = put_families(lines, third, told.families);
     let fifth = put_as_number(lines, fourth, told.as_number);
-    put_extended(lines, fifth, told.extended);
+    let sixth = put_extended(lines, fifth, told.extended);
+    put_offers(lines, sixth, told.offers);
 }
 
 /// The fault of an OPEN's form.

@@ -28,7 +28,7 @@ use Rattle.bgp_machine.specs.declared.want.FaultSet.TheVariants as sets
 use Rattle.bgp_machine.specs.declared.want.Unexpected.{Unexpected}
 use Rattle.bgp_machine.specs.declared.want.Unexpected.TheVariants.{InOpenSent, InOpenConfirm, InEstablished}
 use Rattle.bgp_machine.specs.declared.want.Want.{Want}
-use Rattle.bgp_machine.specs.declared.want.Want.TheVariants.{OwnOpen, KeepAlive, CleanUpdate, Cease, HoldExpired, MachineError, Faults}
+use Rattle.bgp_machine.specs.declared.want.Want.TheVariants.{OwnOpen, KeepAlive, CleanUpdate, Cease, HoldExpired, SendHoldExpired, MachineError, Faults}
 use Rattle.bgp_machine.specs.Owed.{EachOwedCanBeMet}
 use Rattle.bgp_machine.specs.State.{number_of}
 use Rattle.bgp_machine.specs.Want.{Fulfils, Meets, Tells, limit_on, subcode_of}
@@ -69,7 +69,8 @@ open_free f s d d2 unless (inr (inr (inl x))) = inr (inr (inl x))
 open_free f s d d2 unless (inr (inr (inr (inl x)))) = inr (inr (inr (inl x)))
 open_free f s d d2 unless (inr (inr (inr (inr (inl x))))) = inr (inr (inr (inr (inl x))))
 open_free f s d d2 unless (inr (inr (inr (inr (inr (inl x)))))) = inr (inr (inr (inr (inr (inl x)))))
-open_free f s d d2 unless (inr (inr (inr (inr (inr (inr x)))))) = inr (inr (inr (inr (inr (inr x)))))
+open_free f s d d2 unless (inr (inr (inr (inr (inr (inr (inl x))))))) = inr (inr (inr (inr (inr (inr (inl x))))))
+open_free f s d d2 unless (inr (inr (inr (inr (inr (inr (inr x))))))) = inr (inr (inr (inr (inr (inr (inr x))))))
 
 like_open : (s : ℕ) (d d2 : List ℕ) → (s ≡ 1 → ⊥) → IsLike 2 s d s d2
 like_open s d d2 unless = record { subcode = inl refl; header = λ f e n. absurd (let k : 2 ≡ 1 = e in cc); opening = λ f e n. open_free f s d d2 unless n }
@@ -326,8 +327,10 @@ open_named law clean config records p a t o k s d n may (inr (inr (inr (inr (inl
     inr (inr (inr (inr (inl (x.0, a.open_errors.parameter.1 (to_open law clean config records p a t o s 4 d x.0 (λ e. cc) n may))))))
 open_named law clean config records p a t o k s d n may (inr (inr (inr (inr (inr (inl x)))))) =
     inr (inr (inr (inr (inr (inl (x.0, a.open_errors.hold.1 (to_open law clean config records p a t o s 6 d x.0 (λ e. cc) n may)))))))
-open_named law clean config records p a t o k s d n may (inr (inr (inr (inr (inr (inr (x))))))) =
-    inr (inr (inr (inr (inr (inr ((x.0, a.open_errors.capability.1 (to_open law clean config records p a t o s 7 d x.0 (λ e. cc) n may))))))))
+open_named law clean config records p a t o k s d n may (inr (inr (inr (inr (inr (inr (inl x))))))) =
+    inr (inr (inr (inr (inr (inr (inl (x.0, a.open_errors.capability.1 (to_open law clean config records p a t o s 7 d x.0 (λ e. cc) n may))))))))
+open_named law clean config records p a t o k s d n may (inr (inr (inr (inr (inr (inr (inr x))))))) =
+    inr (inr (inr (inr (inr (inr (inr (x.0, a.open_errors.role.1 (to_open law clean config records p a t o s 11 d x.0 (λ e. cc) n may))))))))
 
 -- a NOTIFICATION with this code and what is said of it
 tells : (law : EachOwedCanBeMet) (clean : HasCleanUpdate) (config : Config) (records : List ShownRecord) (p : Possible) (a : AreAsked config records p) (t : ℕ) (o : List ℕ) (c s : ℕ) (d : List ℕ) → IsNotification o c s d → IsNotified p t c s d → Tells o (IsNotified p t)
@@ -345,6 +348,14 @@ hold_named law clean config records p a t o s d n e small may =
           (notified law config records t t o (notification_octets 4 0 []) 4 0 d 0 [] (subst (λ (v : ℕ). IsNotification o 4 v d) e n) (written_notification 4 0 [] short_none)
           (like_free 4 0 d [] (λ k. cc) (λ k. cc)) (notification_frame 4 0 [] short_none (limit_on (sending_link config records))) (inl (le_refl t)) may),
     ))))
+
+send_hold_named : (law : EachOwedCanBeMet) (clean : HasCleanUpdate) (config : Config) (records : List ShownRecord) (p : Possible) (a : AreAsked config records p) (t : ℕ) (o : List ℕ) (s : ℕ) (d : List ℕ) → IsNotification o 8 s d → s ≡ 0 → MayFollow config records (Sent t o) → IsNotified p t 8 s d
+send_hold_named law clean config records p a t o s d n e may =
+    inr (inr (inr (inr (inr (inr (
+      refl,
+      e,
+      a.send_hold_timer_expired.1 (at_subcode config records 8 s 0 e (to_free law clean config records p a t o 8 s d (λ e. cc) (λ e. cc) (λ e. cc) n may)),
+    ))))))
 
 told_by : (law : EachOwedCanBeMet) (clean : HasCleanUpdate) (config : Config) (records : List ShownRecord) (p : Possible) (a : AreAsked config records p) (t : ℕ) (o : List ℕ) (want : Want) (link : Option Link) → Meets config link want o
     → ((u : ℕ) (other : List ℕ) → Meets config link want other → ((t ≤ u) ⊎ (want ≡ HoldExpired → ⊥)) → MayFollow config records (Sent u other))
@@ -370,13 +381,19 @@ told_by law clean config records p a t o Cease link m again (inl going) small ma
 told_by law clean config records p a t o Cease link m again (inr on) small may =
     let f = m.fulfils in (
       subst (λ (v : Option Link). IsFrame (limit_on v) o) on.0 m.whole,
-      inr (inr (inr (f.0, f.1, f.2, f.3, subst (λ (v : ℕ). IsNotified p t v f.1 f.2) (sym f.4) (inr (inr (inr (inr (inr (refl, a.cease.1 (to_asked law config records t o 6 f.1 f.2 0 [] (with_code o f.0 6 f.1 f.2 f.4 f.3) (like_cease f.1 0 f.2 []) short_none (λ e. cc) may)))))))))),
+      inr (inr (inr (f.0, f.1, f.2, f.3, subst (λ (v : ℕ). IsNotified p t v f.1 f.2) (sym f.4) (inr (inr (inr (inr (inr (inl (refl, a.cease.1 (to_asked law config records t o 6 f.1 f.2 0 [] (with_code o f.0 6 f.1 f.2 f.4 f.3) (like_cease f.1 0 f.2 []) short_none (λ e. cc) may))))))))))),
     )
 told_by law clean config records p a t o HoldExpired link m again (inl going) small may = absurd going
 told_by law clean config records p a t o HoldExpired link m again (inr on) small may =
     let f = m.fulfils in (
       subst (λ (v : Option Link). IsFrame (limit_on v) o) on.0 m.whole,
       inr (inr (inr (f.0, f.1, f.2, f.3, subst (λ (v : ℕ). IsNotified p t v f.1 f.2) (sym f.4.0) (hold_named law clean config records p a t o f.1 f.2 (with_code o f.0 4 f.1 f.2 f.4.0 f.3) f.4.1 small may)))),
+    )
+told_by law clean config records p a t o SendHoldExpired link m again (inl going) small may = absurd going
+told_by law clean config records p a t o SendHoldExpired link m again (inr on) small may =
+    let f = m.fulfils in (
+      subst (λ (v : Option Link). IsFrame (limit_on v) o) on.0 m.whole,
+      inr (inr (inr (f.0, f.1, f.2, f.3, subst (λ (v : ℕ). IsNotified p t v f.1 f.2) (sym f.4.0) (send_hold_named law clean config records p a t o f.1 f.2 (with_code o f.0 8 f.1 f.2 f.4.0 f.3) f.4.1 may)))),
     )
 told_by law clean config records p a t o (MachineError state) link m again (inl going) small may = absurd going
 told_by law clean config records p a t o (MachineError state) link m again (inr on) small may =
@@ -460,7 +477,8 @@ open_error_follows law clean config records p a t o s d frame n (inr (inr (inl x
 open_error_follows law clean config records p a t o s d frame n (inr (inr (inr (inl x)))) = from_open law clean config records p a t o s 3 d x.0 (λ e. cc) frame n (a.open_errors.identifier.0 x.1)
 open_error_follows law clean config records p a t o s d frame n (inr (inr (inr (inr (inl x))))) = from_open law clean config records p a t o s 4 d x.0 (λ e. cc) frame n (a.open_errors.parameter.0 x.1)
 open_error_follows law clean config records p a t o s d frame n (inr (inr (inr (inr (inr (inl x)))))) = from_open law clean config records p a t o s 6 d x.0 (λ e. cc) frame n (a.open_errors.hold.0 x.1)
-open_error_follows law clean config records p a t o s d frame n (inr (inr (inr (inr (inr (inr (x))))))) = from_open law clean config records p a t o s 7 d x.0 (λ e. cc) frame n (a.open_errors.capability.0 x.1)
+open_error_follows law clean config records p a t o s d frame n (inr (inr (inr (inr (inr (inr (inl x))))))) = from_open law clean config records p a t o s 7 d x.0 (λ e. cc) frame n (a.open_errors.capability.0 x.1)
+open_error_follows law clean config records p a t o s d frame n (inr (inr (inr (inr (inr (inr (inr x))))))) = from_open law clean config records p a t o s 11 d x.0 (λ e. cc) frame n (a.open_errors.role.0 x.1)
 
 from_free : (law : EachOwedCanBeMet) (clean : HasCleanUpdate) (config : Config) (records : List ShownRecord) (p : Possible) (a : AreAsked config records p) (t : ℕ) (o : List ℕ) (c s other : ℕ) (d : List ℕ) → s ≡ other → (c ≡ 1 → ⊥) → (c ≡ 2 → ⊥) → IsFrame (limit_on (sending_link config records)) o → IsNotification o c s d
     → MayNotify config records c other [] → MayFollow config records (Sent t o)
@@ -506,8 +524,10 @@ notified_follows law clean config records p a t o c s d frame n (inr (inr (inr (
     notified law config records k.0 t (notification_octets 4 0 []) o 4 0 [] 0 d (written_notification 4 0 [] short_none) (subst (λ (v : ℕ). IsNotification o 4 v d) x.1 (with_code o c 4 s d x.0 n))
     (like_free 4 0 [] d (λ e. cc) (λ e. cc)) frame (inl k.2) k.1
 notified_follows law clean config records p a t o c s d frame n (inr (inr (inr (inr (inl x))))) = fsm_follows law clean config records p a t o s d frame (with_code o c 5 s d x.0 n) x.1
-notified_follows law clean config records p a t o c s d frame n (inr (inr (inr (inr (inr x))))) =
+notified_follows law clean config records p a t o c s d frame n (inr (inr (inr (inr (inr (inl x)))))) =
     from_asked law config records t o 6 s d 0 [] (with_code o c 6 s d x.0 n) (like_cease 0 s [] d) short_none frame (a.cease.0 x.1)
+notified_follows law clean config records p a t o c s d frame n (inr (inr (inr (inr (inr (inr x)))))) =
+    from_free law clean config records p a t o 8 s 0 d x.1 (λ e. cc) (λ e. cc) frame (with_code o c 8 s d x.0 n) (a.send_hold_timer_expired.0 x.2)
 
 sent_follows : (law : EachOwedCanBeMet) (clean : HasCleanUpdate) (config : Config) (records : List ShownRecord) (p : Possible) (a : AreAsked config records p) (t : ℕ) (o : List ℕ) → IsAmong config (sending_link config records) p (Sent t o) → MayFollow config records (Sent t o)
 sent_follows law clean config records p a t o (frame, inl x) = open_follows law clean config records p a t o frame x.1 (a.own_open.0 x.0)

@@ -23,7 +23,7 @@ use Rattle.bgp_machine.specs.declared.state.Head.{Head}
 use Rattle.bgp_machine.specs.declared.state.Head.TheVariants.{Idle, Connect, Active, OpenSent, OpenConfirm, Established}
 use Rattle.bgp_machine.specs.declared.want.FaultSet.TheVariants as sets
 use Rattle.bgp_machine.specs.declared.want.Want.{Want}
-use Rattle.bgp_machine.specs.declared.want.Want.TheVariants.{OwnOpen, KeepAlive, CleanUpdate, Cease, HoldExpired, MachineError, Faults}
+use Rattle.bgp_machine.specs.declared.want.Want.TheVariants.{OwnOpen, KeepAlive, CleanUpdate, Cease, HoldExpired, SendHoldExpired, MachineError, Faults}
 use Rattle.bgp_machine.specs.Heard.{received_limit}
 use Rattle.bgp_machine.specs.Lists.{Each}
 use Rattle.bgp_machine.specs.Owed.{EachOwedCanBeMet}
@@ -149,6 +149,7 @@ typed config None CleanUpdate o f = absurd f
 typed config (Some l) CleanUpdate o f = f.2.message
 typed config link Cease o f = f.3.message
 typed config link HoldExpired o f = f.3.message
+typed config link SendHoldExpired o f = f.3.message
 typed config link (MachineError s) o f = f.3.message
 typed config link (Faults s) o f = f.3.message
 
@@ -158,6 +159,7 @@ is_open KeepAlive e = absurd (let k : 4 ≡ 1 = e in cc)
 is_open CleanUpdate e = absurd (let k : 2 ≡ 1 = e in cc)
 is_open Cease e = absurd (let k : 3 ≡ 1 = e in cc)
 is_open HoldExpired e = absurd (let k : 3 ≡ 1 = e in cc)
+is_open SendHoldExpired e = absurd (let k : 3 ≡ 1 = e in cc)
 is_open (MachineError s) e = absurd (let k : 3 ≡ 1 = e in cc)
 is_open (Faults s) e = absurd (let k : 3 ≡ 1 = e in cc)
 
@@ -167,6 +169,7 @@ is_alive KeepAlive e = refl
 is_alive CleanUpdate e = absurd (let k : 2 ≡ 4 = e in cc)
 is_alive Cease e = absurd (let k : 3 ≡ 4 = e in cc)
 is_alive HoldExpired e = absurd (let k : 3 ≡ 4 = e in cc)
+is_alive SendHoldExpired e = absurd (let k : 3 ≡ 4 = e in cc)
 is_alive (MachineError s) e = absurd (let k : 3 ≡ 4 = e in cc)
 is_alive (Faults s) e = absurd (let k : 3 ≡ 4 = e in cc)
 
@@ -176,6 +179,7 @@ is_update KeepAlive e = absurd (let k : 4 ≡ 2 = e in cc)
 is_update CleanUpdate e = refl
 is_update Cease e = absurd (let k : 3 ≡ 2 = e in cc)
 is_update HoldExpired e = absurd (let k : 3 ≡ 2 = e in cc)
+is_update SendHoldExpired e = absurd (let k : 3 ≡ 2 = e in cc)
 is_update (MachineError s) e = absurd (let k : 3 ≡ 2 = e in cc)
 is_update (Faults s) e = absurd (let k : 3 ≡ 2 = e in cc)
 
@@ -220,6 +224,9 @@ like config link Cease o o2 c s d s2 d2 p q l f = (c, s2, d2, q, says o c s d _ 
 like config link HoldExpired o o2 c s d s2 d2 p q l f =
     let x = says o c s d _ p f in
     (c, s2, d2, q, (x.0, sym (same_subcode c s s2 l.subcode (λ e. let k : 6 ≡ 4 = sym e ∙ x.0 in cc)) ∙ x.1))
+like config link SendHoldExpired o o2 c s d s2 d2 p q l f =
+    let x = says o c s d _ p f in
+    (c, s2, d2, q, (x.0, sym (same_subcode c s s2 l.subcode (λ e. let k : 6 ≡ 8 = sym e ∙ x.0 in cc)) ∙ x.1))
 like config link (MachineError n) o o2 c s d s2 d2 p q l f =
     let x = says o c s d _ p f in
     let same = same_subcode c s s2 l.subcode (λ e. let k : 6 ≡ 5 = sym e ∙ x.0 in cc) in
@@ -243,6 +250,7 @@ not_going KeepAlive e g = let k : 3 ≡ 4 = e in cc
 not_going CleanUpdate e g = g
 not_going Cease e g = g
 not_going HoldExpired e g = g
+not_going SendHoldExpired e g = g
 not_going (MachineError s) e g = g
 not_going (Faults s) e g = g
 

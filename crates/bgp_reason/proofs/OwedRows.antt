@@ -15,7 +15,7 @@ use Rattle.bgp_machine.specs.declared.fsm.Fsm.TheVariants as fsms
 use Rattle.bgp_machine.specs.declared.hearing.Heard.{Heard}
 use Rattle.bgp_machine.specs.declared.hearing.Heard.TheVariants.{TooShort, ValidOpen, FaultyHeader, InvalidOpen, BadVersion, Notification, Keepalive, Update}
 use Rattle.bgp_machine.specs.declared.rows.HiddenRow.{HiddenRow}
-use Rattle.bgp_machine.specs.declared.rows.HiddenRow.TheVariants.{Starts, Listens, Stops, Ceases, RetryExpires, HoldExpires, KeepaliveExpires, DelayExpires, ConnectionOpens, DelayBegins, ConnectionFails, Announces, Notes}
+use Rattle.bgp_machine.specs.declared.rows.HiddenRow.TheVariants.{Starts, Listens, Stops, Ceases, RetryExpires, HoldExpires, SendHoldExpires, KeepaliveExpires, DelayExpires, ConnectionOpens, DelayBegins, ConnectionFails, Announces, Notes}
 use Rattle.bgp_machine.specs.declared.rows.ReceivedRow.{ReceivedRow}
 use Rattle.bgp_machine.specs.declared.rows.ReceivedRow.TheVariants.{Ignores, Accepts, Overlooks, Collides, Drops, NamesFault, ReportsError, Establishes, Renews, Applies}
 use Rattle.bgp_machine.specs.declared.state.Head.{Head}
@@ -24,7 +24,7 @@ use Rattle.bgp_machine.specs.declared.state.HoldTimer.{HoldTimer}
 use Rattle.bgp_machine.specs.declared.want.FaultSet.TheVariants as sets
 use Rattle.bgp_machine.specs.declared.want.Unexpected.TheVariants.{InOpenSent, InOpenConfirm, InEstablished}
 use Rattle.bgp_machine.specs.declared.want.Want.{Want}
-use Rattle.bgp_machine.specs.declared.want.Want.TheVariants.{OwnOpen, KeepAlive, CleanUpdate, Cease, HoldExpired, MachineError, Faults}
+use Rattle.bgp_machine.specs.declared.want.Want.TheVariants.{OwnOpen, KeepAlive, CleanUpdate, Cease, HoldExpired, SendHoldExpired, MachineError, Faults}
 use Rattle.bgp_machine.specs.Heard.{Hears, received_limit}
 use Rattle.bgp_machine.specs.Lists.{Each}
 use Rattle.bgp_machine.specs.State.{Turn, Given, enters, falls, fsm_of, renewed, waiting}
@@ -61,6 +61,7 @@ hidden_owes Idle config t Stops wants turn h = absurd h
 hidden_owes Idle config t Ceases wants turn h = absurd h
 hidden_owes Idle config t RetryExpires wants turn h = absurd h
 hidden_owes Idle config t HoldExpires wants turn h = absurd h
+hidden_owes Idle config t SendHoldExpires wants turn h = absurd h
 hidden_owes Idle config t KeepaliveExpires wants turn h = absurd h
 hidden_owes Idle config t DelayExpires wants turn h = absurd h
 hidden_owes Idle config t ConnectionOpens wants turn h = absurd h
@@ -74,6 +75,7 @@ hidden_owes (Connect delay) config t Stops wants turn h = inl h.0
 hidden_owes (Connect delay) config t Ceases wants turn h = absurd h
 hidden_owes (Connect delay) config t RetryExpires wants turn h = inl h.0
 hidden_owes (Connect delay) config t HoldExpires wants turn h = absurd h
+hidden_owes (Connect delay) config t SendHoldExpires wants turn h = absurd h
 hidden_owes (Connect delay) config t KeepaliveExpires wants turn h = absurd h
 hidden_owes (Connect delay) config t DelayExpires wants turn h = inr (OwnOpen, h.1, inl tt)
 hidden_owes (Connect delay) config t ConnectionOpens wants turn h = inr (OwnOpen, h.0, inl tt)
@@ -87,6 +89,7 @@ hidden_owes (Active delay) config t Stops wants turn h = inl h.0
 hidden_owes (Active delay) config t Ceases wants turn h = inr (Cease, h.1, inr (λ e. cc, λ f e. cc, inr h.2))
 hidden_owes (Active delay) config t RetryExpires wants turn h = inl h.0
 hidden_owes (Active delay) config t HoldExpires wants turn h = absurd h
+hidden_owes (Active delay) config t SendHoldExpires wants turn h = absurd h
 hidden_owes (Active delay) config t KeepaliveExpires wants turn h = absurd h
 hidden_owes (Active delay) config t DelayExpires wants turn h = inr (OwnOpen, h.1, inl tt)
 hidden_owes (Active delay) config t ConnectionOpens wants turn h = inr (OwnOpen, h.0, inl tt)
@@ -100,6 +103,7 @@ hidden_owes (OpenSent timer) config t Stops wants turn h = absurd h
 hidden_owes (OpenSent timer) config t Ceases wants turn h = inr (Cease, h.0, inr (λ e. cc, λ f e. cc, inr h.1))
 hidden_owes (OpenSent timer) config t RetryExpires wants turn h = absurd h
 hidden_owes (OpenSent timer) config t HoldExpires wants turn h = inr (HoldExpired, h.1, inr (λ e. cc, λ f e. cc, inr h.2))
+hidden_owes (OpenSent timer) config t SendHoldExpires wants turn h = absurd h
 hidden_owes (OpenSent timer) config t KeepaliveExpires wants turn h = absurd h
 hidden_owes (OpenSent timer) config t DelayExpires wants turn h = absurd h
 hidden_owes (OpenSent timer) config t ConnectionOpens wants turn h = absurd h
@@ -113,6 +117,7 @@ hidden_owes (OpenConfirm link timer) config t Stops wants turn h = absurd h
 hidden_owes (OpenConfirm link timer) config t Ceases wants turn h = inr (Cease, h.0, inr (λ e. cc, λ f e. cc, inr h.1))
 hidden_owes (OpenConfirm link timer) config t RetryExpires wants turn h = absurd h
 hidden_owes (OpenConfirm link timer) config t HoldExpires wants turn h = inr (HoldExpired, h.1, inr (λ e. cc, λ f e. cc, inr h.2))
+hidden_owes (OpenConfirm link timer) config t SendHoldExpires wants turn h = absurd h
 hidden_owes (OpenConfirm link timer) config t KeepaliveExpires wants turn h = inr (KeepAlive, h.1, inl tt)
 hidden_owes (OpenConfirm link timer) config t DelayExpires wants turn h = absurd h
 hidden_owes (OpenConfirm link timer) config t ConnectionOpens wants turn h = absurd h
@@ -126,6 +131,7 @@ hidden_owes (Established link timer) config t Stops wants turn h = absurd h
 hidden_owes (Established link timer) config t Ceases wants turn h = inr (Cease, h.0, inr (λ e. cc, λ f e. cc, inr h.1))
 hidden_owes (Established link timer) config t RetryExpires wants turn h = absurd h
 hidden_owes (Established link timer) config t HoldExpires wants turn h = inr (HoldExpired, h.1, inr (λ e. cc, λ f e. cc, inr h.2))
+hidden_owes (Established link timer) config t SendHoldExpires wants turn h = inr (SendHoldExpired, h.1, inr (λ e. cc, λ f e. cc, inr h.2))
 hidden_owes (Established link timer) config t KeepaliveExpires wants turn h = inr (KeepAlive, h.1, inl tt)
 hidden_owes (Established link timer) config t DelayExpires wants turn h = absurd h
 hidden_owes (Established link timer) config t ConnectionOpens wants turn h = absurd h
@@ -144,6 +150,7 @@ hidden_at Idle config t u Stops wants turn h = absurd h
 hidden_at Idle config t u Ceases wants turn h = absurd h
 hidden_at Idle config t u RetryExpires wants turn h = absurd h
 hidden_at Idle config t u HoldExpires wants turn h = absurd h
+hidden_at Idle config t u SendHoldExpires wants turn h = absurd h
 hidden_at Idle config t u KeepaliveExpires wants turn h = absurd h
 hidden_at Idle config t u DelayExpires wants turn h = absurd h
 hidden_at Idle config t u ConnectionOpens wants turn h = absurd h
@@ -157,6 +164,7 @@ hidden_at (Connect delay) config t u Stops wants turn h = inl (turn, h, refl)
 hidden_at (Connect delay) config t u Ceases wants turn h = absurd h
 hidden_at (Connect delay) config t u RetryExpires wants turn h = inl (turn, h, refl)
 hidden_at (Connect delay) config t u HoldExpires wants turn h = absurd h
+hidden_at (Connect delay) config t u SendHoldExpires wants turn h = absurd h
 hidden_at (Connect delay) config t u KeepaliveExpires wants turn h = absurd h
 hidden_at (Connect delay) config t u DelayExpires wants turn h = inl (enters (waiting config u), (h.0, h.1, refl), sym (ap (λ (x : Turn). fsm_of x.head) h.2))
 hidden_at (Connect delay) config t u ConnectionOpens wants turn h = inl (enters (waiting config u), (h.0, refl), sym (ap (λ (x : Turn). fsm_of x.head) h.1))
@@ -170,6 +178,7 @@ hidden_at (Active delay) config t u Stops wants turn h = inl (turn, h, refl)
 hidden_at (Active delay) config t u Ceases wants turn h = inl (turn, h, refl)
 hidden_at (Active delay) config t u RetryExpires wants turn h = inl (turn, h, refl)
 hidden_at (Active delay) config t u HoldExpires wants turn h = absurd h
+hidden_at (Active delay) config t u SendHoldExpires wants turn h = absurd h
 hidden_at (Active delay) config t u KeepaliveExpires wants turn h = absurd h
 hidden_at (Active delay) config t u DelayExpires wants turn h = inl (enters (waiting config u), (h.0, h.1, refl), sym (ap (λ (x : Turn). fsm_of x.head) h.2))
 hidden_at (Active delay) config t u ConnectionOpens wants turn h = inl (enters (waiting config u), (h.0, refl), sym (ap (λ (x : Turn). fsm_of x.head) h.1))
@@ -183,6 +192,7 @@ hidden_at (OpenSent timer) config t u Stops wants turn h = absurd h
 hidden_at (OpenSent timer) config t u Ceases wants turn h = inl (turn, h, refl)
 hidden_at (OpenSent timer) config t u RetryExpires wants turn h = absurd h
 hidden_at (OpenSent timer) config t u HoldExpires wants turn h = inr (λ le. ((h.0.0, le_trans h.0.1 le), h.1, h.2), h.1, refl, h.2, (refl, refl))
+hidden_at (OpenSent timer) config t u SendHoldExpires wants turn h = absurd h
 hidden_at (OpenSent timer) config t u KeepaliveExpires wants turn h = absurd h
 hidden_at (OpenSent timer) config t u DelayExpires wants turn h = absurd h
 hidden_at (OpenSent timer) config t u ConnectionOpens wants turn h = absurd h
@@ -196,6 +206,7 @@ hidden_at (OpenConfirm link timer) config t u Stops wants turn h = absurd h
 hidden_at (OpenConfirm link timer) config t u Ceases wants turn h = inl (turn, h, refl)
 hidden_at (OpenConfirm link timer) config t u RetryExpires wants turn h = absurd h
 hidden_at (OpenConfirm link timer) config t u HoldExpires wants turn h = inr (λ le. ((h.0.0, le_trans h.0.1 le), h.1, h.2), h.1, refl, h.2, (refl, refl))
+hidden_at (OpenConfirm link timer) config t u SendHoldExpires wants turn h = absurd h
 hidden_at (OpenConfirm link timer) config t u KeepaliveExpires wants turn h = inl (turn, h, refl)
 hidden_at (OpenConfirm link timer) config t u DelayExpires wants turn h = absurd h
 hidden_at (OpenConfirm link timer) config t u ConnectionOpens wants turn h = absurd h
@@ -209,6 +220,7 @@ hidden_at (Established link timer) config t u Stops wants turn h = absurd h
 hidden_at (Established link timer) config t u Ceases wants turn h = inl (turn, h, refl)
 hidden_at (Established link timer) config t u RetryExpires wants turn h = absurd h
 hidden_at (Established link timer) config t u HoldExpires wants turn h = inr (λ le. ((h.0.0, le_trans h.0.1 le), h.1, h.2), h.1, refl, h.2, (refl, refl))
+hidden_at (Established link timer) config t u SendHoldExpires wants turn h = inl (turn, h, refl)
 hidden_at (Established link timer) config t u KeepaliveExpires wants turn h = inl (turn, h, refl)
 hidden_at (Established link timer) config t u DelayExpires wants turn h = absurd h
 hidden_at (Established link timer) config t u ConnectionOpens wants turn h = absurd h
@@ -424,6 +436,7 @@ hidden_so Stops old new c e = changed_so old new c e
 hidden_so Ceases old new c e = changed_so old new c e
 hidden_so RetryExpires old new c e = changed_so old new c e
 hidden_so HoldExpires old new c e = changed_so old new c e
+hidden_so SendHoldExpires old new c e = changed_so old new c e
 hidden_so KeepaliveExpires old new c e = changed_so old new c e
 hidden_so DelayExpires old new c e = changed_so old new c e
 hidden_so ConnectionOpens old new c e = changed_so old new c e
@@ -442,6 +455,7 @@ no_change_by Stops f unless = same_none f
 no_change_by Ceases f unless = same_none f
 no_change_by RetryExpires f unless = same_none f
 no_change_by HoldExpires f unless = same_none f
+no_change_by SendHoldExpires f unless = same_none f
 no_change_by KeepaliveExpires f unless = same_none f
 no_change_by DelayExpires f unless = same_none f
 no_change_by ConnectionOpens f unless = same_none f

@@ -51,6 +51,7 @@ module _ (config : Config) (records : List ShownRecord) where
     pub parameter : IsTrue errors.parameter ↔ MayNotify 2 4 []
     pub hold : IsTrue errors.hold ↔ MayNotify 2 6 []
     pub capability : IsTrue errors.capability ↔ MayNotify 2 7 []
+    pub role : IsTrue errors.role ↔ MayNotify 2 11 []
 
   -- UPDATE Message Error
   pub record AreUpdateErrors (errors : Subcodes) : Type 0 where
@@ -104,6 +105,7 @@ module _ (config : Config) (records : List ShownRecord) where
     pub open_errors : AreOpenErrors possible.open_errors
     pub update_errors : AreUpdateErrors possible.update_errors
     pub hold_timer_expired : IsLeastSecond possible.hold_timer_expired
+    pub send_hold_timer_expired : IsTrue possible.send_hold_timer_expired ↔ MayNotify 8 0 []
     pub fsm_errors : AreFsmErrors possible.fsm_errors
     pub cease : IsTrue possible.cease ↔ MayNotify 6 0 []
     pub changes : AreChanges possible.changes

@@ -41,7 +41,8 @@ HasFsmError errors subcode =
 
 -- A NOTIFICATION at this second is one of those that are possible, by its code (RFC 4271, 4.5):
 -- Message Header Error, OPEN Message Error, UPDATE Message Error, Hold Timer Expired from a second
--- on, Finite State Machine Error, and Cease with any subcode.
+-- on, Finite State Machine Error, Cease with any subcode, and Send Hold Timer Expired (RFC 9687,
+-- 4).
 abbrev pub IsNotified : Possible → ℕ → ℕ → ℕ → List ℕ → Type 0
 IsNotified possible second code subcode detail =
     ((code ≡ 1) × NamesHeaderError possible.header_errors subcode detail)
@@ -51,6 +52,7 @@ IsNotified possible second code subcode detail =
     × IsSomeAnd possible.hold_timer_expired (λ from. from ≤ second))
     ⊎ ((code ≡ 5) × HasFsmError possible.fsm_errors subcode)
     ⊎ ((code ≡ 6) × IsTrue possible.cease)
+    ⊎ ((code ≡ 8) × (subcode ≡ 0) × IsTrue possible.send_hold_timer_expired)
 
 -- an UPDATE without a fault of any kind, on a link
 abbrev pub IsCleanOn : Option Link → List ℕ → Type 0

@@ -258,6 +258,7 @@ fn open_errors<A: Allocator + Copy, T: Tracker<A>>(
         parameter: may_notify(alloc, tracker, 2, 4, &[])?,
         hold: may_notify(alloc, tracker, 2, 6, &[])?,
         capability: may_notify(alloc, tracker, 2, 7, &[])?,
+        role: may_notify(alloc, tracker, 2, 11, &[])?,
     })
 }
 
@@ -396,6 +397,7 @@ pub fn possible<A: Allocator + Copy, T: Tracker<A>>(
         open_errors: open_errors(alloc, tracker)?,
         update_errors: update_errors(alloc, tracker)?,
         hold_timer_expired: least_expiry(alloc, tracker)?,
+        send_hold_timer_expired: may_notify(alloc, tracker, 8, 0, &[])?,
         fsm_errors: fsm_errors(alloc, tracker)?,
         cease: may_notify(alloc, tracker, 6, 0, &[])?,
         changes: changes(tracker, state)?,

@@ -52,6 +52,8 @@ pub struct Possible {
     pub update_errors: Subcodes,
     /// Hold Timer Expired, from this second on (RFC 4271, 6.5).
     pub hold_timer_expired: Option<Seconds>,
+    /// Send Hold Timer Expired (RFC 9687, 4).
+    pub send_hold_timer_expired: bool,
     /// Finite State Machine Error with one of these (RFC 4271, 6.6; RFC 6608, 3).
     pub fsm_errors: FsmErrors,
     /// Cease, with any subcode and data (RFC 4271, 6.7).

@@ -2,11 +2,12 @@
 //! message of another type, and whether an UPDATE withdraws that is refused.
 
 use bgp_machine::Fsm;
-use bgp_open::{Config, Link, OpenFault, OpenSubcodes, negotiate, read_open};
+use bgp_open::{Config, Link, OpenFault, OpenSubcodes, RouteForm, negotiate, read_open};
 use bgp_parts::{
-    NotificationParts, OwnOpenParts, UpdatePart, is_withdrawal, notification_parts, own_open_parts,
-    update_parts,
+    AttributeFault, NotificationParts, OwnOpenParts, UpdatePart, is_withdrawal, notification_parts,
+    own_open_parts, update_parts,
 };
+use bgp_prefix::Family;
 use bgp_reason::{FsmErrors, Possible, States};
 use bgp_reason_text::{NotWhole, Style, put_possible, put_state};
 use bgp_text::Lines;
@@ -48,6 +49,7 @@ const EACH_SUBCODE: Possible = Possible {
         parameter: true,
         hold: true,
         capability: true,
+        role: true,
     },
     update_errors: Subcodes {
         malformed_attribute_list: true,
@@ -63,6 +65,7 @@ const EACH_SUBCODE: Possible = Possible {
         malformed_as_path: true,
     },
     hold_timer_expired: Some(192),
+    send_hold_timer_expired: true,
     fsm_errors: FsmErrors {
         unspecified: true,
         open_sent: true,
@@ -83,9 +86,10 @@ const EACH_SUBCODE: Possible = Possible {
 /// Its lines.
 const TEXT: &[u8] = b"state Active by record 4294967296\n\
       owed sent notification 1/1 1/2:1001 1/3:ff (RFC 4271 6.1)\n\
-      or sent notification 2/0 2/1:0004 2/2 2/3 2/4 2/6 2/7 (RFC 4271 6.2)\n\
+      or sent notification 2/0 2/1:0004 2/2 2/3 2/4 2/6 2/7 2/11 (RFC 4271 6.2)\n\
       or sent notification 3/1 3/2 3/3 3/4 3/5 3/6 3/7 3/8 3/9 3/10 3/11 (RFC 4271 6.3)\n\
       or sent notification 4/0 from @192 (RFC 4271 6.5)\n\
+      or sent notification 8/0 (RFC 9687 4)\n\
       or sent notification 5/0 5/1 5/2 5/3 (RFC 4271 6.6)\n\
       or sent notification 6 (RFC 4271 6.7)\n";
 
@@ -126,7 +130,7 @@ fn is_no_open() -> bool {
 
 /// Whether a KEEPALIVE is an UPDATE whose lengths run over.
 fn is_no_update(alloc: Global, link: &Link) -> Result<bool, AllocError> {
-    let told = update_parts(alloc, link, &KEEPALIVE)?;
+    let told = update_parts(alloc, link, link.sent, &KEEPALIVE)?;
     let has_one = matches!(told.as_slice(), [UpdatePart::LengthsRunOver]);
     Ok(has_one && !is_clean(link, &KEEPALIVE))
 }
@@ -208,7 +212,7 @@ static REFUSED: [Refused; 10] = [
 
 /// Whether it has a fault for which its routes would be withdrawn.
 fn withdraws(alloc: Global, link: &Link, octets: &[u8]) -> Result<bool, AllocError> {
-    let told = update_parts(alloc, link, octets)?;
+    let told = update_parts(alloc, link, link.received, octets)?;
     Ok(is_withdrawal(link, told.as_slice()))
 }
 
@@ -222,6 +226,38 @@ fn a_refused_update_has_a_fault_that_withdraws_or_none(rt: HostRuntime) {
             row.lesson
         );
     }
+}
+
+/// An UPDATE with ORIGIN, AS_PATH, and MP_REACH_NLRI of IPv4 with the next hop 2001:db8::2.
+const IPV6_NEXT_HOP: &[u8] = message!(
+    62, 2, 0, 0, 0, 39, // Length, Type, both other lengths
+    0x40, 1, 1, 0, // ORIGIN
+    0x40, 2, 6, 2, 1, 0, 0, 0xfd, 0xea, // AS_PATH
+    0x80, 14, 23, 0, 1, 1, 16, // MP_REACH_NLRI, its family and the next hop's length
+    0x20, 1, 0x0d, 0xb8, 0, 0, 0, 0, 0, 0, 0, 0, 0, 0, 0, 2, // the next hop
+    0, 8, 10 // reserved, 10.0.0.0/8
+);
+
+/// Whether its contents are at fault where IPv4 routes have no IPv6 next hops, and nothing is where
+/// they may have some (RFC 8950, 4).
+fn goes_by_the_form(alloc: Global, link: &Link) -> Result<bool, AllocError> {
+    let plain = update_parts(alloc, link, RouteForm::PLAIN, IPV6_NEXT_HOP)?;
+    let form = RouteForm {
+        ipv6_next_hops: true,
+        ..RouteForm::PLAIN
+    };
+    let told = update_parts(alloc, link, form, IPV6_NEXT_HOP)?;
+    let has_one = matches!(
+        plain.as_slice(),
+        [UpdatePart::Faulty(_, AttributeFault::Contents(Family::V4))]
+    );
+    Ok(has_one && told.is_empty())
+}
+
+#[test]
+fn an_ipv6_next_hop_of_ipv4_goes_by_the_form(rt: HostRuntime) {
+    let link = settled().expect(&rt, "the OPEN is valid");
+    assert!(rt; goes_by_the_form(rt.alloc(), &link) == Ok(true));
 }
 
 /// A KEEPALIVE without its last octet: a capture has no message of fewer octets than a header.

@@ -1,6 +1,5 @@
 mod Lines
 mod Pieces
-mod Capabilities
 mod Refused
 mod Announced
 mod WholeMessage

@@ -141,13 +141,14 @@ some_header e s d (inr (inl x)) = in_joined e.marker (is_some e.length ∷ is_so
 some_header e s d (inr (inr x)) = in_joined e.marker (is_some e.length ∷ is_some e.kind ∷ []) 2 (there e.kind (λ v. d ≡ big_bytes 1 v) x.1)
 
 some_open : (e : OpenSubcodes) (s : ℕ) (d : List ℕ) → NamesOpenError e s d → IsTrue (has_open_error e)
-some_open e s d (inl x) = in_joined e.unspecific (e.version ∷ e.peer_as ∷ e.identifier ∷ e.parameter ∷ e.hold ∷ e.capability ∷ []) 0 x.1
-some_open e s d (inr (inl x)) = in_joined e.unspecific (e.version ∷ e.peer_as ∷ e.identifier ∷ e.parameter ∷ e.hold ∷ e.capability ∷ []) 1 x.2
-some_open e s d (inr (inr (inl x))) = in_joined e.unspecific (e.version ∷ e.peer_as ∷ e.identifier ∷ e.parameter ∷ e.hold ∷ e.capability ∷ []) 2 x.1
-some_open e s d (inr (inr (inr (inl x)))) = in_joined e.unspecific (e.version ∷ e.peer_as ∷ e.identifier ∷ e.parameter ∷ e.hold ∷ e.capability ∷ []) 3 x.1
-some_open e s d (inr (inr (inr (inr (inl x))))) = in_joined e.unspecific (e.version ∷ e.peer_as ∷ e.identifier ∷ e.parameter ∷ e.hold ∷ e.capability ∷ []) 4 x.1
-some_open e s d (inr (inr (inr (inr (inr (inl x)))))) = in_joined e.unspecific (e.version ∷ e.peer_as ∷ e.identifier ∷ e.parameter ∷ e.hold ∷ e.capability ∷ []) 5 x.1
-some_open e s d (inr (inr (inr (inr (inr (inr (x))))))) = in_joined e.unspecific (e.version ∷ e.peer_as ∷ e.identifier ∷ e.parameter ∷ e.hold ∷ e.capability ∷ []) 6 x.1
+some_open e s d (inl x) = in_joined e.unspecific (e.version ∷ e.peer_as ∷ e.identifier ∷ e.parameter ∷ e.hold ∷ e.capability ∷ e.role ∷ []) 0 x.1
+some_open e s d (inr (inl x)) = in_joined e.unspecific (e.version ∷ e.peer_as ∷ e.identifier ∷ e.parameter ∷ e.hold ∷ e.capability ∷ e.role ∷ []) 1 x.2
+some_open e s d (inr (inr (inl x))) = in_joined e.unspecific (e.version ∷ e.peer_as ∷ e.identifier ∷ e.parameter ∷ e.hold ∷ e.capability ∷ e.role ∷ []) 2 x.1
+some_open e s d (inr (inr (inr (inl x)))) = in_joined e.unspecific (e.version ∷ e.peer_as ∷ e.identifier ∷ e.parameter ∷ e.hold ∷ e.capability ∷ e.role ∷ []) 3 x.1
+some_open e s d (inr (inr (inr (inr (inl x))))) = in_joined e.unspecific (e.version ∷ e.peer_as ∷ e.identifier ∷ e.parameter ∷ e.hold ∷ e.capability ∷ e.role ∷ []) 4 x.1
+some_open e s d (inr (inr (inr (inr (inr (inl x)))))) = in_joined e.unspecific (e.version ∷ e.peer_as ∷ e.identifier ∷ e.parameter ∷ e.hold ∷ e.capability ∷ e.role ∷ []) 5 x.1
+some_open e s d (inr (inr (inr (inr (inr (inr (inl x))))))) = in_joined e.unspecific (e.version ∷ e.peer_as ∷ e.identifier ∷ e.parameter ∷ e.hold ∷ e.capability ∷ e.role ∷ []) 6 x.1
+some_open e s d (inr (inr (inr (inr (inr (inr (inr x))))))) = in_joined e.unspecific (e.version ∷ e.peer_as ∷ e.identifier ∷ e.parameter ∷ e.hold ∷ e.capability ∷ e.role ∷ []) 7 x.1
 
 some_update : (e : Subcodes) (n : ℕ) → HasSubcode e n → IsTrue (has_update_error e)
 some_update e zero h = absurd (never h)
@@ -181,16 +182,17 @@ module _ (config : Config) (link : Option Link) (p : Possible) where
   notified_told second o frame (code, subcode, detail, is, inr (inl x)) = inr (inr (inr (inr (inr (inl (put (IsOf (Sent second o)) (has_open_error p.open_errors) (items.OpenErrors p.open_errors) (some_open p.open_errors subcode detail x.1) (frame, (code, subcode, detail, is, x))))))))
   notified_told second o frame (code, subcode, detail, is, inr (inr (inl x))) = inr (inr (inr (inr (inr (inr (inl (put (IsOf (Sent second o)) (has_update_error p.update_errors) (items.UpdateErrors p.update_errors) (some_update p.update_errors subcode x.1) (frame, (code, subcode, detail, is, x)))))))))
   notified_told second o frame (code, subcode, detail, is, inr (inr (inr (inl x)))) = inr (inr (inr (inr (inr (inr (inr (inl (expires (IsOf (Sent second o)) p.hold_timer_expired second (λ from le. (frame, (code, subcode, detail, is, (x.0, x.1, le)))) x.2))))))))
-  notified_told second o frame (code, subcode, detail, is, inr (inr (inr (inr (inl x))))) = inr (inr (inr (inr (inr (inr (inr (inr (inl (put (IsOf (Sent second o)) (has_fsm_error p.fsm_errors) (items.StateErrors p.fsm_errors) (some_fsm p.fsm_errors subcode x.1) (frame, (code, subcode, detail, is, x)))))))))))
-  notified_told second o frame (code, subcode, detail, is, inr (inr (inr (inr (inr x))))) = inr (inr (inr (inr (inr (inr (inr (inr (inr (inl (put (IsOf (Sent second o)) p.cease items.Cease x.1 (frame, (code, subcode, detail, is, x.0))))))))))))
+  notified_told second o frame (code, subcode, detail, is, inr (inr (inr (inr (inl x))))) = inr (inr (inr (inr (inr (inr (inr (inr (inr (inl (put (IsOf (Sent second o)) (has_fsm_error p.fsm_errors) (items.StateErrors p.fsm_errors) (some_fsm p.fsm_errors subcode x.1) (frame, (code, subcode, detail, is, x))))))))))))
+  notified_told second o frame (code, subcode, detail, is, inr (inr (inr (inr (inr (inl x)))))) = inr (inr (inr (inr (inr (inr (inr (inr (inr (inr (inl (put (IsOf (Sent second o)) p.cease items.Cease x.1 (frame, (code, subcode, detail, is, x.0)))))))))))))
+  notified_told second o frame (code, subcode, detail, is, inr (inr (inr (inr (inr (inr x)))))) = inr (inr (inr (inr (inr (inr (inr (inr (inl (put (IsOf (Sent second o)) p.send_hold_timer_expired items.SendHoldTimerExpired x.2 (frame, (code, subcode, detail, is, (x.0, x.1))))))))))))
 
   changed_told : (second old new : ℕ) (fsm : Fsm) → old ≡ number_of p.state → new ≡ number_of fsm → HasState p.changes fsm → Some_in (IsOf (Changed second old new)) (all_items p)
-  changed_told second old new fsms.Idle from to has = inr (inr (inr (inr (inr (inr (inr (inr (inr (inr (inl (put (IsOf (Changed second old new)) p.changes.idle (items.Change p.state fsms.Idle) has (from, to))))))))))))
-  changed_told second old new fsms.Connect from to has = inr (inr (inr (inr (inr (inr (inr (inr (inr (inr (inr (inl (put (IsOf (Changed second old new)) p.changes.connect (items.Change p.state fsms.Connect) has (from, to)))))))))))))
-  changed_told second old new fsms.Active from to has = inr (inr (inr (inr (inr (inr (inr (inr (inr (inr (inr (inr (inl (put (IsOf (Changed second old new)) p.changes.active (items.Change p.state fsms.Active) has (from, to))))))))))))))
-  changed_told second old new fsms.OpenSent from to has = inr (inr (inr (inr (inr (inr (inr (inr (inr (inr (inr (inr (inr (inl (put (IsOf (Changed second old new)) p.changes.open_sent (items.Change p.state fsms.OpenSent) has (from, to)))))))))))))))
-  changed_told second old new fsms.OpenConfirm from to has = inr (inr (inr (inr (inr (inr (inr (inr (inr (inr (inr (inr (inr (inr (inl (put (IsOf (Changed second old new)) p.changes.open_confirm (items.Change p.state fsms.OpenConfirm) has (from, to))))))))))))))))
-  changed_told second old new fsms.Established from to has = inr (inr (inr (inr (inr (inr (inr (inr (inr (inr (inr (inr (inr (inr (inr (inl (put (IsOf (Changed second old new)) p.changes.established (items.Change p.state fsms.Established) has (from, to)))))))))))))))))
+  changed_told second old new fsms.Idle from to has = inr (inr (inr (inr (inr (inr (inr (inr (inr (inr (inr (inl (put (IsOf (Changed second old new)) p.changes.idle (items.Change p.state fsms.Idle) has (from, to)))))))))))))
+  changed_told second old new fsms.Connect from to has = inr (inr (inr (inr (inr (inr (inr (inr (inr (inr (inr (inr (inl (put (IsOf (Changed second old new)) p.changes.connect (items.Change p.state fsms.Connect) has (from, to))))))))))))))
+  changed_told second old new fsms.Active from to has = inr (inr (inr (inr (inr (inr (inr (inr (inr (inr (inr (inr (inr (inl (put (IsOf (Changed second old new)) p.changes.active (items.Change p.state fsms.Active) has (from, to)))))))))))))))
+  changed_told second old new fsms.OpenSent from to has = inr (inr (inr (inr (inr (inr (inr (inr (inr (inr (inr (inr (inr (inr (inl (put (IsOf (Changed second old new)) p.changes.open_sent (items.Change p.state fsms.OpenSent) has (from, to))))))))))))))))
+  changed_told second old new fsms.OpenConfirm from to has = inr (inr (inr (inr (inr (inr (inr (inr (inr (inr (inr (inr (inr (inr (inr (inl (put (IsOf (Changed second old new)) p.changes.open_confirm (items.Change p.state fsms.OpenConfirm) has (from, to)))))))))))))))))
+  changed_told second old new fsms.Established from to has = inr (inr (inr (inr (inr (inr (inr (inr (inr (inr (inr (inr (inr (inr (inr (inr (inl (put (IsOf (Changed second old new)) p.changes.established (items.Change p.state fsms.Established) has (from, to))))))))))))))))))
 
   told_if : (shown : ShownRecord) → IsAmong config link p shown → Some_in (IsOf shown) (all_items p)
   told_if (Received second o) h = inl (put (IsOf (Received second o)) p.message items.ReceivedMessage h refl)
@@ -212,15 +214,16 @@ module _ (config : Config) (link : Option Link) (p : Possible) where
     no : (from : Option ℕ) → IsIn (IsOf (Received second o)) (expiry_item from) → ⊥
     no None h = h
     no (Some from) h = let e : items.HoldTimerExpired from ≡ items.ReceivedMessage = h in let f : ⊥ = cc in f
-  among_received second o (inr (inr (inr (inr (inr (inr (inr (inr (inl x))))))))) = absurd (let e : (items.StateErrors p.fsm_errors) ≡ items.ReceivedMessage = (taken (IsOf (Received second o)) (has_fsm_error p.fsm_errors) (items.StateErrors p.fsm_errors) x).1 in let f : ⊥ = cc in f)
-  among_received second o (inr (inr (inr (inr (inr (inr (inr (inr (inr (inl x)))))))))) = absurd (let e : items.Cease ≡ items.ReceivedMessage = (taken (IsOf (Received second o)) p.cease items.Cease x).1 in let f : ⊥ = cc in f)
-  among_received second o (inr (inr (inr (inr (inr (inr (inr (inr (inr (inr (inl x))))))))))) = absurd (let e : (items.Change p.state fsms.Idle) ≡ items.ReceivedMessage = (taken (IsOf (Received second o)) p.changes.idle (items.Change p.state fsms.Idle) x).1 in let f : ⊥ = cc in f)
-  among_received second o (inr (inr (inr (inr (inr (inr (inr (inr (inr (inr (inr (inl x)))))))))))) = absurd (let e : (items.Change p.state fsms.Connect) ≡ items.ReceivedMessage = (taken (IsOf (Received second o)) p.changes.connect (items.Change p.state fsms.Connect) x).1 in let f : ⊥ = cc in f)
-  among_received second o (inr (inr (inr (inr (inr (inr (inr (inr (inr (inr (inr (inr (inl x))))))))))))) = absurd (let e : (items.Change p.state fsms.Active) ≡ items.ReceivedMessage = (taken (IsOf (Received second o)) p.changes.active (items.Change p.state fsms.Active) x).1 in let f : ⊥ = cc in f)
-  among_received second o (inr (inr (inr (inr (inr (inr (inr (inr (inr (inr (inr (inr (inr (inl x)))))))))))))) = absurd (let e : (items.Change p.state fsms.OpenSent) ≡ items.ReceivedMessage = (taken (IsOf (Received second o)) p.changes.open_sent (items.Change p.state fsms.OpenSent) x).1 in let f : ⊥ = cc in f)
-  among_received second o (inr (inr (inr (inr (inr (inr (inr (inr (inr (inr (inr (inr (inr (inr (inl x))))))))))))))) = absurd (let e : (items.Change p.state fsms.OpenConfirm) ≡ items.ReceivedMessage = (taken (IsOf (Received second o)) p.changes.open_confirm (items.Change p.state fsms.OpenConfirm) x).1 in let f : ⊥ = cc in f)
-  among_received second o (inr (inr (inr (inr (inr (inr (inr (inr (inr (inr (inr (inr (inr (inr (inr (inl x)))))))))))))))) = absurd (let e : (items.Change p.state fsms.Established) ≡ items.ReceivedMessage = (taken (IsOf (Received second o)) p.changes.established (items.Change p.state fsms.Established) x).1 in let f : ⊥ = cc in f)
-  among_received second o (inr (inr (inr (inr (inr (inr (inr (inr (inr (inr (inr (inr (inr (inr (inr (inr x)))))))))))))))) = absurd x
+  among_received second o (inr (inr (inr (inr (inr (inr (inr (inr (inl x))))))))) = absurd (let e : items.SendHoldTimerExpired ≡ items.ReceivedMessage = (taken (IsOf (Received second o)) p.send_hold_timer_expired items.SendHoldTimerExpired x).1 in let f : ⊥ = cc in f)
+  among_received second o (inr (inr (inr (inr (inr (inr (inr (inr (inr (inl x)))))))))) = absurd (let e : (items.StateErrors p.fsm_errors) ≡ items.ReceivedMessage = (taken (IsOf (Received second o)) (has_fsm_error p.fsm_errors) (items.StateErrors p.fsm_errors) x).1 in let f : ⊥ = cc in f)
+  among_received second o (inr (inr (inr (inr (inr (inr (inr (inr (inr (inr (inl x))))))))))) = absurd (let e : items.Cease ≡ items.ReceivedMessage = (taken (IsOf (Received second o)) p.cease items.Cease x).1 in let f : ⊥ = cc in f)
+  among_received second o (inr (inr (inr (inr (inr (inr (inr (inr (inr (inr (inr (inl x)))))))))))) = absurd (let e : (items.Change p.state fsms.Idle) ≡ items.ReceivedMessage = (taken (IsOf (Received second o)) p.changes.idle (items.Change p.state fsms.Idle) x).1 in let f : ⊥ = cc in f)
+  among_received second o (inr (inr (inr (inr (inr (inr (inr (inr (inr (inr (inr (inr (inl x))))))))))))) = absurd (let e : (items.Change p.state fsms.Connect) ≡ items.ReceivedMessage = (taken (IsOf (Received second o)) p.changes.connect (items.Change p.state fsms.Connect) x).1 in let f : ⊥ = cc in f)
+  among_received second o (inr (inr (inr (inr (inr (inr (inr (inr (inr (inr (inr (inr (inr (inl x)))))))))))))) = absurd (let e : (items.Change p.state fsms.Active) ≡ items.ReceivedMessage = (taken (IsOf (Received second o)) p.changes.active (items.Change p.state fsms.Active) x).1 in let f : ⊥ = cc in f)
+  among_received second o (inr (inr (inr (inr (inr (inr (inr (inr (inr (inr (inr (inr (inr (inr (inl x))))))))))))))) = absurd (let e : (items.Change p.state fsms.OpenSent) ≡ items.ReceivedMessage = (taken (IsOf (Received second o)) p.changes.open_sent (items.Change p.state fsms.OpenSent) x).1 in let f : ⊥ = cc in f)
+  among_received second o (inr (inr (inr (inr (inr (inr (inr (inr (inr (inr (inr (inr (inr (inr (inr (inl x)))))))))))))))) = absurd (let e : (items.Change p.state fsms.OpenConfirm) ≡ items.ReceivedMessage = (taken (IsOf (Received second o)) p.changes.open_confirm (items.Change p.state fsms.OpenConfirm) x).1 in let f : ⊥ = cc in f)
+  among_received second o (inr (inr (inr (inr (inr (inr (inr (inr (inr (inr (inr (inr (inr (inr (inr (inr (inl x))))))))))))))))) = absurd (let e : (items.Change p.state fsms.Established) ≡ items.ReceivedMessage = (taken (IsOf (Received second o)) p.changes.established (items.Change p.state fsms.Established) x).1 in let f : ⊥ = cc in f)
+  among_received second o (inr (inr (inr (inr (inr (inr (inr (inr (inr (inr (inr (inr (inr (inr (inr (inr (inr x))))))))))))))))) = absurd x
 
   among_sent : (second : ℕ) (o : List ℕ) → Some_in (IsOf (Sent second o)) (all_items p) → IsAmong config link p (Sent second o)
   among_sent second o (inl x) =
@@ -242,16 +245,18 @@ module _ (config : Config) (link : Option Link) (p : Possible) where
     of_expiry None e h = absurd h
     of_expiry (Some from) e h = let t = h.1 in (h.0, inr (inr (inr (t.0, t.1, t.2, t.3, inr (inr (inr (inl (t.4.0, t.4.1, rw e t.4.2))))))))
   among_sent second o (inr (inr (inr (inr (inr (inr (inr (inr (inl x))))))))) =
-      let h = taken (IsOf (Sent second o)) (has_fsm_error p.fsm_errors) (items.StateErrors p.fsm_errors) x in let t = h.1.1 in (h.1.0, inr (inr (inr (t.0, t.1, t.2, t.3, inr (inr (inr (inr (inl t.4))))))))
+      let h = taken (IsOf (Sent second o)) p.send_hold_timer_expired items.SendHoldTimerExpired x in let t = h.1.1 in (h.1.0, inr (inr (inr (t.0, t.1, t.2, t.3, inr (inr (inr (inr (inr (inr (t.4.0, t.4.1, h.0))))))))))
   among_sent second o (inr (inr (inr (inr (inr (inr (inr (inr (inr (inl x)))))))))) =
-      let h = taken (IsOf (Sent second o)) p.cease items.Cease x in let t = h.1.1 in (h.1.0, inr (inr (inr (t.0, t.1, t.2, t.3, inr (inr (inr (inr (inr (t.4, h.0)))))))))
-  among_sent second o (inr (inr (inr (inr (inr (inr (inr (inr (inr (inr (inl x))))))))))) = absurd (taken (IsOf (Sent second o)) p.changes.idle (items.Change p.state fsms.Idle) x).1.1
-  among_sent second o (inr (inr (inr (inr (inr (inr (inr (inr (inr (inr (inr (inl x)))))))))))) = absurd (taken (IsOf (Sent second o)) p.changes.connect (items.Change p.state fsms.Connect) x).1.1
-  among_sent second o (inr (inr (inr (inr (inr (inr (inr (inr (inr (inr (inr (inr (inl x))))))))))))) = absurd (taken (IsOf (Sent second o)) p.changes.active (items.Change p.state fsms.Active) x).1.1
-  among_sent second o (inr (inr (inr (inr (inr (inr (inr (inr (inr (inr (inr (inr (inr (inl x)))))))))))))) = absurd (taken (IsOf (Sent second o)) p.changes.open_sent (items.Change p.state fsms.OpenSent) x).1.1
-  among_sent second o (inr (inr (inr (inr (inr (inr (inr (inr (inr (inr (inr (inr (inr (inr (inl x))))))))))))))) = absurd (taken (IsOf (Sent second o)) p.changes.open_confirm (items.Change p.state fsms.OpenConfirm) x).1.1
-  among_sent second o (inr (inr (inr (inr (inr (inr (inr (inr (inr (inr (inr (inr (inr (inr (inr (inl x)))))))))))))))) = absurd (taken (IsOf (Sent second o)) p.changes.established (items.Change p.state fsms.Established) x).1.1
-  among_sent second o (inr (inr (inr (inr (inr (inr (inr (inr (inr (inr (inr (inr (inr (inr (inr (inr x)))))))))))))))) = absurd x
+      let h = taken (IsOf (Sent second o)) (has_fsm_error p.fsm_errors) (items.StateErrors p.fsm_errors) x in let t = h.1.1 in (h.1.0, inr (inr (inr (t.0, t.1, t.2, t.3, inr (inr (inr (inr (inl t.4))))))))
+  among_sent second o (inr (inr (inr (inr (inr (inr (inr (inr (inr (inr (inl x))))))))))) =
+      let h = taken (IsOf (Sent second o)) p.cease items.Cease x in let t = h.1.1 in (h.1.0, inr (inr (inr (t.0, t.1, t.2, t.3, inr (inr (inr (inr (inr (inl (t.4, h.0))))))))))
+  among_sent second o (inr (inr (inr (inr (inr (inr (inr (inr (inr (inr (inr (inl x)))))))))))) = absurd (taken (IsOf (Sent second o)) p.changes.idle (items.Change p.state fsms.Idle) x).1.1
+  among_sent second o (inr (inr (inr (inr (inr (inr (inr (inr (inr (inr (inr (inr (inl x))))))))))))) = absurd (taken (IsOf (Sent second o)) p.changes.connect (items.Change p.state fsms.Connect) x).1.1
+  among_sent second o (inr (inr (inr (inr (inr (inr (inr (inr (inr (inr (inr (inr (inr (inl x)))))))))))))) = absurd (taken (IsOf (Sent second o)) p.changes.active (items.Change p.state fsms.Active) x).1.1
+  among_sent second o (inr (inr (inr (inr (inr (inr (inr (inr (inr (inr (inr (inr (inr (inr (inl x))))))))))))))) = absurd (taken (IsOf (Sent second o)) p.changes.open_sent (items.Change p.state fsms.OpenSent) x).1.1
+  among_sent second o (inr (inr (inr (inr (inr (inr (inr (inr (inr (inr (inr (inr (inr (inr (inr (inl x)))))))))))))))) = absurd (taken (IsOf (Sent second o)) p.changes.open_confirm (items.Change p.state fsms.OpenConfirm) x).1.1
+  among_sent second o (inr (inr (inr (inr (inr (inr (inr (inr (inr (inr (inr (inr (inr (inr (inr (inr (inl x))))))))))))))))) = absurd (taken (IsOf (Sent second o)) p.changes.established (items.Change p.state fsms.Established) x).1.1
+  among_sent second o (inr (inr (inr (inr (inr (inr (inr (inr (inr (inr (inr (inr (inr (inr (inr (inr (inr x))))))))))))))))) = absurd x
 
   among_changed : (second old new : ℕ) → Some_in (IsOf (Changed second old new)) (all_items p) → IsAmong config link p (Changed second old new)
   among_changed second old new (inl x) = absurd (taken (IsOf (Changed second old new)) p.message items.ReceivedMessage x).1
@@ -265,15 +270,16 @@ module _ (config : Config) (link : Option Link) (p : Possible) where
     no : (from : Option ℕ) → IsIn (IsOf (Changed second old new)) (expiry_item from) → ⊥
     no None h = h
     no (Some from) h = h
-  among_changed second old new (inr (inr (inr (inr (inr (inr (inr (inr (inl x))))))))) = absurd (taken (IsOf (Changed second old new)) (has_fsm_error p.fsm_errors) (items.StateErrors p.fsm_errors) x).1
-  among_changed second old new (inr (inr (inr (inr (inr (inr (inr (inr (inr (inl x)))))))))) = absurd (taken (IsOf (Changed second old new)) p.cease items.Cease x).1
-  among_changed second old new (inr (inr (inr (inr (inr (inr (inr (inr (inr (inr (inl x))))))))))) = let h = taken (IsOf (Changed second old new)) p.changes.idle (items.Change p.state fsms.Idle) x in (h.1.0, (fsms.Idle, h.1.1, h.0))
-  among_changed second old new (inr (inr (inr (inr (inr (inr (inr (inr (inr (inr (inr (inl x)))))))))))) = let h = taken (IsOf (Changed second old new)) p.changes.connect (items.Change p.state fsms.Connect) x in (h.1.0, (fsms.Connect, h.1.1, h.0))
-  among_changed second old new (inr (inr (inr (inr (inr (inr (inr (inr (inr (inr (inr (inr (inl x))))))))))))) = let h = taken (IsOf (Changed second old new)) p.changes.active (items.Change p.state fsms.Active) x in (h.1.0, (fsms.Active, h.1.1, h.0))
-  among_changed second old new (inr (inr (inr (inr (inr (inr (inr (inr (inr (inr (inr (inr (inr (inl x)))))))))))))) = let h = taken (IsOf (Changed second old new)) p.changes.open_sent (items.Change p.state fsms.OpenSent) x in (h.1.0, (fsms.OpenSent, h.1.1, h.0))
-  among_changed second old new (inr (inr (inr (inr (inr (inr (inr (inr (inr (inr (inr (inr (inr (inr (inl x))))))))))))))) = let h = taken (IsOf (Changed second old new)) p.changes.open_confirm (items.Change p.state fsms.OpenConfirm) x in (h.1.0, (fsms.OpenConfirm, h.1.1, h.0))
-  among_changed second old new (inr (inr (inr (inr (inr (inr (inr (inr (inr (inr (inr (inr (inr (inr (inr (inl x)))))))))))))))) = let h = taken (IsOf (Changed second old new)) p.changes.established (items.Change p.state fsms.Established) x in (h.1.0, (fsms.Established, h.1.1, h.0))
-  among_changed second old new (inr (inr (inr (inr (inr (inr (inr (inr (inr (inr (inr (inr (inr (inr (inr (inr x)))))))))))))))) = absurd x
+  among_changed second old new (inr (inr (inr (inr (inr (inr (inr (inr (inl x))))))))) = absurd (taken (IsOf (Changed second old new)) p.send_hold_timer_expired items.SendHoldTimerExpired x).1
+  among_changed second old new (inr (inr (inr (inr (inr (inr (inr (inr (inr (inl x)))))))))) = absurd (taken (IsOf (Changed second old new)) (has_fsm_error p.fsm_errors) (items.StateErrors p.fsm_errors) x).1
+  among_changed second old new (inr (inr (inr (inr (inr (inr (inr (inr (inr (inr (inl x))))))))))) = absurd (taken (IsOf (Changed second old new)) p.cease items.Cease x).1
+  among_changed second old new (inr (inr (inr (inr (inr (inr (inr (inr (inr (inr (inr (inl x)))))))))))) = let h = taken (IsOf (Changed second old new)) p.changes.idle (items.Change p.state fsms.Idle) x in (h.1.0, (fsms.Idle, h.1.1, h.0))
+  among_changed second old new (inr (inr (inr (inr (inr (inr (inr (inr (inr (inr (inr (inr (inl x))))))))))))) = let h = taken (IsOf (Changed second old new)) p.changes.connect (items.Change p.state fsms.Connect) x in (h.1.0, (fsms.Connect, h.1.1, h.0))
+  among_changed second old new (inr (inr (inr (inr (inr (inr (inr (inr (inr (inr (inr (inr (inr (inl x)))))))))))))) = let h = taken (IsOf (Changed second old new)) p.changes.active (items.Change p.state fsms.Active) x in (h.1.0, (fsms.Active, h.1.1, h.0))
+  among_changed second old new (inr (inr (inr (inr (inr (inr (inr (inr (inr (inr (inr (inr (inr (inr (inl x))))))))))))))) = let h = taken (IsOf (Changed second old new)) p.changes.open_sent (items.Change p.state fsms.OpenSent) x in (h.1.0, (fsms.OpenSent, h.1.1, h.0))
+  among_changed second old new (inr (inr (inr (inr (inr (inr (inr (inr (inr (inr (inr (inr (inr (inr (inr (inl x)))))))))))))))) = let h = taken (IsOf (Changed second old new)) p.changes.open_confirm (items.Change p.state fsms.OpenConfirm) x in (h.1.0, (fsms.OpenConfirm, h.1.1, h.0))
+  among_changed second old new (inr (inr (inr (inr (inr (inr (inr (inr (inr (inr (inr (inr (inr (inr (inr (inr (inl x))))))))))))))))) = let h = taken (IsOf (Changed second old new)) p.changes.established (items.Change p.state fsms.Established) x in (h.1.0, (fsms.Established, h.1.1, h.0))
+  among_changed second old new (inr (inr (inr (inr (inr (inr (inr (inr (inr (inr (inr (inr (inr (inr (inr (inr (inr x))))))))))))))))) = absurd x
 
   among : (shown : ShownRecord) → Some_in (IsOf shown) (all_items p) → IsAmong config link p shown
   among (Received second o) h = among_received second o h
@@ -319,7 +325,7 @@ module _ (config : Config) (records : List ShownRecord) where
       ] in
       notification_live (items.HeaderErrors e) 1 1 [] short_none (λ code subcode detail. (code ≡ 1) × NamesHeaderError e subcode detail) (refl, inl (refl, marker)) (λ t. t)
 
-  open_at : (e : OpenSubcodes) (n : ℕ) → IsTrue (get_or (e.unspecific ∷ e.version ∷ e.peer_as ∷ e.identifier ∷ e.parameter ∷ e.hold ∷ e.capability ∷ []) n false) → IsLive config records (items.OpenErrors e)
+  open_at : (e : OpenSubcodes) (n : ℕ) → IsTrue (get_or (e.unspecific ∷ e.version ∷ e.peer_as ∷ e.identifier ∷ e.parameter ∷ e.hold ∷ e.capability ∷ e.role ∷ []) n false) → IsLive config records (items.OpenErrors e)
   open_at e zero h =
       notification_live (items.OpenErrors e) 2 0 [] short_none (λ code subcode detail. (code ≡ 2) × NamesOpenError e subcode detail) (refl, inl (refl, h)) (λ t. t)
   open_at e (suc zero) h =
@@ -333,11 +339,13 @@ module _ (config : Config) (records : List ShownRecord) where
   open_at e (suc (suc (suc (suc (suc zero))))) h =
       notification_live (items.OpenErrors e) 2 6 [] short_none (λ code subcode detail. (code ≡ 2) × NamesOpenError e subcode detail) (refl, inr (inr (inr (inr (inr (inl (refl, h))))))) (λ t. t)
   open_at e (suc (suc (suc (suc (suc (suc zero)))))) h =
-      notification_live (items.OpenErrors e) 2 7 [] short_none (λ code subcode detail. (code ≡ 2) × NamesOpenError e subcode detail) (refl, inr (inr (inr (inr (inr (inr ((refl, h)))))))) (λ t. t)
-  open_at e (suc (suc (suc (suc (suc (suc (suc n))))))) h = absurd (never h)
+      notification_live (items.OpenErrors e) 2 7 [] short_none (λ code subcode detail. (code ≡ 2) × NamesOpenError e subcode detail) (refl, inr (inr (inr (inr (inr (inr (inl (refl, h)))))))) (λ t. t)
+  open_at e (suc (suc (suc (suc (suc (suc (suc zero))))))) h =
+      notification_live (items.OpenErrors e) 2 11 [] short_none (λ code subcode detail. (code ≡ 2) × NamesOpenError e subcode detail) (refl, inr (inr (inr (inr (inr (inr (inr (refl, h)))))))) (λ t. t)
+  open_at e (suc (suc (suc (suc (suc (suc (suc (suc n)))))))) h = absurd (never h)
 
   open_live : (e : OpenSubcodes) → IsTrue (has_open_error e) → IsLive config records (items.OpenErrors e)
-  open_live e h = let at = place_in e.unspecific (e.version ∷ e.peer_as ∷ e.identifier ∷ e.parameter ∷ e.hold ∷ e.capability ∷ []) h in open_at e at.0 at.1
+  open_live e h = let at = place_in e.unspecific (e.version ∷ e.peer_as ∷ e.identifier ∷ e.parameter ∷ e.hold ∷ e.capability ∷ e.role ∷ []) h in open_at e at.0 at.1
 
   update_live : (e : Subcodes) → IsTrue (has_update_error e) → IsLive config records (items.UpdateErrors e)
   update_live e h =
@@ -396,22 +404,25 @@ module _ (config : Config) (records : List ShownRecord) where
                 (
                   expiry_ok (IsLive config records) p.hold_timer_expired few expiry_live,
                   (
-                    ok_if (IsLive config records) (has_fsm_error p.fsm_errors) (items.StateErrors p.fsm_errors) (λ h. fsm_live p.fsm_errors h),
+                    ok_if (IsLive config records) p.send_hold_timer_expired items.SendHoldTimerExpired (λ h. notification_live items.SendHoldTimerExpired 8 0 [] short_none (λ code subcode detail. (code ≡ 8) × (subcode ≡ 0)) (refl, refl) (λ t. t)),
                     (
-                      ok_if (IsLive config records) p.cease items.Cease (λ h. notification_live items.Cease 6 0 [] short_none (λ code subcode detail. code ≡ 6) refl (λ t. t)),
+                      ok_if (IsLive config records) (has_fsm_error p.fsm_errors) (items.StateErrors p.fsm_errors) (λ h. fsm_live p.fsm_errors h),
                       (
-                        ok_if (IsLive config records) p.changes.idle (items.Change p.state fsms.Idle) (λ h. change_live p.state fsms.Idle),
+                        ok_if (IsLive config records) p.cease items.Cease (λ h. notification_live items.Cease 6 0 [] short_none (λ code subcode detail. code ≡ 6) refl (λ t. t)),
                         (
-                          ok_if (IsLive config records) p.changes.connect (items.Change p.state fsms.Connect) (λ h. change_live p.state fsms.Connect),
+                          ok_if (IsLive config records) p.changes.idle (items.Change p.state fsms.Idle) (λ h. change_live p.state fsms.Idle),
                           (
-                            ok_if (IsLive config records) p.changes.active (items.Change p.state fsms.Active) (λ h. change_live p.state fsms.Active),
+                            ok_if (IsLive config records) p.changes.connect (items.Change p.state fsms.Connect) (λ h. change_live p.state fsms.Connect),
                             (
-                              ok_if (IsLive config records) p.changes.open_sent (items.Change p.state fsms.OpenSent) (λ h. change_live p.state fsms.OpenSent),
+                              ok_if (IsLive config records) p.changes.active (items.Change p.state fsms.Active) (λ h. change_live p.state fsms.Active),
                               (
-                                ok_if (IsLive config records) p.changes.open_confirm (items.Change p.state fsms.OpenConfirm) (λ h. change_live p.state fsms.OpenConfirm),
+                                ok_if (IsLive config records) p.changes.open_sent (items.Change p.state fsms.OpenSent) (λ h. change_live p.state fsms.OpenSent),
                                 (
-                                  ok_if (IsLive config records) p.changes.established (items.Change p.state fsms.Established) (λ h. change_live p.state fsms.Established),
-                                  tt,
+                                  ok_if (IsLive config records) p.changes.open_confirm (items.Change p.state fsms.OpenConfirm) (λ h. change_live p.state fsms.OpenConfirm),
+                                  (
+                                    ok_if (IsLive config records) p.changes.established (items.Change p.state fsms.Established) (λ h. change_live p.state fsms.Established),
+                                    tt,
+                                  ),
                                 ),
                               ),
                             ),

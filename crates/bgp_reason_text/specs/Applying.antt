@@ -42,7 +42,7 @@ pub record AsksUpdate {X : Type 0} (link : Link) (octets : List ℕ) (asked : As
   pub applied : MatchOption asked.applied
       ((disabled : Families) → ¬ MayBeApplied link octets disabled) (IsApplying link octets)
   pub refused : (n : ℕ) → HasSubcode asked.refused n ↔ IsOutcome link octets (Reset n)
-  pub parts : AreUpdateParts link octets (map shown_part asked.parts.items)
+  pub parts : AreUpdateParts link link.received octets (map shown_part asked.parts.items)
 
 -- ---- the text
 

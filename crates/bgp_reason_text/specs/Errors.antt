@@ -34,7 +34,8 @@ open_errors_text errors =
     ++ (text_if errors.identifier (codes " 2/3")
     ++ (text_if errors.parameter (codes " 2/4")
     ++ (text_if errors.hold (codes " 2/6")
-    ++ text_if errors.capability (codes " 2/7"))))))
+    ++ (text_if errors.capability (codes " 2/7")
+    ++ text_if errors.role (codes " 2/11")))))))
 
 -- UPDATE Message Error (6.3)
 unfoldable pub update_errors_text : Subcodes → List ℕ

@@ -15,6 +15,7 @@ use Rattle.bgp_reason_text.specs.declared.items.Item.TheVariants.{ReceivedMessag
 use Rattle.bgp_reason_text.specs.declared.items.Item.TheVariants.{SentKeepalive, SentUpdate}
 use Rattle.bgp_reason_text.specs.declared.items.Item.TheVariants.{HeaderErrors, OpenErrors}
 use Rattle.bgp_reason_text.specs.declared.items.Item.TheVariants.{UpdateErrors, HoldTimerExpired}
+use Rattle.bgp_reason_text.specs.declared.items.Item.TheVariants.{SendHoldTimerExpired}
 use Rattle.bgp_reason_text.specs.declared.items.Item.TheVariants.{StateErrors, Cease, Change}
 use Rattle.bgp_reason_text.specs.Errors.{header_errors_text, open_errors_text}
 use Rattle.bgp_reason_text.specs.Errors.{update_errors_text, fsm_errors_text}
@@ -26,7 +27,7 @@ has_header_error errors = errors.marker || is_some errors.length || is_some erro
 abbrev pub has_open_error : OpenSubcodes → Bool
 has_open_error errors =
     errors.unspecific || errors.version || errors.peer_as || errors.identifier
-    || errors.parameter || errors.hold || errors.capability
+    || errors.parameter || errors.hold || errors.capability || errors.role
 
 abbrev pub has_update_error : Subcodes → Bool
 has_update_error errors =
@@ -44,7 +45,8 @@ abbrev pub has_sent : Possible → Bool
 has_sent p =
     p.own_open || p.keepalive || p.update || has_header_error p.header_errors
     || has_open_error p.open_errors || has_update_error p.update_errors
-    || is_some p.hold_timer_expired || has_fsm_error p.fsm_errors || p.cease
+    || is_some p.hold_timer_expired || p.send_hold_timer_expired || has_fsm_error p.fsm_errors
+    || p.cease
 
 -- Hold Timer Expired, from a second on
 abbrev pub expiry_item : Option ℕ → Option Item
@@ -69,6 +71,7 @@ all_items p =
     ∷ then_some (has_open_error p.open_errors) (OpenErrors p.open_errors)
     ∷ then_some (has_update_error p.update_errors) (UpdateErrors p.update_errors)
     ∷ expiry_item p.hold_timer_expired
+    ∷ then_some p.send_hold_timer_expired SendHoldTimerExpired
     ∷ then_some (has_fsm_error p.fsm_errors) (StateErrors p.fsm_errors)
     ∷ then_some p.cease Cease
     ∷ then_some p.changes.idle (Change p.state states.Idle)
@@ -102,6 +105,7 @@ item_text (UpdateErrors errors) =
     codes "sent notification" ++ (update_errors_text errors ++ codes " (RFC 4271 6.3)")
 item_text (HoldTimerExpired from) =
     codes "sent notification 4/0" ++ (from_text from ++ codes " (RFC 4271 6.5)")
+item_text SendHoldTimerExpired = codes "sent notification 8/0 (RFC 9687 4)"
 item_text (StateErrors errors) =
     codes "sent notification" ++ (fsm_errors_text errors ++ codes " (RFC 4271 6.6)")
 item_text Cease = codes "sent notification 6 (RFC 4271 6.7)"

@@ -45,7 +45,7 @@ AreSentLacks config link possible second octets (Open parts) =
     IsWholeOf (limit_on link) 1 octets × AreOwnOpenParts config octets parts
 AreSentLacks config link possible second octets (Update parts) =
     IsWholeOf (limit_on link) 2 octets
-    × IsSomeAnd link (λ l. AreUpdateParts l octets (map shown_part parts.items))
+    × IsSomeAnd link (λ l. AreUpdateParts l l.sent octets (map shown_part parts.items))
 AreSentLacks config link possible second octets lacks =
     (¬ IsWholeOf (limit_on link) 1 octets)
     × (IsNone link ⊎ (¬ IsWholeOf (limit_on link) 2 octets))
@@ -73,6 +73,7 @@ is_notification code (items.HeaderErrors errors) = code == 1
 is_notification code (items.OpenErrors errors) = code == 2
 is_notification code (items.UpdateErrors errors) = code == 3
 is_notification code (items.HoldTimerExpired from) = code == 4
+is_notification code items.SendHoldTimerExpired = code == 8
 is_notification code (items.StateErrors errors) = code == 5
 is_notification code items.Cease = code == 6
 is_notification code item = false

@@ -5,7 +5,6 @@ pub mod Room
 pub mod Record
 pub mod Errors
 pub mod Items
-pub mod Parameter
 pub mod Refusal
 pub mod Reasons
 pub mod Asked

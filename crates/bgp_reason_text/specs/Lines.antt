@@ -36,6 +36,8 @@ SaysItem config link second octets (items.UpdateErrors errors) =
     Tells octets (λ code subcode detail. (code ≡ 3) × HasSubcode errors subcode)
 SaysItem config link second octets (items.HoldTimerExpired from) =
     Tells octets (λ code subcode detail. (code ≡ 4) × (subcode ≡ 0) × (from ≤ second))
+SaysItem config link second octets items.SendHoldTimerExpired =
+    Tells octets (λ code subcode detail. (code ≡ 8) × (subcode ≡ 0))
 SaysItem config link second octets (items.StateErrors errors) =
     Tells octets (λ code subcode detail. (code ≡ 5) × HasFsmError errors subcode)
 SaysItem config link second octets items.Cease = Tells octets (λ code subcode detail. code ≡ 6)

@@ -8,6 +8,7 @@ use Rattle.bgp_wire.specs.Message.{IsKeepalive}
 use Rattle.bgp_open.specs.declared.config.Config.{Config}
 use Rattle.bgp_open.specs.declared.families.Families.{Families}
 use Rattle.bgp_open.specs.declared.link.Link.{Link}
+use Rattle.bgp_open.specs.declared.route_offer.RouteOffer.{RouteOffer}
 use Rattle.bgp_open.specs.Notification.{IsNotification}
 use Rattle.bgp_update.specs.Laws.{no_families}
 use Rattle.bgp_machine.specs.declared.fsm.Fsm.{Fsm}
@@ -16,6 +17,7 @@ use Rattle.bgp_machine.specs.Heard.{Announces}
 use Rattle.bgp_reason.specs.declared.kinds.Possible.{Possible}
 use Rattle.bgp_reason.specs.declared.told.Told.{Told}
 use Rattle.bgp_parts_text.specs.Names.{families_text}
+use Rattle.bgp_parts_text.specs.Offers.{offer_text}
 use Rattle.bgp_reason_text.specs.declared.notes.Notes.{Notes}
 use Rattle.bgp_reason_text.specs.Items.{has_sent}
 use Rattle.bgp_reason_text.specs.declared.style.Style.{Style}
@@ -55,11 +57,6 @@ IsExtendedOpen config octets = Announces config 1 octets × HasExtendedParameter
 abbrev pub IsNotificationOf : ℕ → List ℕ → Type 0
 IsNotificationOf code octets =
     (subcode : ℕ) × (detail : List ℕ) × IsNotification octets code subcode detail
-
-abbrev pub HoldsNotification : ℕ → ShownRecord → Type 0
-HoldsNotification code (Received second octets) = IsNotificationOf code octets
-HoldsNotification code (Sent second octets) = IsNotificationOf code octets
-HoldsNotification code (Changed second old new) = ⊥
 
 -- a NOTIFICATION is received, by its header, or the state changes to Idle
 abbrev pub EndsTheSession : Config → ShownRecord → Type 0
@@ -102,11 +99,9 @@ pub record AreNotes (config : Config) (told : Told) (link : Option Link) (last :
   pub open_came_first : IsTrue notes.open_came_first
       ↔ CameFirst config told.state (since_idle told last) shown
   pub add_path : notes.add_path ≡ no_families
-  pub ipv6_next_hops : IsFalse notes.ipv6_next_hops
+  pub without : notes.without ≡ None
   pub extended_parameters : IsTrue notes.extended_parameters
       ↔ IsExtendedOpen config (since_idle told last)
-  -- Send Hold Timer Expired (RFC 9687, 4.2)
-  pub send_hold_timer : IsTrue notes.send_hold_timer ↔ HoldsNotification 8 shown
   pub keepalive_without_hold : IsTrue notes.keepalive_without_hold
       ↔ (IsSentKeepalive shown × HasNoHold link × IsTrue possible.message)
   pub may_have_ended : IsTrue notes.may_have_ended
@@ -119,18 +114,17 @@ pub record AreEndNotes (config : Config) (told : Told) (last : List ℕ) (notes 
     pub begins_elsewhere : IsFalse notes.begins_elsewhere
     pub open_came_first : IsFalse notes.open_came_first
     pub add_path : notes.add_path ≡ no_families
-    pub ipv6_next_hops : IsFalse notes.ipv6_next_hops
+    pub without : notes.without ≡ None
     pub extended_parameters : IsTrue notes.extended_parameters
         ↔ IsExtendedOpen config (since_idle told last)
-    pub send_hold_timer : IsFalse notes.send_hold_timer
     pub keepalive_without_hold : IsFalse notes.keepalive_without_hold
     pub may_have_ended : IsFalse notes.may_have_ended
     pub may_be_missing : IsFalse notes.may_be_missing
 
 -- the same notes, and those on what both OPENs offer
-abbrev pub with_offers : Families → Bool → Notes → Notes
-with_offers add_path next_hops notes =
-    record notes { add_path = add_path; ipv6_next_hops = next_hops }
+abbrev pub with_offers : Families → Option RouteOffer → Notes → Notes
+with_offers add_path without notes =
+    record notes { add_path = add_path; without = without }
 
 -- both OPENs offer ADD-PATH (RFC 7911) for these families
 unfoldable pub add_path_said : Families → List ℕ
@@ -141,6 +135,15 @@ add_path_said families =
 abbrev pub add_path_line : Style → Families → List ℕ
 add_path_line style families =
     if families.v4 || families.v6 then line style (add_path_said families) None else []
+
+-- this is judged without what both OPENs offer; the OPEN that was sent offers this
+unfoldable pub without_said : RouteOffer → List ℕ
+without_said offer =
+    codes "note judged without what both OPENs offer: --offers " ++ offer_text offer
+
+abbrev pub without_line : Style → Option RouteOffer → List ℕ
+without_line style None = []
+without_line style (Some offer) = line style (without_said offer) None
 
 -- a note, where something is so
 abbrev pub note_line : Style → Bool → List ℕ → List ℕ
@@ -154,15 +157,12 @@ notes_text style notes =
     ++ (note_line style notes.open_came_first
     (codes "note an OPEN was received before one was sent: DelayOpen, or the order of packets")
     ++ (add_path_line style notes.add_path
-    ++ (note_line style notes.ipv6_next_hops
-    (codes "note both OPENs offer IPv6 next hops for v4, which is not judged")
+    ++ (without_line style notes.without
     ++ (note_line style notes.extended_parameters
     (codes "note the OPEN received has parameters of RFC 9072, which is not judged")
-    ++ (note_line style notes.send_hold_timer
-    (codes "note NOTIFICATION 8, Send Hold Timer Expired (RFC 9687), is not judged")
     ++ (note_line style notes.keepalive_without_hold
     (codes "note with hold 0 no keepalive is sent but the one behind the OPEN")
     ++ (note_line style notes.may_have_ended
     (codes "note the connection may have ended before what is owed was written")
     ++ note_line style notes.may_be_missing (codes
-    "note a message that was sent may be missing here, or stand later in the capture"))))))))
+    "note a message that was sent may be missing here, or stand later in the capture")))))))

@@ -1,22 +1,13 @@
 -- Why an OPEN has to be refused (RFC 4271, 6.2; RFC 6286, 2.2), with what it says.
 use Rattle.std.specs.Prelude.{◌≡◌, ◌↔◌, ℕ, List, [], Option, IsTrue, MatchOption}
-use Rattle.std.specs.Prelude.{if◌then◌else◌, unwrap_or}
 use Rattle.bgp_open.specs.declared.config.Config.{Config}
-use Rattle.bgp_open.specs.Offer.{as_number_of}
-use Rattle.bgp_open.specs.Open.{fixed_fields_of, capabilities_of, open_of, my_as_of, version_of}
+use Rattle.bgp_open.specs.Open.{fixed_fields_of, open_of, version_of}
 use Rattle.bgp_open.specs.OpenSubcodes.{IsOfOtherVersion, IsUnreadable, mandatory_faults}
 use Rattle.bgp_open.specs.OpenSubcodes.{peer_as_of}
 use Rattle.bgp_reason_text.specs.declared.refusal.FieldReasons.{FieldReasons}
 use Rattle.bgp_reason_text.specs.declared.refusal.OpenReasons.{OpenReasons}
 use Rattle.bgp_reason_text.specs.declared.refusal.OpenReasons.TheVariants.{Version, Malformed}
 use Rattle.bgp_reason_text.specs.declared.refusal.OpenReasons.TheVariants.{Fields}
-
--- the AS number that a peer says it has, by the fixed fields and the parameters of its OPEN
-abbrev pub peer_as_in : Config → List ℕ → List ℕ → ℕ
-peer_as_in config fields parameters =
-    if config.parts.as4
-    then unwrap_or (as_number_of (capabilities_of parameters)) (my_as_of fields)
-    else my_as_of fields
 
 -- the OPEN has to be refused by this subcode, whose data are free
 abbrev pub IsRefusedBy : Config → List ℕ → ℕ → Type 0

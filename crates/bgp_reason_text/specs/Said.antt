@@ -6,12 +6,13 @@ use Rattle.bgp_text.specs.Capture.{IsRecordText}
 use Rattle.bgp_reason_text.specs.declared.said.Said as declared
 use Rattle.bgp_reason_text.specs.declared.said.Said.TheVariants.{Record, State, Received, Update}
 use Rattle.bgp_reason_text.specs.declared.said.Said.TheVariants.{NotWhole, Item, AddPath, Note}
+use Rattle.bgp_reason_text.specs.declared.said.Said.TheVariants.{Without}
 use Rattle.bgp_reason_text.specs.declared.style.Style.{Style}
 use Rattle.bgp_reason_text.specs.Applying.{update_said}
 use Rattle.bgp_reason_text.specs.Asked.{received_said}
 use Rattle.bgp_reason_text.specs.Lacks.{but_text}
 use Rattle.bgp_reason_text.specs.NotWhole.{not_whole_said}
-use Rattle.bgp_reason_text.specs.Notes.{add_path_said}
+use Rattle.bgp_reason_text.specs.Notes.{add_path_said, without_said}
 use Rattle.bgp_reason_text.specs.Possible.{item_said}
 use Rattle.bgp_reason_text.specs.Record.{record_said, state_said}
 
@@ -27,6 +28,7 @@ Says style (NotWhole why) text = text ≡ not_whole_said why
 Says style (Item word item lacks) text =
     text ≡ item_said (but_text style.own_faults lacks.now) word.now item
 Says style (AddPath families) text = text ≡ add_path_said families
+Says style (Without offer) text = text ≡ without_said offer
 Says style (Note note) text = text ≡ note.now
 
 -- a capture of the session can hold the record

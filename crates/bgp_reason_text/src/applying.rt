@@ -70,7 +70,7 @@ impl<'a, A: Allocator + Copy> AskedUpdate<'a, A> {
         ensures { IfOk result (AsksUpdate link.now octets.entry.now) }
     {
         let outcomes = read_update(alloc, link, octets)?;
-        let parts = update_parts(alloc, link, octets)?;
+        let parts = update_parts(alloc, link, link.received, octets)?;
         let applying = Applying {
             as_withdrawal: is_withdrawal(link, parts.as_slice()),
             certain: outcomes.certain,

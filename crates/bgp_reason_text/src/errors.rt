@@ -57,6 +57,7 @@ pub(crate) fn put_open_errors<W: Sink>(lines: &mut Lines<'_, W>, errors: OpenSub
     put_if(lines, errors.parameter, " 2/4");
     put_if(lines, errors.hold, " 2/6");
     put_if(lines, errors.capability, " 2/7");
+    put_if(lines, errors.role, " 2/11");
 }
 
 /// Puts the subcodes of UPDATE Message Error, ascending.

@@ -20,7 +20,7 @@ use bgp_wire::HeaderFaults;
 use mrt::Sink;
 
 /// How many items there are.
-pub(crate) const ITEMS: usize = 16;
+pub(crate) const ITEMS: usize = 17;
 
 /// One of those that may follow.
 #[derive(Clone, Copy)]
@@ -41,6 +41,8 @@ pub(crate) enum Item {
     UpdateErrors(Subcodes),
     /// Hold Timer Expired, from this second on.
     HoldTimerExpired(Seconds),
+    /// Send Hold Timer Expired.
+    SendHoldTimerExpired,
     /// Finite State Machine Error with one of these.
     StateErrors(FsmErrors),
     /// Cease.
@@ -65,6 +67,7 @@ fn has_open_error(errors: &OpenSubcodes) -> bool
         || errors.parameter
         || errors.hold
         || errors.capability
+        || errors.role
 }
 
 pub(crate) fn has_update_error(errors: &Subcodes) -> bool
@@ -100,6 +103,7 @@ pub(crate) fn has_sent(possible: &Possible) -> bool
         || has_open_error(&possible.open_errors)
         || has_update_error(&possible.update_errors)
         || possible.hold_timer_expired.is_some()
+        || possible.send_hold_timer_expired
         || has_fsm_error(&possible.fsm_errors)
         || possible.cease
 }
@@ -132,6 +136,9 @@ pub(crate) fn items_of(possible: &Possible) -> [Option<Item>; ITEMS]
         has_open_error(&open_errors).then_some(Item::OpenErrors(open_errors)),
         has_update_error(&update_errors).then_some(Item::UpdateErrors(update_errors)),
         expiry(possible.hold_timer_expired),
+        possible
+            .send_hold_timer_expired
+            .then_some(Item::SendHoldTimerExpired),
         has_fsm_error(&fsm_errors).then_some(Item::StateErrors(fsm_errors)),
         possible.cease.then_some(Item::Cease),
         changes.idle.then_some(Item::Change(state, Fsm::Idle)),
@@ -218,6 +225,7 @@ pub(crate) fn put_item<W: Sink>(lines: &mut Lines<'_, W>, item: Item)
             lines.put(b" (RFC 4271 6.3)");
         }
         Item::HoldTimerExpired(from) => put_expiry(lines, from),
+        Item::SendHoldTimerExpired => lines.put(b"sent notification 8/0 (RFC 9687 4)"),
         Item::StateErrors(errors) => {
             lines.put(b"sent notification");
             put_fsm_errors(lines, errors);

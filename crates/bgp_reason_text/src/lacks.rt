@@ -92,7 +92,8 @@ fn sent_lacks<'a, A: Allocator + Copy>(
         return Ok(notification_lacks(possible, second, octets));
     };
     if is_whole(link, octets, MessageType::Update) {
-        return Ok(Lacks::Update(update_parts(alloc, &settled, octets)?));
+        let parts = update_parts(alloc, &settled, settled.sent, octets)?;
+        return Ok(Lacks::Update(parts));
     }
     Ok(notification_lacks(possible, second, octets))
 }
@@ -141,6 +142,7 @@ fn is_notification(code: u8, item: &Item) -> bool
         Item::OpenErrors(_) => code == 2,
         Item::UpdateErrors(_) => code == 3,
         Item::HoldTimerExpired(_) => code == 4,
+        Item::SendHoldTimerExpired => code == 8,
         Item::StateErrors(_) => code == 5,
         Item::Cease => code == 6,
         _ => false,

@@ -21,7 +21,6 @@ mod lacks;
 mod laws;
 mod notes;
 mod own_faults;
-mod parameters;
 mod possible;
 mod reasons;
 mod record;

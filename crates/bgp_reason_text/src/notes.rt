@@ -8,27 +8,24 @@ ghost use Rattle.bgp_machine.specs.Heard.{Announces};
 ghost use Rattle.bgp_text.specs.Lines.{Writes};
 ghost use Rattle.bgp_reason_text.specs.Notes.{BeginsElsewhere, WaitsForAnOpen, IsSent};
 ghost use Rattle.bgp_reason_text.specs.Notes.{IsSentKeepalive, HasExtendedParameters};
-ghost use Rattle.bgp_reason_text.specs.Notes.{IsNotificationOf, HoldsNotification};
 ghost use Rattle.bgp_reason_text.specs.Notes.{EndsTheSession, GoesOn, HasNoHold, IsSendOwed};
 ghost use Rattle.bgp_reason_text.specs.Notes.{CameFirst, IsExtendedOpen, since_idle};
 ghost use Rattle.bgp_reason_text.specs.Notes.{AreNotes, AreEndNotes, add_path_line, add_path_said};
-ghost use Rattle.bgp_reason_text.specs.Notes.{note_line, notes_text, with_offers};
+ghost use Rattle.bgp_reason_text.specs.Notes.{note_line, notes_text, with_offers, without_line};
+ghost use Rattle.bgp_reason_text.specs.Notes.{without_said};
 
 use crate::items::has_sent;
 use crate::said::Said;
 use crate::style::{Style, put_line};
 use crate::texts::has_some;
 use bgp_machine::{Fsm, received_limit};
-use bgp_open::{Config, Families, Link, read_notification};
-use bgp_parts_text::families_text;
+use bgp_open::{Config, Families, Link, RouteOffer};
+use bgp_parts_text::{families_text, put_offer};
 use bgp_reason::{Possible, Told};
 use bgp_text::Lines;
 use bgp_wire::{HeaderVerdict, MessageType, check_header, header_at, message_body};
 use mrt::{Record, Sink};
 use std::alloc::Global;
-
-/// The Error code of Send Hold Timer Expired (RFC 9687, 4.2).
-const SEND_HOLD_TIMER_EXPIRED: u8 = 8;
 
 /// No family.
 const NO_FAMILY: Families = Families {
@@ -46,14 +43,11 @@ pub struct Notes {
     /// Both OPENs offer ADD-PATH (RFC 7911) for these families, so that UPDATEs have identifiers of
     /// paths.
     pub add_path: Families,
-    /// Both OPENs offer IPv6 next hops of IPv4 routes (RFC 8950).
-    pub ipv6_next_hops: bool,
+    /// What the OPEN offers that was sent, where this is judged without what both OPENs offer.
+    pub without: Option<RouteOffer>,
     /// The OPEN that was received last has parameters of another form (RFC 9072), which is not
     /// read.
     pub extended_parameters: bool,
-    /// The record is a NOTIFICATION that no row of the session machine sends: Send Hold Timer
-    /// Expired (RFC 9687).
-    pub send_hold_timer: bool,
     /// A KEEPALIVE is sent though both OPENs settle no Hold Time.
     pub keepalive_without_hold: bool,
     /// What is owed was never sent, since the session ends.
@@ -124,27 +118,6 @@ fn has_extended_parameters(octets: &[u8]) -> bool
     ensures { IsTrue result ↔ HasExtendedParameters octets.now }
 {
     29 < octets.len() && octets[28] != 0 && octets[29] == 255
-}
-
-/// Whether octets are a NOTIFICATION of this code.
-fn is_notification(octets: &[u8], code: u8) -> bool
-    ensures { IsTrue result ↔ IsNotificationOf code octets.now }
-{
-    match read_notification(octets) {
-        Some(notification) => notification.code == code,
-        None => false,
-    }
-}
-
-/// Whether a record is a NOTIFICATION of this code, sent or received.
-fn holds_notification(shown: &Record<'_>, code: u8) -> bool
-    ensures { IsTrue result ↔ HoldsNotification code (shown_of shown.now) }
-{
-    match *shown {
-        Record::In(_, octets) => is_notification(octets, code),
-        Record::Out(_, octets) => is_notification(octets, code),
-        Record::Change(_, _, _) => false,
-    }
 }
 
 /// Whether a record ends the session: a NOTIFICATION that was received, or a change to Idle.
@@ -236,9 +209,8 @@ impl Notes {
             begins_elsewhere: begins_elsewhere(number, shown),
             open_came_first: came_first(config, told.state, received, shown),
             add_path: NO_FAMILY,
-            ipv6_next_hops: false,
+            without: None,
             extended_parameters: is_extended_open(config, received),
-            send_hold_timer: holds_notification(shown, SEND_HOLD_TIMER_EXPIRED),
             keepalive_without_hold: is_sent_keepalive(shown)
                 && has_no_hold(link)
                 && possible.message,
@@ -256,23 +228,22 @@ impl Notes {
             begins_elsewhere: false,
             open_came_first: false,
             add_path: NO_FAMILY,
-            ipv6_next_hops: false,
+            without: None,
             extended_parameters: is_extended_open(config, since_idle(told, last)),
-            send_hold_timer: false,
             keepalive_without_hold: false,
             may_have_ended: false,
             may_be_missing: false,
         }
     }
 
-    /// These notes, and those on what both OPENs offer that isn't judged: ADD-PATH for these
-    /// families, and IPv6 next hops of IPv4 routes.
-    pub fn with_offers(self, add_path: Families, ipv6_next_hops: bool) -> Notes
-        ensures { result ≡ with_offers add_path ipv6_next_hops self }
+    /// These notes, and those on what both OPENs offer: ADD-PATH for these families, and that this
+    /// is judged without it, with what the OPEN offers that was sent.
+    pub fn with_offers(self, add_path: Families, without: Option<RouteOffer>) -> Notes
+        ensures { result ≡ with_offers add_path without self }
     {
         Notes {
             add_path,
-            ipv6_next_hops,
+            without,
             ..self
         }
     }
@@ -293,6 +264,23 @@ fn put_add_path<W: Sink>(lines: &mut Lines<'_, W>, style: &Style, families: Fami
 {
     if has_some(families) {
         put_line::<W, Global>(lines, style, &Said::AddPath(families), None);
+    }
+}
+
+/// That this is judged without what both OPENs offer, and what the OPEN offers that was sent.
+pub(crate) fn put_without_said<W: Sink>(lines: &mut Lines<'_, W>, offer: RouteOffer)
+    ensures { Writes lines.old lines.new (without_said offer) }
+{
+    lines.put(b"note judged without what both OPENs offer: --offers ");
+    put_offer(lines, offer);
+}
+
+/// The line on it, if it is so.
+fn put_without<W: Sink>(lines: &mut Lines<'_, W>, style: &Style, without: Option<RouteOffer>)
+    ensures { Writes lines.old lines.new (without_line style.now without) }
+{
+    if let Some(offer) = without {
+        put_line::<W, Global>(lines, style, &Said::Without(offer), None);
     }
 }
 
@@ -322,23 +310,12 @@ pub fn put_notes<W: Sink>(lines: &mut Lines<'_, W>, style: &Style, notes: &Notes
         "note an OPEN was received before one was sent: DelayOpen, or the order of packets",
     );
     put_add_path(lines, style, notes.add_path);
-    put_note(
-        lines,
-        style,
-        notes.ipv6_next_hops,
-        "note both OPENs offer IPv6 next hops for v4, which is not judged",
-    );
+    put_without(lines, style, notes.without);
     put_note(
         lines,
         style,
         notes.extended_parameters,
         "note the OPEN received has parameters of RFC 9072, which is not judged",
-    );
-    put_note(
-        lines,
-        style,
-        notes.send_hold_timer,
-        "note NOTIFICATION 8, Send Hold Timer Expired (RFC 9687), is not judged",
     );
     put_note(
         lines,

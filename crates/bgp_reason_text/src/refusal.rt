@@ -1,15 +1,15 @@
 //! Why an OPEN has to be refused (RFC 4271, 6.2; RFC 6286, 2.2).
 
 ghost use Rattle.std.specs.Prelude.{◌≡◌, ◌↔◌, IsTrue, IfSome, IfNone};
-ghost use Rattle.bgp_open.specs.Open.{IsOpen, fixed_fields_of, parameters_of};
-ghost use Rattle.bgp_open.specs.Open.{version_of, my_as_of, hold_of, id_of};
-ghost use Rattle.bgp_reason_text.specs.Refusal.{peer_as_in, IsRefusedBy, AreFieldReasons};
-ghost use Rattle.bgp_reason_text.specs.Refusal.{AreReasons};
+ghost use Rattle.bgp_open.specs.Open.{IsOpen, fixed_fields_of, open_of, version_of};
+ghost use Rattle.bgp_open.specs.OpenFault.{IsReadable};
+ghost use Rattle.bgp_open.specs.OpenSubcodes.{peer_as_of};
+ghost use Rattle.bgp_open.specs.declared.config.Config.{Config as TheConfig};
+ghost use Rattle.bgp_reason_text.specs.Refusal.{AreFieldReasons, AreReasons, IsRefusedBy};
 
-use crate::parameters::offered_as_number;
-use bgp_open::{Config, OpenFault, open_faults, read_open};
+use bgp_open::{Config, Open, OpenFault, open_faults, read_fields, read_open};
+use bgp_parts::offered_as_number;
 use bgp_wire::{MessageType, message_body};
-use byteorder::{BigEndian, ByteOrder};
 
 /// How many octets the fields have that are in every OPEN.
 const FIXED_LEN: usize = 10; // version 1, AS 2, hold time 2, identifier 4, parameters' length 1
@@ -40,13 +40,13 @@ pub enum OpenReasons {
     Fields(FieldReasons),
 }
 
-/// The fixed fields and the parameters of a whole OPEN.
-fn open_parts(octets: &[u8]) -> Option<(&[u8; FIXED_LEN], &[u8])>
-    ensures fields { IfSome result (λ parts. parts.0.now ≡ fixed_fields_of octets.entry.now) }
-    ensures parameters { IfSome result (λ parts. parts.1.now ≡ parameters_of octets.entry.now) }
+/// The fields that are in every OPEN, if the octets are a whole one.
+fn fixed_fields(octets: &[u8]) -> Option<&[u8; FIXED_LEN]>
+    ensures fields { IfSome result (λ fields. fields.now ≡ fixed_fields_of octets.entry.now) }
     ensures none { IfNone result (¬ IsOpen octets.entry.now) }
 {
-    message_body(MessageType::Open, octets)?.split_first_chunk::<FIXED_LEN>()
+    let (fields, _) = message_body(MessageType::Open, octets)?.split_first_chunk::<FIXED_LEN>()?;
+    Some(fields)
 }
 
 /// Version.
@@ -57,38 +57,23 @@ fn read_version(fields: &[u8; FIXED_LEN]) -> u8
     fields[0]
 }
 
-/// My Autonomous System.
-#[tactic(auto, unfolding(bgp_open::specs::Open::my_as_of))]
-fn read_my_as(fields: &[u8; FIXED_LEN]) -> u16
-    ensures { result ≡ my_as_of fields.now }
+/// The version of a whole OPEN; 0 of octets that are none.
+fn version(octets: &[u8]) -> u8
+    ensures { IsOpen octets.now → result ≡ version_of (fixed_fields_of octets.now) }
 {
-    BigEndian::read_u16(&fields[1..])
+    match fixed_fields(octets) {
+        Some(fields) => read_version(fields),
+        None => 0,
+    }
 }
 
-/// Hold Time, in seconds.
-#[tactic(auto, unfolding(bgp_open::specs::Open::hold_of))]
-fn read_hold(fields: &[u8; FIXED_LEN]) -> u16
-    ensures { result ≡ hold_of fields.now }
+/// The AS number that a peer says it has (RFC 6793, 4.1).
+fn peer_as(config: &Config, message: &Open<'_>) -> u32
+    ensures { result ≡ peer_as_of config.now message.now }
 {
-    BigEndian::read_u16(&fields[3..])
-}
-
-/// BGP Identifier.
-#[tactic(auto, unfolding(bgp_open::specs::Open::id_of))]
-fn read_id(fields: &[u8; FIXED_LEN]) -> u32
-    ensures { result ≡ id_of fields.now }
-{
-    BigEndian::read_u32(&fields[5..])
-}
-
-/// The AS number that a peer says it has, by the fields and the parameters of its OPEN (RFC 6793,
-/// 4.1).
-fn peer_as(config: &Config, fields: &[u8; FIXED_LEN], parameters: &[u8]) -> u32
-    ensures { result ≡ peer_as_in config.now fields.now parameters.now }
-{
-    let my_as = u32::from(read_my_as(fields));
+    let my_as = u32::from(message.my_as());
     if config.parts.as4 {
-        offered_as_number(parameters).unwrap_or(my_as)
+        offered_as_number(message).unwrap_or(my_as)
     } else {
         my_as
     }
@@ -101,23 +86,31 @@ fn is_refused_by(config: &Config, octets: &[u8], subcode: u8) -> bool
     open_faults(config, octets).must.contains(subcode, &[])
 }
 
-/// The fields of an OPEN that are at fault.
-fn field_reasons(
-    config: &Config,
-    octets: &[u8],
-    fields: &[u8; FIXED_LEN],
-    parameters: &[u8],
-) -> FieldReasons
-    requires fields { fields.now ≡ fixed_fields_of octets.now }
-    requires parameters { parameters.now ≡ parameters_of octets.now }
+/// The fields of an OPEN that are at fault, which says this.
+fn field_reasons(config: &Config, octets: &[u8], message: &Open<'_>) -> FieldReasons
+    requires { message.now ≡ open_of octets.now }
     ensures { AreFieldReasons config.now octets.now result }
 {
     FieldReasons {
         other_parameter: is_refused_by(config, octets, 4),
-        peer_as: is_refused_by(config, octets, 2).then_some(peer_as(config, fields, parameters)),
+        peer_as: is_refused_by(config, octets, 2).then_some(peer_as(config, message)),
         configured_as: config.parts.peer_as,
-        identifier: is_refused_by(config, octets, 3).then_some(read_id(fields)),
-        hold: is_refused_by(config, octets, 6).then_some(read_hold(fields)),
+        identifier: is_refused_by(config, octets, 3).then_some(message.id()),
+        hold: is_refused_by(config, octets, 6).then_some(message.hold()),
+    }
+}
+
+/// Why the fields of an OPEN can't be told.
+#[tactic(auto, using(bgp_parts::proofs::ReadableOpen::readable_with_other))]
+fn unreadable(octets: &[u8]) -> OpenReasons
+    requires { ¬ IsReadable octets.now }
+    ensures { (config : TheConfig) → AreReasons config octets.now result }
+{
+    match read_open(octets) {
+        Err(OpenFault::Version) => OpenReasons::Version(version(octets)),
+        Err(OpenFault::Malformed) => OpenReasons::Malformed,
+        Err(OpenFault::Parameter) => unreachable!(),
+        Ok(_) => unreachable!(),
     }
 }
 
@@ -125,14 +118,8 @@ fn field_reasons(
 pub fn open_reasons(config: &Config, octets: &[u8]) -> OpenReasons
     ensures { AreReasons config.now octets.now result }
 {
-    let Some((fields, parameters)) = open_parts(octets) else {
-        return OpenReasons::Malformed;
-    };
-    match read_open(octets) {
-        Err(OpenFault::Version) => OpenReasons::Version(read_version(fields)),
-        Err(OpenFault::Malformed) => OpenReasons::Malformed,
-        Ok(_) | Err(OpenFault::Parameter) => {
-            OpenReasons::Fields(field_reasons(config, octets, fields, parameters))
-        }
+    match read_fields(octets) {
+        Some(message) => OpenReasons::Fields(field_reasons(config, octets, &message)),
+        None => unreadable(octets),
     }
 }

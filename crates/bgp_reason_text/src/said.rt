@@ -8,13 +8,13 @@ use crate::applying::{AskedUpdate, put_update_said};
 use crate::asked::{Asked, put_received_said};
 use crate::items::Item;
 use crate::lacks::Lacks;
-use crate::notes::put_add_path_said;
+use crate::notes::{put_add_path_said, put_without_said};
 use crate::possible::put_item_said;
 use crate::record::{put_record_said, put_state_said};
 use crate::style::Style;
 use crate::whole::{NotWhole, put_not_whole_said};
 use bgp_machine::Fsm;
-use bgp_open::Families;
+use bgp_open::{Families, RouteOffer};
 use bgp_prefix::Session;
 use bgp_text::Lines;
 use mrt::{Record, Sink};
@@ -37,6 +37,8 @@ pub(crate) enum Said<'a, A: Allocator = Global> {
     Item(&'static [u8], Item, &'a Lacks<'a, A>),
     /// That both OPENs offer ADD-PATH for these families.
     AddPath(Families),
+    /// That this is judged without what both OPENs offer, where the one that was sent offers this.
+    Without(RouteOffer),
     /// This note.
     Note(&'static str),
 }
@@ -61,6 +63,7 @@ pub(crate) fn put_said<W: Sink, A: Allocator>(
         Said::NotWhole(why) => put_not_whole_said(lines, *why),
         Said::Item(word, item, lacks) => put_item_said(lines, style.own_faults, word, *item, lacks),
         Said::AddPath(families) => put_add_path_said(lines, *families),
+        Said::Without(offer) => put_without_said(lines, *offer),
         Said::Note(note) => lines.put(note.as_bytes()),
     }
 }

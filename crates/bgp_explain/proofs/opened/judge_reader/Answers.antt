@@ -12,7 +12,9 @@ use Rattle.bgp_tool.specs.declared.front.WithFront.{WithFront}
 use Rattle.bgp_tool.specs.declared.note.CaptureCommand.TheVariants.{Judge}
 use Rattle.bgp_tool.specs.declared.seen.Seen.{Seen}
 use Rattle.bgp_tool.proofs.ToldCapture.{of_writer, of_reader}
-use Rattle.bgp_explain.specs.Opened.{IsOfConfederation, ReportsOpened, confederation_in, fault_told}
+use Rattle.bgp_explain.specs.declared.left_out.LeftOut.{LeftOut}
+use Rattle.bgp_explain.specs.LeftOut.{IsLeftOutBy}
+use Rattle.bgp_explain.specs.Opened.{IsOfConfederation, ReportsOpened, confederation_in, fault_told, left_out_in}
 use Rattle.bgp_explain.specs.Written.{WritesReport}
 use Rattle.bgp_explain.specs.declared.report.Report.{Report}
 use Rattle.bgp_explain.specs.declared.report.Report.TheVariants.{VerdictAlone, WithReason}
@@ -45,6 +47,7 @@ returns-clause-reported g c =
     let explained = c.explain_with-explained.result in
     let shows = explained.totals.seen in
     let flag = c.is_of_confederation-confederation.result in
+    let left = c.left_out_of-left_out.result in
     let fresh : reader_state first.source ≡ fresh_reader c.args.reader =
     ap reader_state c.new-source.ensures.source ∙ c.new.ensures in
     let refused = c.refused_by-refused.result in
@@ -70,14 +73,14 @@ returns-clause-reported g c =
     let skips = ap Some c.skipped-skipped.ensures in
     let by_report : (r : Report) → WritesReport (λ a b. Takes g.W.Write.contents (writer_state a) (writer_state b)) (λ a. (writer_state a).failures) config explained c.args.sink.now c.write_report-status.new.sink status r
     → ReportsOpened g.R.Read.remaining g.W.Write.contents config g.T.Tracker.may_lack file c.args.reader old new
-    (record { outcome = record { status = status; skipped = Some c.skipped-skipped.result; note = c.if-failures.note }; confederation = flag }) r =
+    (record { outcome = record { status = status; skipped = Some c.skipped-skipped.result; note = c.if-failures.note }; confederation = flag; left_out = left }) r =
     λ r. elim r as (λ (k : Report). WritesReport (λ a b. Takes g.W.Write.contents (writer_state a) (writer_state b)) (λ a. (writer_state a).failures) config explained c.args.sink.now c.write_report-status.new.sink status k
     → ReportsOpened g.R.Read.remaining g.W.Write.contents config g.T.Tracker.may_lack file c.args.reader old new
-    (record { outcome = record { status = status; skipped = Some c.skipped-skipped.result; note = c.if-failures.note }; confederation = flag }) k) [
+    (record { outcome = record { status = status; skipped = Some c.skipped-skipped.result; note = c.if-failures.note }; confederation = flag; left_out = left }) k) [
       | VerdictAlone ↦ λ wrote.
           let told = subst
           (λ (s : ReaderState _). JudgedOf (Takes g.W.Write.contents) (λ state. state.failures) (Gives g.R.Read.remaining) (λ state. state.has_ended)
-          (λ state. state.failures) config s last g.T.Tracker.may_lack old new found status seen.front.items refused shows (confederation_in explained.answer explained.totals))
+          (λ state. state.failures) config s last g.T.Tracker.may_lack old new found status seen.front.items refused shows (confederation_in explained.answer explained.totals) (left_out_in explained.answer explained.totals))
           fresh
           (judges_read (λ (a : WithFront (FromRead _)). reader_state a.source) (Takes g.W.Write.contents) (λ state. state.failures) (Gives g.R.Read.remaining)
           (λ state. state.has_ended) (λ state. state.failures) config first seen g.T.Tracker.may_lack old new (λ (a : WithFront (FromRead _)). a.front.items) found
@@ -93,11 +96,12 @@ returns-clause-reported g c =
               skipped = skips;
             };
             confederation = subst (λ (b : Bool). IsTrue b ↔ IsOfConfederation told.read.holds.code (records_of told.read.pieces)) (sym c.is_of_confederation-confederation.ensures) told.is_of_one;
+            left_out = subst (λ (l : LeftOut). IsLeftOutBy config told.read.holds.code (records_of told.read.pieces) l) (sym c.left_out_of-left_out.ensures) told.is_left_out;
           }
       | WithReason ↦ λ (text, detailed, said, wrote).
           let told = subst
           (λ (s : ReaderState _). ToldOf (Takes g.W.Write.contents) (λ state. state.failures) (Gives g.R.Read.remaining) (λ state. state.has_ended)
-          (λ state. state.failures) config s last g.T.Tracker.may_lack old new found status seen.front.items refused shows (confederation_in explained.answer explained.totals))
+          (λ state. state.failures) config s last g.T.Tracker.may_lack old new found status seen.front.items refused shows (confederation_in explained.answer explained.totals) (left_out_in explained.answer explained.totals))
           fresh
           (explains_read (λ (a : WithFront (FromRead _)). reader_state a.source) (Takes g.W.Write.contents) (λ state. state.failures) (Gives g.R.Read.remaining)
           (λ state. state.has_ended) (λ state. state.failures) config first seen g.T.Tracker.may_lack old new (λ (a : WithFront (FromRead _)). a.front.items) found
@@ -113,6 +117,7 @@ returns-clause-reported g c =
               skipped = skips;
             };
             confederation = subst (λ (b : Bool). IsTrue b ↔ IsOfConfederation told.read.holds.code (records_of told.read.pieces)) (sym c.is_of_confederation-confederation.ensures) told.is_of_one;
+            left_out = subst (λ (l : LeftOut). IsLeftOutBy config told.read.holds.code (records_of told.read.pieces) l) (sym c.left_out_of-left_out.ensures) told.is_left_out;
           }
     ] in
     by_report c.args.report c.write_report-status.ensures.writes

@@ -3,13 +3,13 @@ use Rattle.bgp_explain.specs.Progress.{IsFound, IsLast}
 use Rattle.bgp_explain.proofs.progress.stopped.Goals as goal
 
 pub returns : goal.returns
-returns g c = λ config before shown said found.
+returns g c = λ before shown said found.
     let last = subst (λ o. IsLast before o) c.in-Some.is said.last_message in
-    let is = subst (λ o. IfSome o (IsFound config before shown)) c.in-Some-found.is found in (
+    let is = subst (λ o. IfSome o (IsFound c.args.config.now before shown)) c.in-Some-found.is found in (
       record {
         told = said.told;
         link = said.sending.link;
-        unjudged = c.of_both.ensures before said.sending.offers;
+        left_out = c.left_out.ensures before said.sending.offers;
         last_message = last;
         possible = is.possible;
         asked = is.asked;

@@ -10,7 +10,7 @@ returns g c = λ records stands said.
       record {
         told = said.told;
         link = said.sending.link;
-        unjudged = c.of_both.ensures records said.sending.offers;
+        left_out = c.left_out.ensures records said.sending.offers;
         last_message = last;
         possible = c.in-Ok.ensures.exact records stands state same;
         asked = c.in-Ok.ensures.each records stands state same;

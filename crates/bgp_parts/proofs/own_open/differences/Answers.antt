@@ -22,4 +22,5 @@ returns c = record {
   extended = is_part _ _ _ _ _ _ c.offers_extended.ensures refl
       c.unless_equal-6.ensures.some c.unless_equal-6.ensures.sent c.unless_equal-6.ensures.configured c.unless_equal-6.ensures.none
       (λ e. search rules) (λ e. search rules);
+  offers = c.offers_part.ensures;
 }

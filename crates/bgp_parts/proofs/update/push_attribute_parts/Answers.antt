@@ -8,7 +8,7 @@ pub loop-attr-init : goal.loop-attr-init
 loop-attr-init g c =
     let all : c.new-attrs.result.attributes ≡ attributes_of c.args.field.now =
     ap (λ (s : Split). s.attributes) c.new-attrs.ensures.same in
-    record { count = refl; twice_count = refl; walked = begun c.args.link.now _ 256 256 _ _ all }
+    record { count = refl; twice_count = refl; walked = begun c.args.link.now c.args.form _ 256 256 _ _ all }
 
 pub loop-attr-preserved-in-Continue-1 : goal.loop-attr-preserved-in-Continue-1
 loop-attr-preserved-in-Continue-1 g c =
@@ -18,7 +18,7 @@ loop-attr-preserved-in-Continue-1 g c =
     record {
       count = length-set c.loop-attr.seen c.index_of-index.result true ∙ c.loop-attr.invariant.count;
       twice_count = c.loop-attr.invariant.twice_count;
-      walked = first_seen _ _ _ _ _ _ _ _ _ _ c.index_of-index.result c.loop-attr.invariant.walked c.in-Some.ensures.steps.0
+      walked = first_seen _ _ _ _ _ _ _ _ _ _ _ c.index_of-index.result c.loop-attr.invariant.walked c.in-Some.ensures.steps.0
           c.index_of-index.ensures.same inside new c.in_ok-push_first_faults.ensures;
     }
 
@@ -31,6 +31,6 @@ loop-attr-preserved-in-Continue-branch-2 g c =
     record {
       count = c.loop-attr.invariant.count;
       twice_count = length-set c.loop-attr.repeated c.index_of-index.result true ∙ c.loop-attr.invariant.twice_count;
-      walked = second_seen _ _ _ _ _ _ _ _ _ _ c.index_of-index.result c.loop-attr.invariant.walked c.in-Some.ensures.steps.0
+      walked = second_seen _ _ _ _ _ _ _ _ _ _ _ c.index_of-index.result c.loop-attr.invariant.walked c.in-Some.ensures.steps.0
           c.index_of-index.ensures.same inside old new c.in_ok-push.ensures;
     }

@@ -8,7 +8,7 @@ abbrev pub invariant-loop-attr : goal.invariant-loop-attr
 invariant-loop-attr g l = record {
   count : length l.seen ≡ 256;
   twice_count : length l.repeated ≡ 256;
-  walked : Walked l.link (map shown_part l.out.items) (map shown_part l.fn.out.items) l.seen l.repeated l.attrs.attributes (attributes_of l.field);
+  walked : Walked l.link l.form (map shown_part l.out.items) (map shown_part l.fn.out.items) l.seen l.repeated l.attrs.attributes (attributes_of l.field);
 }
 
 abbrev pub decreases-loop-attr : goal.decreases-loop-attr

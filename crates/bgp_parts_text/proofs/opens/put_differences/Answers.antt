@@ -1,7 +1,7 @@
 use Rattle.std.proofs.Common.{codes}
 use Rattle.bgp_text.proofs.Pieces.{Joins, and_then}
-use Rattle.bgp_parts_text.specs.Opens.{number_piece, id_piece, families_piece, as_number_piece, extended_piece}
-use Rattle.bgp_parts_text.proofs.Separated.{six_pieces}
+use Rattle.bgp_parts_text.specs.Opens.{number_piece, id_piece, families_piece, as_number_piece, extended_piece, offers_piece}
+use Rattle.bgp_parts_text.proofs.Separated.{seven_pieces}
 use Rattle.bgp_parts_text.proofs.opens.put_differences.Goals as goal
 
 pub returns : goal.returns
@@ -9,8 +9,8 @@ returns g c =
     let law : Joins g.W.Sink = record { joined = g.met.W.Sink.joined } in
     let told = c.args.told.now in
     rw
-    (six_pieces c.args.before.now c.put_number-first.result.now c.put_number-second.result.now c.put_id-third.result.now c.put_families-fourth.result.now c.put_as_number-fifth.result.now
-    (number_piece (codes "as ") told.my_as) (number_piece (codes "hold ") told.hold) (id_piece told.id) (families_piece told.families) (as_number_piece told.as_number) (extended_piece told.extended)
-    c.put_number-first.ensures.next c.put_number-second.ensures.next c.put_id-third.ensures.next c.put_families-fourth.ensures.next c.put_as_number-fifth.ensures.next)
+    (seven_pieces c.args.before.now c.put_number-first.result.now c.put_number-second.result.now c.put_id-third.result.now c.put_families-fourth.result.now c.put_as_number-fifth.result.now c.put_extended-sixth.result.now
+    (number_piece (codes "as ") told.my_as) (number_piece (codes "hold ") told.hold) (id_piece told.id) (families_piece told.families) (as_number_piece told.as_number) (extended_piece told.extended) (offers_piece told.offers)
+    c.put_number-first.ensures.next c.put_number-second.ensures.next c.put_id-third.ensures.next c.put_families-fourth.ensures.next c.put_as_number-fifth.ensures.next c.put_extended-sixth.ensures.next)
     (and_then law c.put_number-first.ensures.writes (and_then law c.put_number-second.ensures.writes (and_then law c.put_id-third.ensures.writes
-    (and_then law c.put_families-fourth.ensures.writes (and_then law c.put_as_number-fifth.ensures.writes c.put_extended.ensures)))))
+    (and_then law c.put_families-fourth.ensures.writes (and_then law c.put_as_number-fifth.ensures.writes (and_then law c.put_extended-sixth.ensures.writes c.put_offers.ensures))))))

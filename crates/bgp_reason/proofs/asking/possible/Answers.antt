@@ -11,8 +11,9 @@ returns-clause-each g c = λ records stands same last. record {
   open_errors = c.in_ok-open_errors.ensures c.args.config.now records stands;
   update_errors = c.in_ok-update_errors.ensures c.args.config.now records stands;
   hold_timer_expired = c.in_ok-least_expiry.ensures c.args.config.now records stands;
+  send_hold_timer_expired = c.in_ok-may_notify.ensures c.args.config.now records stands;
   fsm_errors = c.in_ok-fsm_errors.ensures c.args.config.now records stands;
-  cease = c.in_ok-may_notify.ensures c.args.config.now records stands;
+  cease = c.in_ok-may_notify-2.ensures c.args.config.now records stands;
   changes = c.in_ok-changes.ensures c.args.config.now records stands same;
 }
 

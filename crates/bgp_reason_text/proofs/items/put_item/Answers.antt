@@ -22,6 +22,10 @@ pub returns-in-Cease : goal.returns-in-Cease
 unfolding item_text
 returns-in-Cease g c = rw c.in-Cease.is c.put-in-Cease.ensures
 
+pub returns-in-SendHoldTimerExpired : goal.returns-in-SendHoldTimerExpired
+unfolding item_text
+returns-in-SendHoldTimerExpired g c = rw c.in-SendHoldTimerExpired.is c.put-in-SendHoldTimerExpired.ensures
+
 pub returns-in-HeaderErrors : goal.returns-in-HeaderErrors
 unfolding item_text
 returns-in-HeaderErrors g c =

@@ -1,6 +1,15 @@
-use Rattle.std.proofs.Common.{subst}
+use Rattle.std.proofs.Common.{◌≡◌, List, None, refl, subst}
+use Rattle.bgp_prefix.specs.Shown.{ShownRecord}
+use Rattle.bgp_open.specs.declared.config.Config.{Config}
 use Rattle.bgp_judge.specs.Verdict.{IsVerdict}
+use Rattle.bgp_judge.specs.declared.verdict.Verdict.{Verdict}
+use Rattle.bgp_judge.specs.declared.verdict.Verdict.TheVariants.{Yes, No, Unfinished}
+use Rattle.bgp_tool.specs.declared.seen.Seen.{Seen}
+use Rattle.bgp_tool.specs.Seen.{seen_in}
+use Rattle.bgp_explain.specs.declared.tally.Tally.{Tally}
 use Rattle.bgp_explain.specs.Progress.{AreSaidBy}
+use Rattle.bgp_explain.specs.Reason.{AreSummed, HasReason}
+use Rattle.bgp_explain.specs.Tally.{tally_of}
 use Rattle.bgp_explain.proofs.Keeping.{no_for, no_is, none_yet, some_stop, unfinished_for}
 use Rattle.bgp_explain.proofs.so_far.Progress.conclude.Goals as goal
 
@@ -10,7 +19,7 @@ returns-in-Some-clause-is g c = λ records at.
     let said : AreSaidBy c.args.config.now stop.before c.args.self.told c.args.self.sending c.args.self.last_message =
     record { told = stop.tells.told; sending = stop.tells.sending; last_message = stop.tells.last_message } in (
       no_is c.args.config.now records c.args.self _ stop,
-      no_for c.args.config.now records c.args.self _ stop g.row.A.Denot c.stopped-reason.result (c.stopped-reason.ensures c.args.config.now stop.before stop.shown said stop.found),
+      no_for c.args.config.now records c.args.self _ stop g.row.A.Denot c.stopped-reason.result (c.stopped-reason.ensures stop.before stop.shown said stop.found),
       tt,
     )
 
@@ -21,4 +30,25 @@ returns-in-Unfinished-clause-is g c = λ records at.
       unfinished_for c.args.config.now records g.row.A.Denot c.unfinished-reason.result
           (c.unfinished-reason.ensures records so.0 (record { told = so.2.told; sending = so.2.sending; last_message = so.2.last_message })),
       tt,
+    )
+
+-- a verdict may be without a reason
+without : {X : Type 0} (Y : Type 0) (config : Config) (records : List ShownRecord) (verdict : Verdict X)
+    → HasReason {Y = Y} config records verdict None
+without Y config records (Yes ends) = refl
+without Y config records (No count) = tt
+without Y config records Unfinished = tt
+
+summed : {X : Type 0} (records : List ShownRecord) (verdict : Verdict X) (tally : Tally) (seen : Seen)
+    → tally ≡ tally_of records → seen ≡ seen_in records → AreSummed records verdict tally seen
+summed records (Yes ends) tally seen is_tally is_seen = (is_tally, is_seen)
+summed records (No count) tally seen is_tally is_seen = tt
+summed records Unfinished tally seen is_tally is_seen = tt
+
+pub returns-in_default-2-clause-is : goal.returns-in_default-2-clause-is
+returns-in_default-2-clause-is g c = λ records at.
+    let so = none_yet (g.T.Tracker.stands_for c.args.tracker.now) c.args.config.now records c.args.self c.args.self.stop c.in_default.is at in (
+      c.in_ok-verdict.ensures c.args.config.now records so.0 so.1,
+      without g.row.A.Denot c.args.config.now records c.in_ok-verdict.verdict,
+      summed records c.in_ok-verdict.verdict c.args.self.tally c.args.self.seen so.2.tally so.2.seen,
     )
