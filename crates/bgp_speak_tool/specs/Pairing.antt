@@ -9,6 +9,7 @@ use Rattle.bgp_machine.specs.State.{fsm_of}
 use Rattle.bgp_machine.specs.declared.fsm.Fsm.TheVariants.{Established}
 use Rattle.bgp_open.specs.declared.config.Config.{Config}
 use Rattle.bgp_open.specs.declared.config.ConfigParts.{ConfigParts}
+use Rattle.bgp_open.specs.RouteOffer.{nothing}
 use Rattle.mrt.specs.FromWrite.{WriterState, Takes}
 use Rattle.bgp_speaker.specs.Choosing.{Drives}
 use Rattle.bgp_speaker.specs.Core.{CoreState, InputValue}
@@ -32,7 +33,8 @@ right_next_hop6 = 8193 * 2 ^ 112 + 3512 * 2 ^ 96 + 2
 
 -- An end of this AS and address, the latter being its BGP Identifier, too, for a peer of that AS
 -- and address: it proposes 90 seconds, both families and AS numbers of four octets, delays no OPEN,
--- waits four minutes for the peer's, and offers neither route refresh nor extended messages.
+-- waits four minutes for the peer's, and offers neither route refresh nor extended messages, nor
+-- anything about routes.
 pub record IsEnd (parts : ConfigParts) (own_as own other_as other : ℕ) : Type 0 where
   pub local_as : parts.local_as ≡ own_as
   pub peer_as : parts.peer_as ≡ other_as
@@ -46,6 +48,7 @@ pub record IsEnd (parts : ConfigParts) (own_as own other_as other : ℕ) : Type 
   pub local : parts.session.local ≡ V4 own
   pub refresh : parts.session.refresh ≡ refreshes.NotOffered
   pub extended : parts.session.extended ≡ false
+  pub offers : parts.offers ≡ nothing
 
 -- From one state of an end to another its core was told some inputs, one after another, and what
 -- its capture is written to took just the text of what the core showed, as far as it tells.

@@ -2,14 +2,14 @@
 
 ghost use Rattle.std.specs.Prelude.{◌≡◌, ◌<◌, ◌≤◌, ◌+◌, ◌^◌, IfOk, OnOk, IsTrue, IsFalse, length};
 ghost use Rattle.bgp_prefix.specs.Address.{family_of};
-ghost use Rattle.bgp_speaker.specs.Core.{fresh_core};
+ghost use Rattle.bgp_speaker.specs.Core.{fresh_core, without_offers};
 ghost use Rattle.mrt.specs.FromWrite.{fresh_writer, writer_state};
 ghost use Rattle.bgp_speak_tool.specs.Pairing.{Drove, IsEnd, IsEstablished};
 ghost use Rattle.bgp_speak_tool.specs.Pairing.{left_address, left_next_hop6};
 ghost use Rattle.bgp_speak_tool.specs.Pairing.{right_address, right_next_hop6};
 
 use bgp_machine::Fsm;
-use bgp_open::{Config, ConfigParts, Families};
+use bgp_open::{Config, ConfigParts, Families, RouteOffer};
 use bgp_prefix::{Address, Prefix, RouteRefresh, Seconds, Session};
 use bgp_speaker::{Core, Input};
 use bgp_talk::{again, each_record_is_short, write_records};
@@ -72,6 +72,7 @@ fn config_of(local_as: u32, local: u32, peer_as: u32, peer: u32) -> Config
             refresh: RouteRefresh::NotOffered,
             extended: false,
         },
+        offers: RouteOffer::NOTHING,
     };
     Config { parts }
 }
@@ -148,7 +149,7 @@ impl<S: Read + Write + Drop, W: Write + Drop, A: Allocator + Copy> End<S, W, A> 
         requires { family_of settings.now.config.parts.session.peer
             ≡ family_of settings.now.config.parts.session.local }
         ensures core { result.core ≡ fresh_core (record {
-          config = settings.now.config;
+          config = without_offers settings.now.config;
           next_hop4 = settings.now.next_hop4;
           next_hop6 = settings.now.next_hop6;
         }) }

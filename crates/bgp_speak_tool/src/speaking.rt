@@ -2,7 +2,7 @@
 
 ghost use Rattle.std.specs.Prelude.{◌≡◌, ◌<◌, ◌≤◌, ◌^◌, option_to_list};
 ghost use Rattle.bgp_prefix.specs.Address.{family_of};
-ghost use Rattle.bgp_speaker.specs.Core.{fresh_core};
+ghost use Rattle.bgp_speaker.specs.Core.{fresh_core, without_offers};
 ghost use Rattle.bgp_talk.specs.Account.{first_owed};
 ghost use Rattle.bgp_talk.specs.Talk.{capture_of};
 ghost use Rattle.bgp_talk.specs.declared.wire.Connection.TheVariants.{NotAsked};
@@ -84,7 +84,7 @@ pub fn speak_session<A: Allocator + Copy, W: Wire, C: Sink, O: Sink>(
     requires output { O.failures output.old < 2 ^ 63 }
     ensures speaks { Speaks W.tells C.takes O.takes C.failures O.failures (capture_of config.now)
         (first_owed own.now passive) turns (fresh_core (record {
-          config = config.now;
+          config = without_offers config.now;
           next_hop4 = next_hop4;
           next_hop6 = next_hop6;
         })) wire.old wire.new capture.old capture.new output.old output.new result }
@@ -128,7 +128,7 @@ pub fn speak_as<A: Allocator + Copy, W: Wire, C: Sink, O: Sink>(
     ensures speaks { Speaks W.tells C.takes O.takes C.failures O.failures (capture_of config.now)
         (first_owed (option_to_list speaking.now.announce) (listens speaking.now.start))
         speaking.now.turns (fresh_core (record {
-          config = config.now;
+          config = without_offers config.now;
           next_hop4 = speaking.now.next_hop4;
           next_hop6 = speaking.now.next_hop6;
         })) wire.old wire.new capture.old capture.new output.old output.new result }

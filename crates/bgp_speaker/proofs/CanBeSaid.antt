@@ -5,7 +5,7 @@ use Rattle.bgp_open.specs.declared.link.Link.{Link}
 use Rattle.bgp_machine.specs.declared.hearing.Heard.{Heard}
 use Rattle.bgp_machine.specs.declared.hearing.Heard.TheVariants as heards
 use Rattle.bgp_machine.specs.declared.rows.HiddenRow.{HiddenRow}
-use Rattle.bgp_machine.specs.declared.rows.HiddenRow.TheVariants.{Starts, Listens, Stops, Ceases, RetryExpires, HoldExpires, KeepaliveExpires, DelayExpires, ConnectionOpens, DelayBegins, ConnectionFails, Announces, Notes}
+use Rattle.bgp_machine.specs.declared.rows.HiddenRow.TheVariants.{Starts, Listens, Stops, Ceases, RetryExpires, HoldExpires, SendHoldExpires, KeepaliveExpires, DelayExpires, ConnectionOpens, DelayBegins, ConnectionFails, Announces, Notes}
 use Rattle.bgp_machine.specs.declared.rows.ReceivedRow.{ReceivedRow}
 use Rattle.bgp_machine.specs.declared.rows.ReceivedRow.TheVariants.{Ignores, Accepts, Overlooks, Collides, Drops, NamesFault, ReportsError, Establishes, Renews, Applies}
 use Rattle.bgp_machine.specs.declared.state.Head.{Head}
@@ -14,7 +14,7 @@ use Rattle.bgp_machine.specs.declared.want.FaultSet.{FaultSet}
 use Rattle.bgp_machine.specs.declared.want.FaultSet.TheVariants as sets
 use Rattle.bgp_machine.specs.declared.want.Unexpected.TheVariants.{InOpenSent, InOpenConfirm, InEstablished}
 use Rattle.bgp_machine.specs.declared.want.Want.{Want}
-use Rattle.bgp_machine.specs.declared.want.Want.TheVariants.{OwnOpen, KeepAlive, CleanUpdate, Cease, HoldExpired, MachineError, Faults}
+use Rattle.bgp_machine.specs.declared.want.Want.TheVariants.{OwnOpen, KeepAlive, CleanUpdate, Cease, HoldExpired, SendHoldExpired, MachineError, Faults}
 use Rattle.bgp_machine.specs.Heard.{Hears}
 use Rattle.bgp_machine.specs.Lists.{Each}
 use Rattle.bgp_machine.specs.Owed.{EachOwedSetHasFault, HasFault}
@@ -65,6 +65,7 @@ own_said (OpenConfirm link timer) config t told ConnectionFails wants turn h tel
 own_said (OpenConfirm link timer) config t told Notes wants turn h tells = none_of (CanBeSaid (Some link) told) wants h.0
 own_said (Established link timer) config t told Ceases wants turn h tells = one_of (CanBeSaid (Some link) told) Cease wants h.0 tt
 own_said (Established link timer) config t told HoldExpires wants turn h tells = one_of (CanBeSaid (Some link) told) HoldExpired wants h.1 tt
+own_said (Established link timer) config t told SendHoldExpires wants turn h tells = one_of (CanBeSaid (Some link) told) SendHoldExpired wants h.1 tt
 own_said (Established link timer) config t told KeepaliveExpires wants turn h tells = one_of (CanBeSaid (Some link) told) KeepAlive wants h.1 tt
 own_said (Established link timer) config t told ConnectionFails wants turn h tells = none_of (CanBeSaid (Some link) told) wants h.0
 own_said (Established link timer) config t told Announces wants turn h tells = one_of (CanBeSaid (Some link) told) CleanUpdate wants h.0 (tells refl)
@@ -144,6 +145,7 @@ one_said link told OwnOpen other some = tt
 one_said link told KeepAlive other some = tt
 one_said link told Cease other some = tt
 one_said link told HoldExpired other some = tt
+one_said link told SendHoldExpired other some = tt
 one_said link told (MachineError state) other some = tt
 
 each_said : (link : Option Link) (told : Option News) (wants : List Want) → Each IsNoUpdate wants

@@ -58,7 +58,7 @@ pub chooses_run : (s s2 : CoreState) (input : InputValue) (second : ℕ) (record
 chooses_run s s2 input second records x =
     subst (λ (v : CoreState). Run s.speaker.config s.moment.session records v.moment.session) (sym x.3) (moves_run s input _ records x.0 x.1 x.2)
 
-same_speaker : (s s2 : CoreState) (input : InputValue) (second : ℕ) (records : List ShownRecord) → Chooses s input second records s2 → s2.speaker ≡ s.speaker
+pub same_speaker : (s s2 : CoreState) (input : InputValue) (second : ℕ) (records : List ShownRecord) → Chooses s input second records s2 → s2.speaker ≡ s.speaker
 same_speaker s s2 input second records x = ap (λ (v : CoreState). v.speaker) x.3
 
 pub drives_run : EachDriveIsARun

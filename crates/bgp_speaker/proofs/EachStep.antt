@@ -173,7 +173,7 @@ greets_kept speaker R k kept t (OpenConfirm own timer) (Active d) m e records x 
 greets_kept speaker R k kept t (OpenConfirm own timer) (OpenSent o) m e records x = rests_kept speaker R k t m e records x.0 x.1
 greets_kept speaker R k kept t (OpenConfirm own timer) (OpenConfirm l o) m e records x = rests_kept speaker R k t m e records x.0 x.1
 
-hears_kept : (speaker : Speaker) (R : ℕ → Moment → List ShownRecord → Moment → Type 0) → IsKept speaker R → IsKeptOn speaker R
+pub hears_kept : (speaker : Speaker) (R : ℕ → Moment → List ShownRecord → Moment → Type 0) → IsKept speaker R → IsKeptOn speaker R
     → (kept : List PrefixBits) (t : ℕ) (m e : Moment) (messages : List (List ℕ)) (records : List ShownRecord) → AllByRecursion (IsHeardMessage (received_limit speaker.config)) messages
     → HearsEach speaker kept t m messages records e → R t m records e
 hears_kept speaker R k on kept t m e [] records each x = rests_kept speaker R k t m e records x.0 x.1
@@ -193,7 +193,7 @@ hears_kept speaker R k on kept t m e (octets ∷ messages) records each x = elim
       (hears_kept speaker R k on kept t greeted e messages others each.1 there.8)))
 ]
 
-row_kept : (speaker : Speaker) (R : ℕ → Moment → List ShownRecord → Moment → Type 0) → IsKept speaker R
+pub row_kept : (speaker : Speaker) (R : ℕ → Moment → List ShownRecord → Moment → Type 0) → IsKept speaker R
     → (input : InputValue) (t : ℕ) (m e : Moment) (picked : Option HiddenRow) (records : List ShownRecord)
     → Picks m.session.head input m.sent_at t picked → TakesRow speaker t m picked records e → R t m records e
 row_kept speaker R k input t m e None records p x = rests_kept speaker R k t m e records x.0 x.1

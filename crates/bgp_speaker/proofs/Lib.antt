@@ -22,3 +22,5 @@ mod OneRow
 mod OneSaying
 mod OneChoice
 mod KeptInOrder
+mod OneConfig
+mod PlainLinks

@@ -11,7 +11,7 @@ use Rattle.bgp_update.specs.Subcodes.{SubcodesAreSets}
 use Rattle.bgp_machine.specs.declared.hearing.Heard.{Heard}
 use Rattle.bgp_machine.specs.declared.hearing.Heard.TheVariants.{TooShort, ValidOpen, FaultyHeader, InvalidOpen, BadVersion, Notification, Keepalive, Update}
 use Rattle.bgp_machine.specs.declared.rows.HiddenRow.{HiddenRow}
-use Rattle.bgp_machine.specs.declared.rows.HiddenRow.TheVariants.{Starts, Listens, Stops, Ceases, RetryExpires, HoldExpires, KeepaliveExpires, DelayExpires, ConnectionOpens, DelayBegins, ConnectionFails, Announces, Notes}
+use Rattle.bgp_machine.specs.declared.rows.HiddenRow.TheVariants.{Starts, Listens, Stops, Ceases, RetryExpires, HoldExpires, SendHoldExpires, KeepaliveExpires, DelayExpires, ConnectionOpens, DelayBegins, ConnectionFails, Announces, Notes}
 use Rattle.bgp_machine.specs.declared.rows.ReceivedRow.{ReceivedRow}
 use Rattle.bgp_machine.specs.declared.rows.ReceivedRow.TheVariants.{Ignores, Accepts, Overlooks, Collides, Drops, NamesFault, ReportsError, Establishes, Renews, Applies}
 use Rattle.bgp_machine.specs.declared.state.Head.{Head}
@@ -90,6 +90,7 @@ own_once (OpenConfirm link timer) config t ConnectionFails wants others turn oth
 own_once (OpenConfirm link timer) config t Notes wants others turn other x y = (x.0 ∙ sym y.0, x.1 ∙ sym y.1)
 own_once (Established link timer) config t Ceases wants others turn other x y = (x.0 ∙ sym y.0, x.1 ∙ sym y.1)
 own_once (Established link timer) config t HoldExpires wants others turn other x y = (x.1 ∙ sym y.1, x.2 ∙ sym y.2)
+own_once (Established link timer) config t SendHoldExpires wants others turn other x y = (x.1 ∙ sym y.1, x.2 ∙ sym y.2)
 own_once (Established link timer) config t KeepaliveExpires wants others turn other x y = (x.1 ∙ sym y.1, x.2 ∙ sym y.2)
 own_once (Established link timer) config t ConnectionFails wants others turn other x y = (x.0 ∙ sym y.0, x.1 ∙ sym y.1)
 own_once (Established link timer) config t Announces wants others turn other x y = (x.0 ∙ sym y.0, x.1 ∙ sym y.1)

@@ -13,7 +13,7 @@ use Rattle.bgp_update.specs.Changes.{RouteChanges}
 use Rattle.bgp_machine.specs.declared.want.FaultSet.{FaultSet}
 use Rattle.bgp_machine.specs.declared.want.FaultSet.TheVariants.{Header, Open, Update}
 use Rattle.bgp_machine.specs.declared.want.Want.{Want}
-use Rattle.bgp_machine.specs.declared.want.Want.TheVariants.{OwnOpen, KeepAlive, CleanUpdate, Cease, HoldExpired, MachineError, Faults}
+use Rattle.bgp_machine.specs.declared.want.Want.TheVariants.{OwnOpen, KeepAlive, CleanUpdate, Cease, HoldExpired, SendHoldExpired, MachineError, Faults}
 use Rattle.bgp_machine.specs.Want.{IsLeastFault, NamesFault}
 use Rattle.bgp_speaker.specs.declared.speaker.Speaker.{Speaker}
 use Rattle.bgp_speaker.specs.Choice.{sent_after}
@@ -67,7 +67,8 @@ version_alone subcodes subcode others e (inr (inr (inl x))) = absurd (let a = x.
 version_alone subcodes subcode others e (inr (inr (inr (inl x)))) = absurd (let a = x.0 in omega arith)
 version_alone subcodes subcode others e (inr (inr (inr (inr (inl x))))) = absurd (let a = x.0 in omega arith)
 version_alone subcodes subcode others e (inr (inr (inr (inr (inr (inl x)))))) = absurd (let a = x.0 in omega arith)
-version_alone subcodes subcode others e (inr (inr (inr (inr (inr (inr x)))))) = absurd (let a = x.0 in omega arith)
+version_alone subcodes subcode others e (inr (inr (inr (inr (inr (inr (inl x))))))) = absurd (let a = x.0 in omega arith)
+version_alone subcodes subcode others e (inr (inr (inr (inr (inr (inr (inr x))))))) = absurd (let a = x.0 in omega arith)
 
 open_error : (subcodes : OpenSubcodes) (code subcode : ℕ) (detail : List ℕ) → code ≡ 2 → NamesOpenError subcodes subcode detail → IsFreeOrFixed (Open subcodes) code subcode detail
 open_error subcodes code subcode detail e (inl x) = inl (e, inl x)
@@ -121,6 +122,7 @@ said_once speaker link kind changes KeepAlive octets others x y = inl (x ∙ sym
 said_once speaker link kind changes CleanUpdate octets others x y = inr (changes_alike link changes octets others x y)
 said_once speaker link kind changes Cease octets others x y = inl (x ∙ sym y)
 said_once speaker link kind changes HoldExpired octets others x y = inl (x ∙ sym y)
+said_once speaker link kind changes SendHoldExpired octets others x y = inl (x ∙ sym y)
 said_once speaker link kind changes (MachineError state) octets others x y = inl (x ∙ sym y)
 said_once speaker link kind changes (Faults faults) octets others x y = inl (fault_once faults octets others x y)
 

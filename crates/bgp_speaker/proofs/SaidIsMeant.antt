@@ -19,7 +19,7 @@ use Rattle.bgp_machine.specs.declared.fsm.Fsm.{Fsm}
 use Rattle.bgp_machine.specs.declared.want.FaultSet.{FaultSet}
 use Rattle.bgp_machine.specs.declared.want.FaultSet.TheVariants as sets
 use Rattle.bgp_machine.specs.declared.want.Want.{Want}
-use Rattle.bgp_machine.specs.declared.want.Want.TheVariants.{OwnOpen, KeepAlive, CleanUpdate, Cease, HoldExpired, MachineError, Faults}
+use Rattle.bgp_machine.specs.declared.want.Want.TheVariants.{OwnOpen, KeepAlive, CleanUpdate, Cease, HoldExpired, SendHoldExpired, MachineError, Faults}
 use Rattle.bgp_machine.specs.Shows.{PaysAll}
 use Rattle.bgp_machine.specs.Want.{IsLeastFault, Fulfils, Meets, limit_on, subcode_of}
 use Rattle.bgp_speaker.specs.declared.speaker.Speaker.{Speaker}
@@ -97,6 +97,8 @@ said_meets speaker link kind changes Cease octets e =
     notification_meets speaker.config link Cease 6 2 [] octets (omega arith) e (6, 2, [], written_notification 6 2 [] (omega arith), refl)
 said_meets speaker link kind changes HoldExpired octets e =
     notification_meets speaker.config link HoldExpired 4 0 [] octets (omega arith) e (4, 0, [], written_notification 4 0 [] (omega arith), (refl, refl))
+said_meets speaker link kind changes SendHoldExpired octets e =
+    notification_meets speaker.config link SendHoldExpired 8 0 [] octets (omega arith) e (8, 0, [], written_notification 8 0 [] (omega arith), (refl, refl))
 said_meets speaker link kind changes (MachineError state) octets e =
     notification_meets speaker.config link (MachineError state) 5 (subcode_of state) (kind ∷ []) octets (omega arith) e
     (5, subcode_of state, kind ∷ [], written_notification 5 (subcode_of state) (kind ∷ []) (omega arith), (refl, inr refl))
@@ -128,6 +130,7 @@ said_frame limit speaker None kind changes CleanUpdate octets says = absurd says
 said_frame limit speaker (Some link) kind changes CleanUpdate octets says = plain_is_frame limit octets says.0
 said_frame limit speaker link kind changes Cease octets e = notification_is_frame limit 6 2 [] octets (omega arith) e
 said_frame limit speaker link kind changes HoldExpired octets e = notification_is_frame limit 4 0 [] octets (omega arith) e
+said_frame limit speaker link kind changes SendHoldExpired octets e = notification_is_frame limit 8 0 [] octets (omega arith) e
 said_frame limit speaker link kind changes (MachineError state) octets e =
     notification_is_frame limit 5 (subcode_of state) (kind ∷ []) octets (omega arith) e
 said_frame limit speaker link kind changes (Faults faults) octets says =

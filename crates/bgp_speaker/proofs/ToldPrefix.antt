@@ -7,7 +7,9 @@ use Rattle.bgp_prefix.specs.declared.family.Family.{Family}
 use Rattle.bgp_prefix.specs.declared.family.Family.TheVariants.{V4, V6}
 use Rattle.bgp_wire.specs.Framing.{IsFrame}
 use Rattle.bgp_wire.specs.Header.{limit_with}
+use Rattle.bgp_open.specs.declared.families.Families.{Families}
 use Rattle.bgp_open.specs.declared.link.Link.{Link}
+use Rattle.bgp_open.specs.Families.{contains}
 use Rattle.bgp_path.specs.declared.as_path.SegmentKind.TheVariants.{Sequence}
 use Rattle.bgp_path.specs.Path.{PathValue}
 use Rattle.bgp_path.proofs.Repeats.{none_are_distinct}
@@ -21,6 +23,7 @@ use Rattle.bgp_update_writer.specs.Short.{HasFewNumbers, IsShortPath, OnePrefixC
 use Rattle.bgp_update_writer.specs.Update.{Announces, Withdraws}
 use Rattle.bgp_update_writer.specs.Written.{update_octets}
 use Rattle.bgp_speaker.specs.declared.speaker.Speaker.{Speaker}
+use Rattle.bgp_speaker.specs.Core.{IsPlain}
 use Rattle.bgp_speaker.specs.Said.{SaysChanges, announced, own_hop, own_path}
 use Rattle.bgp_speaker.proofs.PlainFrames.{short_is_plain}
 
@@ -92,11 +95,26 @@ own_path_is_for_peer speaker link family = (
   none_are_distinct,
 )
 
-pub sendable : (speaker : Speaker) (link : Link) (prefix : PrefixBits) (family : Family) (path : PathValue) → family ≡ prefix.family
+-- what is sent on a plain link has no path identifiers
+unidentified : (link : Link) → IsPlain (Some link) → (family : Family) → IsTrue (contains link.sent.identified family) → ⊥
+unidentified link plain V4 is = let never : IsTrue false = subst (λ (f : Families). IsTrue f.v4) plain.1 is in absurd (cc)
+unidentified link plain V6 is = let never : IsTrue false = subst (λ (f : Families). IsTrue f.v6) plain.1 is in absurd (cc)
+
+pub sendable : (speaker : Speaker) (link : Link) (prefix : PrefixBits) (family : Family) (path : PathValue) → IsPlain (Some link) → family ≡ prefix.family
     → path ≡ own_path speaker link family → IsSendable link (Announces family (prefix ∷ []) path)
-sendable speaker link prefix family path same e =
+sendable speaker link prefix family path plain same e =
     subst (λ (p : PathValue). IsSendable link (Announces family (prefix ∷ []) p)) (sym e) (
-      All-cons (λ (p : PrefixBits). p.family ≡ family) prefix [] (sym same) (All-nil (λ (p : PrefixBits). p.family ≡ family)),
-      hop_fits speaker family,
-      own_path_is_for_peer speaker link family,
+      unidentified link plain family,
+      (
+        All-cons (λ (p : PrefixBits). p.family ≡ family) prefix [] (sym same) (All-nil (λ (p : PrefixBits). p.family ≡ family)),
+        hop_fits speaker family,
+        own_path_is_for_peer speaker link family,
+      ),
     )
+
+pub withdrawn_sendable : (link : Link) (prefix : PrefixBits) (family : Family) → IsPlain (Some link) → family ≡ prefix.family
+    → IsSendable link (Withdraws family (prefix ∷ []))
+withdrawn_sendable link prefix family plain same = (
+  unidentified link plain family,
+  All-cons (λ (p : PrefixBits). p.family ≡ family) prefix [] (sym same) (All-nil (λ (p : PrefixBits). p.family ≡ family)),
+)

@@ -5,7 +5,7 @@ use Rattle.bgp_open.specs.declared.config.Config.{Config}
 use Rattle.bgp_machine.specs.declared.hearing.Heard.{Heard}
 use Rattle.bgp_machine.specs.declared.hearing.Heard.TheVariants.{TooShort, ValidOpen, FaultyHeader, InvalidOpen, BadVersion, Notification, Keepalive, Update}
 use Rattle.bgp_machine.specs.declared.rows.HiddenRow.{HiddenRow}
-use Rattle.bgp_machine.specs.declared.rows.HiddenRow.TheVariants.{Starts, Listens, Stops, Ceases, RetryExpires, HoldExpires, KeepaliveExpires, DelayExpires, ConnectionOpens, DelayBegins, ConnectionFails, Announces, Notes}
+use Rattle.bgp_machine.specs.declared.rows.HiddenRow.TheVariants.{Starts, Listens, Stops, Ceases, RetryExpires, HoldExpires, SendHoldExpires, KeepaliveExpires, DelayExpires, ConnectionOpens, DelayBegins, ConnectionFails, Announces, Notes}
 use Rattle.bgp_machine.specs.declared.state.Head.{Head}
 use Rattle.bgp_machine.specs.declared.state.Head.TheVariants.{Idle, Connect, Active, OpenSent, OpenConfirm, Established}
 use Rattle.bgp_machine.specs.declared.want.Want.{Want}
@@ -28,6 +28,7 @@ row_undelayed Idle config t Stops wants turn taken is before = absurd is
 row_undelayed Idle config t Ceases wants turn taken is before = absurd is
 row_undelayed Idle config t RetryExpires wants turn taken is before = absurd is
 row_undelayed Idle config t HoldExpires wants turn taken is before = absurd is
+row_undelayed Idle config t SendHoldExpires wants turn taken is before = absurd is
 row_undelayed Idle config t KeepaliveExpires wants turn taken is before = absurd is
 row_undelayed Idle config t DelayExpires wants turn taken is before = absurd is
 row_undelayed Idle config t ConnectionOpens wants turn taken is before = absurd is
@@ -41,6 +42,7 @@ row_undelayed (Connect false) config t Stops wants turn taken is before = ap (λ
 row_undelayed (Connect false) config t Ceases wants turn taken is before = absurd is
 row_undelayed (Connect false) config t RetryExpires wants turn taken is before = ap (λ (v : Turn). is_delayed v.head) is.1
 row_undelayed (Connect false) config t HoldExpires wants turn taken is before = absurd is
+row_undelayed (Connect false) config t SendHoldExpires wants turn taken is before = absurd is
 row_undelayed (Connect false) config t KeepaliveExpires wants turn taken is before = absurd is
 row_undelayed (Connect false) config t DelayExpires wants turn taken is before = ap (λ (v : Turn). is_delayed v.head) is.2
 row_undelayed (Connect false) config t ConnectionOpens wants turn taken is before = ap (λ (v : Turn). is_delayed v.head) is.1
@@ -55,6 +57,7 @@ row_undelayed (Active false) config t Stops wants turn taken is before = ap (λ 
 row_undelayed (Active false) config t Ceases wants turn taken is before = ap (λ (v : Turn). is_delayed v.head) is.2
 row_undelayed (Active false) config t RetryExpires wants turn taken is before = ap (λ (v : Turn). is_delayed v.head) is.1
 row_undelayed (Active false) config t HoldExpires wants turn taken is before = absurd is
+row_undelayed (Active false) config t SendHoldExpires wants turn taken is before = absurd is
 row_undelayed (Active false) config t KeepaliveExpires wants turn taken is before = absurd is
 row_undelayed (Active false) config t DelayExpires wants turn taken is before = ap (λ (v : Turn). is_delayed v.head) is.2
 row_undelayed (Active false) config t ConnectionOpens wants turn taken is before = ap (λ (v : Turn). is_delayed v.head) is.1
@@ -69,6 +72,7 @@ row_undelayed (OpenSent timer) config t Stops wants turn taken is before = absur
 row_undelayed (OpenSent timer) config t Ceases wants turn taken is before = ap (λ (v : Turn). is_delayed v.head) is.1
 row_undelayed (OpenSent timer) config t RetryExpires wants turn taken is before = absurd is
 row_undelayed (OpenSent timer) config t HoldExpires wants turn taken is before = ap (λ (v : Turn). is_delayed v.head) is.2
+row_undelayed (OpenSent timer) config t SendHoldExpires wants turn taken is before = absurd is
 row_undelayed (OpenSent timer) config t KeepaliveExpires wants turn taken is before = absurd is
 row_undelayed (OpenSent timer) config t DelayExpires wants turn taken is before = absurd is
 row_undelayed (OpenSent timer) config t ConnectionOpens wants turn taken is before = absurd is
@@ -82,6 +86,7 @@ row_undelayed (OpenConfirm link timer) config t Stops wants turn taken is before
 row_undelayed (OpenConfirm link timer) config t Ceases wants turn taken is before = ap (λ (v : Turn). is_delayed v.head) is.1
 row_undelayed (OpenConfirm link timer) config t RetryExpires wants turn taken is before = absurd is
 row_undelayed (OpenConfirm link timer) config t HoldExpires wants turn taken is before = ap (λ (v : Turn). is_delayed v.head) is.2
+row_undelayed (OpenConfirm link timer) config t SendHoldExpires wants turn taken is before = absurd is
 row_undelayed (OpenConfirm link timer) config t KeepaliveExpires wants turn taken is before = ap (λ (v : Turn). is_delayed v.head) is.2
 row_undelayed (OpenConfirm link timer) config t DelayExpires wants turn taken is before = absurd is
 row_undelayed (OpenConfirm link timer) config t ConnectionOpens wants turn taken is before = absurd is
@@ -95,6 +100,7 @@ row_undelayed (Established link timer) config t Stops wants turn taken is before
 row_undelayed (Established link timer) config t Ceases wants turn taken is before = ap (λ (v : Turn). is_delayed v.head) is.1
 row_undelayed (Established link timer) config t RetryExpires wants turn taken is before = absurd is
 row_undelayed (Established link timer) config t HoldExpires wants turn taken is before = ap (λ (v : Turn). is_delayed v.head) is.2
+row_undelayed (Established link timer) config t SendHoldExpires wants turn taken is before = ap (λ (v : Turn). is_delayed v.head) is.2
 row_undelayed (Established link timer) config t KeepaliveExpires wants turn taken is before = ap (λ (v : Turn). is_delayed v.head) is.2
 row_undelayed (Established link timer) config t DelayExpires wants turn taken is before = absurd is
 row_undelayed (Established link timer) config t ConnectionOpens wants turn taken is before = absurd is

@@ -34,7 +34,7 @@ use Rattle.bgp_machine.specs.declared.rows.HiddenRow.{HiddenRow}
 use Rattle.bgp_speaker.specs.Choice.{Acts, Greets, TakesOwn, TakesOn, change_records, sent_after}
 use Rattle.bgp_speaker.specs.Choosing.{HearsBytes, SendsAt, TakesPicked, sent_in}
 use Rattle.bgp_wire.specs.Held.{Held}
-use Rattle.bgp_speaker.specs.Core.{IsConnected}
+use Rattle.bgp_speaker.specs.Core.{IsConnected, IsPlain}
 use Rattle.bgp_speaker.specs.Core.{Moment, InputValue, Start, Passive, Stop, Connected, Failed}
 use Rattle.bgp_speaker.specs.Core.{Tick}
 
@@ -84,9 +84,10 @@ abbrev pub prefix_told : News → PrefixBits
 prefix_told (news.Announced prefix) = prefix
 prefix_told (news.Withdrawn prefix) = prefix
 
--- there is something to tell, and its family is in use on the link
+-- there is something to tell, its family is in use on the link, and that is plain
 abbrev pub CanBeTold : Option Link → Option News → Type 0
-CanBeTold (Some link) (Some told) = IsTrue (contains link.families (prefix_told told).family)
+CanBeTold (Some link) (Some told) =
+    IsTrue (contains link.families (prefix_told told).family) × IsPlain (Some link)
 CanBeTold link told = ⊥
 
 -- a message can be made for the want

@@ -4,9 +4,10 @@ use Rattle.std.specs.List.Sorted.{IsStrictlySortedBy}
 use Rattle.bgp_prefix.specs.PrefixOrder.{prefix_cmp}
 use Rattle.bgp_prefix.specs.Shown.{ShownRecord}
 use Rattle.bgp_machine.specs.Run.{IsComplete, Run, end_of, is_delayed}
+use Rattle.bgp_machine.specs.State.{link_at}
 use Rattle.bgp_speaker.specs.declared.speaker.Speaker.{Speaker}
 use Rattle.bgp_speaker.specs.Choosing.{Drives}
-use Rattle.bgp_speaker.specs.Core.{CoreState, InputValue, fresh_core}
+use Rattle.bgp_speaker.specs.Core.{CoreState, InputValue, IsPlain, OffersNothing, fresh_core}
 use Rattle.bgp_speaker.specs.Shown.{input_value}
 use Rattle.bgp_speaker.specs.declared.input.Input.{Input}
 
@@ -34,6 +35,14 @@ EachDriveIsUndelayed =
     (records : List ShownRecord)
     → Drives (fresh_core speaker) inputs records e
     → is_delayed e.moment.session.head ≡ false
+
+-- a core that offers nothing settles nothing but plain routes, whatever its peer offers
+abbrev pub EachLinkIsPlain : Type 0
+EachLinkIsPlain =
+    (speaker : Speaker) (e : CoreState) (inputs : List (ℕ × InputValue))
+    (records : List ShownRecord)
+    → OffersNothing speaker.config → Drives (fresh_core speaker) inputs records e
+    → IsPlain (link_at e.moment.session.head)
 
 -- the prefixes that the core keeps ascend, whatever it was told: so they stand in one order, and
 -- none twice

@@ -21,7 +21,8 @@ use Rattle.bgp_update_writer.specs.Applied.{IsJustApplied}
 use Rattle.bgp_machine.specs.declared.want.FaultSet.{FaultSet}
 use Rattle.bgp_machine.specs.declared.want.Want.{Want}
 use Rattle.bgp_machine.specs.declared.want.Want.TheVariants.{OwnOpen, KeepAlive, CleanUpdate, Cease}
-use Rattle.bgp_machine.specs.declared.want.Want.TheVariants.{HoldExpired, MachineError, Faults}
+use Rattle.bgp_machine.specs.declared.want.Want.TheVariants.{HoldExpired, SendHoldExpired}
+use Rattle.bgp_machine.specs.declared.want.Want.TheVariants.{MachineError, Faults}
 use Rattle.bgp_machine.specs.Want.{IsLeastFault, subcode_of}
 use Rattle.bgp_speaker.specs.declared.speaker.Speaker.{Speaker}
 
@@ -86,6 +87,8 @@ Says speaker link kind changes CleanUpdate octets = SaysChanges link changes oct
 -- Administrative Shutdown (RFC 4486, 4)
 Says speaker link kind changes Cease octets = octets ≡ notification_octets 6 2 []
 Says speaker link kind changes HoldExpired octets = octets ≡ notification_octets 4 0 []
+-- no row that the core takes wants it (RFC 9687, 5)
+Says speaker link kind changes SendHoldExpired octets = octets ≡ notification_octets 8 0 []
 -- with the message's Type as data (RFC 6608, 3)
 Says speaker link kind changes (MachineError state) octets =
     octets ≡ notification_octets 5 (subcode_of state) (kind ∷ [])

@@ -13,7 +13,7 @@ ghost use Rattle.bgp_machine.specs.Want.{wants_of};
 ghost use Rattle.bgp_rib.specs.Routes.{Routes as TheRoutes};
 ghost use Rattle.bgp_wire.specs.Header.{header_of, type_of};
 ghost use Rattle.bgp_speaker.specs.Choice.{change_records};
-ghost use Rattle.bgp_speaker.specs.Core.{IsConnected};
+ghost use Rattle.bgp_speaker.specs.Core.{IsConnected, IsPlain, OffersNothing};
 ghost use Rattle.bgp_speaker.specs.Drafts.{CanBeSaid, CanBeTold, DoesGreet, DoesHear, DoesOn};
 ghost use Rattle.bgp_speaker.specs.Drafts.{DoesOwn, DoesPicked, DoesTell, IsSaying, IsSayingOne};
 ghost use Rattle.bgp_speaker.specs.Drafts.{Performs, Shows, cue_value, news_changes};
@@ -220,6 +220,7 @@ impl<A: Allocator + Copy> Draft<A> {
         t: Seconds,
         told: News,
     ) -> Result<(), AllocError>
+        requires { IsPlain (link_at self.old.head) }
         ensures { (routes : TheRoutes)
             → OnOk result (DoesTell routes speaker.now t told self.old self.new) }
     {
@@ -241,6 +242,7 @@ impl<A: Allocator + Copy> Draft<A> {
         t: Seconds,
         before: Head,
     ) -> Result<(), AllocError>
+        requires { IsPlain (link_at self.old.head) }
         ensures { (routes : TheRoutes) → OnOk result (DoesGreet routes speaker.now kept.now.keys t
             before self.old self.new) }
     {
@@ -268,6 +270,8 @@ impl<A: Allocator + Copy> Draft<A> {
         requires connected { IsConnected self.old.head }
         requires long { 19 ≤ length octets.now }
         requires kind { kind ≡ type_of (header_of octets.now) }
+        requires offers { OffersNothing speaker.now.config }
+        requires plain { IsPlain (link_at self.old.head) }
         ensures { (routes : TheRoutes) → OnOk result (DoesHear routes speaker.now kept.now.keys t
             octets.now self.old self.new) }
     {

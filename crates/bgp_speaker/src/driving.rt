@@ -6,7 +6,7 @@ ghost use Rattle.bgp_machine.specs.State.{fsm_of};
 ghost use Rattle.mrt.specs.Written.{AreInOrder};
 ghost use Rattle.bgp_speaker.specs.Choosing.{Drives, sent_in};
 ghost use Rattle.bgp_speaker.specs.Connection.{DrivesHearing, new_connection};
-ghost use Rattle.bgp_speaker.specs.Core.{CoreState, fresh_core};
+ghost use Rattle.bgp_speaker.specs.Core.{CoreState, fresh_core, without_offers};
 ghost use Rattle.bgp_speaker.specs.Shown.{input_value, shown_value};
 ghost use Rattle.bgp_speaker.specs.Driven.{input_at};
 
@@ -50,7 +50,8 @@ fn again<'a>(input: &Input<'a>) -> Input<'a>
 }
 
 /// What a fresh core does on these inputs, one after another, each at its second; one below the
-/// last is taken as the last. The records are those of a run of the session machine which ends with
+/// last is taken as the last. The core offers nothing about routes, whatever is configured: so all
+/// this is said of the configuration without its offers. The records are those of a run of the session machine which ends with
 /// the answered state and routes, and the octets those of the sent messages. Each connection is
 /// heard: the messages received on it are the first of those that stand in its octets, and all of
 /// them while it stands. Refused for memory, nothing is left.
@@ -62,17 +63,17 @@ pub fn drive<A: Allocator + Copy>(
     inputs: &[(Seconds, Input<'_>)],
 ) -> Result<Run<A>, AllocError>
     ensures steps { IfOk result (λ run. (e : CoreState) × Drives (fresh_core (record {
-      config = config.now;
+      config = without_offers config.now;
       next_hop4 = next_hop4;
       next_hop6 = next_hop6;
     })) (map input_at inputs.now) (map shown_value run.records.items) e
         × (run.fsm ≡ fsm_of e.moment.session.head) × (run.rib ≡ e.moment.session.routes)) }
-    ensures run { IfOk result (λ run. IsComplete config.now (map shown_value run.records.items)
-        (record { fsm = run.fsm; routes = run.rib })) }
+    ensures run { IfOk result (λ run. IsComplete (without_offers config.now)
+        (map shown_value run.records.items) (record { fsm = run.fsm; routes = run.rib })) }
     ensures sent { IfOk result
         (λ run. run.sent.items ≡ sent_in (map shown_value run.records.items)) }
     ensures heard { IfOk result (λ run. (e : CoreState) × DrivesHearing (fresh_core (record {
-      config = config.now;
+      config = without_offers config.now;
       next_hop4 = next_hop4;
       next_hop6 = next_hop6;
     })) new_connection (map input_at inputs.now) (map shown_value run.records.items) e) }

@@ -4,9 +4,10 @@
 //! settled in one transaction, and the rest is taken over. So a refusal leaves the core as it was.
 
 ghost use Rattle.std.specs.Prelude.{◌≡◌, IfOk, OnErr, max};
-ghost use Rattle.bgp_machine.specs.State.{fsm_of};
+ghost use Rattle.bgp_machine.specs.State.{fsm_of, link_at};
 ghost use Rattle.bgp_speaker.specs.Answers.{Answers, IsFreshDraft, IsShownBy, state_after};
-ghost use Rattle.bgp_speaker.specs.Core.{Announce, Bytes, Withdraw, fresh_core};
+ghost use Rattle.bgp_speaker.specs.Core.{Announce, Bytes, IsPlain, Withdraw, fresh_core};
+ghost use Rattle.bgp_speaker.specs.Core.{without_offers};
 ghost use Rattle.bgp_speaker.specs.Drafts.{cue_value, moment_of};
 ghost use Rattle.bgp_speaker.specs.Shown.{input_value};
 
@@ -56,8 +57,8 @@ pub struct Core<A: Allocator = Global> {
 impl<A: Allocator> Model for Core<A> {
     ghost use Rattle.std.specs.Prelude.{◌≡◌, [], false};
     ghost use Rattle.bgp_machine.specs.Heard.{received_limit};
-    ghost use Rattle.bgp_machine.specs.State.{state_value};
-    ghost use Rattle.bgp_speaker.specs.Core.{CoreState, IsConnected};
+    ghost use Rattle.bgp_machine.specs.State.{link_at, state_value};
+    ghost use Rattle.bgp_speaker.specs.Core.{CoreState, IsConnected, IsPlain, OffersNothing};
 
     ghost Value = { CoreState };
 
@@ -71,7 +72,8 @@ impl<A: Allocator> Model for Core<A> {
 
     ghost invariant = { λ c. (c.frames.limit ≡ received_limit c.speaker.config)
         × (c.frames.is_closed ≡ false)
-        × ((¬ IsConnected c.state.head) → c.frames.octets ≡ []) };
+        × ((¬ IsConnected c.state.head) → c.frames.octets ≡ [])
+        × OffersNothing c.speaker.config × IsPlain (link_at c.state.head) };
 }
 
 /// The later of two seconds.
@@ -82,10 +84,11 @@ fn later(last: Seconds, second: Seconds) -> Seconds
 }
 
 impl<A: Allocator + Copy> Core<A> {
-    /// A core that nothing happened to. It takes no memory.
+    /// Makes a core that nothing happened to. It takes no memory, and offers nothing about routes,
+    /// whatever is configured.
     pub fn new(alloc: A, config: &Config, next_hop4: u32, next_hop6: u128) -> Core<A>
         ensures { result ≡ fresh_core (record {
-          config = config.now;
+          config = without_offers config.now;
           next_hop4 = next_hop4;
           next_hop6 = next_hop6;
         }) }
@@ -93,7 +96,7 @@ impl<A: Allocator + Copy> Core<A> {
         Core {
             alloc,
             speaker: Speaker {
-                config: *config,
+                config: config.without_offers(),
                 next_hop4,
                 next_hop6,
             },
@@ -220,6 +223,7 @@ impl<A: Allocator + Copy> Core<A> {
 
     /// Takes over what a draft did, the routes first, which may be refused.
     fn commit(&mut self, draft: Draft<A>, t: Seconds) -> Result<Output<A>, AllocError>
+        requires { IsPlain (link_at draft.head) }
         ensures ok { IfOk result (λ out. (self.new ≡ state_after self.old
             (moment_of self.old.moment.session.routes draft) t) × IsShownBy draft out) }
         ensures err { OnErr result (self.new ≡ self.old) }
@@ -230,6 +234,7 @@ impl<A: Allocator + Copy> Core<A> {
 
     /// Takes over what a draft did but for the routes. With the connection its octets go.
     fn finish(&mut self, draft: Draft<A>, t: Seconds) -> Output<A>
+        requires { IsPlain (link_at draft.head) }
         ensures state { self.new ≡ state_after self.old (record {
           session = record { head = draft.head; routes = self.old.moment.session.routes };
           sent_at = draft.sent_at;

@@ -3,8 +3,9 @@
 ghost use Rattle.std.specs.Prelude.{◌≡◌, ◌↔◌, ℕ, List, OnOk, IsTrue, false};
 ghost use Rattle.bgp_rib.specs.Routes.{Routes};
 ghost use Rattle.bgp_machine.specs.Heard.{received_limit};
+ghost use Rattle.bgp_machine.specs.State.{link_at};
 ghost use Rattle.bgp_speaker.specs.Choosing.{held_after};
-ghost use Rattle.bgp_speaker.specs.Core.{IsConnected};
+ghost use Rattle.bgp_speaker.specs.Core.{IsConnected, IsPlain, OffersNothing};
 ghost use Rattle.bgp_speaker.specs.Drafts.{HearsWell};
 
 use crate::draft::Draft;
@@ -55,6 +56,8 @@ pub(crate) fn hear_all<A: Allocator + Copy>(
 ) -> Result<(), AllocError>
     requires limit { frames.old.limit ≡ received_limit speaker.now.config }
     requires open { frames.old.is_closed ≡ false }
+    requires offers { OffersNothing speaker.now.config }
+    requires plain { IsPlain (link_at draft.old.head) }
     ensures { (routes : Routes) → OnOk result (HearsWell routes speaker.now kept.now.keys t
         frames.old.octets frames.new draft.old draft.new) }
 {

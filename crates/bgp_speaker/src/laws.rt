@@ -3,6 +3,7 @@
 ghost use Rattle.bgp_speaker.specs.Connection.{EachConnectionIsHeard};
 ghost use Rattle.bgp_speaker.specs.Driven.{EachDriveIsARun, EachDriveIsComplete};
 ghost use Rattle.bgp_speaker.specs.Driven.{EachDriveIsUndelayed, EachKeptListAscends};
+ghost use Rattle.bgp_speaker.specs.Driven.{EachLinkIsPlain};
 ghost use Rattle.bgp_speaker.specs.Hearing.{CutDoesntMatter, FrameFirst, PiecesAreJoined};
 ghost use Rattle.bgp_speaker.specs.Laws.{EachOwnStepIsTheMachines, HearingIsARun};
 ghost use Rattle.bgp_speaker.specs.Laws.{EachStepOnAMessageIsTheMachines};
@@ -27,11 +28,13 @@ pub fn however_cut()
 {}
 
 /// What the core does on many inputs is a run. The core never delays its OPEN (RFC 4271, 8.1.1),
-/// and the prefixes that it keeps ascend.
+/// and the prefixes that it keeps ascend. If it offers nothing about routes, those that it receives
+/// are plain, and those that it sends have no path identifiers.
 pub fn each_drive_is_a_run()
     ensures run { EachDriveIsARun }
     ensures complete { EachDriveIsComplete }
     ensures undelayed { EachDriveIsUndelayed }
+    ensures plain { EachLinkIsPlain }
     ensures ascend { EachKeptListAscends }
 {}
 

@@ -11,6 +11,7 @@ ghost use Rattle.bgp_update_writer.specs.Applied.{changes_of_update};
 ghost use Rattle.bgp_update_writer.specs.Refusals.{IsFamilyUsed, IsSendable, IsTooLarge};
 ghost use Rattle.bgp_update_writer.specs.Update.{update_value};
 ghost use Rattle.bgp_update_writer.specs.Written.{update_octets};
+ghost use Rattle.bgp_speaker.specs.Core.{IsPlain};
 ghost use Rattle.bgp_speaker.specs.Drafts.{CanBeSaid, CanBeTold, news_changes, prefix_told};
 ghost use Rattle.bgp_speaker.specs.Said.{Says, SaysChanges, announced, own_path, withdrawn};
 
@@ -47,6 +48,9 @@ impl News {
 
 /// The Error code of Hold Timer Expired (RFC 4271, 4.5).
 const HOLD_TIMER_EXPIRED: u8 = 4;
+
+/// The Error code of Send Hold Timer Expired (RFC 9687, 5).
+const SEND_HOLD_TIMER_EXPIRED: u8 = 8;
 
 /// The Error code of Finite State Machine Error, whose data are the Type of the message that the
 /// state doesn't expect (RFC 6608, 3).
@@ -86,6 +90,8 @@ pub(crate) fn message<A: Allocator + Copy>(
         }
         Want::Cease => notification(alloc, CEASE, ADMINISTRATIVE_SHUTDOWN, &[]),
         Want::HoldExpired => notification(alloc, HOLD_TIMER_EXPIRED, 0, &[]),
+        // The core takes no row that wants it.
+        Want::SendHoldExpired => notification(alloc, SEND_HOLD_TIMER_EXPIRED, 0, &[]),
         Want::MachineError(state) => {
             notification(alloc, FINITE_STATE_MACHINE_ERROR, state.subcode(), &[kind])
         }
@@ -139,7 +145,7 @@ fn notification<A: Allocator + Copy>(
     }
 }
 
-/// The UPDATE that tells the peer of a prefix, whose family is in use on the link.
+/// The UPDATE that tells the peer of a prefix, whose family is in use on the plain link.
 fn update<A: Allocator + Copy>(
     alloc: A,
     speaker: &Speaker,
@@ -163,7 +169,8 @@ fn announcement<A: Allocator + Copy>(
     link: &Link,
     prefix: Prefix,
 ) -> Result<Vec<u8, A>, AllocError>
-    requires { IsTrue (contains link.now.families prefix.family) }
+    requires used { IsTrue (contains link.now.families prefix.family) }
+    requires plain { IsPlain (Some link.now) }
     ensures { IfOk result (λ m. SaysChanges (Some link.now)
         (announced speaker.now link.now prefix) m.items) }
 {
@@ -185,7 +192,8 @@ fn withdrawal<A: Allocator + Copy>(
     link: &Link,
     prefix: Prefix,
 ) -> Result<Vec<u8, A>, AllocError>
-    requires { IsTrue (contains link.now.families prefix.family) }
+    requires used { IsTrue (contains link.now.families prefix.family) }
+    requires plain { IsPlain (Some link.now) }
     ensures { IfOk result (λ m. SaysChanges (Some link.now) (withdrawn prefix) m.items) }
 {
     one_prefix_can_be_written();

@@ -2,7 +2,7 @@
 
 ghost use Rattle.std.specs.Prelude.{◌≡◌, ◌<◌, ◌^◌, IfErr, IfOk};
 ghost use Rattle.bgp_prefix.specs.Address.{family_of};
-ghost use Rattle.bgp_speaker.specs.Core.{fresh_core};
+ghost use Rattle.bgp_speaker.specs.Core.{fresh_core, without_offers};
 ghost use Rattle.bgp_talk.specs.Account.{first_owed};
 ghost use Rattle.bgp_talk.specs.Talk.{GaveUp, Spoken, capture_of, faults_after};
 ghost use Rattle.bgp_talk.specs.declared.wire.Connection.TheVariants.{NotAsked};
@@ -60,13 +60,13 @@ pub fn speak<A: Allocator + Copy, W: Wire, C: Sink>(
     requires sink_failures { C.failures sink.old < 2 ^ 63 }
     ensures ok { IfOk result (λ report. Spoken W.tells C.takes (capture_of config.now)
         (first_owed own.now passive) turns report.turns report.rib (fresh_core (record {
-          config = config.now;
+          config = without_offers config.now;
           next_hop4 = next_hop4;
           next_hop6 = next_hop6;
         })) wire.old sink.old wire.new sink.new) }
     ensures err { IfErr result (λ fault. GaveUp W.tells C.takes (capture_of config.now) fault
         (first_owed own.now passive) turns (fresh_core (record {
-          config = config.now;
+          config = without_offers config.now;
           next_hop4 = next_hop4;
           next_hop6 = next_hop6;
         })) wire.old sink.old wire.new sink.new) }

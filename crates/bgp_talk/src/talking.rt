@@ -8,6 +8,7 @@ ghost use Rattle.bgp_prefix.specs.Address.{family_of};
 ghost use Rattle.bgp_prefix.specs.Shown.{ShownRecord};
 ghost use Rattle.bgp_speaker.specs.Choosing.{Chooses, sent_in};
 ghost use Rattle.bgp_speaker.specs.Core.{CoreState, InputValue, Failed, Tick, fresh_core};
+ghost use Rattle.bgp_speaker.specs.Core.{without_offers};
 ghost use Rattle.bgp_speaker.specs.Shown.{input_value, shown_value};
 ghost use Rattle.bgp_talk.specs.Account.{Telling, connection_after, first_owed};
 ghost use Rattle.bgp_talk.specs.CoreFacts.{IsQuiet, IsShort, is_idle, is_resting};
@@ -102,14 +103,14 @@ fn send<W: Wire>(wire: &mut W, octets: &[u8]) -> bool
     true
 }
 
-/// A core that talks, and what it is configured to do.
+/// A core that talks, and what it is configured to do. The core offers nothing about routes.
 #[derive(Drop)]
 pub(crate) struct Talk<A: Allocator> {
     config: Config,
     core: Core<A>,
     pub(crate) ghost families: { family_of config.parts.session.peer
         ≡ family_of config.parts.session.local },
-    pub(crate) ghost configured: { core.speaker.config ≡ config },
+    pub(crate) ghost configured: { core.speaker.config ≡ without_offers config },
 }
 
 impl<A: Allocator + Copy> Talk<A> {
@@ -119,7 +120,7 @@ impl<A: Allocator + Copy> Talk<A> {
             ≡ family_of config.now.parts.session.local }
         ensures config { result.config ≡ config.now }
         ensures core { result.core ≡ fresh_core (record {
-          config = config.now;
+          config = without_offers config.now;
           next_hop4 = next_hop4;
           next_hop6 = next_hop6;
         }) }

@@ -1,7 +1,7 @@
 use Rattle.std.proofs.Common.{map, sym, subst}
 use Rattle.bgp_machine.specs.Run.{End, IsComplete}
 use Rattle.bgp_speaker.specs.declared.speaker.Speaker.{Speaker}
-use Rattle.bgp_speaker.specs.Core.{fresh_core}
+use Rattle.bgp_speaker.specs.Core.{fresh_core, without_offers}
 use Rattle.bgp_speaker.specs.Shown.{shown_value}
 use Rattle.bgp_speaker.specs.Driven.{input_at}
 use Rattle.bgp_speaker.proofs.ConnectionHeard.{each_heard_on}
@@ -23,7 +23,7 @@ loop-second-preserved g c =
 
 pub returns : goal.returns
 returns g c =
-    let speaker : Speaker = record { config = c.args.config.now; next_hop4 = c.args.next_hop4; next_hop6 = c.args.next_hop6 } in
+    let speaker : Speaker = record { config = without_offers c.args.config.now; next_hop4 = c.args.next_hop4; next_hop6 = c.args.next_hop6 } in
     let drives = driven (fresh_core speaker) c.loop-second.core c.args.inputs.now c.loop-second.second-index c.loop-second.records.items c.loop-second.sent.items
     c.loop-second.invariant c.loop-second-test.false in
     let inputs = map input_at c.args.inputs.now in
@@ -32,7 +32,7 @@ returns g c =
     let rib = c.into_rib.ensures in
     record {
       steps = (c.loop-second.core, drives, fsm, rib);
-      run = subst (λ (v : End). IsComplete c.args.config.now records v) (λ i. record { fsm = sym fsm i; routes = sym rib i })
+      run = subst (λ (v : End). IsComplete (without_offers c.args.config.now) records v) (λ i. record { fsm = sym fsm i; routes = sym rib i })
           (drives_complete speaker c.loop-second.core inputs records drives);
       sent = c.loop-second.invariant.sent_are;
       heard = (c.loop-second.core, each_heard_on speaker c.loop-second.core inputs records drives);

@@ -1,10 +1,12 @@
 use Rattle.std.proofs.Common.{ℕ, List, drop, length, sym, ap, subst, ◌∙◌}
+use Rattle.bgp_rib.specs.Routes.{no_routes}
 use Rattle.bgp_wire.specs.declared.header.Limit.{Limit}
 use Rattle.bgp_wire.specs.Framing.{IsFrame, IsFaulty, IsShort}
 use Rattle.bgp_wire.specs.Held.{Held}
 use Rattle.bgp_speaker.specs.Drafts.{GoesOnHearing}
 use Rattle.bgp_speaker.proofs.Drafting.{on_ok}
 use Rattle.bgp_speaker.proofs.HearingAll.{one_more_heard, ends_deaf, ends_short, ends_at_fault, held_is, kind_at}
+use Rattle.bgp_speaker.proofs.PlainLinks.{does_hear_plain}
 use Rattle.bgp_speaker.proofs.hearing.hear_all.Goals as goal
 
 pub loop-frames-preserved : goal.loop-frames-preserved
@@ -17,6 +19,8 @@ loop-frames-preserved g c =
     record {
       limit = ap (λ (v : Held). v.limit) now ∙ limit;
       unclosed = ap (λ (v : Held). v.is_closed) now ∙ c.loop-frames.invariant.unclosed;
+      plain = does_hear_plain no_routes c.args.speaker.now c.args.kept.now.keys c.args.t frame c.loop-frames.draft c.hear.new.self c.requires.offers
+          (c.is_connected.ensures.0 c.loop-frames-test.true) (c.in_ok-hear-in-Frame.ensures no_routes) c.loop-frames.invariant.plain;
       goes = λ routes. subst (λ (o : List ℕ). GoesOnHearing routes c.args.speaker.now c.args.kept.now.keys c.args.t c.args.frames.now.octets o c.args.draft.now c.hear.new.self)
           (sym (ap (λ (v : Held). v.octets) now))
           (one_more_heard routes c.args.speaker.now c.args.kept.now.keys c.args.t c.args.frames.now.octets held frame (drop (length frame) held)

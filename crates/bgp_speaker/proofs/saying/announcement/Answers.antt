@@ -16,7 +16,7 @@ written-requires-clause-short g c =
 
 pub written-requires-clause-sendable : goal.written-requires-clause-sendable
 written-requires-clause-sendable g c =
-    sendable c.args.speaker.now c.args.link.now c.args.prefix c.family-family.result c.in_ok-path.path c.family-family.ensures c.in_ok-path.ensures
+    sendable c.args.speaker.now c.args.link.now c.args.prefix c.family-family.result c.in_ok-path.path c.requires.plain c.family-family.ensures c.in_ok-path.ensures
 
 pub returns : goal.returns
 returns g c =

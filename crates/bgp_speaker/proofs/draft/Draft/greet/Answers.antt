@@ -1,6 +1,9 @@
-use Rattle.std.proofs.Common.{◌∙◌, List, subst}
+use Rattle.std.proofs.Common.{◌∙◌, List, subst, sym}
 use Rattle.bgp_prefix.specs.Prefix.{PrefixBits}
+use Rattle.bgp_machine.specs.declared.state.Head.{Head}
+use Rattle.bgp_machine.specs.State.{link_at}
 use Rattle.bgp_rib.specs.Routes.{no_routes}
+use Rattle.bgp_speaker.specs.Core.{IsPlain}
 use Rattle.bgp_speaker.proofs.Greeting.{GoesOnAnnouncing, all_announced, one_more_told}
 use Rattle.bgp_speaker.proofs.draft.Draft.greet.Goals as goal
 
@@ -16,6 +19,9 @@ loop-prefix-preserved g c =
           c.in-Some.ensures.steps (c.loop-prefix.invariant.goes routes link timer is))
           (does routes);
     }
+
+pub tell-requires : goal.tell-requires
+tell-requires g c = subst (λ (head : Head). IsPlain (link_at head)) (sym c.loop-prefix.invariant.stays) c.requires
 
 pub returns : goal.returns
 returns g c routes =

@@ -2,6 +2,7 @@ use Rattle.std.proofs.Common.{IsTrue, Some, subst, sym}
 use Rattle.bgp_open.specs.Families.{contains}
 use Rattle.bgp_machine.specs.State.{link_at}
 use Rattle.bgp_machine.specs.declared.state.Head.{Head}
+use Rattle.bgp_speaker.specs.Core.{IsPlain}
 use Rattle.bgp_speaker.specs.Drafts.{CanBeTold, prefix_told}
 use Rattle.bgp_speaker.proofs.Drafting.{on_ok}
 use Rattle.bgp_speaker.proofs.Greeting.{may_announce, tells}
@@ -14,7 +15,8 @@ act-requires-clause-taken g c =
 pub act-requires-clause-told : goal.act-requires-clause-told
 act-requires-clause-told g c row =
     let used : IsTrue (contains c.in-Established.link.families (prefix_told c.args.told).family) = (cc) in
-    subst (λ (head : Head). CanBeTold (link_at head) (Some c.args.told)) (sym c.in-Established.is) used
+    let plain = subst (λ (head : Head). IsPlain (link_at head)) c.in-Established.is c.requires in
+    subst (λ (head : Head). CanBeTold (link_at head) (Some c.args.told)) (sym c.in-Established.is) (used, plain)
 
 pub returns : goal.returns
 returns g c routes =

@@ -1,9 +1,21 @@
 use Rattle.std.proofs.Common.{sym, subst}
-use Rattle.bgp_machine.specs.State.{state_value}
+use Rattle.bgp_machine.specs.declared.state.Head.{Head}
+use Rattle.bgp_machine.specs.State.{link_at, state_value}
 use Rattle.bgp_speaker.specs.Answers.{Answers, IsFreshDraft}
-use Rattle.bgp_speaker.specs.Core.{Announce, CoreState}
+use Rattle.bgp_speaker.specs.Core.{Announce, CoreState, IsPlain}
+use Rattle.bgp_rib.specs.Routes.{no_routes}
 use Rattle.bgp_speaker.proofs.Answering.{answers_announce}
+use Rattle.bgp_speaker.proofs.PlainLinks.{fresh_plain}
 use Rattle.bgp_speaker.proofs.engine.Core.announce.Goals as goal
+
+pub tell-requires : goal.tell-requires
+tell-requires g c =
+    fresh_plain c.args.self.now c.draft-draft.result c.draft-draft.ensures (subst (λ (s : CoreState). IsPlain (link_at s.moment.session.head)) c.self.view_is c.self.invariant.4)
+
+pub finish-requires : goal.finish-requires
+finish-requires g c =
+    subst (λ (head : Head). IsPlain (link_at head)) (sym (c.in_ok-tell.ensures no_routes).head)
+    (fresh_plain c.args.self.now c.draft-draft.result c.draft-draft.ensures (subst (λ (s : CoreState). IsPlain (link_at s.moment.session.head)) c.self.view_is c.self.invariant.4))
 
 pub returns-clause-ok : goal.returns-clause-ok
 returns-clause-ok g c =

@@ -8,4 +8,4 @@ forget_unconnected-requires g c on = (c.self.invariant.0 ∙ sym c.received_limi
 pub invariant_of-self : goal.invariant_of-self
 invariant_of-self g c =
     let holds = holds_right _ c.args.draft.head c.forget_unconnected.new.frames c.self.inside.frames.octets c.forget_unconnected.ensures in
-    (holds.0 ∙ c.received_limit-limit.ensures, holds.1, holds.2)
+    (holds.0 ∙ c.received_limit-limit.ensures, holds.1, holds.2, c.self.invariant.3, c.requires)

@@ -1,12 +1,13 @@
 use Rattle.std.proofs.Common.{◌∙◌, ◌++◌, ap, max, rules, subst, sym}
 use Rattle.bgp_machine.specs.Heard.{received_limit}
-use Rattle.bgp_machine.specs.State.{state_value}
+use Rattle.bgp_machine.specs.State.{link_at, state_value}
 use Rattle.bgp_rib.specs.Routes.{no_routes}
 use Rattle.bgp_wire.specs.Held.{Held}
 use Rattle.bgp_speaker.specs.declared.speaker.Speaker.{Speaker}
-use Rattle.bgp_speaker.specs.Core.{CoreState, IsConnected}
+use Rattle.bgp_speaker.specs.Core.{CoreState, IsConnected, IsPlain}
 use Rattle.bgp_speaker.specs.Drafts.{HearsWell, moment_of}
 use Rattle.bgp_speaker.proofs.Answering.{answers_off, answers_on, fed, holds_right, taken_head, taken_speaker}
+use Rattle.bgp_speaker.proofs.PlainLinks.{fresh_plain, hears_well_plain}
 use Rattle.bgp_speaker.proofs.engine.Core.hear.Goals as goal
 
 pub returns-then-not-is_connected-clause-ok : goal.returns-then-not-is_connected-clause-ok
@@ -15,6 +16,20 @@ returns-then-not-is_connected-clause-ok g c =
     answers_off c.args.self.now c.finish.new.self c.args.octets.now c.args.second c.later-t.result c.draft-draft.result c.finish.result
     (c.later-t.ensures ∙ ap (λ (s : CoreState). max s.second c.args.second) c.self.view_is)
     c.draft-draft.ensures off c.finish.ensures.shown c.finish.ensures.state
+
+pub finish-requires : goal.finish-requires
+finish-requires g c =
+    fresh_plain c.args.self.now c.draft-draft.result c.draft-draft.ensures (subst (λ (s : CoreState). IsPlain (link_at s.moment.session.head)) c.self.view_is c.self.invariant.4)
+
+pub hear_all-requires-clause-plain : goal.hear_all-requires-clause-plain
+hear_all-requires-clause-plain g c =
+    fresh_plain c.args.self.now c.draft-draft.result c.draft-draft.ensures (subst (λ (s : CoreState). IsPlain (link_at s.moment.session.head)) c.self.view_is c.self.invariant.4)
+
+pub commit-requires : goal.commit-requires
+commit-requires g c =
+    hears_well_plain no_routes c.self.inside.speaker c.self.inside.kept.keys c.later-t.result c.feed.new.self.octets c.hear_all.new.frames c.draft-draft.result c.hear_all.new.draft
+    c.self.invariant.3 (c.in_ok-hear_all.ensures no_routes)
+    (fresh_plain c.args.self.now c.draft-draft.result c.draft-draft.ensures (subst (λ (s : CoreState). IsPlain (link_at s.moment.session.head)) c.self.view_is c.self.invariant.4))
 
 pub forget_unconnected-requires : goal.forget_unconnected-requires
 forget_unconnected-requires g c on =
@@ -37,7 +52,7 @@ invariant_of-self g c =
     let speaker = taken_speaker seen c.commit.new.self now (moment_of now.moment.session.routes draft) c.later-t.result c.self-2.view_is c.in_ok-output.ensures.ok.0 in
     let limit = c.received_limit-limit.ensures ∙ ap (λ (s : CoreState). received_limit s.speaker.config) c.self.view_is
     ∙ sym (ap (λ (s : Speaker). received_limit s.config) speaker) in
-    (holds.0 ∙ limit, holds.1, λ off. holds.2 (λ on. off (subst IsConnected (sym head) on)))
+    (holds.0 ∙ limit, holds.1, (λ off. holds.2 (λ on. off (subst IsConnected (sym head) on))), c.self-2.invariant.3, c.self-2.invariant.4)
 
 pub returns-clause-ok : goal.returns-clause-ok
 returns-clause-ok g c =

@@ -1,15 +1,32 @@
 use Rattle.std.proofs.Common.{◌≡◌, ◌∙◌, sym, ap, subst}
 use Rattle.bgp_prefix.specs.PrefixOrder.{prefix_eq}
 use Rattle.std.specs.Set.{is_member}
-use Rattle.bgp_machine.specs.State.{state_value}
+use Rattle.bgp_machine.specs.declared.state.Head.{Head}
+use Rattle.bgp_machine.specs.State.{link_at, state_value}
+use Rattle.bgp_rib.specs.Routes.{no_routes}
 use Rattle.bgp_speaker.specs.declared.draft.Draft.{Draft}
 use Rattle.bgp_speaker.specs.declared.saying.News.TheVariants.{Withdrawn}
 use Rattle.bgp_speaker.specs.Answers.{Answers, IsFreshDraft, IsShownBy, state_after}
-use Rattle.bgp_speaker.specs.Core.{CoreState, Withdraw}
+use Rattle.bgp_speaker.specs.Core.{CoreState, IsPlain, Withdraw}
 use Rattle.bgp_speaker.specs.Drafts.{DoesTell}
 use Rattle.bgp_speaker.proofs.Answering.{answers_unkept, answers_withdraw, members_so}
+use Rattle.bgp_speaker.proofs.PlainLinks.{fresh_plain}
 use Rattle.bgp_speaker.proofs.engine.Core.withdraw.Goals.{then-contains+in_ok-tell, else-contains}
 use Rattle.bgp_speaker.proofs.engine.Core.withdraw.Goals as goal
+
+pub tell-requires : goal.tell-requires
+tell-requires g c =
+    fresh_plain c.args.self.now c.draft-draft.result c.draft-draft.ensures (subst (λ (s : CoreState). IsPlain (link_at s.moment.session.head)) c.self.view_is c.self.invariant.4)
+
+pub finish-requires : goal.finish-requires
+finish-requires g c =
+    let plain = fresh_plain c.args.self.now c.draft-draft.result c.draft-draft.ensures (subst (λ (s : CoreState). IsPlain (link_at s.moment.session.head)) c.self.view_is c.self.invariant.4) in
+    elim c.if-contains.branch [
+      | then-contains+in_ok-tell w ↦
+          subst (λ (d : Draft g.row.A.Denot). IsPlain (link_at d.head)) (sym w.draft-is)
+          (subst (λ (head : Head). IsPlain (link_at head)) (sym (w.in_ok-tell.ensures no_routes).head) plain)
+      | else-contains w ↦ subst (λ (d : Draft g.row.A.Denot). IsPlain (link_at d.head)) (sym w.draft-is) plain
+    ]
 
 pub returns-clause-ok : goal.returns-clause-ok
 returns-clause-ok g c =
