@@ -120,7 +120,7 @@ complete_too other records end last free ends z =
 
 similar : (peers : Option (List ℕ)) (one other : Config) → IsAnother peers one other → IsSimilar one other
 similar peers one other a =
-    similar_by one other one.parts.local_as other.parts.peer_as one.parts.local_id one.parts.hold one.parts.families one.parts.as4 a.same
+    similar_by one other one.parts.local_as other.parts.peer_as one.parts.local_id one.parts.hold one.parts.families one.parts.as4 one.parts.offers a.same
 
 alike : (peers : Option (List ℕ)) (one other : Config) → IsAnother peers one other → AreAlike one other
 alike peers one other a = alike_by one other other.parts.peer_as one.parts.delay_open one.parts.large_hold a.same

@@ -51,7 +51,7 @@ widened config number can = record {
 is_of : (session : Session) (own : List ℕ) (config : Config) (number : ℕ) (can : CanBePeers config.parts.as4 number) → IsOf session (Some own) config
     → IsOf session (Some own) (widened config number can)
 unfolding widened
-is_of session own config number can of = (of.0, own_alike config (widened config number can) refl own of.1)
+is_of session own config number can of = (of.0, own_alike config (widened config number can) refl own of.1, of.2)
 
 is_widest : (config : Config) (number : ℕ) (can : CanBePeers config.parts.as4 number) → IsWidest (widened config number can)
 unfolding widened

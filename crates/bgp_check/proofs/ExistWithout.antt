@@ -6,6 +6,7 @@ use Rattle.bgp_open.specs.Config.{is_internal}
 use Rattle.bgp_open.specs.Offer.{as_number_of}
 use Rattle.bgp_open.specs.Open.{OpenFields, open_of}
 use Rattle.bgp_open.specs.OpenSubcodes.{IsValid, peer_as_of}
+use Rattle.bgp_open.specs.RouteOffer.{nothing}
 use Rattle.bgp_open.specs.declared.config.Config.{Config}
 use Rattle.bgp_open.proofs.NamedSubcodes.{valid_is_well_formed}
 use Rattle.bgp_machine.specs.Lists.{Each, Has}
@@ -38,6 +39,7 @@ made session as4 local peer id can_local can_peer can_id = record {
     delay_open = true;
     large_hold = 1;
     session = session;
+    offers = nothing;
   };
   valid = record {
     local_as = can_local.some;
@@ -58,12 +60,12 @@ made session as4 local peer id can_local can_peer can_id = record {
 }
 
 abbrev Widest : Session → Config → Type 0
-Widest session config = (config.parts.session ≡ session) × IsWidest config
+Widest session config = ((config.parts.session ≡ session) × (config.parts.offers ≡ nothing)) × IsWidest config
 
 made_widest : (session : Session) (as4 : Bool) (local peer id : ℕ) (can_local : CanBePeers as4 local) (can_peer : CanBePeers as4 peer)
     (can_id : CanBeIdentifier id) → Widest session (made session as4 local peer id can_local can_peer can_id)
 unfolding made
-made_widest session as4 local peer id can_local can_peer can_id = (refl, record { delay = refl; hold = refl })
+made_widest session as4 local peer id can_local can_peer can_id = ((refl, refl), record { delay = refl; hold = refl })
 
 one_id : CanBeIdentifier 1
 one_id = record { some = λ e. absurd (omega arith); fits = omega arith }

@@ -111,7 +111,9 @@ own_if_none session own config form is never = (
     families = ap (λ p. p.families) (sym is);
     as_number = same_number (as_number_of (open_of own).capabilities) (open_of own).my_as ∙ ap (λ p. said p.as4 p.local_as) (sym is);
     extended = ap (λ p. p.session.extended) (sym is);
+    offers = inr (ap (λ p. p.offers) (sym is));
   },
+  ap (λ p. p.offers) is,
 )
 
 itself_can : (message : OpenFields) → FitFields message → ((fault : OwnFault) → ¬ own_faults message fault)

@@ -66,7 +66,7 @@ next_of_idle config shown m m2 idle next = elim next [
 ]
 
 nothing : OpenSubcodes
-nothing = record { unspecific = false; version = false; peer_as = false; identifier = false; parameter = false; hold = false; capability = false }
+nothing = record { unspecific = false; version = false; peer_as = false; identifier = false; parameter = false; hold = false; capability = false; role = false }
 
 idle_leads : (config : Config) (m last : Member) (records : List ShownRecord) → m.state.head ≡ Idle → AtMostTheLastLeaves records
     → Leads config m records last → IsEarly (fsm_of last.state.head)
@@ -197,6 +197,6 @@ own_ends law session own peers a b records one other end of of_b widest widest_b
 
 pub without_ends : EachRunIsAsTold → SameEndsWithout
 without_ends law session peers a b records one other end is is_b widest widest_b faults stretch none first x y =
-    same_ends law a b (similar_widest a b (is_b ∙ sym is) widest widest_b) (similar_widest b a (is ∙ sym is_b) widest_b widest) peers
+    same_ends law a b (similar_widest a b (is_b.0 ∙ sym is.0) widest widest_b) (similar_widest b a (is.0 ∙ sym is_b.0) widest_b widest) peers
     (refuses_faulty b peers faults) records one other end (each_pays_without a b records none) (each_pays_without b a records none) stretch
     first x y

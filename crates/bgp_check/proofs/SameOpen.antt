@@ -43,6 +43,7 @@ alike_of session own c d x y =
     let hold : d.parts.hold ≡ c.parts.hold = sym y.1.hold ∙ x.1.hold in
     let families = sym y.1.families ∙ x.1.families in
     let session = y.0 ∙ sym x.0 in
+    let offers = y.2 ∙ sym x.2 in
     λ i. record {
       local_as = local_as i;
       peer_as = d.parts.peer_as;
@@ -53,4 +54,5 @@ alike_of session own c d x y =
       delay_open = d.parts.delay_open;
       large_hold = d.parts.large_hold;
       session = session i;
+      offers = offers i;
     }

@@ -8,7 +8,7 @@ use Rattle.bgp_open.specs.declared.config.Config.{Config}
 use Rattle.bgp_open.specs.declared.link.Link.{Link}
 use Rattle.bgp_machine.specs.declared.fsm.Fsm.{Fsm}
 use Rattle.bgp_machine.specs.declared.want.Want.{Want}
-use Rattle.bgp_machine.specs.declared.want.Want.TheVariants.{OwnOpen, KeepAlive, CleanUpdate, Cease, HoldExpired, MachineError, Faults}
+use Rattle.bgp_machine.specs.declared.want.Want.TheVariants.{OwnOpen, KeepAlive, CleanUpdate, Cease, HoldExpired, SendHoldExpired, MachineError, Faults}
 use Rattle.bgp_machine.specs.Shows.{Pays}
 use Rattle.bgp_machine.specs.State.{link_at}
 use Rattle.bgp_machine.specs.Want.{Fulfils}
@@ -31,6 +31,7 @@ fulfils_open config None CleanUpdate octets form f = absurd f
 fulfils_open config (Some link) CleanUpdate octets form f = absurd (let e = one_type 2 octets form f.2.message in omega arith)
 fulfils_open config link Cease octets form f = absurd (let e = one_type 3 octets form f.3.message in omega arith)
 fulfils_open config link HoldExpired octets form f = absurd (let e = one_type 3 octets form f.3.message in omega arith)
+fulfils_open config link SendHoldExpired octets form f = absurd (let e = one_type 3 octets form f.3.message in omega arith)
 fulfils_open config link (MachineError state) octets form f = absurd (let e = one_type 3 octets form f.3.message in omega arith)
 fulfils_open config link (Faults faults) octets form f = absurd (let e = one_type 3 octets form f.3.message in omega arith)
 

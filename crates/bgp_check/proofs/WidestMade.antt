@@ -175,7 +175,7 @@ module _ (session : Session) where
   free_of : (config : Config) (local peer id : ℕ) (as4 : Bool) → config.parts ≡ free_settings session local peer id as4
       → IsOf session None config × IsWidest config
   free_of config local peer id as4 is = (
-    ap (λ (p : ConfigParts). p.session) is,
+    (ap (λ (p : ConfigParts). p.session) is, ap (λ (p : ConfigParts). p.offers) is),
     record { delay = subst (λ (v : Bool). IsTrue v) (sym (ap (λ (p : ConfigParts). p.delay_open) is)) refl; hold = ap (λ (p : ConfigParts). p.large_hold) is },
   )
 

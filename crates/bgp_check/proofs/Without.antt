@@ -87,7 +87,7 @@ without_leads : (session : Session) (config x : Config) (peers : Option (List �
     → LeadsToo x fresh_member records last
 without_leads session config x peers [] last e f way stretch none first leads = absurd stretch
 without_leads session config x peers (r ∷ records) last e f way stretch none first leads =
-    let similar = similar_between config x (f ∙ sym e) in
+    let similar = similar_between config x (f.0 ∙ sym e.0) in
     elim way [
       | inl takes ↦ takes_too (between config x) x similar peers (take_it (between config x) x peers (takes_between config x peers takes.0) takes.1)
           fresh_member last (r ∷ records) none (inl tt) stretch.1 first leads

@@ -5,10 +5,12 @@ use Rattle.std.specs.Prelude.{Option, None, Some}
 use Rattle.bgp_prefix.specs.declared.session.Session.{Session}
 use Rattle.bgp_wire.specs.AsNumber.{two_octet_as}
 use Rattle.bgp_open.specs.declared.config.Config.{Config}
+use Rattle.bgp_open.specs.declared.route_offer.RouteOffer.{RouteOffer}
 use Rattle.bgp_open.specs.Config.{IsBadHold}
 use Rattle.bgp_open.specs.Offer.{as_number_of, offers_extended}
 use Rattle.bgp_open.specs.Open.{OpenFields, open_of}
 use Rattle.bgp_open.specs.OwnOpen.{IsOwnOpen}
+use Rattle.bgp_open.specs.RouteOffer.{nothing, route_offer_in}
 use Rattle.bgp_check.specs.declared.own_fault.OwnFault.{OwnFault}
 use Rattle.bgp_check.specs.declared.own_fault.OwnFault.TheVariants.{AsNumber, Identifier, Hold}
 
@@ -19,14 +21,23 @@ session_of session None = record session { extended = false }
 session_of session (Some own) =
     record session { extended = offers_extended (open_of own).capabilities }
 
+-- what the end offers about routes that sent this OPEN: just what the OPEN offers (RFC 7911, 4;
+-- RFC 8950, 4), and nothing without one
+abbrev pub offers_of : Option (List ℕ) → RouteOffer
+offers_of None = nothing
+offers_of (Some own) = route_offer_in (open_of own)
+
 -- The configurations of the end whose OPEN this is: those of its session under which it may send
--- the OPEN; where it sent none, all of its session. They agree in whatever an OPEN says, and are
--- free in the AS number that the peer has to have, in DelayOpen (RFC 4271, 8.1.1) and in the large
--- value of the HoldTimer (RFC 4271, 8.2.2).
+-- the OPEN, and which offer about routes what the OPEN does; where it sent none, all of its session
+-- that offer nothing. They agree in whatever an OPEN says, and are free in the AS number that the
+-- peer has to have, in DelayOpen (RFC 4271, 8.1.1) and in the large value of the HoldTimer
+-- (RFC 4271, 8.2.2).
 abbrev pub IsOf : Session → Option (List ℕ) → Config → Type 0
-IsOf session None config = config.parts.session ≡ session_of session None
+IsOf session None config =
+    (config.parts.session ≡ session_of session None) × (config.parts.offers ≡ offers_of None)
 IsOf session (Some own) config =
     (config.parts.session ≡ session_of session (Some own)) × IsOwnOpen config own
+    × (config.parts.offers ≡ offers_of (Some own))
 
 -- ---- why an OPEN is none's own
 

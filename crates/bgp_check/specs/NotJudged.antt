@@ -8,14 +8,14 @@ use Rattle.std.specs.Option.{option_or}
 use Rattle.bgp_prefix.specs.Shown.{ShownRecord, Sent}
 use Rattle.bgp_open.specs.Offer.{families_of}
 use Rattle.bgp_open.specs.Open.{OpenFields, open_of}
+use Rattle.bgp_open.specs.RouteOffer.{route_offer_in}
 use Rattle.bgp_open.specs.Triplet.{Triplet}
 use Rattle.bgp_check.specs.declared.not_judged.NotJudged.{NotJudged}
 use Rattle.bgp_check.specs.declared.not_judged.NotJudged.TheVariants.{NothingSent}
 use Rattle.bgp_check.specs.declared.not_judged.NotJudged.TheVariants.{ExtendedParameters, NoFamily}
-use Rattle.bgp_check.specs.declared.not_judged.NotJudged.TheVariants.{AddPath, Ipv6NextHops}
-use Rattle.bgp_check.specs.declared.not_judged.NotJudged.TheVariants.{DynamicCapabilities}
+use Rattle.bgp_check.specs.declared.not_judged.NotJudged.TheVariants.{AddPath, DynamicCapabilities}
 use Rattle.bgp_check.specs.declared.not_judged.NotJudged.TheVariants.{Confederations}
-use Rattle.bgp_parts.specs.Unjudged.{offers_next_hops, paths_exchanged}
+use Rattle.bgp_parts.specs.BothOffers.{identified_families}
 use Rattle.bgp_parts.specs.Confederations.{SomeShowConfederations}
 use Rattle.bgp_parts.specs.Opens.{HasOwnOpen, HasPeersOpen, HasWholeOpen}
 use Rattle.bgp_check.specs.WidestOf.{AreTold}
@@ -46,9 +46,8 @@ offers_dynamic message = list_any is_dynamic message.capabilities
 -- the one of both OPENs, where their fields can be told
 abbrev pub why_by_both : OpenFields → OpenFields → Option NotJudged
 why_by_both own peers =
-    let exchanged = paths_exchanged own peers in
-    if exchanged.v4 || exchanged.v6 then Some (AddPath exchanged)
-    else if offers_next_hops own && offers_next_hops peers then Some Ipv6NextHops
+    let identified = identified_families (route_offer_in own) (route_offer_in peers) in
+    if identified.v4 || identified.v6 then Some (AddPath identified)
     else if offers_dynamic own && offers_dynamic peers then Some DynamicCapabilities
     else None
 

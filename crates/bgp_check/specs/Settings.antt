@@ -4,6 +4,7 @@ use Rattle.bgp_prefix.specs.declared.session.Session.{Session}
 use Rattle.bgp_open.specs.declared.config.ConfigParts.{ConfigParts}
 use Rattle.bgp_open.specs.Offer.{as_number_of, families_of, offers_extended}
 use Rattle.bgp_open.specs.Open.{OpenFields}
+use Rattle.bgp_open.specs.RouteOffer.{route_offer_in}
 use Rattle.bgp_check.specs.Configurations.{as_of}
 
 -- The settings of the end whose OPEN says this, where the peer has to have that AS number. What no
@@ -20,6 +21,7 @@ settings_of session message peer_as = record {
   delay_open = true;
   large_hold = 1;
   session = record session { extended = offers_extended message.capabilities };
+  offers = route_offer_in message;
 }
 
 -- the numbers of an OPEN are such as its fields have room for, as those of each that is read

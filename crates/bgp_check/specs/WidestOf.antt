@@ -9,6 +9,7 @@ use Rattle.bgp_open.specs.Families.{IsEmpty}
 use Rattle.bgp_open.specs.Offer.{as_number_of, families_of}
 use Rattle.bgp_open.specs.Open.{OpenFields, open_of}
 use Rattle.bgp_open.specs.OpenFault.{IsReadable}
+use Rattle.bgp_open.specs.RouteOffer.{nothing}
 use Rattle.bgp_open.specs.declared.config.Config.{Config}
 use Rattle.bgp_check.specs.declared.widest.Widest.{Widest}
 use Rattle.bgp_check.specs.Configurations.{as_of, as_to}
@@ -67,6 +68,7 @@ free_settings session local_as peer_as local_id as4 = record {
   delay_open = true;
   large_hold = 1;
   session = record session { extended = false };
+  offers = nothing;
 }
 
 -- ---- both

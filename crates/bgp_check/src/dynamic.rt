@@ -5,8 +5,7 @@ ghost use Rattle.std.specs.Prelude.{◌≡◌};
 ghost use Rattle.bgp_open.specs.Capability.{capability_of};
 ghost use Rattle.bgp_check.specs.NotJudged.{is_dynamic, offers_dynamic};
 
-use bgp_open::Capability;
-use bgp_parts::Fields;
+use bgp_open::{Capability, Open};
 
 /// The Capability Code of dynamic capabilities.
 const DYNAMIC: u8 = 67;
@@ -19,8 +18,8 @@ fn is_dynamic(capability: Capability<'_>) -> bool
 }
 
 /// Whether an OPEN offers dynamic capabilities.
-pub(crate) fn offers_dynamic(message: &Fields<'_>) -> bool
+pub(crate) fn offers_dynamic(message: &Open<'_>) -> bool
     ensures { result ≡ offers_dynamic message.now }
 {
-    message.capabilities().any(is_dynamic)
+    message.caps().any(is_dynamic)
 }

@@ -14,8 +14,8 @@ ghost use Rattle.bgp_check.specs.WidestOf.{AreTold, OffersNone};
 use crate::dynamic::offers_dynamic;
 use crate::offer::offer_of;
 use crate::opens::whole_open;
-use bgp_open::{Families, read_open};
-use bgp_parts::{Fields, UnjudgedOffer, read_fields, some_show_confederations};
+use bgp_open::{Families, Open, RouteOffer, read_fields};
+use bgp_parts::{identified_families, some_show_confederations};
 use mrt::Record;
 
 /// Why an end isn't judged.
@@ -29,8 +29,6 @@ pub enum NotJudged {
     NoFamily,
     /// Both OPENs offer ADD-PATH (RFC 7911) for these families: UPDATEs have path identifiers.
     AddPath(Families),
-    /// Both OPENs offer IPv6 next hops for IPv4 routes (RFC 8950).
-    Ipv6NextHops,
     /// Both OPENs offer dynamic capabilities: the session may have messages of type 6.
     DynamicCapabilities,
     /// An UPDATE has an AS_PATH with segments of a confederation (RFC 5065).
@@ -70,14 +68,12 @@ fn have_extended_length(one: Option<&[u8]>, other: Option<&[u8]>) -> bool
 }
 
 /// What both OPENs offer that isn't known here.
-fn why_by_both(own: &Fields<'_>, peers: &Fields<'_>) -> Option<NotJudged>
+fn why_by_both(own: &Open<'_>, peers: &Open<'_>) -> Option<NotJudged>
     ensures { result ≡ why_by_both own.now peers.now }
 {
-    let both = UnjudgedOffer::in_fields(own).with_peers(UnjudgedOffer::in_fields(peers));
-    if both.add_path.v4 || both.add_path.v6 {
-        Some(NotJudged::AddPath(both.add_path))
-    } else if both.ipv6_next_hops {
-        Some(NotJudged::Ipv6NextHops)
+    let identified = identified_families(RouteOffer::in_open(own), RouteOffer::in_open(peers));
+    if identified.v4 || identified.v6 {
+        Some(NotJudged::AddPath(identified))
     } else if offers_dynamic(own) && offers_dynamic(peers) {
         Some(NotJudged::DynamicCapabilities)
     } else {
@@ -86,7 +82,7 @@ fn why_by_both(own: &Fields<'_>, peers: &Fields<'_>) -> Option<NotJudged>
 }
 
 /// The same, where the peer's OPEN may be missing, or can't be told.
-fn why_with(own: &Fields<'_>, peers: Option<&[u8]>) -> Option<NotJudged>
+fn why_with(own: &Open<'_>, peers: Option<&[u8]>) -> Option<NotJudged>
     ensures { (told : Option OpenFields) → AreTold (option_map (λ o. o.now) peers.entry) told
         → result ≡ why_with own.now told }
 {
@@ -105,9 +101,10 @@ fn why_by_opens(own: &[u8], peers: Option<&[u8]>) -> Option<NotJudged>
     ensures { (told : Option OpenFields) → AreTold (option_map (λ o. o.now) peers.entry) told
         → result ≡ why_by_opens (Some (open_of own.now)) told }
 {
-    let families = offer_of(&read_open(own).ok()?).families;
+    let message = read_fields(own)?;
+    let families = offer_of(&message).families;
     if families.v4 || families.v6 {
-        why_with(&read_fields(own)?, peers)
+        why_with(&message, peers)
     } else {
         Some(NotJudged::NoFamily)
     }

@@ -2,14 +2,19 @@
 
 ghost use Rattle.std.specs.Prelude.{◌≡◌, is_some, true};
 ghost use Rattle.bgp_open.specs.Capability.{capability_of};
-ghost use Rattle.bgp_open.specs.Offer.{as_number_of, families_of, offers_extended};
+ghost use Rattle.bgp_open.specs.Offer.{as_number_of, families_of, is_as4, offers_extended};
+ghost use Rattle.bgp_open.specs.RouteOffer.{route_offer_in};
 ghost use Rattle.bgp_check.specs.Refresh.{is_route_refresh, offers_refresh};
 
-use bgp_open::{Capability, Config, ConfigParts, Families, Open, negotiate};
+use bgp_open::{Capability, Config, ConfigParts, Families, Open, RouteOffer, negotiate};
 use bgp_prefix::{Address, RouteRefresh, Session};
+use byteorder::{BigEndian, ByteOrder};
 
 /// The Capability Code of route refresh (RFC 2918, 2).
 const ROUTE_REFRESH: u8 = 2;
+
+/// The Capability Code of four-octet AS numbers (RFC 6793, 3).
+const FOUR_OCTET_AS: u8 = 65;
 
 /// What a system offers by the capabilities of its OPEN.
 #[derive(Clone, Copy, Debug, PartialEq, Eq)]
@@ -22,6 +27,8 @@ pub struct Offer {
     pub extended: bool,
     /// Whether it can receive ROUTE-REFRESH messages (RFC 2918, 2).
     pub refresh: bool,
+    /// What it offers about how routes are spelled (RFC 7911, 4; RFC 8950, 4).
+    pub routes: RouteOffer,
 }
 
 /// A system that offers whatever is known here: with it an OPEN settles what that OPEN offers.
@@ -44,11 +51,30 @@ fn offering_all() -> Config
             refresh: RouteRefresh::NotOffered,
             extended: false,
         },
+        offers: RouteOffer::NOTHING,
     };
     match Config::new(parts) {
         Some(config) => config,
         None => unreachable!(),
     }
+}
+
+fn is_as4(capability: Capability<'_>) -> bool
+    ensures { result ≡ is_as4 (capability_of capability.entry) }
+{
+    capability.code == FOUR_OCTET_AS && capability.value.len() == 4
+}
+
+/// Returns the four-octet AS number in the first capability that has one (RFC 6793, 3).
+pub(crate) fn as_number(message: &Open<'_>) -> Option<u32>
+    ensures { result ≡ as_number_of message.now.capabilities }
+{
+    for capability in message.caps() {
+        if is_as4(capability) {
+            return Some(BigEndian::read_u32(capability.value));
+        }
+    }
+    None
 }
 
 fn is_route_refresh(capability: Capability<'_>) -> bool
@@ -64,12 +90,13 @@ fn offers_refresh(message: &Open<'_>) -> bool
     message.caps().any(is_route_refresh)
 }
 
-/// What the OPEN offers.
+/// Returns what the OPEN offers.
 pub fn offer_of(message: &Open<'_>) -> Offer
     ensures families { result.families ≡ families_of message.now.capabilities }
     ensures as4 { result.as4 ≡ is_some (as_number_of message.now.capabilities) }
     ensures extended { result.extended ≡ offers_extended message.now.capabilities }
     ensures refresh { result.refresh ≡ offers_refresh message.now.capabilities }
+    ensures routes { result.routes ≡ route_offer_in message.now }
 {
     let link = negotiate(&offering_all(), message);
     Offer {
@@ -77,5 +104,6 @@ pub fn offer_of(message: &Open<'_>) -> Offer
         as4: link.as4,
         extended: link.extended,
         refresh: offers_refresh(message),
+        routes: RouteOffer::in_open(message),
     }
 }

@@ -9,9 +9,11 @@ ghost use Rattle.bgp_parts.specs.Opens.{IsOpenMessage, IsReceived, IsSent, Recei
 ghost use Rattle.bgp_parts.specs.Opens.{SendsNone};
 
 use bgp_open::read_open;
-use bgp_parts::FIXED_LEN;
 use bgp_wire::{HeaderVerdict, Limit, MessageType, check_header, header_at, message_body};
 use mrt::Record;
+
+/// How many octets the fields have that are in every OPEN.
+const FIXED_LEN: usize = 10; // version 1, AS 2, hold time 2, identifier 4, parameters' length 1
 
 /// Whether the type is that of an OPEN.
 fn is_open(kind: MessageType) -> bool

@@ -1,18 +1,16 @@
 //! The settings that an OPEN tells, and the widest ones otherwise.
 
-ghost use Rattle.std.specs.Prelude.{◌≡◌, ◌↔◌, ◌==◌, ◌||◌, IsTrue, false, is_some};
+ghost use Rattle.std.specs.Prelude.{◌≡◌, ◌↔◌, ◌==◌, ◌||◌, IsTrue, false};
 ghost use Rattle.bgp_wire.specs.AsNumber.{needs_four_octets};
-ghost use Rattle.bgp_open.specs.Offer.{as_number_of, families_of, offers_extended};
 ghost use Rattle.bgp_open.specs.Open.{open_of};
 ghost use Rattle.bgp_open.specs.OpenFault.{IsWellFormed};
 ghost use Rattle.bgp_check.specs.Configurations.{as_to, own_faults};
 ghost use Rattle.bgp_check.specs.WidestOf.{free_settings, is_odd_as, other_than, own_as, own_hold};
 ghost use Rattle.bgp_check.specs.WidestOf.{own_settings, some_id};
 
-use crate::offer::Offer;
+use crate::offer::{as_number, offer_of};
 use crate::own_fault::OwnFault;
-use bgp_open::{ConfigParts, Families};
-use bgp_parts::{Fields, read_fields};
+use bgp_open::{ConfigParts, Families, Open, RouteOffer, read_fields};
 use bgp_prefix::{Seconds, Session};
 use bgp_wire::two_octet_as;
 
@@ -34,24 +32,24 @@ pub(crate) fn other_than(number: u32) -> u32
 
 /// The AS number that an OPEN says, to one who sends the capability of four-octet AS numbers, and
 /// to one who doesn't (RFC 6793, 4.1).
-pub(crate) fn as_to(fields: &Fields<'_>, as4: bool) -> u32
-    ensures says { result ≡ as_to as4 fields.now }
+pub(crate) fn as_to(message: &Open<'_>, as4: bool) -> u32
+    ensures says { result ≡ as_to as4 message.now }
     ensures two_octets { as4 ≡ false → ¬ IsTrue (needs_four_octets result) }
 {
-    let my_as = u32::from(fields.my_as());
+    let my_as = u32::from(message.my_as());
     if as4 {
-        fields.as_number().unwrap_or(my_as)
+        as_number(message).unwrap_or(my_as)
     } else {
         my_as
     }
 }
 
 /// Whether the AS number is 0, or My Autonomous System isn't what stands for it.
-fn is_odd_as(fields: &Fields<'_>) -> bool
-    ensures { result ≡ is_odd_as fields.now }
+fn is_odd_as(message: &Open<'_>) -> bool
+    ensures { result ≡ is_odd_as message.now }
 {
-    let as_number = as_to(fields, true);
-    as_number == 0 || fields.my_as() != two_octet_as(as_number)
+    let as_number = as_to(message, true);
+    as_number == 0 || message.my_as() != two_octet_as(as_number)
 }
 
 fn is_bad_hold(hold: u16) -> bool
@@ -61,31 +59,35 @@ fn is_bad_hold(hold: u16) -> bool
 }
 
 /// The AS number, where a configuration can have it.
-pub(crate) fn own_as(fields: &Fields<'_>) -> u32
-    ensures { result ≡ own_as fields.now }
+pub(crate) fn own_as(message: &Open<'_>) -> u32
+    ensures { result ≡ own_as message.now }
 {
-    if is_odd_as(fields) {
+    if is_odd_as(message) {
         SOME
     } else {
-        as_to(fields, true)
+        as_to(message, true)
     }
 }
 
 /// The BGP Identifier, where a configuration can have it.
-pub(crate) fn some_id(fields: &Fields<'_>) -> u32
-    ensures { result ≡ some_id fields.now }
+pub(crate) fn some_id(message: &Open<'_>) -> u32
+    ensures { result ≡ some_id message.now }
 {
-    if fields.id() == 0 { SOME } else { fields.id() }
+    if message.id() == 0 {
+        SOME
+    } else {
+        message.id()
+    }
 }
 
 /// The Hold Time, where a configuration can have it.
-fn own_hold(fields: &Fields<'_>) -> u16
-    ensures { result ≡ own_hold fields.now }
+fn own_hold(message: &Open<'_>) -> u16
+    ensures { result ≡ own_hold message.now }
 {
-    if is_bad_hold(fields.hold()) {
+    if is_bad_hold(message.hold()) {
         HOLD
     } else {
-        fields.hold()
+        message.hold()
     }
 }
 
@@ -95,33 +97,26 @@ pub fn has_own_fault(own: &[u8], fault: OwnFault) -> bool
     requires { IsWellFormed own.now }
     ensures { IsTrue result ↔ own_faults (open_of own.now) fault }
 {
-    let Some(fields) = read_fields(own) else {
+    let Some(message) = read_fields(own) else {
         return false;
     };
     match fault {
-        OwnFault::AsNumber => is_odd_as(&fields),
-        OwnFault::Identifier => fields.id() == 0,
-        OwnFault::Hold => is_bad_hold(fields.hold()),
+        OwnFault::AsNumber => is_odd_as(&message),
+        OwnFault::Identifier => message.id() == 0,
+        OwnFault::Hold => is_bad_hold(message.hold()),
     }
 }
 
 /// The widest settings of the end whose OPEN this is, where the peer has to have this AS number.
-pub(crate) fn own_settings(
-    session: &Session,
-    offer: Offer,
-    fields: &Fields<'_>,
-    peer_as: u32,
-) -> ConfigParts
-    requires families { offer.families ≡ families_of fields.now.capabilities }
-    requires as4 { offer.as4 ≡ is_some (as_number_of fields.now.capabilities) }
-    requires extended { offer.extended ≡ offers_extended fields.now.capabilities }
-    ensures { result ≡ own_settings session.now fields.now peer_as }
+pub(crate) fn own_settings(session: &Session, message: &Open<'_>, peer_as: u32) -> ConfigParts
+    ensures { result ≡ own_settings session.now message.now peer_as }
 {
+    let offer = offer_of(message);
     ConfigParts {
-        local_as: own_as(fields),
+        local_as: own_as(message),
         peer_as,
-        local_id: some_id(fields),
-        hold: own_hold(fields),
+        local_id: some_id(message),
+        hold: own_hold(message),
         families: offer.families,
         as4: offer.as4,
         delay_open: true,
@@ -130,6 +125,7 @@ pub(crate) fn own_settings(
             extended: offer.extended,
             ..*session
         },
+        offers: offer.routes,
     }
 }
 
@@ -156,5 +152,6 @@ pub(crate) fn free_settings(
             extended: false,
             ..*session
         },
+        offers: RouteOffer::NOTHING,
     }
 }

@@ -11,10 +11,9 @@ ghost use Rattle.bgp_open.specs.OpenFault.{IsWellFormed};
 ghost use Rattle.bgp_check.specs.WidestOf.{AreTold, OffersNone, other_than, own_as, parts_of};
 ghost use Rattle.bgp_check.specs.WidestOf.{where_some, widest_of, widest_without};
 
-use crate::offer::offer_of;
+use crate::offer::as_number;
 use crate::settings::{as_to, free_settings, other_than, own_as, own_settings, some_id};
-use bgp_open::{Config, ConfigParts, read_open};
-use bgp_parts::{Fields, read_fields};
+use bgp_open::{Config, ConfigParts, Open, read_fields};
 use bgp_prefix::Session;
 
 /// Two configurations at the most, of which each run shows what one shows under some configuration
@@ -59,11 +58,11 @@ fn configurations(wanting: Option<ConfigParts>, another: ConfigParts) -> Option<
 
 /// The AS number that another peer has to have: the local one, or the least other where the peer
 /// has that.
-fn another_as(number: u32, fields: &Fields<'_>) -> u32
-    ensures { result ≡ (if number == own_as fields.now then other_than number
-        else own_as fields.now) }
+fn another_as(number: u32, message: &Open<'_>) -> u32
+    ensures { result ≡ (if number == own_as message.now then other_than number
+        else own_as message.now) }
 {
-    let own = own_as(fields);
+    let own = own_as(message);
     if number == own {
         other_than(number)
     } else {
@@ -72,7 +71,7 @@ fn another_as(number: u32, fields: &Fields<'_>) -> u32
 }
 
 /// Those of an end that sent this OPEN, and heard that one.
-fn widest_with(session: &Session, own: &[u8], peers: &Fields<'_>) -> Option<Widest>
+fn widest_with(session: &Session, own: &[u8], peers: &Open<'_>) -> Option<Widest>
     requires { IsWellFormed own.now }
     ensures some { IfSome result (λ widest. parts_of widest
         ≡ widest_of session.now (Some (open_of own.now)) (Some peers.now)) }
@@ -80,11 +79,10 @@ fn widest_with(session: &Session, own: &[u8], peers: &Fields<'_>) -> Option<Wide
     ensures family { IfSome result (λ widest.
         ¬ IsEmpty (families_of (open_of own.now).capabilities)) }
 {
-    let fields = read_fields(own)?;
-    let offer = offer_of(&read_open(own).ok()?);
-    let number = as_to(peers, offer.as4);
-    let wanting = own_settings(session, offer, &fields, number);
-    let another = own_settings(session, offer, &fields, another_as(number, &fields));
+    let message = read_fields(own)?;
+    let number = as_to(peers, as_number(&message).is_some());
+    let wanting = own_settings(session, &message, number);
+    let another = own_settings(session, &message, another_as(number, &message));
     configurations(where_some(number, wanting), another)
 }
 
@@ -97,13 +95,12 @@ fn widest_alone(session: &Session, own: &[u8]) -> Option<Widest>
     ensures family { IfSome result (λ widest.
         ¬ IsEmpty (families_of (open_of own.now).capabilities)) }
 {
-    let fields = read_fields(own)?;
-    let offer = offer_of(&read_open(own).ok()?);
-    configurations(None, own_settings(session, offer, &fields, own_as(&fields)))
+    let message = read_fields(own)?;
+    configurations(None, own_settings(session, &message, own_as(&message)))
 }
 
 /// Those of an end that sent no OPEN, and heard this one.
-fn widest_without(session: &Session, peers: &Fields<'_>) -> Option<Widest>
+fn widest_without(session: &Session, peers: &Open<'_>) -> Option<Widest>
     ensures some { IfSome result (λ widest.
         parts_of widest ≡ widest_without session.now peers.now) }
     ensures none { IfNone result ⊥ }
@@ -117,7 +114,7 @@ fn widest_without(session: &Session, peers: &Fields<'_>) -> Option<Widest>
 }
 
 /// Those of an end that heard this OPEN.
-fn widest_told(session: &Session, own: Option<&[u8]>, peers: &Fields<'_>) -> Option<Widest>
+fn widest_told(session: &Session, own: Option<&[u8]>, peers: &Open<'_>) -> Option<Widest>
     requires { IfSome own (λ o. IsWellFormed o.now) }
     ensures some { IfSome result (λ widest. parts_of widest
         ≡ widest_of session.now (option_map open_of (option_map (λ o. o.now) own.entry))
@@ -164,7 +161,7 @@ pub fn widest_of(session: &Session, own: Option<&[u8]>, peers: Option<&[u8]>) ->
         return widest_untold(session, own);
     };
     match read_fields(peers) {
-        Some(fields) => widest_told(session, own, &fields),
+        Some(message) => widest_told(session, own, &message),
         None => widest_untold(session, own),
     }
 }

@@ -9,3 +9,4 @@ pub mod Written
 pub mod Held
 pub mod RestTexts
 pub mod AtRecord
+mod SomeOffers

@@ -7,6 +7,8 @@ use Rattle.bgp_prefix.specs.declared.address.Address.TheVariants.{V4}
 use Rattle.bgp_prefix.specs.declared.session.Session.{Session}
 use Rattle.bgp_open.specs.declared.config.Config.{Config}
 use Rattle.bgp_open.specs.declared.families.Families.{Families}
+use Rattle.bgp_open.specs.declared.route_offer.RouteOffer.{RouteOffer}
+use Rattle.bgp_parts_text.specs.Offers.{offer_text, offers_something}
 use Rattle.bgp_check_text.specs.declared.options.Asked.{Asked}
 use Rattle.bgp_check_text.specs.declared.options.JudgeOptions.{JudgeOptions}
 
@@ -46,14 +48,20 @@ word_by false v6 = codes "v6"
 abbrev pub families_word : Families → List ℕ
 families_word families = word_by families.v4 families.v6
 
+-- what is offered about how routes are spelled (RFC 7911, 4; RFC 8950, 4), if something is
+unfoldable pub offers_option : RouteOffer → List ℕ
+offers_option offers =
+    if offers_something offers then codes " --offers " ++ offer_text offers else []
+
 unfoldable pub choices_text : Config → List ℕ
 choices_text config =
     hold_text config.parts.hold ++ (codes " --families "
     ++ (families_word config.parts.families
     ++ (flag_text (codes " --as2") (not config.parts.as4)
     ++ (flag_text (codes " --extended") config.parts.session.extended
+    ++ (offers_option config.parts.offers
     ++ (flag_text (codes " --delay-open") config.parts.delay_open
-    ++ (codes " --large-hold " ++ decimal config.parts.large_hold))))))
+    ++ (codes " --large-hold " ++ decimal config.parts.large_hold)))))))
 
 -- ---- what else is asked
 

@@ -8,7 +8,7 @@ use Rattle.bgp_check.specs.declared.not_judged.NotJudged.{NotJudged}
 use Rattle.bgp_check.specs.declared.not_judged.NotJudged.TheVariants.{AddPath, Confederations}
 use Rattle.bgp_check.specs.declared.not_judged.NotJudged.TheVariants.{DynamicCapabilities}
 use Rattle.bgp_check.specs.declared.not_judged.NotJudged.TheVariants.{ExtendedParameters, NoFamily}
-use Rattle.bgp_check.specs.declared.not_judged.NotJudged.TheVariants.{Ipv6NextHops, NothingSent}
+use Rattle.bgp_check.specs.declared.not_judged.NotJudged.TheVariants.{NothingSent}
 use Rattle.bgp_check_text.specs.declared.tally.Tally.{Tally}
 
 -- one more, up to the greatest number that is told
@@ -26,7 +26,6 @@ is_for_lack NothingSent = true
 is_for_lack ExtendedParameters = false
 is_for_lack NoFamily = false
 is_for_lack (AddPath families) = false
-is_for_lack Ipv6NextHops = false
 is_for_lack DynamicCapabilities = false
 is_for_lack Confederations = false
 

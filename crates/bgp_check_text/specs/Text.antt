@@ -41,7 +41,6 @@ why_text reasons.ExtendedParameters = codes "an OPEN has parameters of RFC 9072"
 why_text reasons.NoFamily = codes "its OPEN offers neither v4 nor v6"
 why_text (reasons.AddPath families) =
     codes "both OPENs offer ADD-PATH for " ++ families_name families
-why_text reasons.Ipv6NextHops = codes "both OPENs offer IPv6 next hops for v4"
 why_text reasons.DynamicCapabilities = codes "both OPENs offer dynamic capabilities"
 why_text reasons.Confederations = codes "an AS_PATH has confederation segments"
 

@@ -4,10 +4,12 @@ ghost use Rattle.std.specs.Prelude.{◌≡◌, option_map};
 ghost use Rattle.bgp_text.specs.Lines.{Writes};
 ghost use Rattle.bgp_check_text.specs.JudgeLine.{addresses_text, asked_text, choices_text};
 ghost use Rattle.bgp_check_text.specs.JudgeLine.{families_word, flag_text, hold_text, judge_line};
-ghost use Rattle.bgp_check_text.specs.JudgeLine.{needs_text, number_text, refresh_text};
+ghost use Rattle.bgp_check_text.specs.JudgeLine.{needs_text, number_text, offers_option};
+ghost use Rattle.bgp_check_text.specs.JudgeLine.{refresh_text};
 
 use crate::options::{Asked, JudgeOptions};
-use bgp_open::{Config, Families};
+use bgp_open::{Config, Families, RouteOffer};
+use bgp_parts_text::put_offer;
 use bgp_prefix::Session;
 use bgp_text::{Lines, put_address};
 use itoa::Integer;
@@ -85,6 +87,18 @@ fn put_hold<W: Sink>(lines: &mut Lines<'_, W>, hold: u16)
     }
 }
 
+/// Puts what is offered about how routes are spelled, if something is.
+fn put_offers<W: Sink>(lines: &mut Lines<'_, W>, offers: RouteOffer)
+    ensures { Writes lines.old lines.new (offers_option offers) }
+{
+    if offers.is_nothing() {
+        lines.put(b"");
+    } else {
+        lines.put(b" --offers ");
+        put_offer(lines, offers);
+    }
+}
+
 /// Puts what else is configured.
 fn put_choices<W: Sink>(lines: &mut Lines<'_, W>, config: &Config)
     ensures { Writes lines.old lines.new (choices_text config.now) }
@@ -95,6 +109,7 @@ fn put_choices<W: Sink>(lines: &mut Lines<'_, W>, config: &Config)
     lines.put(families_word(parts.families));
     put_flag(lines, b" --as2", !parts.as4);
     put_flag(lines, b" --extended", parts.session.extended);
+    put_offers(lines, parts.offers);
     put_flag(lines, b" --delay-open", parts.delay_open);
     lines.put(b" --large-hold ");
     lines.put_decimal(parts.large_hold);

@@ -56,7 +56,6 @@ pub fn put_why<W: Sink>(lines: &mut Lines<'_, W>, why: NotJudged)
             lines.put(b"both OPENs offer ADD-PATH for ");
             lines.put(families_name(families).as_bytes());
         }
-        NotJudged::Ipv6NextHops => lines.put(b"both OPENs offer IPv6 next hops for v4"),
         NotJudged::DynamicCapabilities => lines.put(b"both OPENs offer dynamic capabilities"),
         NotJudged::Confederations => lines.put(b"an AS_PATH has confederation segments"),
     }

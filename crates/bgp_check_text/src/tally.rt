@@ -50,7 +50,6 @@ fn is_for_lack(why: NotJudged) -> bool
         NotJudged::ExtendedParameters
         | NotJudged::NoFamily
         | NotJudged::AddPath(_)
-        | NotJudged::Ipv6NextHops
         | NotJudged::DynamicCapabilities
         | NotJudged::Confederations => false,
     }

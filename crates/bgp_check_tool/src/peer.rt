@@ -6,7 +6,7 @@ ghost use Rattle.bgp_check.specs.Answered.{heard_as, peer_as_by};
 ghost use Rattle.bgp_check.specs.WidestOf.{AreTold};
 
 use bgp_check::{PeerAs, Widest};
-use bgp_parts::read_fields;
+use bgp_open::read_fields;
 
 /// Returns the AS number that is wanted of the peer; 0 where none is, as of an OPEN that says 0.
 pub(crate) fn heard_as(widest: &Widest) -> u32

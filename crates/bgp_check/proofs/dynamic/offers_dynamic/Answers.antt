@@ -8,5 +8,5 @@ use Rattle.bgp_check.proofs.dynamic.offers_dynamic.Goals as goal
 pub returns : goal.returns
 returns c =
     any_from_yields_List is_dynamic _ _ _ c.any.ensures.ran
-    (YieldsList-from_first capability_of (λ s. s) _ c.capabilities.ensures)
+    (YieldsList-from_first capability_of (λ s. s) _ c.caps.ensures)
     (λ x b q k. search rules)

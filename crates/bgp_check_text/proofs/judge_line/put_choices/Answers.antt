@@ -8,4 +8,4 @@ returns g c =
     let law : Joins g.W.Sink = record { joined = g.met.W.Sink.joined } in
     let word = rw c.families_word.ensures at c.put-2.ensures in
     and_then law c.put_hold.ensures (and_then law c.put.ensures (and_then law word (and_then law c.put_flag.ensures
-    (and_then law c.put_flag-2.ensures (and_then law c.put_flag-3.ensures (and_then law c.put-3.ensures c.put_decimal.ensures))))))
+    (and_then law c.put_flag-2.ensures (and_then law c.put_offers.ensures (and_then law c.put_flag-3.ensures (and_then law c.put-3.ensures c.put_decimal.ensures)))))))
