@@ -114,8 +114,8 @@ impl fmt::Display for Help {
             Refusal::Connection(fault) => f.write_str(connection_help(fault)),
             Refusal::Memory { .. } => f.write_str(MEMORY),
             Refusal::RouteRefresh { .. } => f.write_str(
-                "a ROUTE-REFRESH isn't judged: --skip-refresh passes over it; --no-refresh says \
-                 that the local system never offered it",
+                "a ROUTE-REFRESH isn't judged: --skip-refresh passes over it if nothing else is \
+                 wrong in its header; --no-refresh says that the local system never offered it",
             ),
         }
     }

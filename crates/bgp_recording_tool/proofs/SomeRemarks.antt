@@ -1,7 +1,9 @@
 -- Those that there are of a list, one after another.
-use Rattle.std.proofs.Common.{◌≡◌, ◌∙◌, ◌++◌, ◌+◌, ◌<◌, List, [], ◌∷◌, Option, None, Some, refl, sym, ap, append_assoc, append-nil, length, take, drop, get_or, ℕ, suc, add-one, Bool, true, if◌then◌else◌}
+use Rattle.std.proofs.Common.{◌≡◌, ◌∙◌, ◌++◌, ◌+◌, ◌<◌, Result, Ok, Err, inl, inr, List, [], ◌∷◌, Option, None, Some, refl, sym, ap, append_assoc, append-nil, length, take, drop, get_or, ℕ, suc, add-one, Bool, true, if◌then◌else◌}
 use Rattle.std.proofs.Math.Seq.{drop-cons}
-use Rattle.bgp_recording_tool.specs.Remarks.{some_of}
+use Rattle.std.specs.Prelude.{◌⊎◌, OnErr, OnOk}
+use Rattle.bgp_recording_tool.specs.Remarks.{AddsTold, some_of}
+use Rattle.bgp_recording_tool.specs.declared.remark.Remark.{Remark}
 
 -- of both lists
 pub some_of_both : {X : Type 0} (xs ys : List (Option X)) → some_of (xs ++ ys) ≡ some_of xs ++ some_of ys
@@ -35,3 +37,9 @@ pub none_left : {X : Type 0} (added whole : List X) (xs : List (Option X)) (i : 
     → added ++ some_of (drop i xs) ≡ whole → added ≡ whole
 none_left added whole xs i none so_far =
     sym (append-nil added) ∙ sym (ap (λ rest. added ++ some_of rest) none) ∙ so_far
+
+-- what there is to tell was added, or nothing
+pub told_or_none : {V E : Type 0} (r : Result V E) (old new more : List Remark) → OnOk r (new ≡ old ++ more) → OnErr r (new ≡ old)
+    → AddsTold old new (λ own. (own ≡ more) ⊎ (own ≡ []))
+told_or_none (Ok v) old new more added same = record { own = more; added = added; is_told = inl refl }
+told_or_none (Err e) old new more added same = record { own = []; added = same ∙ sym (append-nil old); is_told = inr refl }

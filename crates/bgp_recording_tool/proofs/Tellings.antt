@@ -18,7 +18,7 @@ use Rattle.bgp_import.specs.declared.importing.Import.{Import}
 use Rattle.bgp_import.specs.declared.refusal.Refusal.{Refusal}
 use Rattle.bgp_recording_tool.specs.declared.remark.Remark.{Remark}
 use Rattle.bgp_recording_tool.specs.Judging.{Puts}
-use Rattle.bgp_recording_tool.specs.Remarks.{AddsTold, IsHelp, notes_of, remarks_on}
+use Rattle.bgp_recording_tool.specs.Remarks.{AddsTold, IsHelp, notes_of}
 use Rattle.bgp_explain.specs.declared.report.Report.{Report}
 use Rattle.bgp_recording_tool.specs.Found.{Found, Nothing, ByNone, ByAnother, ByAll}
 use Rattle.bgp_recording_tool.specs.Told.{Refused, refused_status, told_text, told_with}
@@ -43,7 +43,7 @@ module _ {T : Type 0} {sink : sinks.Ghosts T} (config : Config) (report : Report
       → PutsReport config report wanted packets segments number named made.entries.items (notes_of made) a b old new status
       → Puts a b old new status (IsToldAs config report wanted packets segments number named)
   was_judged made tells without puts =
-      let own = remarks_on named wanted.within made.entries.items (notes_of made) puts.confederation puts.verdict puts.found in
+      let own = puts.added.own in
       let reported : IsReported config report wanted packets segments number named puts.verdict puts.found puts.more own =
       record {
         judged = record {
@@ -58,7 +58,9 @@ module _ {T : Type 0} {sink : sinks.Ghosts T} (config : Config) (report : Report
           is_found = puts.is_found;
           confederation = puts.confederation;
           shows = puts.shows;
-          remarked = refl;
+          left_out = puts.left_out;
+          leaves_out = puts.leaves_out;
+          remarked = puts.added.is_told;
         };
         is_more = puts.is_more;
       } in
@@ -66,7 +68,7 @@ module _ {T : Type 0} {sink : sinks.Ghosts T} (config : Config) (report : Report
         text = told_text (told_with puts.verdict puts.found puts.more);
         own = own;
         wrote = puts.wrote;
-        added = puts.added;
+        added = puts.added.added;
         holds = record {
           told = told_with puts.verdict puts.found puts.more;
           is_told = reported_so puts.verdict puts.found puts.more own reported;

@@ -29,12 +29,14 @@ use Rattle.bgp_import.specs.Refreshes.{IsRefreshIn}
 use Rattle.bgp_import.specs.declared.importing.Import.{Import}
 use Rattle.bgp_import.specs.declared.note.Notes.{Notes}
 use Rattle.bgp_import.specs.declared.refusal.Refusal.{Refusal}
+use Rattle.bgp_explain.specs.LeftOut.{JudgesWithout}
+use Rattle.bgp_explain.specs.declared.left_out.LeftOut.{LeftOut}
 use Rattle.bgp_explain.specs.Places.{shown_places}
 use Rattle.bgp_explain.specs.Records.{SaysOrNot}
 use Rattle.bgp_explain.specs.declared.report.Report.{Report}
 use Rattle.bgp_explain.specs.declared.report.Report.TheVariants.{VerdictAlone, WithReason}
 use Rattle.bgp_recording_tool.specs.declared.remark.Remark.{Remark}
-use Rattle.bgp_recording_tool.specs.Remarks.{IsHelp, remarks_on}
+use Rattle.bgp_recording_tool.specs.Remarks.{AreRemarks, IsHelp}
 use Rattle.bgp_recording_tool.specs.Found.{Found, Nothing, ByNone, ByAnother, ByAll, IsNo, IsNoYes}
 use Rattle.bgp_recording_tool.specs.Told.{Told, Judged, NoOrder, InAnotherOrder, Refused}
 use Rattle.bgp_recording_tool.specs.Told.{UnfinishedOverAll, status_over, told_status, told_text}
@@ -119,7 +121,8 @@ module _ (config : Config) (wanted : Import) (packets : List Recorded) (segments
     -- These entries are made of the connection with this number, or of the only one, and this is
     -- the verdict on their records. None of them is a ROUTE-REFRESH, where the session refuses
     -- one. And this is found over all orders. It is remarked if one of the records shows an UPDATE
-    -- of a confederation.
+    -- of a confederation, and what is left out of what both OPENs offer. Where there is no memory
+    -- for the remarks, there are none.
     pub record IsJudged (number named : Option ℕ) (verdict : VerdictValue) (found : Found)
         (remarks : List Remark) : Type 0 where
       pub connection : Connection
@@ -134,8 +137,10 @@ module _ (config : Config) (wanted : Import) (packets : List Recorded) (segments
       pub is_found : IsFound number verdict others found
       pub confederation : Bool
       pub shows : IsTrue confederation ↔ SomeShowConfederations (records_of entries)
-      pub remarked : remarks ≡ remarks_on named wanted.within entries notes confederation verdict
-          found
+      pub left_out : LeftOut
+      pub leaves_out : JudgesWithout config (records_of entries) left_out
+      pub remarked : AreRemarks named wanted.within entries notes confederation left_out verdict
+          found remarks
 
     -- the session refuses a ROUTE-REFRESH, and there is one
     pub record HasRefresh (number : Option ℕ) (refusal : Refusal) : Type 0 where

@@ -16,6 +16,7 @@ use Rattle.bgp_tool.specs.Opened.{TellsWriter}
 use Rattle.bgp_tool.specs.OpenedCapture.{DecodesOpened}
 use Rattle.bgp_tool.specs.declared.note.Note.{Note}
 use Rattle.bgp_tool.specs.declared.note.Note.TheVariants.{Unread, OutOfMemory}
+use Rattle.bgp_explain.specs.LeftOut.{nothing_left_out}
 use Rattle.bgp_explain.specs.Opened.{ReportsOpened}
 use Rattle.bgp_explain.specs.declared.report.Report.{Report}
 use Rattle.bgp_recording_tool.specs.declared.files.FileOutcome.{FileOutcome}
@@ -79,7 +80,8 @@ pub record ReadsFile {R W X : Type 0} (remaining : R → Option (List ℕ)) (fil
   pub is_peeked : IsPeeked remaining reader peeked
   pub is : (IsTrue (is_recording peeked.front.items)
       × ReadsRecording file peeked old new outcome.status outcome.note IsRecording
-      × (outcome.skipped ≡ None) × IsFalse outcome.confederation)
+      × (outcome.skipped ≡ None) × IsFalse outcome.confederation
+      × (outcome.left_out ≡ nothing_left_out))
       ⊎ (IsFalse (is_recording peeked.front.items) × IsCapture peeked
       × (outcome.cut_short ≡ None) × (outcome.remarks.items ≡ []))
 
@@ -108,6 +110,7 @@ module _ {R W X : Type 0} (remaining : R → Option (List ℕ)) (contents : W �
           note = outcome.note;
         };
         confederation = outcome.confederation;
+        left_out = outcome.left_out;
       }) report)
 
   abbrev pub DecodesFile : Session → Type 0
@@ -119,4 +122,4 @@ module _ {R W X : Type 0} (remaining : R → Option (List ℕ)) (contents : W �
       (λ peeked. DecodesOpened (peeked_remaining remaining) contents session file peeked
       (writer_state old) (writer_state new)
       (record { status = outcome.status; skipped = outcome.skipped; note = outcome.note })
-      × IsFalse outcome.confederation)
+      × IsFalse outcome.confederation × (outcome.left_out ≡ nothing_left_out))

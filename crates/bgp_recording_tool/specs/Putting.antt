@@ -1,5 +1,5 @@
 -- What is put of one connection whose records are judged, and what there is to tell of it besides.
-use Rattle.std.specs.Prelude.{◌↔◌, ◌≡◌, ◌++◌, ℕ, Bool, IsTrue, List, Option}
+use Rattle.std.specs.Prelude.{◌↔◌, ◌≡◌, ℕ, Bool, IsTrue, List, Option}
 use Rattle.packets.specs.Packet.{Recorded}
 use Rattle.streams.specs.Passed.{Segment}
 use Rattle.mrt.specs.declared.sink.Sink as sinks
@@ -12,11 +12,13 @@ use Rattle.bgp_import.specs.declared.importing.Import.{Import}
 use Rattle.bgp_import.specs.declared.note.Notes.{Notes}
 use Rattle.bgp_recording.specs.Captured.{records_of}
 use Rattle.bgp_recording.specs.declared.entry.Entry.{Entry}
+use Rattle.bgp_explain.specs.LeftOut.{JudgesWithout}
+use Rattle.bgp_explain.specs.declared.left_out.LeftOut.{LeftOut}
 use Rattle.bgp_explain.specs.declared.report.Report.{Report}
 use Rattle.bgp_recording_tool.specs.declared.remark.Remark.{Remark}
 use Rattle.bgp_recording_tool.specs.Connections.{IsFound, IsMoreOf}
 use Rattle.bgp_recording_tool.specs.Found.{Found}
-use Rattle.bgp_recording_tool.specs.Remarks.{remarks_on}
+use Rattle.bgp_recording_tool.specs.Remarks.{AddsTold, AreRemarks}
 use Rattle.bgp_recording_tool.specs.Told.{told_status, told_text, told_with}
 
 -- The verdict on the records of these entries, or what is found over all orders of the connection
@@ -36,8 +38,10 @@ pub record PutsReport {T : Type 0} {sink : sinks.Ghosts T} (config : Config) (re
   pub wrote : Writes lines lines' (told_text (told_with verdict found more))
   pub confederation : Bool
   pub shows : IsTrue confederation ↔ SomeShowConfederations (records_of entries)
-  pub added : remarks' ≡ remarks
-      ++ remarks_on named wanted.within entries notes confederation verdict found
+  pub left_out : LeftOut
+  pub leaves_out : JudgesWithout config (records_of entries) left_out
+  pub added : AddsTold remarks remarks'
+      (AreRemarks named wanted.within entries notes confederation left_out verdict found)
   pub tells : status ≡ told_status (told_with verdict found more)
 
 -- nothing is put or added

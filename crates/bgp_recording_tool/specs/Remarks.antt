@@ -1,7 +1,7 @@
 -- What is told of a recording and its connections besides what is answered, sentence by sentence.
 use Rattle.std.specs.Prelude.{◌≡◌, ◌⊎◌, ℕ, Bool, true, false, List, [], ◌∷◌, ◌++◌, map}
 use Rattle.std.specs.Prelude.{Option, None, Some}
-use Rattle.std.specs.Prelude.{if◌then◌else◌}
+use Rattle.std.specs.Prelude.{◌||◌, if◌then◌else◌}
 use Rattle.std.specs.List.{list_any, slice_get}
 use Rattle.mrt.specs.Reader.{shown_of}
 use Rattle.bgp_tool.specs.Seen.{is_sent}
@@ -16,6 +16,9 @@ use Rattle.bgp_import.specs.declared.refusal.Cause.TheVariants as causes
 use Rattle.bgp_import.specs.declared.refusal.Refusal.{Refusal}
 use Rattle.bgp_import.specs.declared.note.Note.{Note}
 use Rattle.bgp_import.specs.declared.note.Notes.{Notes}
+use Rattle.bgp_open.specs.declared.families.Families.{Families}
+use Rattle.bgp_open.specs.declared.route_offer.RouteOffer.{RouteOffer}
+use Rattle.bgp_explain.specs.declared.left_out.LeftOut.{LeftOut}
 use Rattle.bgp_recording_tool.specs.Found.{Found, Nothing, ByNone, ByAnother, ByAll}
 use Rattle.bgp_recording_tool.specs.declared.remark.Remark.{Remark}
 use Rattle.bgp_recording_tool.specs.declared.remark.RemarkKind.{RemarkKind}
@@ -63,6 +66,17 @@ abbrev pub confederation_remark : Option ℕ → Bool → Option Remark
 confederation_remark connection true = Some (remark_on connection kinds.Confederation)
 confederation_remark connection false = None
 
+-- that path identifiers of these families aren't read, where there are some
+abbrev pub add_path_remark : Option ℕ → Families → Option Remark
+add_path_remark connection families =
+    if families.v4 || families.v6 then Some (remark_on connection (kinds.AddPath families))
+    else None
+
+-- that nothing is configured to be offered about routes, though both OPENs offer IPv6 next hops
+abbrev pub without_remark : Option ℕ → Option RouteOffer → Option Remark
+without_remark connection None = None
+without_remark connection (Some offer) = Some (remark_on connection (kinds.Without offer))
+
 -- that nothing was sent, where that is so
 abbrev pub unsent_remark : Option ℕ → List Entry → Option Remark
 unsent_remark connection entries =
@@ -95,14 +109,22 @@ another_remark connection (ByNone u) = None
 another_remark connection (ByAnother ends) = Some (remark_on connection kinds.AnotherOrder)
 another_remark connection ByAll = None
 
--- All that is told of a connection of which these entries are made: with this patience, and with
--- an UPDATE of a confederation or without.
-abbrev pub remarks_on : Option ℕ → ℕ → List Entry → Notes → Bool → VerdictValue → Found
+-- All that is told of a connection of which these entries are made: with this patience, with an
+-- UPDATE of a confederation or without, and where this is left out of what both OPENs offer.
+abbrev pub remarks_on : Option ℕ → ℕ → List Entry → Notes → Bool → LeftOut → VerdictValue → Found
     → List Remark
-remarks_on connection within entries notes confederation verdict found =
+remarks_on connection within entries notes confederation left_out verdict found =
     some_of (making_remarks connection notes ++ confederation_remark connection confederation
+    ∷ add_path_remark connection left_out.add_path ∷ without_remark connection left_out.without
     ∷ another_remark connection found
     ∷ verdict_remark connection within entries verdict found ∷ [])
+
+-- that is told, or nothing where there was no memory for it
+abbrev pub AreRemarks : Option ℕ → ℕ → List Entry → Notes → Bool → LeftOut → VerdictValue → Found
+    → List Remark → Type 0
+AreRemarks connection within entries notes confederation left_out verdict found remarks =
+    (remarks ≡ remarks_on connection within entries notes confederation left_out verdict found)
+    ⊎ (remarks ≡ [])
 
 -- what helps against a refusal, if anything does
 abbrev pub help_by : Cause → Option ℕ → Refusal → Option Remark

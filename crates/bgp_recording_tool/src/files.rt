@@ -7,13 +7,14 @@ ghost use Rattle.mrt.specs.FromRead.{reader_state};
 ghost use Rattle.mrt.specs.FromWrite.{writer_state};
 ghost use Rattle.bgp_tool.specs.Opened.{IsUnopened, TellsWriter};
 ghost use Rattle.bgp_tool.specs.declared.note.Note.TheVariants as notes;
+ghost use Rattle.bgp_explain.specs.LeftOut.{nothing_left_out};
 ghost use Rattle.bgp_recording_tool.specs.Files.{DecodesFile, JudgesFile};
 
 use crate::decoding::decode_recording;
 use crate::headline::judge_recording;
 use crate::peeked::Peeked;
 use crate::remark::Remark;
-use bgp_explain::{JudgedCapture, Report, judge_opened};
+use bgp_explain::{JudgedCapture, LeftOut, Report, judge_opened};
 use bgp_import::{CutShort, RecordingOptions};
 use bgp_judge::Tracker;
 use bgp_open::Config;
@@ -37,6 +38,9 @@ pub struct FileOutcome<'a, A: Allocator> {
     /// Whether an UPDATE of a confederation is among the records of a capture that was judged: to
     /// be told then, by [`Note::Confederation`]. Of a recording a remark tells it.
     pub confederation: bool,
+    /// What judging a capture left out of what both OPENs offer: to be told then, by
+    /// [`Note::AddPath`] and [`Note::Without`]. Of a recording remarks tell it.
+    pub left_out: LeftOut,
     /// What there is to tell of a recording's connections, in their order: to be told then.
     pub remarks: Vec<Remark, A>,
     /// What went wrong, if anything did.
@@ -48,11 +52,13 @@ fn without_remarks<'a, A: Allocator + Copy>(
     alloc: A,
     outcome: Outcome<'a>,
     confederation: bool,
+    left_out: LeftOut,
 ) -> FileOutcome<'a, A>
     ensures status { result.status ≡ outcome.entry.status }
     ensures skipped { result.skipped ≡ outcome.entry.skipped }
     ensures note { result.note ≡ outcome.entry.note }
     ensures confederation { result.confederation ≡ confederation }
+    ensures left_out { result.left_out ≡ left_out }
     ensures remarks { result.remarks.items ≡ [] }
     ensures uncut { result.cut_short ≡ None }
 {
@@ -61,6 +67,7 @@ fn without_remarks<'a, A: Allocator + Copy>(
         cut_short: None,
         skipped: outcome.skipped,
         confederation,
+        left_out,
         remarks: Vec::new(alloc),
         note: outcome.note,
     }
@@ -132,20 +139,25 @@ pub fn judge_file<'a, A: Allocator + Copy, T: Tracker<A>, R: Read + Drop, W: Wri
         file.entry reader sink.old sink.new result config.now report T.may_lack) }
     ensures unopened { IfErr opened (λ error. IsUnopened file.entry (error_kind error)
         (record { status = result.status; skipped = result.skipped; note = result.note })
-        × (result.cut_short ≡ None) × IsFalse result.confederation × (result.remarks.items ≡ [])
+        × (result.cut_short ≡ None) × IsFalse result.confederation
+        × (result.left_out ≡ nothing_left_out) × (result.remarks.items ≡ [])
         × (sink.new ≡ sink.old)) }
 {
     let peeked = match opened {
         Ok(reader) => Peeked::new(reader),
-        Err(error) => return without_remarks(alloc, unopened(file, error.kind()), false),
+        Err(error) => {
+            let outcome = unopened(file, error.kind());
+            return without_remarks(alloc, outcome, false, LeftOut::nothing());
+        }
     };
     if !peeked.is_recording() {
         let judged = judge_opened::<A, T, _, W>(alloc, config, report, file, Ok(peeked), sink);
         let JudgedCapture {
             outcome,
             confederation,
+            left_out,
         } = judged;
-        return without_remarks(alloc, outcome, confederation);
+        return without_remarks(alloc, outcome, confederation, left_out);
     }
     let mut source = FromRead::new(peeked);
     let failures = sink.failures();
@@ -156,6 +168,7 @@ pub fn judge_file<'a, A: Allocator + Copy, T: Tracker<A>, R: Read + Drop, W: Wri
         cut_short: judged.cut_short,
         skipped: None,
         confederation: false,
+        left_out: LeftOut::nothing(),
         remarks: judged.remarks,
         note,
     }
@@ -180,16 +193,20 @@ pub fn decode_file<'a, A: Allocator + Copy, R: Read + Ready + Drop, W: Write>(
         file.entry reader sink.old sink.new result session.now) }
     ensures unopened { IfErr opened (λ error. IsUnopened file.entry (error_kind error)
         (record { status = result.status; skipped = result.skipped; note = result.note })
-        × (result.cut_short ≡ None) × IsFalse result.confederation × (result.remarks.items ≡ [])
+        × (result.cut_short ≡ None) × IsFalse result.confederation
+        × (result.left_out ≡ nothing_left_out) × (result.remarks.items ≡ [])
         × (sink.new ≡ sink.old)) }
 {
     let peeked = match opened {
         Ok(reader) => Peeked::new(reader),
-        Err(error) => return without_remarks(alloc, unopened(file, error.kind()), false),
+        Err(error) => {
+            let outcome = unopened(file, error.kind());
+            return without_remarks(alloc, outcome, false, LeftOut::nothing());
+        }
     };
     if !peeked.is_recording() {
         let outcome = decode_opened_capture(alloc, session, file, Ok(peeked), sink);
-        return without_remarks(alloc, outcome, false);
+        return without_remarks(alloc, outcome, false, LeftOut::nothing());
     }
     let mut source = FromRead::new(peeked);
     let failures = sink.failures();
@@ -200,6 +217,7 @@ pub fn decode_file<'a, A: Allocator + Copy, R: Read + Ready + Drop, W: Write>(
         cut_short: judged.cut_short,
         skipped: None,
         confederation: false,
+        left_out: LeftOut::nothing(),
         remarks: judged.remarks,
         note,
     }

@@ -4,6 +4,7 @@ ghost use Rattle.std.specs.Prelude.{◌≡◌, ◌++◌, OnOk, OnErr};
 ghost use Rattle.bgp_recording_tool.specs.Remarks.{AddsTold, IsHelp, refused_remark, some_of};
 
 use bgp_import::{Help, Note, Refusal};
+use bgp_open::{Families, RouteOffer};
 use bgp_tool::Note as ToolNote;
 use std::alloc::{AllocError, Allocator};
 use std::fmt;
@@ -27,6 +28,11 @@ pub enum RemarkKind {
     NothingSent,
     /// An UPDATE of a confederation (RFC 5065) is among the records that were judged.
     Confederation,
+    /// Path identifiers of these families aren't read, though both OPENs offer them (RFC 7911).
+    AddPath(Families),
+    /// Nothing is configured to be offered about routes, though both OPENs offer IPv6 next hops of
+    /// IPv4 routes (RFC 8950): what the OPEN offers that was sent.
+    Without(RouteOffer),
     /// A connection is answered no, in one order of its messages that the packets allow.
     No {
         /// How many records come before the first impossible one.
@@ -73,6 +79,8 @@ impl fmt::Display for RemarkKind {
                 f.write_str("no message was sent: nothing of the local system was judged")
             }
             RemarkKind::Confederation => write!(f, "{}", ToolNote::Confederation),
+            RemarkKind::AddPath(families) => write!(f, "{}", ToolNote::AddPath { families }),
+            RemarkKind::Without(offer) => write!(f, "{}", ToolNote::Without { offer }),
             RemarkKind::No {
                 before,
                 packet,

@@ -6,15 +6,19 @@ ghost use Rattle.bgp_recording_tool.specs.Remarks.{made_order_remark, making_rem
 ghost use Rattle.bgp_recording_tool.specs.Remarks.{making_remarks, verdict_remark};
 ghost use Rattle.bgp_recording_tool.specs.Remarks.{confederation_remark, has_sent, notes_of};
 ghost use Rattle.bgp_recording_tool.specs.Found.{found_of};
-ghost use Rattle.bgp_recording_tool.specs.Remarks.{another_remark, packet_after, remarks_on};
+ghost use Rattle.bgp_recording_tool.specs.Remarks.{AddsTold, AreRemarks, remarks_on};
+ghost use Rattle.bgp_recording_tool.specs.Remarks.{add_path_remark, without_remark};
+ghost use Rattle.bgp_recording_tool.specs.Remarks.{another_remark, packet_after};
 ghost use Rattle.bgp_recording_tool.specs.Remarks.{unsent_remark};
 ghost use Rattle.bgp_tool.specs.Seen.{is_sent};
 ghost use Rattle.mrt.specs.Reader.{shown_of};
 
 use crate::orders::Searched;
 use crate::remark::{Remark, RemarkKind, add_remarks};
+use bgp_explain::LeftOut;
 use bgp_import::{Note, notes_on};
 use bgp_judge::Verdict;
+use bgp_open::{Families, RouteOffer};
 use bgp_recording::{Entry, Recording};
 use mrt::Record;
 use std::alloc::{AllocError, Allocator};
@@ -90,6 +94,33 @@ fn confederation_remark(connection: Option<usize>, confederation: bool) -> Optio
         connection,
         kind: RemarkKind::Confederation,
     })
+}
+
+/// That path identifiers of these families aren't read, where there are some.
+fn add_path_remark(connection: Option<usize>, families: Families) -> Option<Remark>
+    ensures { result ≡ add_path_remark connection families }
+{
+    if families.v4 || families.v6 {
+        Some(Remark {
+            connection,
+            kind: RemarkKind::AddPath(families),
+        })
+    } else {
+        None
+    }
+}
+
+/// That nothing is configured to be offered about routes, though both OPENs offer IPv6 next hops.
+fn without_remark(connection: Option<usize>, without: Option<RouteOffer>) -> Option<Remark>
+    ensures { result ≡ without_remark connection without }
+{
+    match without {
+        Some(offer) => Some(Remark {
+            connection,
+            kind: RemarkKind::Without(offer),
+        }),
+        None => None,
+    }
 }
 
 /// That nothing was sent, where that is so.
@@ -172,22 +203,24 @@ fn another_remark<A: Allocator>(
 }
 
 /// Adds what there is to tell of a connection: how its records were made; whether they show an
-/// UPDATE of a confederation, as the caller found; of a no the sent message that no order explains,
+/// UPDATE of a confederation, and what is left out of what both OPENs offer, as the caller found; of
+/// a no the sent message that no order explains,
 /// or at which of the records it is, and in which packet; of a yes that it is that of another order,
 /// if it is, and that nothing was sent. It is told with this number, where several connections are.
 /// None of it where a growth is refused.
-pub(crate) fn add_remarks_on<A: Allocator + Copy>(
+fn try_to_add<A: Allocator + Copy>(
     remarks: &mut Vec<Remark, A>,
     named: Option<usize>,
     within: u16,
     made: &Recording<'_, A>,
     confederation: bool,
+    left_out: LeftOut,
     verdict: &Verdict<A>,
     searched: &Searched<'_, A>,
 ) -> Result<(), AllocError>
     ensures ok { OnOk result (remarks.new.items ≡ remarks.old.items
         ++ remarks_on named within made.now.entries.items (notes_of made.now) confederation
-        (verdict_value verdict.now) (found_of searched.now)) }
+        left_out (verdict_value verdict.now) (found_of searched.now)) }
     ensures err { OnErr result (remarks.new.items ≡ remarks.old.items) }
 {
     let [
@@ -198,6 +231,8 @@ pub(crate) fn add_remarks_on<A: Allocator + Copy>(
         put_off,
     ] = making_remarks(named, made);
     let shown = confederation_remark(named, confederation);
+    let add_path = add_path_remark(named, left_out.add_path);
+    let without = without_remark(named, left_out.without);
     let another = another_remark(named, searched);
     let judged = verdict_remark(named, within, made.entries.as_slice(), verdict, searched);
     add_remarks(
@@ -209,8 +244,39 @@ pub(crate) fn add_remarks_on<A: Allocator + Copy>(
             sent_left,
             put_off,
             shown,
+            add_path,
+            without,
             another,
             judged,
         ],
     )
+}
+
+/// Adds what there is to tell of a connection, with this number, where several connections are; or
+/// nothing, if there is no memory for it.
+pub(crate) fn add_remarks_on<A: Allocator + Copy>(
+    remarks: &mut Vec<Remark, A>,
+    named: Option<usize>,
+    within: u16,
+    made: &Recording<'_, A>,
+    confederation: bool,
+    left_out: LeftOut,
+    verdict: &Verdict<A>,
+    searched: &Searched<'_, A>,
+)
+    ensures { AddsTold remarks.old.items remarks.new.items (AreRemarks named within
+        made.now.entries.items (notes_of made.now) confederation left_out
+        (verdict_value verdict.now) (found_of searched.now)) }
+{
+    // Without memory the verdict is told alone.
+    let _ = try_to_add(
+        remarks,
+        named,
+        within,
+        made,
+        confederation,
+        left_out,
+        verdict,
+        searched,
+    );
 }

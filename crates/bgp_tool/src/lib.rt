@@ -18,6 +18,7 @@ mod judging;
 mod laws;
 mod note;
 mod nothing_found;
+mod offer_note;
 mod opened;
 mod opened_capture;
 mod pair_fault;

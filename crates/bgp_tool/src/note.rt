@@ -2,10 +2,12 @@
 
 use crate::error_words::ErrorWords;
 use crate::front::Form;
-use crate::front_note::put_form;
+use crate::front_note::{Word, put_form};
+use crate::offer_note::{FamilyWords, OfferWords};
 use crate::pair_fault::{PairEnd, PairFault};
 use crate::refusal_note::put_refusal;
 use crate::seen::Seen;
+use bgp_open::{Families, RouteOffer};
 use mrt::{CaptureFault, Endpoints};
 use std::fmt;
 use std::io::ErrorKind;
@@ -121,6 +123,18 @@ pub enum Note<'a> {
     },
     /// An UPDATE of a confederation is among the records that were judged.
     Confederation,
+    /// Path identifiers aren't read, though both OPENs offer them (RFC 7911).
+    AddPath {
+        /// The families of which one end offers to send them and the other to receive them: at
+        /// least one.
+        families: Families,
+    },
+    /// Nothing is configured to be offered about routes, though both OPENs offer IPv6 next hops of
+    /// IPv4 routes (RFC 8950).
+    Without {
+        /// What the OPEN offers that was sent.
+        offer: RouteOffer,
+    },
     /// A pair of ends gave up.
     Pair {
         /// The name of the left end's capture.
@@ -192,6 +206,16 @@ impl fmt::Display for Note<'_> {
             Note::Confederation => f.write_str(
                 "an AS_PATH has confederation segments (RFC 5065), which are not judged",
             ),
+            Note::AddPath { families } => write!(
+                f,
+                "both OPENs offer ADD-PATH for {}, which is not judged",
+                FamilyWords(families)
+            ),
+            Note::Without { offer } => write!(
+                f,
+                "judged without what both OPENs offer: --offers {}",
+                OfferWords(offer)
+            ),
             Note::Pair { file, fault } => put_pair(f, file, fault),
         }
     }
@@ -247,16 +271,23 @@ fn put_no_session<W: fmt::Write>(
     other: Option<Endpoints>,
 ) -> fmt::Result {
     write!(f, "{}: ", Told(file))?;
-    put_unmet(f, Unmet { other })
+    put_unmet(f, file, Unmet { other })
 }
 
-/// That no record of the session was read, and whose the first of another one is.
-pub(crate) fn put_unmet<W: fmt::Write>(f: &mut fmt::Formatter<W>, unmet: Unmet) -> fmt::Result {
+/// That no record of the session was read, whose the first of another one is, and what prints the
+/// addresses of each.
+pub(crate) fn put_unmet<W: fmt::Write>(
+    f: &mut fmt::Formatter<W>,
+    file: &str,
+    unmet: Unmet,
+) -> fmt::Result {
     f.write_str("no record of this session was read")?;
     match unmet.other {
         Some(Endpoints { peer, local }) => write!(
             f,
-            "; the first of another one has the peer {peer} and the local address {local}"
+            "; the first of another one has the peer {peer} and the local address {local}: `bgp \
+             list {}` prints the addresses of each session",
+            Word(file)
         ),
         None => Ok(()),
     }

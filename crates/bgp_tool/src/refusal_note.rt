@@ -25,7 +25,7 @@ pub(crate) fn put_refusal<W: fmt::Write>(
     match unmet {
         Some(unmet) => {
             f.write_str("; ")?;
-            put_unmet(f, unmet)
+            put_unmet(f, file, unmet)
         }
         None => Ok(()),
     }
@@ -65,8 +65,8 @@ fn words_of(kind: FaultKind) -> (&'static str, &'static str) {
         ),
         FaultKind::RouteRefresh => (
             "the record",
-            " holds a ROUTE-REFRESH (RFC 2918), which isn't judged: --skip-refresh passes over it; \
-             --no-refresh says that the router doesn't offer it",
+            " holds a ROUTE-REFRESH (RFC 2918), which isn't judged: --skip-refresh passes over it if \
+             nothing else is wrong in its header; --no-refresh says that the router doesn't offer it",
         ),
         FaultKind::AddPath => (
             "the record",

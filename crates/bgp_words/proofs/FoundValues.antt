@@ -40,6 +40,26 @@ module _ {T E : Type 0} (spells : Text → T → Type 0) (name : Text) (rows : L
         ((read_is o e v).1 ((reads v).1 (subst (λ (w : Option Text). IsSomeAnd w (λ text. spells text v)) there is))),
   )
 
+-- an option that has this value where it is left out
+module _ {T : Type 0} (spells : Text → T → Type 0) (name : Text) (rows : List Row) (usual : T) where
+  abbrev AsGiven : Option Text → T → Type 0
+  AsGiven o value = MatchOption o (value ≡ usual) (λ text. spells text value)
+
+  pub value_or_none : first_of name rows ≡ None → (value : T) → (usual ≡ value) ↔ AsGiven (first_of name rows) value
+  value_or_none lacks value = (
+    λ same. subst (λ (w : Option Text). AsGiven w value) (sym lacks) (sym same),
+    λ has. sym (subst (λ (w : Option Text). AsGiven w value) lacks has),
+  )
+
+  pub value_or : {E : Type 0} (word : Text) → first_of name rows ≡ Some word → (o : Option T) → ((v : T) → (o ≡ Some v) ↔ spells word v)
+      → (e : E) (r : Result T E) → r ≡ ok_or o e → (v : T) → IsOkAnd r (λ it. it ≡ v) ↔ AsGiven (first_of name rows) v
+  value_or word there o reads e r same v = (
+    λ is. subst (λ (w : Option Text). AsGiven w v) (sym there)
+        ((reads v).0 ((read_is o e v).0 (subst (λ (x : Result T _). IsOkAnd x (λ it. it ≡ v)) same is))),
+    λ is. subst (λ (x : Result T _). IsOkAnd x (λ it. it ≡ v)) (sym same)
+        ((read_is o e v).1 ((reads v).1 (subst (λ (w : Option Text). AsGiven w v) there is))),
+  )
+
 -- an option that may be left out
 module _ {T : Type 0} (spells : Text → T → Type 0) where
   abbrev AsIn : Option Text → Option T → Type 0

@@ -81,7 +81,7 @@ module _ (words : List Text) (parts : ConfigParts) (file : Text) (line : IsJudge
       line.as_numbers.0 line.as_numbers.1 line.identifier line.ends.0 line.ends.1 line.refresh line.extended
       (subst (IsHoldText (codes "90")) (sym line.holds.0) ninety)
       (subst (IsPositiveText (codes "240")) (sym line.holds.1) two_hundred_forty)
-      (inl (refl, line.families)) line.flags.0 line.flags.1
+      (inl (refl, line.families)) line.flags.0 line.flags.1 line.offers
 
   usual : AreRecordingOptions usual_recording rows
   usual = usual_found line.name line.local_as line.peer_as line.local_id line.local line.peer file
@@ -128,6 +128,7 @@ module _ (words : List Text) (parts : ConfigParts) (file : Text) (line : IsJudge
           holds = (sym tells.7.0.1, sym tells.8.0.1);
           families = only_v4 config.parts.families tells.9;
           flags = (tells.10, tells.11);
+          offers = tells.12;
         }),
         is_usual recording is.1.1,
         is.1.2 ∙ no_reason,

@@ -10,3 +10,4 @@ pub mod PlainWords
 pub mod SpelledJudge
 pub mod JudgeLine
 pub mod AfterLength
+pub mod OfferWords

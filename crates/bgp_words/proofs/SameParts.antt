@@ -15,8 +15,8 @@ use Rattle.bgp_talk.specs.declared.options.Speaking.{Speaking}
 
 pub same_parts : (p q : ConfigParts) → p.local_as ≡ q.local_as → p.peer_as ≡ q.peer_as → p.local_id ≡ q.local_id
     → p.hold ≡ q.hold → p.families ≡ q.families → p.as4 ≡ q.as4 → p.delay_open ≡ q.delay_open
-    → p.large_hold ≡ q.large_hold → p.session ≡ q.session → p ≡ q
-same_parts p q local_as peer_as local_id hold families as4 delay_open large_hold session = search rules
+    → p.large_hold ≡ q.large_hold → p.session ≡ q.session → p.offers ≡ q.offers → p ≡ q
+same_parts p q local_as peer_as local_id hold families as4 delay_open large_hold session offers = search rules
 
 pub same_speaking : (p q : Speaking) → p.start ≡ q.start → p.next_hop4 ≡ q.next_hop4 → p.next_hop6 ≡ q.next_hop6
     → p.announce ≡ q.announce → p.cleared ≡ q.cleared → p.turns ≡ q.turns → p.quiet ≡ q.quiet → p ≡ q

@@ -9,6 +9,7 @@ use Rattle.clap.specs.Simple.{Shape, built, names_of, new_shape}
 use Rattle.clap.proofs.OnLiterals.{clap_on_literals}
 use Rattle.bgp_prefix.specs.Notation.{IsAddressText}
 use Rattle.bgp_prefix.specs.declared.session.RouteRefresh.TheVariants as refreshes
+use Rattle.bgp_open.specs.RouteOffer.{nothing}
 use Rattle.bgp_open.specs.declared.config.ConfigParts.{ConfigParts}
 use Rattle.bgp_words.specs.Words.{program_words}
 use Rattle.bgp_words.specs.Values.{IsFamiliesText, IsHoldText, IsIdentifierText, IsPortText, IsPositiveText, IsSecondsText, is_given}
@@ -156,9 +157,9 @@ module _ (name local_as peer_as local_id local peer file : Text) (local_as_plain
   pub parts_found : (parts : ConfigParts) → IsPositiveText local_as parts.local_as → IsPositiveText peer_as parts.peer_as
       → IsIdentifierText local_id parts.local_id → IsAddressText local parts.session.local → IsAddressText peer parts.session.peer
       → parts.session.refresh ≡ refreshes.Refused → parts.session.extended ≡ false → IsHoldText (codes "90") parts.hold → IsPositiveText (codes "240") parts.large_hold
-      → IsFamiliesText (codes "v4") parts.families → parts.as4 ≡ true → parts.delay_open ≡ false → AreJudged parts found_rows
+      → IsFamiliesText (codes "v4") parts.families → parts.as4 ≡ true → parts.delay_open ≡ false → parts.offers ≡ nothing → AreJudged parts found_rows
   unfolding clap_on_literals
-  parts_found parts own other id here there refresh extended hold large families as4 delay = record {
+  parts_found parts own other id here there refresh extended hold large families as4 delay offers = record {
     local_as = own;
     peer_as = other;
     local_id = id;
@@ -168,12 +169,13 @@ module _ (name local_as peer_as local_id local peer file : Text) (local_as_plain
     delay_open = delay;
     large_hold = large;
     session = record { peer = there; local = here; refresh = refresh; extended = extended };
+    offers = offers;
   }
 
   pub parts_told : (parts : ConfigParts) → AreJudged parts found_rows → IsPositiveText local_as parts.local_as × IsPositiveText peer_as parts.peer_as
       × IsIdentifierText local_id parts.local_id × IsAddressText local parts.session.local × IsAddressText peer parts.session.peer
       × (parts.session.refresh ≡ refreshes.Refused) × (parts.session.extended ≡ false) × IsHoldText (codes "90") parts.hold × IsPositiveText (codes "240") parts.large_hold
-      × IsFamiliesText (codes "v4") parts.families × (parts.as4 ≡ true) × (parts.delay_open ≡ false)
+      × IsFamiliesText (codes "v4") parts.families × (parts.as4 ≡ true) × (parts.delay_open ≡ false) × (parts.offers ≡ nothing)
   unfolding clap_on_literals
   parts_told parts are = (
     are.local_as,
@@ -188,6 +190,7 @@ module _ (name local_as peer_as local_id local peer file : Text) (local_as_plain
     are.families,
     are.as4,
     are.delay_open,
+    are.offers,
   )
 
   pub file_found : first_of (codes "FILE") found_rows ≡ Some file

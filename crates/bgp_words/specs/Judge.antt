@@ -4,6 +4,7 @@ use Rattle.std.specs.Prelude.{◌≡◌, Bool, true, false, not, List, [], ◌�
 use Rattle.clap.specs.Words.{Row, Text, first_of}
 use Rattle.bgp_prefix.specs.Notation.{IsAddressText}
 use Rattle.bgp_prefix.specs.declared.session.RouteRefresh.TheVariants as refreshes
+use Rattle.bgp_open.specs.RouteOffer.{nothing}
 use Rattle.bgp_open.specs.declared.config.Config.{Config}
 use Rattle.bgp_open.specs.declared.config.ConfigParts.{ConfigParts}
 use Rattle.bgp_words.specs.Values.{IsPositiveText, IsIdentifierText, IsNoFlag, is_given}
@@ -45,6 +46,7 @@ pub record IsJudgeLine (words : List Text) (parts : ConfigParts) (file : Text) :
   pub holds : (parts.hold ≡ 90) × (parts.large_hold ≡ 240)
   pub families : parts.families ≡ record { v4 = true; v6 = false }
   pub flags : (parts.as4 ≡ true) × (parts.delay_open ≡ false)
+  pub offers : parts.offers ≡ nothing
 
 -- the command is `judge` with what these words tell; nothing is told of a recording, and no reason
 -- is wanted

@@ -1,6 +1,7 @@
 pub mod Words
 pub mod Options
 pub mod Values
+pub mod Offers
 pub mod Settings
 pub mod Recording
 pub mod Decode

@@ -41,6 +41,13 @@ records that the router at --local made, or a recording: a packet capture, as tc
                         the capture can't be judged: the reason's number and name, and the offset
                         of the record; standard error says what helps
 
+--offers names what its OPEN offers about routes, each word once, with a comma between each two:
+  send-v4, send-v6, receive-v4, receive-v6
+                        several paths for a prefix (ADD-PATH, RFC 7911), of a family and direction;
+                        where both OPENs offer them, UPDATEs aren't judged rightly yet
+  next-hops             IPv6 next hops of IPv4 routes (RFC 8950), as in unnumbered sessions
+Without it the OPEN may offer what it likes, and nothing of it counts.
+
 With --explain the reason follows a no and an unfinished, in lines of its own: the record, the state
 before it, the message received last, and every record that could have stood there, and no other.
 
@@ -90,6 +97,12 @@ router's. On received messages alone neither yes nor no says anything of it.
 
 The manual is docs/bgp.1.md, at the top of the repository.";
 
+/// What its OPEN offers about routes, which `speak` doesn't know.
+const OFFERS: Word<'static> = Word::Option(
+    "offers",
+    "What it offers about routes: words of the list below, with commas",
+);
+
 /// The flag that asks for the reason.
 const EXPLAIN: Word<'static> = Word::Flag(
     "explain",
@@ -107,6 +120,7 @@ pub(crate) fn judge_words<'a>(alloc: Global) -> Result<clap::Command<'a>, AllocE
         .after_help(VERDICTS);
     let judge = with_word(alloc, judge, READ)?;
     let judge = with_settings(alloc, judge)?;
+    let judge = with_word(alloc, judge, OFFERS)?;
     let judge = with_recording(alloc, judge)?;
     with_word(alloc, judge, EXPLAIN)
 }

@@ -13,6 +13,7 @@ mod import;
 mod judge;
 mod list;
 mod misfit;
+mod offers;
 mod options;
 mod pair;
 mod recording;

@@ -28,6 +28,8 @@ pub(crate) enum Wanted {
     Turns,
     /// A count of seconds.
     Seconds,
+    /// What an OPEN offers about routes.
+    Offers,
 }
 
 impl Display for Wanted {
@@ -44,6 +46,10 @@ impl Display for Wanted {
             Wanted::Prefix => "a prefix, as 10.1.0.0/16 or 2001:db8:1::/48",
             Wanted::Turns => "a number from 0 to 9223372036854775807",
             Wanted::Seconds => "a number of seconds from 0 to 65535",
+            Wanted::Offers => {
+                "some of send-v4, send-v6, receive-v4, receive-v6 and next-hops, each once, as \
+                 send-v4,next-hops"
+            }
         })
     }
 }

@@ -11,7 +11,9 @@ ghost use Rattle.bgp_words.specs.Settings.{IsSession, AreParts, IsOfOneFamily};
 
 use crate::misfit::Misfit;
 use crate::options::{Word, with_words};
-use crate::values::{address_of, families_of, has_flag, hold_of, identifier_of, positive_of};
+use crate::values::{
+    address_of, families_of, has_flag, hold_of, identifier_of, offers_of, positive_of,
+};
 use bgp_open::{Config, ConfigParts};
 use bgp_prefix::{RouteRefresh, Session};
 use clap::ArgMatches;
@@ -112,6 +114,8 @@ fn parts_of<'a>(matches: &ArgMatches<'a>, refresh: RouteRefresh) -> Result<Confi
         delay_open: has_flag(matches, "delay-open"),
         large_hold: positive_of(matches, "large-hold")?,
         session: session_of(matches, refresh)?,
+        // `speak` has no such option, and so offers nothing.
+        offers: offers_of(matches, "offers")?,
     })
 }
 

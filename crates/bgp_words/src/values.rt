@@ -7,17 +7,20 @@ ghost use Rattle.bgp_prefix.specs.Notation.{IsAddressText, IsPrefixText};
 ghost use Rattle.bgp_prefix.specs.Prefix.{PrefixBits};
 ghost use Rattle.bgp_prefix.specs.declared.address.Address.{Address as Ip};
 ghost use Rattle.bgp_open.specs.declared.families.Families.{Families as FamilySet};
+ghost use Rattle.bgp_open.specs.declared.route_offer.RouteOffer.{RouteOffer as Offer};
+ghost use Rattle.bgp_words.specs.Offers.{IsOffered};
 ghost use Rattle.bgp_words.specs.Values.{IsValue, is_given, IsPositiveText, IsHoldText};
 ghost use Rattle.bgp_words.specs.Values.{IsIdentifierText, IsFamiliesText, IsOptional};
 ghost use Rattle.bgp_words.specs.Values.{IsNextHop4Text, IsNextHop6Text, IsPortText, IsTurnsText};
 ghost use Rattle.bgp_words.specs.Values.{IsSecondsText, HasBitsAfter};
 
 use crate::misfit::{Misfit, Wanted};
+use crate::offers::read_offers;
 use crate::texts::{
     has_bits_after, read_families, read_hold, read_identifier, read_next_hop4, read_next_hop6,
     read_port, read_positive, read_seconds, read_turns,
 };
-use bgp_open::Families;
+use bgp_open::{Families, RouteOffer};
 use bgp_prefix::{Address, Prefix, read_address, read_prefix};
 use clap::ArgMatches;
 
@@ -101,6 +104,21 @@ pub(crate) fn families_of<'a>(
     let word = value_of(matches, name)?;
     let wanted = Wanted::Families;
     read_families(word).ok_or(Misfit::Value { name, word, wanted })
+}
+
+/// What an option names of an OPEN's offer about routes: nothing where it isn't given.
+pub(crate) fn offers_of<'a>(
+    matches: &ArgMatches<'a>,
+    name: &'a str,
+) -> Result<RouteOffer, Misfit<'a>>
+    ensures { (offers : Offer) → IsOkAnd result (λ it. it ≡ offers)
+        ↔ IsOffered name.now (rows_of (found_of matches.now)) offers }
+{
+    let Some(word) = matches.get_str(name) else {
+        return Ok(RouteOffer::NOTHING);
+    };
+    let wanted = Wanted::Offers;
+    read_offers(word).ok_or(Misfit::Value { name, word, wanted })
 }
 
 /// The TCP port that an option names.

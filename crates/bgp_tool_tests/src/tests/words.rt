@@ -1,6 +1,7 @@
 //! The words of what `real_captures` can't bring about, and the number of each status.
 
 use super::*;
+use bgp_open::{Families, RouteOffer};
 use mrt::{CaptureFault, FaultKind};
 use std::fmt;
 use std::io::ErrorKind;
@@ -24,7 +25,7 @@ fn each_status_has_its_number(rt: HostRuntime) {
 }
 
 /// What is told, and its words.
-static NOTES: [(Note<'static>, &str); 15] = [
+static NOTES: [(Note<'static>, &str); 17] = [
     (
         Note::NothingDone {
             file: "-",
@@ -141,6 +142,23 @@ static NOTES: [(Note<'static>, &str); 15] = [
             fault: PairFault::Connection(ErrorKind::ConnectionReset),
         },
         "the connection on 127.0.0.1: Connection reset by peer",
+    ),
+    (
+        Note::AddPath {
+            families: Families { v4: true, v6: true },
+        },
+        "both OPENs offer ADD-PATH for v4,v6, which is not judged",
+    ),
+    (
+        Note::Without {
+            offer: RouteOffer {
+                sends: Families { v4: true, v6: true },
+                receives: Families { v4: true, v6: true },
+                next_hops: true,
+            },
+        },
+        "judged without what both OPENs offer: --offers \
+         send-v4,send-v6,receive-v4,receive-v6,next-hops",
     ),
     (
         Note::Pair {

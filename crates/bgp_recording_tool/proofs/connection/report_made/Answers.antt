@@ -6,6 +6,7 @@ use Rattle.bgp_judge.specs.Verdict.{HasVerdict, verdict_value}
 use Rattle.bgp_recording.specs.Captured.{records_of}
 use Rattle.bgp_recording.specs.declared.entry.Entry.{Entry}
 use Rattle.bgp_parts.specs.Confederations.{SomeShowConfederations}
+use Rattle.bgp_explain.specs.LeftOut.{JudgesWithout}
 use Rattle.bgp_explain.specs.Records.{AreExplained, CanBeShown}
 use Rattle.bgp_explain.proofs.NextRecord.{can_of, entries_can}
 use Rattle.bgp_recording_tool.specs.Connections.{IsMoreOf}
@@ -50,6 +51,8 @@ returns g c = λ packets segments taken holds.
       confederation = c.some_show_confederations-confederation.result;
       shows = subst (λ (rs : List ShownRecord). IsTrue c.some_show_confederations-confederation.result ↔ SomeShowConfederations rs) (ap (map shown_of) c.deref-2.ensures.value ∙ records)
           c.some_show_confederations-confederation.ensures;
-      added = c.in_ok-add_remarks_on.ensures.ok;
+      left_out = c.in_ok-explained.explained.left_out;
+      leaves_out = subst (λ (rs : List ShownRecord). JudgesWithout config rs c.in_ok-explained.explained.left_out) (ap (map shown_of) c.deref.ensures.value ∙ records) c.in_ok-explained.ensures.explained.left_out;
+      added = c.add_remarks_on.ensures;
       tells = tells;
     }

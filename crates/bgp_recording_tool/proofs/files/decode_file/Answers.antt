@@ -24,6 +24,7 @@ returns-then-not-is_recording-clause-decoded g c =
               outcome.ensures.status outcome.ensures.skipped outcome.ensures.note)
               c.decode_opened_capture-outcome.ensures.decoded,
           outcome.ensures.confederation,
+          outcome.ensures.left_out ∙ c.nothing-then-not-is_recording.ensures,
         ),
         outcome.ensures.uncut,
         outcome.ensures.remarks,
@@ -55,5 +56,6 @@ returns-clause-decoded g c =
         },
         refl,
         refl,
+        c.nothing-2.ensures,
       );
     })

@@ -2,7 +2,7 @@ use Rattle.std.proofs.Common.{◌≡◌, ◌∙◌, ap, codes}
 use Rattle.std.proofs.lemmas.Result.{IfOk-weaker}
 use Rattle.clap.specs.Words.{App, app_of, new_app, with_rule}
 use Rattle.clap.specs.Simple.{app_of_fields}
-use Rattle.bgp_words.specs.Words.{file_word, flag_word, with_recording, with_settings}
+use Rattle.bgp_words.specs.Words.{file_word, flag_word, option_word, with_recording, with_settings}
 use Rattle.bgp_words.proofs.judge.judge_words.Goals as goal
 
 pub returns-clause-words : goal.returns-clause-words
@@ -10,10 +10,12 @@ returns-clause-words c =
     let named : app_of c.after_help-judge.result ≡ new_app (codes "judge") =
     ap app_of_fields c.after_help-judge.ensures ∙ ap app_of_fields c.override_usage.ensures ∙ ap app_of_fields c.about.ensures ∙ c.new.ensures.app in
     let filed = c.in_ok-judge.ensures.words.is ∙ ap (λ (a : App). with_rule a (file_word (codes "FILE"))) named in
-    let told = c.in_ok-judge-3.ensures.words ∙ ap with_recording (c.in_ok-judge-2.ensures.words ∙ ap with_settings filed) in
-    IfOk-weaker c.with_word-2.result _ _ (λ judge adds. adds.is ∙ ap (λ (a : App). with_rule a (flag_word (codes "explain"))) told)
-    c.with_word-2.ensures.words
+    let set = c.in_ok-judge-2.ensures.words ∙ ap with_settings filed in
+    let offers = c.in_ok-judge-3.ensures.words.is ∙ ap (λ (a : App). with_rule a (option_word (codes "offers"))) set in
+    let told = c.in_ok-judge-4.ensures.words ∙ ap with_recording offers in
+    IfOk-weaker c.with_word-3.result _ _ (λ judge adds. adds.is ∙ ap (λ (a : App). with_rule a (flag_word (codes "explain"))) told)
+    c.with_word-3.ensures.words
 
 pub returns-clause-local : goal.returns-clause-local
 returns-clause-local c =
-    c.with_word-2.ensures.local (c.in_ok-judge-3.ensures.local (c.in_ok-judge-2.ensures.local (c.in_ok-judge.ensures.local (ap (λ f. f.has_globals) c.after_help-judge.ensures ∙ ap (λ f. f.has_globals) c.override_usage.ensures ∙ ap (λ f. f.has_globals) c.about.ensures ∙ c.new.ensures.local))))
+    c.with_word-3.ensures.local (c.in_ok-judge-4.ensures.local (c.in_ok-judge-3.ensures.local (c.in_ok-judge-2.ensures.local (c.in_ok-judge.ensures.local (ap (λ f. f.has_globals) c.after_help-judge.ensures ∙ ap (λ f. f.has_globals) c.override_usage.ensures ∙ ap (λ f. f.has_globals) c.about.ensures ∙ c.new.ensures.local)))))

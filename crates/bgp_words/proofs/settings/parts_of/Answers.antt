@@ -18,6 +18,7 @@ returns c parts =
         delay_open = c.has_flag-2.ensures;
         large_hold = (c.in_ok-positive_of-3.ensures c.in_ok-positive_of-3.field-0).0 refl;
         session = (c.in_ok-session_of.ensures c.in_ok-session_of.field-0).0 refl;
+        offers = (c.in_ok-offers_of.ensures c.in_ok-offers_of.field-0).0 refl;
       }),
       λ are. same_parts _ parts ((c.in_ok-positive_of.ensures parts.local_as).1 are.local_as)
           ((c.in_ok-positive_of-2.ensures parts.peer_as).1 are.peer_as)
@@ -26,5 +27,6 @@ returns c parts =
           ((c.in_ok-families_of.ensures parts.families).1 are.families)
           (ap not c.has_flag.ensures ∙ sym are.as4) (c.has_flag-2.ensures ∙ sym are.delay_open)
           ((c.in_ok-positive_of-3.ensures parts.large_hold).1 are.large_hold)
-          ((c.in_ok-session_of.ensures parts.session).1 are.session),
+          ((c.in_ok-session_of.ensures parts.session).1 are.session)
+          ((c.in_ok-offers_of.ensures parts.offers).1 are.offers),
     )
