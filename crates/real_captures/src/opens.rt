@@ -5,13 +5,14 @@
 //! OPEN. Each line behind them tells one thing: whether there is such a configuration
 //! (`configured`), whether it may send the OPEN itself (`own`) and does (`written`), the subcodes
 //! that a peer's has to be refused with and those that it may be (`must`, `may`), what a peer's
-//! settles (`link`), and the number of the fault where it is none (`malformed`).
+//! settles (`link`), how routes are spelled then that are received and that are sent (`forms`), and
+//! the number of the fault where it is none (`malformed`).
 
 use crate::case::{malformed, octets_of};
 use crate::updates::families_of;
 use bgp_open::{
-    Config, ConfigParts, Families, Link, OpenSubcodes, is_own_open, negotiate, open_faults,
-    read_open, write_own_open,
+    Config, ConfigParts, Families, Link, OpenSubcodes, RouteForm, RouteOffer, is_own_open,
+    negotiate, open_faults, read_open, write_own_open,
 };
 use bgp_prefix::{Address, RouteRefresh, Session, read_address};
 use std::alloc::{AllocError, Global};
@@ -39,7 +40,7 @@ fn first_line(text: &str) -> (&str, &str) {
 /// The session of these words: both addresses, `refresh` if a ROUTE-REFRESH may come, and
 /// `extended` if longer messages are offered.
 fn session_of(words: &[&str]) -> Option<Session> {
-    let [local, peer, refresh, limit] = words else {
+    let [local, peer, refresh, limit, ..] = words else {
         return None;
     };
     Some(Session {
@@ -48,6 +49,39 @@ fn session_of(words: &[&str]) -> Option<Session> {
         refresh: RouteRefresh::with_offer(*refresh == "refresh"),
         extended: *limit == "extended",
     })
+}
+
+/// The offer that a word of a list adds to another one.
+fn offer_with(offer: RouteOffer, word: &str) -> Option<RouteOffer> {
+    let RouteOffer {
+        mut sends,
+        mut receives,
+        mut next_hops,
+    } = offer;
+    match word {
+        "send-v4" => sends.v4 = true,
+        "send-v6" => sends.v6 = true,
+        "receive-v4" => receives.v4 = true,
+        "receive-v6" => receives.v6 = true,
+        "next-hops" => next_hops = true,
+        _ => return None,
+    }
+    Some(RouteOffer {
+        sends,
+        receives,
+        next_hops,
+    })
+}
+
+/// The offer of a list of words; nothing where there is none.
+fn offer_of(words: &[&str]) -> Option<RouteOffer> {
+    let mut offer = RouteOffer::NOTHING;
+    if let Some(list) = words.first() {
+        for word in list.split(',') {
+            offer = offer_with(offer, word)?;
+        }
+    }
+    Some(offer)
 }
 
 /// The identifier that is written as an address.
@@ -59,7 +93,8 @@ fn id_of(word: &str) -> Option<u32> {
 }
 
 /// What the words of a line of `config` are: the AS numbers, the identifier, the Hold Time, the
-/// families, the octets of an AS number, the first HoldTimer, and the session.
+/// families, the octets of an AS number, the first HoldTimer, the session, and a list of what is
+/// offered about routes, if anything is.
 fn parts_of(words: &[&str]) -> Option<ConfigParts> {
     let [
         _,
@@ -85,6 +120,7 @@ fn parts_of(words: &[&str]) -> Option<ConfigParts> {
         delay_open: false,
         large_hold: large_hold.parse::<u32>().ok()?,
         session: session_of(session)?,
+        offers: offer_of(session.get(4..).unwrap_or(&[]))?,
     })
 }
 
@@ -111,6 +147,7 @@ fn is_told(alloc: Global, config: &Config, octets: &[u8], line: &str) -> io::Res
         "must" => Ok(are_subcodes(alloc, &open_faults(config, octets).must, told)?),
         "may" => Ok(are_subcodes(alloc, &open_faults(config, octets).may, told)?),
         "link" => Ok(is_settled(alloc, config, octets, told)?),
+        "forms" => Ok(are_forms(alloc, config, octets, told)?),
         "malformed" => Ok(is_malformed(octets, told)),
         _ => Err(malformed()),
     }
@@ -179,4 +216,34 @@ fn is_settled(
         Ok(open) => Ok(link_text(alloc, &negotiate(config, &open))?.as_str() == told),
         Err(_) => Ok(false),
     }
+}
+
+/// How a form is told: the families with path identifiers, and whether IPv4 routes may have IPv6
+/// next hops.
+fn form_text(alloc: Global, form: &RouteForm) -> Result<String, AllocError> {
+    let families = name_of(form.identified);
+    let next_hops = if form.ipv6_next_hops {
+        "+next-hops"
+    } else {
+        ""
+    };
+    format!(in alloc; "{families}{next_hops}")
+}
+
+/// Whether routes are spelled so under a configuration and a peer's OPEN: those that are received,
+/// and those that are sent.
+fn are_forms(
+    alloc: Global,
+    config: &Config,
+    octets: &[u8],
+    told: &str,
+) -> Result<bool, AllocError> {
+    let Ok(open) = read_open(octets) else {
+        return Ok(false);
+    };
+    let link = negotiate(config, &open);
+    let received = form_text(alloc, &link.received)?;
+    let sent = form_text(alloc, &link.sent)?;
+    let text = format!(in alloc; "{} {}", received.as_str(), sent.as_str())?;
+    Ok(text.as_str() == told)
 }

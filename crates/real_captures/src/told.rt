@@ -12,7 +12,7 @@
 use crate::case::{malformed, octets_of};
 use crate::devices::{Given, Paper};
 use bgp_compact::CompactTracker;
-use bgp_explain::{JudgedCapture, Report, judge_opened};
+use bgp_explain::{JudgedCapture, LeftOut, Report, judge_opened};
 use bgp_judge::{PlainTracker, Tracker};
 use bgp_tool::{Note, decode_opened, decode_opened_capture, passed_over};
 use bgp_wire::Limit;
@@ -97,6 +97,7 @@ fn ended<'a, T: Tracker<Global>>(
 ) -> Option<(JudgedCapture<'a>, Vec<u8>)> {
     let mut sink = FromWrite::new(paper);
     let confederation = false;
+    let left_out = LeftOut::nothing();
     let judged = match command {
         Command::Decode { extended, .. } => {
             let limit = Limit::with_extended(*extended);
@@ -104,6 +105,7 @@ fn ended<'a, T: Tracker<Global>>(
             JudgedCapture {
                 outcome,
                 confederation,
+                left_out,
             }
         }
         Command::Capture { session, .. } => {
@@ -111,6 +113,7 @@ fn ended<'a, T: Tracker<Global>>(
             JudgedCapture {
                 outcome,
                 confederation,
+                left_out,
             }
         }
         Command::Judge {
@@ -135,6 +138,7 @@ fn is_outcome(alloc: Global, block: &str, judged: &JudgedCapture<'_>) -> Result<
     let JudgedCapture {
         outcome,
         confederation,
+        left_out,
     } = judged;
     let mut told = String::new(alloc);
     if let Some(skipped) = outcome.skipped {
@@ -144,6 +148,14 @@ fn is_outcome(alloc: Global, block: &str, judged: &JudgedCapture<'_>) -> Result<
     }
     if *confederation {
         told.push_str(told_of(alloc, Some(Note::Confederation))?.as_str())?;
+    }
+    let LeftOut { add_path, without } = *left_out;
+    if add_path.v4 || add_path.v6 {
+        let families = add_path;
+        told.push_str(told_of(alloc, Some(Note::AddPath { families }))?.as_str())?;
+    }
+    if let Some(offer) = without {
+        told.push_str(told_of(alloc, Some(Note::Without { offer }))?.as_str())?;
     }
     told.push_str(told_of(alloc, outcome.note)?.as_str())?;
     let status = line_of(block, "status ").and_then(|status| status.parse::<u8>().ok());

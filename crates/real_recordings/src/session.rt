@@ -9,7 +9,7 @@ use std::{fs, io};
 
 /// The recordings that lie in `sessions/`, each with the status of judging it from the ends a and
 /// b.
-static SESSIONS: [(&str, u8, u8); 12] = [
+static SESSIONS: [(&str, u8, u8); 13] = [
     ("bad-as-bird", 0, 0),
     ("bad-as-trans", 1, 0),
     ("bird-frr-plain", 0, 0),
@@ -18,6 +18,7 @@ static SESSIONS: [(&str, u8, u8); 12] = [
     ("flap", 0, 0),
     ("hold-expiry-openbgpd", 0, 0),
     ("maxprefix", 0, 0),
+    ("nexthops-frr-bird", 0, 0),
     ("nocaps", 0, 0),
     ("retries", 0, 0),
     ("transport6", 0, 0),
