@@ -148,6 +148,7 @@ fn is_told(
     let JudgedCapture {
         outcome,
         confederation,
+        ..
     } = judged;
     Some(outcome.note == note && outcome.status == status && !confederation)
 }
