@@ -2,7 +2,6 @@
 use Rattle.std.specs.Prelude.{◌≡◌, ◌≢◌, ◌<◌, ◌⊎◌, ◌++◌, ℕ, Bool, true, false, List, [], Option, None, codes}
 use Rattle.std.specs.Prelude.{Result, Ok, Err, IfOk, IfErr, IsTrue, IsFalse, if◌then◌else◌}
 use Rattle.std.specs.Borrow.{Bor}
-use Rattle.std.specs.Global.{Global}
 use Rattle.std.specs.IoError.{error_kind}
 use Rattle.std.specs.declared.io.Error.{Error}
 use Rattle.mrt.specs.FromRead.{fresh_reader, reader_state, Gives}
@@ -244,6 +243,9 @@ module _ {R W : Type 0} (remaining : R → Option (List ℕ)) (contents : W → 
       × recordings.PrintsTrue recordings.YesesAreTrue (GivesRead remaining) has_ended
       (TakesWritten contents) write_failures options begun read old new checked.status
       checked.cut_short
+      × recordings.PrintsTrue recordings.UnfinishedAreTrue (GivesRead remaining) has_ended
+      (TakesWritten contents) write_failures options begun read old new checked.status
+      checked.cut_short
       × ChecksRecording (GivesRead remaining) has_ended (TakesWritten contents) read_failures
       write_failures options begun read old new checked.status checked.cut_short
       checked.refusals.items checked.refusal checked.nothing)
@@ -269,8 +271,8 @@ pub record ByFront {R : Type 0} (remaining : R → Option (List ℕ)) (reader : 
   pub is : (IsTrue (is_recording peeked.front.items) × OfRecording peeked)
       ⊎ (IsFalse (is_recording peeked.front.items) × OfCapture peeked)
 
-module _ {R W : Type 0} (remaining : R → Option (List ℕ)) (contents : W → Option (List ℕ))
-    (file : Bor (List ℕ)) (reader : R) (old new : FromWrite W) (answer : Answer) where
+module _ {R W X : Type 0} (remaining : R → Option (List ℕ)) (contents : W → Option (List ℕ))
+    (file : Bor (List ℕ)) (reader : R) (old new : FromWrite W) (answer : Answer X) where
   abbrev pub ListsFile : ℕ → Type 0
   ListsFile port = ByFront remaining reader
       (λ peeked. (listed : ListedRecording) × ((ends : Ends)
@@ -293,18 +295,18 @@ module _ {R W : Type 0} (remaining : R → Option (List ℕ)) (contents : W → 
 
 -- ---- each command
 
-module _ {R W : Type 0} (may_lack : Config → List ShownRecord → ShownRecord → Type 0)
+module _ {R W X : Type 0} (may_lack : Config → List ShownRecord → ShownRecord → Type 0)
     (remaining : R → Option (List ℕ)) (contents : W → Option (List ℕ)) (reader : R)
-    (old new : FromWrite W) (answer : Answer) where
+    (old new : FromWrite W) (answer : Answer X) where
   abbrev pub Answers : Command → Type 0
   Answers (words.Decode extended file) = (outcome : Outcome)
       × ((answer ≡ answers.Ended outcome)
       × DecodesReader (limit_with extended) remaining contents file reader (writer_state old)
       (writer_state new) outcome)
-  Answers (words.Capture session recording file) = (outcome : FileOutcome Global)
+  Answers (words.Capture session recording file) = (outcome : FileOutcome X)
       × ((answer ≡ answers.Read outcome)
       × DecodesFile remaining contents recording file reader old new outcome session)
-  Answers (words.Judge config recording explain file) = (outcome : FileOutcome Global)
+  Answers (words.Judge config recording explain file) = (outcome : FileOutcome X)
       × ((answer ≡ answers.Read outcome)
       × JudgesFile remaining contents recording file reader old new outcome config
       (report_with explain) may_lack)
@@ -321,14 +323,14 @@ module _ {R W : Type 0} (may_lack : Config → List ShownRecord → ShownRecord 
 
 -- A command is answered over a file that could be opened; or it is said that it couldn't, or that
 -- `import` names one file twice, and then nothing is written.
-pub record AnswersTo {R W : Type 0} (may_lack : Config → List ShownRecord → ShownRecord → Type 0)
+pub record AnswersTo {R W X : Type 0} (may_lack : Config → List ShownRecord → ShownRecord → Type 0)
     (remaining : R → Option (List ℕ)) (contents : W → Option (List ℕ))
-    (opened : Result R Error) (old new : FromWrite W) (command : Command) (answer : Answer) : Type 0
-  where
-    pub one_name : IsOneName command
-        → (answer ≡ answers.OneName (file_of command)) × (new ≡ old)
-    pub unopened : ¬ IsOneName command → IfErr opened (λ error. (outcome : Outcome)
-        × ((answer ≡ answers.Ended outcome)
-        × IsUnopened (file_of command) (error_kind error) outcome × (new ≡ old)))
-    pub answered : ¬ IsOneName command → IfOk opened (λ reader. Answers may_lack remaining
-        contents reader old new answer command)
+    (opened : Result R Error) (old new : FromWrite W) (command : Command) (answer : Answer X)
+    : Type 0 where
+  pub one_name : IsOneName command
+      → (answer ≡ answers.OneName (file_of command)) × (new ≡ old)
+  pub unopened : ¬ IsOneName command → IfErr opened (λ error. (outcome : Outcome)
+      × ((answer ≡ answers.Ended outcome)
+      × IsUnopened (file_of command) (error_kind error) outcome × (new ≡ old)))
+  pub answered : ¬ IsOneName command → IfOk opened (λ reader. Answers may_lack remaining
+      contents reader old new answer command)

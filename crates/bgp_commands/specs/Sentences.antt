@@ -251,7 +251,7 @@ abbrev pub checked_capture_sentences : CaptureCheck → Ends → List Sentence
 checked_capture_sentences checked ends =
     by_output ends.output (noted_capture checked ends ends.note)
 
-abbrev pub sentences_of : Answer → List Sentence
+abbrev pub sentences_of : {X : Type 0} → Answer X → List Sentence
 sentences_of (answers.Ended outcome) = ended_sentences outcome
 sentences_of (answers.Read outcome) = read_sentences outcome
 sentences_of (answers.Imported imported to ends) = import_sentences imported to ends
@@ -268,7 +268,7 @@ import_status (Ok made) = 0
 import_status (Err (stops.Refused refusal)) = refused_status refusal
 import_status (Err stops.Unwritten) = 5
 
-abbrev pub status_of : Answer → ℕ
+abbrev pub status_of : {X : Type 0} → Answer X → ℕ
 status_of (answers.Ended outcome) = outcome.status
 status_of (answers.Read outcome) = outcome.status
 status_of (answers.Imported imported to ends) = import_status imported.ended

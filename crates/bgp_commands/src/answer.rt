@@ -14,7 +14,7 @@ use bgp_import::{Imported, Notes, Stopped};
 use bgp_list::{ListedCapture, ListedRecording};
 use bgp_recording_tool::FileOutcome;
 use bgp_tool::{Outcome, Status};
-use std::alloc::Global;
+use std::alloc::{Allocator, Global};
 
 /// Where `import` writes its MRT file.
 #[derive(Clone, Copy, Debug)]
@@ -27,11 +27,11 @@ pub enum Destination<'a> {
 
 /// How a command ended.
 #[derive(Drop)]
-pub enum Answer<'a> {
+pub enum Answer<'a, A: Allocator = Global> {
     /// `decode` of a stream, `pair`, or a command whose file can't be opened.
     Ended(Outcome<'a>),
     /// `decode --mrt` or `judge`.
-    Read(FileOutcome<'a, Global>),
+    Read(FileOutcome<'a, A>),
     /// `import`.
     Imported(Imported, Destination<'a>, Ends<'a>),
     /// `import` of a file to itself: nothing is read or written.
@@ -57,7 +57,7 @@ fn import_status(ended: Result<Notes, Stopped>) -> Status
     }
 }
 
-impl Answer<'_> {
+impl<A: Allocator> Answer<'_, A> {
     /// Returns the exit status.
     pub fn status(&self) -> u8
         ensures { result ≡ status_of self.now }

@@ -27,7 +27,7 @@ use bgp_tool::{Outcome, Ready, decode_opened, unopened};
 use bgp_wire::Limit;
 use bgp_words::Command;
 use mrt::FromWrite;
-use std::alloc::Global;
+use std::alloc::Allocator;
 use std::io;
 use std::io::{Read, Write};
 
@@ -79,12 +79,12 @@ fn is_one_name(command: &Command<'_>) -> bool
 ///
 /// Each command is one call, with just the options that it names (`specs/Answers.antt`). The reader
 /// is asked for few octets at a time: put a buffer before a file.
-pub fn answer_to<'a, T: Tracker<Global>, R: Read + Ready + Drop, W: Write>(
-    alloc: Global,
+pub fn answer_to<'a, A: Allocator + Copy, T: Tracker<A>, R: Read + Ready + Drop, W: Write>(
+    alloc: A,
     command: &Command<'a>,
     opened: io::Result<R>,
     sink: &mut FromWrite<W>,
-) -> Answer<'a>
+) -> Answer<'a, A>
     requires reads { IsTrue (specs.reads_file command.now) }
     requires importable { CanImport command.now }
     requires sink { (writer_state sink.old).failures < 2 ^ 63 }
@@ -95,15 +95,15 @@ pub fn answer_to<'a, T: Tracker<Global>, R: Read + Ready + Drop, W: Write>(
         return Answer::OneName(file_of(command));
     }
     match opened {
-        Ok(reader) => answer_from::<T, R, W>(alloc, command, reader, sink),
+        Ok(reader) => answer_from::<A, T, R, W>(alloc, command, reader, sink),
         Err(error) => Answer::Ended(unopened(file_of(command), error.kind())),
     }
 }
 
 /// Answers a command that reads a file, as [`answer_to`] does, says all that there is to say of the
 /// answer, and returns its exit status.
-pub fn run_over<T: Tracker<Global>, R: Read + Ready + Drop, W: Write, V: Voice>(
-    alloc: Global,
+pub fn run_over<A: Allocator + Copy, T: Tracker<A>, R: Read + Ready + Drop, W: Write, V: Voice>(
+    alloc: A,
     command: &Command<'_>,
     opened: io::Result<R>,
     sink: &mut FromWrite<W>,
@@ -112,22 +112,22 @@ pub fn run_over<T: Tracker<Global>, R: Read + Ready + Drop, W: Write, V: Voice>(
     requires reads { IsTrue (specs.reads_file command.now) }
     requires importable { CanImport command.now }
     requires sink { (writer_state sink.old).failures < 2 ^ 63 }
-    ensures { (answer : Given) × (AnswersTo T.may_lack R.remaining W.contents opened sink.old
+    ensures { (answer : Given A) × (AnswersTo T.may_lack R.remaining W.contents opened sink.old
         sink.new command.now answer × V.says voice.old voice.new (sentences_of answer)
         × (result ≡ status_of answer)) }
 {
-    let answer = answer_to::<T, R, W>(alloc, command, opened, sink);
+    let answer = answer_to::<A, T, R, W>(alloc, command, opened, sink);
     answer.say(voice);
     answer.status()
 }
 
 /// Answers a command that reads a file, which could be opened.
-fn answer_from<'a, T: Tracker<Global>, R: Read + Ready + Drop, W: Write>(
-    alloc: Global,
+fn answer_from<'a, A: Allocator + Copy, T: Tracker<A>, R: Read + Ready + Drop, W: Write>(
+    alloc: A,
     command: &Command<'a>,
     reader: R,
     sink: &mut FromWrite<W>,
-) -> Answer<'a>
+) -> Answer<'a, A>
     requires reads { IsTrue (specs.reads_file command.now) }
     requires importable { CanImport command.now }
     requires sink { (writer_state sink.old).failures < 2 ^ 63 }
@@ -148,7 +148,7 @@ fn answer_from<'a, T: Tracker<Global>, R: Read + Ready + Drop, W: Write>(
             recording,
             explain,
             file,
-        } => Answer::Read(judge::<T, R, W>(
+        } => Answer::Read(judge::<A, T, R, W>(
             alloc, &config, &recording, explain, file, reader, sink,
         )),
         Command::Import {
@@ -171,15 +171,15 @@ fn answer_from<'a, T: Tracker<Global>, R: Read + Ready + Drop, W: Write>(
                 routes,
                 settings: settings_with(settings),
             };
-            check::<T, R, W>(alloc, &options, file, reader, sink)
+            check::<A, T, R, W>(alloc, &options, file, reader, sink)
         }
         Command::Speak { .. } | Command::Pair { .. } => unreachable!(),
     }
 }
 
 /// Decodes a stream, whose messages may be extended ones or not.
-fn decode<'a, R: Read + Drop, W: Write>(
-    alloc: Global,
+fn decode<'a, A: Allocator + Copy, R: Read + Drop, W: Write>(
+    alloc: A,
     extended: bool,
     file: &'a str,
     reader: R,
@@ -194,14 +194,14 @@ fn decode<'a, R: Read + Drop, W: Write>(
 }
 
 /// Decodes the records of one session.
-fn decode_session<'a, R: Read + Ready + Drop, W: Write>(
-    alloc: Global,
+fn decode_session<'a, A: Allocator + Copy, R: Read + Ready + Drop, W: Write>(
+    alloc: A,
     session: &Session,
     recording: &RecordingOptions,
     file: &'a str,
     reader: R,
     sink: &mut FromWrite<W>,
-) -> FileOutcome<'a, Global>
+) -> FileOutcome<'a, A>
     requires { (writer_state sink.old).failures < 2 ^ 63 }
     ensures { DecodesFile R.remaining W.contents recording.now file.entry reader sink.old sink.new
         result session.now }
@@ -210,21 +210,21 @@ fn decode_session<'a, R: Read + Ready + Drop, W: Write>(
 }
 
 /// Judges one session, with the reason or without.
-fn judge<'a, T: Tracker<Global>, R: Read + Drop, W: Write>(
-    alloc: Global,
+fn judge<'a, A: Allocator + Copy, T: Tracker<A>, R: Read + Drop, W: Write>(
+    alloc: A,
     config: &Config,
     recording: &RecordingOptions,
     explain: bool,
     file: &'a str,
     reader: R,
     sink: &mut FromWrite<W>,
-) -> FileOutcome<'a, Global>
+) -> FileOutcome<'a, A>
     requires { (writer_state sink.old).failures < 2 ^ 63 }
     ensures { JudgesFile R.remaining W.contents recording.now file.entry reader sink.old sink.new
         result config.now (report_with explain) T.may_lack }
 {
     let report = report_with(explain);
-    judge_file::<Global, T, R, W>(alloc, config, report, recording, file, Ok(reader), sink)
+    judge_file::<A, T, R, W>(alloc, config, report, recording, file, Ok(reader), sink)
 }
 
 /// Returns what is reported, with the reason or without.

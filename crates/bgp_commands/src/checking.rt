@@ -13,7 +13,7 @@ use bgp_judge::Tracker;
 use bgp_recording_tool::Peeked;
 use bgp_tool::WithFront;
 use mrt::{FromRead, FromWrite, Sink};
-use std::alloc::Global;
+use std::alloc::Allocator;
 use std::io::{Read, Write};
 
 /// Returns after which verdicts the options of `bgp judge` are printed: after each, or not after a
@@ -42,31 +42,31 @@ fn capture_options(options: &CheckOptions) -> CaptureOptions
 
 /// Checks both ends of each connection in a pcap file, or the local system of each session in an
 /// MRT file. The first four octets say which it is.
-pub(crate) fn check<'a, T: Tracker<Global>, R: Read + Drop, W: Write>(
-    alloc: Global,
+pub(crate) fn check<'a, A: Allocator + Copy, T: Tracker<A>, R: Read + Drop, W: Write>(
+    alloc: A,
     options: &CheckOptions,
     file: &'a str,
     reader: R,
     sink: &mut FromWrite<W>,
-) -> Answer<'a>
+) -> Answer<'a, A>
     requires { (writer_state sink.old).failures < 2 ^ 63 }
     ensures { ChecksFile R.remaining W.contents file.entry reader sink.old sink.new result
         options.now }
 {
     let peeked = Peeked::new(reader);
     if peeked.is_recording() {
-        let (checked, ends) = check_packets::<T, _, W>(alloc, options, file, peeked, sink);
+        let (checked, ends) = check_packets::<A, T, _, W>(alloc, options, file, peeked, sink);
         Answer::CheckedRecording(checked, ends)
     } else {
         let options = capture_options(options);
-        let (checked, ends) = check_records::<T, _, W>(alloc, &options, file, peeked, sink);
+        let (checked, ends) = check_records::<A, T, _, W>(alloc, &options, file, peeked, sink);
         Answer::CheckedCapture(checked, ends)
     }
 }
 
 /// Checks both ends of each connection in a pcap file.
-fn check_packets<'a, T: Tracker<Global>, R: Read + Drop, W: Write>(
-    alloc: Global,
+fn check_packets<'a, A: Allocator + Copy, T: Tracker<A>, R: Read + Drop, W: Write>(
+    alloc: A,
     options: &CheckOptions,
     file: &'a str,
     reader: R,
@@ -78,14 +78,14 @@ fn check_packets<'a, T: Tracker<Global>, R: Read + Drop, W: Write>(
 {
     let mut source = FromRead::new(reader);
     let failures = sink.failures();
-    let checked = check_recording::<Global, T, _, _>(alloc, options, &mut source, sink);
+    let checked = check_recording::<A, T, _, _>(alloc, options, &mut source, sink);
     let ends = Ends::of(file, &source, sink, failures, None);
     (checked, ends)
 }
 
 /// Checks the local system of each session in an MRT file.
-fn check_records<'a, T: Tracker<Global>, R: Read + Drop, W: Write>(
-    alloc: Global,
+fn check_records<'a, A: Allocator + Copy, T: Tracker<A>, R: Read + Drop, W: Write>(
+    alloc: A,
     options: &CaptureOptions,
     file: &'a str,
     reader: R,
@@ -97,7 +97,7 @@ fn check_records<'a, T: Tracker<Global>, R: Read + Drop, W: Write>(
 {
     let mut source = WithFront::new(FromRead::new(reader));
     let failures = sink.failures();
-    let checked = check_capture::<Global, T, _, _>(alloc, options, &mut source, sink);
+    let checked = check_capture::<A, T, _, _>(alloc, options, &mut source, sink);
     let note = checked.file_note(file, source.front());
     let ends = Ends::of(file, source.source(), sink, failures, note);
     (checked, ends)

@@ -79,7 +79,13 @@ fn answer_opened<R: Eprint + AllocGlobal, F: Read + Drop, W: Write>(
 {
     let opened = buffered(rt, opened);
     let mut voice = StandardError(rt);
-    run_over::<CompactTracker<Global>, _, _, _>(rt.alloc(), command, opened, sink, &mut voice)
+    run_over::<Global, CompactTracker<Global>, _, _, _>(
+        rt.alloc(),
+        command,
+        opened,
+        sink,
+        &mut voice,
+    )
 }
 
 /// Puts a buffer before a file, which is asked for few octets at a time.

@@ -16,7 +16,7 @@ use bgp_prefix::Session;
 use bgp_recording_tool::import_of;
 use bgp_tool::{CaptureCommand, Note, WithFront, without_packets};
 use mrt::{FromRead, FromWrite, Sink, Source};
-use std::alloc::Global;
+use std::alloc::Allocator;
 use std::io::{Read, Write};
 
 /// Returns where the MRT file of this name is written: `-` is standard output.
@@ -58,15 +58,15 @@ fn no_recording<'a, R: Read>(
 }
 
 /// Makes an MRT file of one connection in a pcap file.
-pub(crate) fn import<'a, R: Read + Drop, W: Write>(
-    alloc: Global,
+pub(crate) fn import<'a, A: Allocator + Copy, R: Read + Drop, W: Write>(
+    alloc: A,
     session: &Session,
     recording: &RecordingOptions,
     file: &'a str,
     out: &'a str,
     reader: R,
     sink: &mut FromWrite<W>,
-) -> Answer<'a>
+) -> Answer<'a, A>
     requires families { family_of session.now.peer ≡ family_of session.now.local }
     requires sink { (writer_state sink.old).failures < 2 ^ 63 }
     ensures { (imported : Ended) × ((to : Place) × ((ends : Reached)
@@ -80,8 +80,8 @@ pub(crate) fn import<'a, R: Read + Drop, W: Write>(
 }
 
 /// Makes an MRT file of one connection in a pcap file, and returns how that ended.
-fn import_packets<'a, R: Read + Drop, W: Write>(
-    alloc: Global,
+fn import_packets<'a, A: Allocator + Copy, R: Read + Drop, W: Write>(
+    alloc: A,
     session: &Session,
     recording: &RecordingOptions,
     file: &'a str,

@@ -10,7 +10,7 @@
 //! [`Voice`]:
 //!
 //! ```text
-//! let answer = answer_to::<CompactTracker<_>, _, _>(alloc, &command, opened, &mut sink);
+//! let answer = answer_to::<_, CompactTracker<_>, _, _>(alloc, &command, opened, &mut sink);
 //! answer.say(&mut voice);
 //! std::process::exit(answer.status());
 //! ```

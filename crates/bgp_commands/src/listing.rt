@@ -10,18 +10,18 @@ use bgp_list::{ListedCapture, ListedRecording, list_capture, list_recording};
 use bgp_recording_tool::Peeked;
 use bgp_tool::WithFront;
 use mrt::{FromRead, FromWrite, Sink};
-use std::alloc::Global;
+use std::alloc::Allocator;
 use std::io::{Read, Write};
 
 /// Lists the connections of a pcap file, or the sessions of an MRT file. The first four octets say
 /// which it is.
-pub(crate) fn list<'a, R: Read + Drop, W: Write>(
-    alloc: Global,
+pub(crate) fn list<'a, A: Allocator + Copy, R: Read + Drop, W: Write>(
+    alloc: A,
     port: u16,
     file: &'a str,
     reader: R,
     sink: &mut FromWrite<W>,
-) -> Answer<'a>
+) -> Answer<'a, A>
     requires { (writer_state sink.old).failures < 2 ^ 63 }
     ensures { ListsFile R.remaining W.contents file.entry reader sink.old sink.new result port }
 {
@@ -36,8 +36,8 @@ pub(crate) fn list<'a, R: Read + Drop, W: Write>(
 }
 
 /// Lists the connections of a pcap file.
-fn list_packets<'a, R: Read + Drop, W: Write>(
-    alloc: Global,
+fn list_packets<'a, A: Allocator + Copy, R: Read + Drop, W: Write>(
+    alloc: A,
     port: u16,
     file: &'a str,
     reader: R,
@@ -55,8 +55,8 @@ fn list_packets<'a, R: Read + Drop, W: Write>(
 }
 
 /// Lists the sessions of an MRT file.
-fn list_records<'a, R: Read + Drop, W: Write>(
-    alloc: Global,
+fn list_records<'a, A: Allocator + Copy, R: Read + Drop, W: Write>(
+    alloc: A,
     file: &'a str,
     reader: R,
     sink: &mut FromWrite<W>,

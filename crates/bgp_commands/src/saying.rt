@@ -28,7 +28,7 @@ use bgp_list::{ListedCapture, ListedRecording, NothingListed};
 use bgp_recording_tool::FileOutcome;
 use bgp_tool::Outcome;
 use mrt::CaptureFault;
-use std::alloc::Global;
+use std::alloc::Allocator;
 
 /// Says how a command over octets or an MRT file ended.
 pub(crate) fn ended<V: Voice>(voice: &mut V, outcome: &Outcome<'_>)
@@ -39,7 +39,7 @@ pub(crate) fn ended<V: Voice>(voice: &mut V, outcome: &Outcome<'_>)
 }
 
 /// Says how `decode --mrt` or `judge` ended.
-pub(crate) fn read<V: Voice>(voice: &mut V, outcome: &FileOutcome<'_, Global>)
+pub(crate) fn read<A: Allocator, V: Voice>(voice: &mut V, outcome: &FileOutcome<'_, A>)
     ensures { V.says voice.old voice.new (read_sentences outcome.now) }
 {
     of_records(voice, outcome);
@@ -48,7 +48,7 @@ pub(crate) fn read<V: Voice>(voice: &mut V, outcome: &FileOutcome<'_, Global>)
 }
 
 /// Says what there is to say of the file's packets and records.
-fn of_records<V: Voice>(voice: &mut V, outcome: &FileOutcome<'_, Global>)
+fn of_records<A: Allocator, V: Voice>(voice: &mut V, outcome: &FileOutcome<'_, A>)
     ensures { V.says voice.old voice.new (record_sentences outcome.now) }
 {
     let cut_short = cut_short_sentence(outcome.cut_short);

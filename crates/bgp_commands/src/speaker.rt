@@ -101,7 +101,7 @@ pub fn pair<R: Files + Net + Print + Eprint + AllocGlobal>(rt: &R, file: &str) -
         file,
         &mut sink,
     );
-    let answer = Answer::Ended(outcome);
+    let answer: Answer = Answer::Ended(outcome);
     answer.say(&mut StandardError(rt));
     answer.status()
 }

@@ -33,9 +33,9 @@ Of each connection at --port in a recording:
                         no configuration that its OPEN allows explains a message that this packet
                         shows as sent, in no order that the packets allow within --within
   no at record 9, packet 8: 192.0.2.2 40000 as 65002, peer as 65001
-                        the same of one order: another explains all, or there are too many
+                        the same of one order: there are too many, or no memory, to try them all
   unfinished: 192.0.2.2 40000 as 65002, peer as 65001
-                        it still owes something
+                        it still owes something, in one order; or in all, as a line below says then
   not judged: 192.0.2.1 179, no sent message
                         why nothing can be said of it
 of each session in a capture:

@@ -72,9 +72,11 @@ the router may have worked, as bgp import makes it. If that isn't a yes, all ord
   no at packet 8        in no order that the packets allow within --within it can have sent a
                         message that this packet shows
   yes                   another order is one, as standard error says then
-Else the answer is about the one order. If there are several connections, and --connection names
-none, a line before each answer says which it is of, and the status is the first of 5, 4, 1, 3, 2, 0
-that one of them has:
+  unfinished            some order explains all that it sent, and in none it has done all that it
+                        had to, as standard error says then
+If there are too many orders, or no memory, to try them all, the answer is about the one order. If
+there are several connections, and --connection names none, a line before each answer says which it
+is of, and the status is the first of 5, 4, 1, 3, 2, 0 that one of them has:
   connection 2 from 192.0.2.2 40001 to 192.0.2.1 179 at 1500000060
                         who opened it, to whom, and the second of its first packet
   recording refused: 14 Missing at packet 7 received octet 49

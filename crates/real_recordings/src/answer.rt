@@ -57,12 +57,12 @@ pub(crate) fn answer_by<T: Tracker<Global>>(
     }
     let mut sink = FromWrite::new(Vec::new(alloc));
     let opened = Ok(file.reader());
-    let answer = bgp_commands::answer_to::<T, _, _>(alloc, command, opened, &mut sink);
+    let answer = bgp_commands::answer_to::<Global, T, _, _>(alloc, command, opened, &mut sink);
     lines_of(alloc, &answer, sink.into_inner().as_slice())
 }
 
 /// Whether a command, if it imports, names ends as packets have them and that can be told apart.
-fn can_import(command: &Command<'_>) -> bool
+pub(crate) fn can_import(command: &Command<'_>) -> bool
     ensures { IsTrue result → CanImport command.now }
 {
     match command {

@@ -12,6 +12,7 @@ returns g c = record {
   is_call = (
     c.check_recording-checked.ensures.no,
     c.check_recording-checked.ensures.yes,
+    c.check_recording-checked.ensures.unfinished,
     c.check_recording-checked.ensures.all,
   );
   are_ends = subst
