@@ -22,7 +22,8 @@
 //!
 //! Then recordings of real sessions between five daemons, in `sessions`, are listed, judged from
 //! both ends, and explained as the captures that are made of them, but for the packets. Last some
-//! command lines are run over real files, and `bgp speak` and `bgp pair` over loopback.
+//! command lines are run over real files, some of them once more with too little memory, and
+//! `bgp speak` and `bgp pair` over loopback.
 //!
 //! Of the other program's 300 explained captures five are in the table by hand, with what differs:
 //! four in which large communities are an attribute without a name, and one that tells from when on
@@ -34,6 +35,7 @@ mod answer;
 mod case;
 mod explained;
 mod file;
+mod lacking;
 mod repeated;
 mod runs;
 mod session;
@@ -43,6 +45,7 @@ mod table;
 mod told;
 mod words;
 
+use lacking::run_lacking;
 use runs::run_all;
 use session::compare_sessions;
 use speaking::speak_all;
@@ -72,6 +75,7 @@ fn go_through_all<R: Files + Net + Clock + Input + Print + Eprint + AllocGlobal,
     let tables = compare_tables(rt)?;
     let sessions = compare_sessions(rt)?;
     run_all(rt, errors)?;
+    run_lacking(rt)?;
     speak_all(rt, errors)?;
     Ok(tables && sessions)
 }
