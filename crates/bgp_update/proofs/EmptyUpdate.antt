@@ -19,7 +19,7 @@ use Rattle.bgp_update.specs.Disabled.{IsCertain, IsOptional}
 use Rattle.bgp_update.specs.Found.{Found, MpFound, found_by_form}
 use Rattle.bgp_update.specs.Mp.{Absent, Unused}
 use Rattle.bgp_update.specs.MpFaults.{MayReset}
-use Rattle.bgp_update.specs.Prefixes.{prefixes_of}
+use Rattle.bgp_update.specs.Destinations.{destinations_of}
 use Rattle.bgp_update.specs.ResetFaults.{IsResetSubcode, IsMereSubcode}
 use Rattle.bgp_update.specs.Sections.{Sections, section_octets, IsUpdate}
 use Rattle.bgp_update.specs.WithdrawFaults.{HasFormFault, HasWithdrawFault}
@@ -43,7 +43,7 @@ blank = record {
 }
 
 is_blank : (link : Link) (form : RouteForm) → blank ≡ found_by_form link form empty
-unfolding blank absent empty prefixes_of attributes_of rest_of tail_at
+unfolding blank absent empty destinations_of attributes_of rest_of tail_at
 is_blank link form = refl
 
 never : false ≡ true → ⊥

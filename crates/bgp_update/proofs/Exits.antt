@@ -11,7 +11,7 @@ use Rattle.bgp_update.specs.declared.outcomes.Changes.{Changes}
 use Rattle.bgp_update.specs.declared.outcomes.Outcomes.{Outcomes}
 use Rattle.bgp_update.specs.declared.subcodes.Subcodes.{Subcodes}
 use Rattle.bgp_update.specs.Allowed.{Allows, changes_value}
-use Rattle.bgp_update.specs.Changes.{RouteChanges, AreChanges, withdrawals, announcements, prefixes_among}
+use Rattle.bgp_update.specs.Changes.{RouteChanges, AreChanges, withdrawals, announcements, destinations_among}
 use Rattle.bgp_update.specs.Laws.{HasAnOutcome}
 use Rattle.bgp_update.specs.WithdrawFaults.{HasWithdrawFault}
 use Rattle.bgp_update.specs.Disabled.{IsCertain, IsOptional, IsDisabled}
@@ -119,7 +119,7 @@ some_malformed link octets bad = (Reset 1, inl (bad, refl))
 pub some_applied : (link : Link) (octets : List ℕ) (s : Sections) (faulty : Bool) (disabled : Families) → IsUpdate octets s → ¬ HasReset (found link s)
     → IsTrue faulty ↔ HasWithdrawFault (found link s) → ((f : Family) → IsTrue (contains disabled f) ↔ IsCertain (found link s) f) → HasAnOutcome link octets
 some_applied link octets s true disabled is none fault certain = (
-  Applied (record { remove = withdrawals link (found link s) ++ prefixes_among (announcements link (found link s) (attributes_of s.attributes)); put = [] }) disabled,
+  Applied (record { remove = withdrawals link (found link s) ++ destinations_among (announcements link (found link s) (attributes_of s.attributes)); put = [] }) disabled,
   inr (s, is, (none, inl (fault.0 refl, refl), λ f. ((certain f).1, λ on. inl ((certain f).0 on)))),
 )
 some_applied link octets s false disabled is none fault certain = (

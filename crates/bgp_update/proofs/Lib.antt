@@ -8,8 +8,9 @@ pub mod OneOutcome
 pub mod OneParts
 pub mod OneSplit
 pub mod NextHops
-pub mod PrefixLists
+pub mod DestinationLists
 pub mod ReadAlike
 pub mod Routes
 pub mod Seen
 pub mod Words
+pub mod Identifiers

@@ -1,7 +1,7 @@
 -- An UPDATE changes one thing, and a clean one has one outcome.
 use Rattle.std.proofs.Common.{◌≡◌, ◌↔◌, ℕ, List, Bool, true, false, IsTrue, refl, sym, subst, ◌∙◌, inl, inr}
 use Rattle.bgp_prefix.specs.declared.family.Family.TheVariants.{V4, V6}
-use Rattle.bgp_prefix.specs.Prefix.{PrefixBits}
+use Rattle.bgp_update.specs.declared.destination.Destination.{Destination}
 use Rattle.bgp_open.specs.declared.families.Families.{Families}
 use Rattle.bgp_open.specs.declared.link.Link.{Link}
 use Rattle.bgp_attr.specs.Field.{Attribute}
@@ -18,7 +18,7 @@ use Rattle.bgp_update.proofs.ReadAlike.{same_found}
 
 -- ---- one change
 
-pub same_changes : (x : Found) (w : List PrefixBits) (a : List Route) (c d : RouteChanges) → AreChanges x w a c → AreChanges x w a d → c ≡ d
+pub same_changes : (x : Found) (w : List Destination) (a : List Route) (c d : RouteChanges) → AreChanges x w a c → AreChanges x w a d → c ≡ d
 same_changes x w a c d (inl one) (inl two) = one.1 ∙ sym two.1
 same_changes x w a c d (inl one) (inr two) = absurd (two.0 one.0)
 same_changes x w a c d (inr one) (inl two) = absurd (one.0 two.0)

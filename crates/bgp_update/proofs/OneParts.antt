@@ -4,41 +4,42 @@ use Rattle.std.proofs.lemmas.Bool.{cases_lt}
 use Rattle.std.proofs.lemmas.List.{length-take, length-append, take-append-drop}
 use Rattle.byteorder.specs.Endian.{big_bytes}
 use Rattle.bgp_prefix.specs.declared.family.Family.TheVariants.{V4}
-use Rattle.bgp_prefix.specs.Prefix.{PrefixBits}
+use Rattle.bgp_update.specs.declared.destination.Destination.{Destination}
+use Rattle.bgp_open.specs.declared.route_form.RouteForm.{RouteForm}
 use Rattle.bgp_attr.specs.declared.field.Tail.{Tail}
 use Rattle.bgp_attr.specs.Split.{Split, split_of}
 use Rattle.bgp_wire.specs.Message.{IsMessage, body_of}
 use Rattle.bgp_update.specs.Counted.{IsCounted, LacksCounted}
 use Rattle.bgp_update.specs.Parts.{UpdateParts, SpellsParts, LacksParts}
-use Rattle.bgp_update.specs.Prefixes.{ArePrefixes}
+use Rattle.bgp_update.specs.Destinations.{AreDestinations, is_identified}
 use Rattle.bgp_update.specs.Sections.{Sections, IsUpdate, IsMalformed}
 use Rattle.bgp_update.proofs.OneSplit.{one_split, first, no_second}
-use Rattle.bgp_update.proofs.PrefixLists.{reads_prefixes, each_list}
+use Rattle.bgp_update.proofs.DestinationLists.{reads_destinations, each_list}
 
 -- ---- an UPDATE whose fields aren't lists has no parts
 
-module _ (octets : List ℕ) (s : Sections) (is : IsUpdate octets s) where
-  same : (parts : UpdateParts) (spells : SpellsParts octets parts) → spells.sections ≡ s
+module _ (form : RouteForm) (octets : List ℕ) (s : Sections) (is : IsUpdate octets s) where
+  same : (parts : UpdateParts) (spells : SpellsParts form octets parts) → spells.sections ≡ s
   same parts spells = one_split octets spells.sections s spells.update is
 
-  pub no_withdrawn : ((prefixes : List PrefixBits) → ¬ ArePrefixes V4 s.withdrawn prefixes) → LacksParts octets
+  pub no_withdrawn : ((destinations : List Destination) → ¬ AreDestinations (is_identified form V4) V4 s.withdrawn destinations) → LacksParts form octets
   no_withdrawn none parts spells =
-      none parts.withdrawn (subst (λ (t : Sections). ArePrefixes V4 t.withdrawn parts.withdrawn) (same parts spells) spells.withdrawn)
+      none parts.withdrawn (subst (λ (t : Sections). AreDestinations (is_identified form V4) V4 t.withdrawn parts.withdrawn) (same parts spells) spells.withdrawn)
 
-  pub no_nlri : ((prefixes : List PrefixBits) → ¬ ArePrefixes V4 s.nlri prefixes) → LacksParts octets
+  pub no_nlri : ((destinations : List Destination) → ¬ AreDestinations (is_identified form V4) V4 s.nlri destinations) → LacksParts form octets
   no_nlri none parts spells =
-      none parts.nlri (subst (λ (t : Sections). ArePrefixes V4 t.nlri parts.nlri) (same parts spells) spells.nlri)
+      none parts.nlri (subst (λ (t : Sections). AreDestinations (is_identified form V4) V4 t.nlri parts.nlri) (same parts spells) spells.nlri)
 
   -- the tail of the attributes
-  tail_of : (parts : UpdateParts) (spells : SpellsParts octets parts) → (split_of s.attributes).tail ≡ None
+  tail_of : (parts : UpdateParts) (spells : SpellsParts form octets parts) → (split_of s.attributes).tail ≡ None
   tail_of parts spells =
       subst (λ (t : Sections). (split_of t.attributes).tail ≡ None) (same parts spells) (ap (λ (x : Split). x.tail) spells.attributes)
 
-  pub no_attributes : IsTrue (is_some (split_of s.attributes).tail) → LacksParts octets
+  pub no_attributes : IsTrue (is_some (split_of s.attributes).tail) → LacksParts form octets
   no_attributes some parts spells = absurd (let none = tail_of parts spells in let false_ = rw none at some in cc)
 
-  pub some_parts : (withdrawn nlri : List PrefixBits) → ArePrefixes V4 s.withdrawn withdrawn → ArePrefixes V4 s.nlri nlri → (split_of s.attributes).tail ≡ None
-      → SpellsParts octets (record { withdrawn = withdrawn; attributes = (split_of s.attributes).attributes; nlri = nlri })
+  pub some_parts : (withdrawn nlri : List Destination) → AreDestinations (is_identified form V4) V4 s.withdrawn withdrawn → AreDestinations (is_identified form V4) V4 s.nlri nlri → (split_of s.attributes).tail ≡ None
+      → SpellsParts form octets (record { withdrawn = withdrawn; attributes = (split_of s.attributes).attributes; nlri = nlri })
   some_parts withdrawn nlri w n none = record {
     sections = s;
     update = is;
@@ -49,17 +50,17 @@ module _ (octets : List ℕ) (s : Sections) (is : IsUpdate octets s) where
 
 -- ---- one way
 
-same_prefixes : (octets other : List ℕ) (ps qs : List PrefixBits) → octets ≡ other → ArePrefixes V4 octets ps → ArePrefixes V4 other qs → ps ≡ qs
-same_prefixes octets other ps qs e one two =
-    let first_ = (reads_prefixes V4 octets ps).0 one in
-    let second = (reads_prefixes V4 octets qs).0 (subst (λ (o : List ℕ). ArePrefixes V4 o qs) (sym e) two) in
+same_destinations : (form : RouteForm) (octets other : List ℕ) (ps qs : List Destination) → octets ≡ other → AreDestinations (is_identified form V4) V4 octets ps → AreDestinations (is_identified form V4) V4 other qs → ps ≡ qs
+same_destinations form octets other ps qs e one two =
+    let first_ = (reads_destinations (is_identified form V4) V4 octets ps).0 one in
+    let second = (reads_destinations (is_identified form V4) V4 octets qs).0 (subst (λ (o : List ℕ). AreDestinations (is_identified form V4) V4 o qs) (sym e) two) in
     let both = sym first_ ∙ second in cc
 
-pub one_parts : (octets : List ℕ) (parts others : UpdateParts) → SpellsParts octets parts → SpellsParts octets others → parts ≡ others
-one_parts octets parts others h k =
+pub one_parts : (form : RouteForm) (octets : List ℕ) (parts others : UpdateParts) → SpellsParts form octets parts → SpellsParts form octets others → parts ≡ others
+one_parts form octets parts others h k =
     let e = one_split octets h.sections k.sections h.update k.update in
-    let withdrawn = same_prefixes h.sections.withdrawn k.sections.withdrawn parts.withdrawn others.withdrawn (ap (λ (s : Sections). s.withdrawn) e) h.withdrawn k.withdrawn in
-    let nlri = same_prefixes h.sections.nlri k.sections.nlri parts.nlri others.nlri (ap (λ (s : Sections). s.nlri) e) h.nlri k.nlri in
+    let withdrawn = same_destinations form h.sections.withdrawn k.sections.withdrawn parts.withdrawn others.withdrawn (ap (λ (s : Sections). s.withdrawn) e) h.withdrawn k.withdrawn in
+    let nlri = same_destinations form h.sections.nlri k.sections.nlri parts.nlri others.nlri (ap (λ (s : Sections). s.nlri) e) h.nlri k.nlri in
     let attributes : parts.attributes ≡ others.attributes =
     ap (λ (x : Split). x.attributes) (sym h.attributes ∙ ap (λ (s : Sections). split_of s.attributes) e ∙ k.attributes) in
     λ i. record { withdrawn = withdrawn i; attributes = attributes i; nlri = nlri i }
@@ -114,20 +115,20 @@ by_tail : (tail : Option Tail) → (tail ≡ None) ⊎ IsTrue (is_some tail)
 by_tail None = inl refl
 by_tail (Some tail) = inr refl
 
-by_fields : (octets : List ℕ) (s : Sections) → IsUpdate octets s → ((parts : UpdateParts) × SpellsParts octets parts) ⊎ LacksParts octets
-by_fields octets s is = elim (each_list V4 s.withdrawn) [
-  | inr none ↦ inr (no_withdrawn octets s is none)
-  | inl withdrawn ↦ elim (each_list V4 s.nlri) [
-    | inr none ↦ inr (no_nlri octets s is none)
+by_fields : (form : RouteForm) (octets : List ℕ) (s : Sections) → IsUpdate octets s → ((parts : UpdateParts) × SpellsParts form octets parts) ⊎ LacksParts form octets
+by_fields form octets s is = elim (each_list (is_identified form V4) V4 s.withdrawn) [
+  | inr none ↦ inr (no_withdrawn form octets s is none)
+  | inl withdrawn ↦ elim (each_list (is_identified form V4) V4 s.nlri) [
+    | inr none ↦ inr (no_nlri form octets s is none)
     | inl nlri ↦ elim (by_tail (split_of s.attributes).tail) [
-      | inr some ↦ inr (no_attributes octets s is some)
-      | inl none ↦ inl (_, some_parts octets s is withdrawn.0 nlri.0 withdrawn.1 nlri.1 none)
+      | inr some ↦ inr (no_attributes form octets s is some)
+      | inl none ↦ inl (_, some_parts form octets s is withdrawn.0 nlri.0 withdrawn.1 nlri.1 none)
     ]
   ]
 ]
 
-pub each_parts : (octets : List ℕ) → IsMessage 2 octets → ((parts : UpdateParts) × SpellsParts octets parts) ⊎ LacksParts octets
-each_parts octets message = elim (each_update octets message) [
+pub each_parts : (form : RouteForm) (octets : List ℕ) → IsMessage 2 octets → ((parts : UpdateParts) × SpellsParts form octets parts) ⊎ LacksParts form octets
+each_parts form octets message = elim (each_update octets message) [
   | inr malformed ↦ inr (λ parts spells. malformed spells.sections spells.update)
-  | inl is ↦ by_fields octets is.0 is.1
+  | inl is ↦ by_fields form octets is.0 is.1
 ]

@@ -1,7 +1,7 @@
 -- Links over which an UPDATE is read alike.
 use Rattle.std.proofs.Common.{◌≡◌, ◌⊎◌, ◌≤◌, ◌++◌, List, [], length, Option, None, Some, IsTrue, refl, ap, subst, inl, inr}
 use Rattle.bgp_prefix.specs.declared.family.Family.TheVariants.{V4}
-use Rattle.bgp_prefix.specs.Prefix.{PrefixBits}
+use Rattle.bgp_update.specs.declared.destination.Destination.{Destination}
 use Rattle.bgp_open.specs.declared.families.Families.{Families}
 use Rattle.bgp_open.specs.declared.link.Link.{Link}
 use Rattle.bgp_open.specs.declared.route_form.RouteForm.{RouteForm}
@@ -12,7 +12,7 @@ use Rattle.bgp_attr.specs.Field.{Attribute}
 use Rattle.bgp_attr.specs.First.{value_among}
 use Rattle.bgp_attr.specs.PathFrom.{next_hop_from, path_from}
 use Rattle.bgp_attr.specs.Split.{attributes_of}
-use Rattle.bgp_update.specs.Changes.{Route, AreChanges, announcements, base_prefixes, mp_hop, mp_prefixes, routes_with, withdrawals}
+use Rattle.bgp_update.specs.Changes.{Route, AreChanges, announcements, base_destinations, mp_hop, mp_destinations, routes_with, withdrawals}
 use Rattle.bgp_update.specs.Clean.{IsCleanBy}
 use Rattle.bgp_update.specs.Found.{Found, found_by_form}
 use Rattle.bgp_update.specs.Laws.{DependsOnForm, IsReadAlike}
@@ -25,15 +25,15 @@ pub same_found : (one : Link) (form : RouteForm) (other : Link) (another : Route
 same_found one form other another h s = λ i.
     found_by_form
     (record { hold = one.hold; as4 = h.as4 i; families = h.families i; internal = h.internal i; extended = one.extended; received = one.received; sent = one.sent })
-    (record { identified = form.identified; ipv6_next_hops = h.next_hops i }) s
+    (h.form i) s
 
 module _ (one : Link) (form : RouteForm) (other : Link) (another : RouteForm) (h : IsReadAlike one form other another) where
-  same_base : (o : Option (List PrefixBits)) → base_prefixes one o ≡ base_prefixes other o
+  same_base : (o : Option (List Destination)) → base_destinations one o ≡ base_destinations other o
   same_base None = refl
   same_base (Some ps) = rw h.families refl
 
   same_withdrawals : (x : Found) → withdrawals one x ≡ withdrawals other x
-  same_withdrawals x = ap (λ (t : List PrefixBits). t ++ mp_prefixes x.unreach.state) (same_base x.withdrawn)
+  same_withdrawals x = ap (λ (t : List Destination). t ++ mp_destinations x.unreach.state) (same_base x.withdrawn)
 
   same_announcements : (x : Found) (attributes : List Attribute) → announcements one x attributes ≡ announcements other x attributes
   same_announcements x attributes = λ i.
@@ -43,13 +43,13 @@ module _ (one : Link) (form : RouteForm) (other : Link) (another : RouteForm) (h
       (same_base x.nlri i)
       ++ routes_with
       (path_from (record { as4 = h.as4 i; internal = h.internal i }) (value_among (record { as4 = h.as4 i; internal = h.internal i }) attributes) (mp_hop x.reach.state))
-      (mp_prefixes x.reach.state)
+      (mp_destinations x.reach.state)
 
   by_alike : (x : Found) (attributes : List Attribute) (outcome : Outcome) → IsOutcomeBy one x attributes outcome → IsOutcomeBy other x attributes outcome
   by_alike x attributes (Reset n) o = o
   by_alike x attributes (Applied changes disabled) (none, are, d) = (
     none,
-    subst (λ (w : List PrefixBits). AreChanges x w (announcements other x attributes) changes) (same_withdrawals x)
+    subst (λ (w : List Destination). AreChanges x w (announcements other x attributes) changes) (same_withdrawals x)
         (subst (λ (a : List Route). AreChanges x (withdrawals one x) a changes) (same_announcements x attributes) are),
     d,
   )

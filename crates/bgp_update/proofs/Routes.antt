@@ -3,7 +3,7 @@ use Rattle.std.proofs.Common.{◌≡◌, ℕ, List, [], ◌∷◌, ◌++◌, Boo
 use Rattle.std.specs.Prelude.{IfOk, OnOk}
 use Rattle.bgp_prefix.specs.declared.family.Family.{Family}
 use Rattle.bgp_prefix.specs.declared.family.Family.TheVariants.{V4}
-use Rattle.bgp_prefix.specs.Prefix.{PrefixBits}
+use Rattle.bgp_update.specs.declared.destination.Destination.{Destination}
 use Rattle.bgp_open.specs.declared.link.Link.{Link}
 use Rattle.bgp_open.specs.Families.{contains}
 use Rattle.bgp_path.specs.declared.path.NextHop.{NextHop}
@@ -15,7 +15,7 @@ use Rattle.bgp_attr.specs.Field.{Attribute}
 use Rattle.bgp_attr.specs.First.{first_by_type, value_by_type}
 use Rattle.bgp_attr.specs.PathFrom.{path_from, next_hop_from}
 use Rattle.bgp_attr.specs.Types.{type_number}
-use Rattle.bgp_update.specs.Changes.{Route, routes_with, base_prefixes, prefixes_among, mp_hop, mp_prefixes, AreChanges}
+use Rattle.bgp_update.specs.Changes.{Route, routes_with, base_destinations, destinations_among, mp_hop, mp_destinations, AreChanges}
 use Rattle.bgp_update.specs.Found.{Found, MpFound, mp_found, is_repeated, side_of}
 use Rattle.bgp_update.specs.Listed.{listed}
 use Rattle.bgp_update.specs.Mp.{Mp, mp_state, has_other_bits}
@@ -41,31 +41,31 @@ is_found link read t attributes attr state bits repeated e s b r = λ i. record 
   is_repeated = r i;
 }
 
--- ---- prefixes of routes
+-- ---- destinations of routes
 
-alone : (path : PathValue) (ps : List PrefixBits) → prefixes_among (routes_with path ps) ≡ ps
+alone : (path : PathValue) (ps : List Destination) → destinations_among (routes_with path ps) ≡ ps
 alone path [] = refl
-alone path (p ∷ ps) = ap (λ (t : List PrefixBits). p ∷ t) (alone path ps)
+alone path (p ∷ ps) = ap (λ (t : List Destination). p ∷ t) (alone path ps)
 
-pub among_both : (a b : PathValue) (ps qs : List PrefixBits) → prefixes_among (routes_with a ps ++ routes_with b qs) ≡ ps ++ qs
+pub among_both : (a b : PathValue) (ps qs : List Destination) → destinations_among (routes_with a ps ++ routes_with b qs) ≡ ps ++ qs
 among_both a b [] qs = alone b qs
-among_both a b (p ∷ ps) qs = ap (λ (t : List PrefixBits). p ∷ t) (among_both a b ps qs)
+among_both a b (p ∷ ps) qs = ap (λ (t : List Destination). p ∷ t) (among_both a b ps qs)
 
-pub announced : (old middle new ps qs : List PrefixBits) (a b : PathValue) → middle ≡ old ++ ps → new ≡ middle ++ qs → new ≡ old ++ prefixes_among (routes_with a ps ++ routes_with b qs)
-announced old middle new ps qs a b first second = rw (second, first, append_assoc) (ap (λ (t : List PrefixBits). old ++ t) (sym (among_both a b ps qs)))
+pub announced : (old middle new ps qs : List Destination) (a b : PathValue) → middle ≡ old ++ ps → new ≡ middle ++ qs → new ≡ old ++ destinations_among (routes_with a ps ++ routes_with b qs)
+announced old middle new ps qs a b first second = rw (second, first, append_assoc) (ap (λ (t : List Destination). old ++ t) (sym (among_both a b ps qs)))
 
-pub base_listed : (link : Link) (o : Option (List PrefixBits)) → contains link.families V4 ≡ true → listed o ≡ base_prefixes link o
+pub base_listed : (link : Link) (o : Option (List Destination)) → contains link.families V4 ≡ true → listed o ≡ base_destinations link o
 base_listed link None used = refl
 base_listed link (Some ps) used = rw used refl
 
-pub same_routes : (value : Side → AttrType → Option (List ℕ)) (side also : Side) (hop : NextHop) (ps qs : List PrefixBits)
+pub same_routes : (value : Side → AttrType → Option (List ℕ)) (side also : Side) (hop : NextHop) (ps qs : List Destination)
     → side ≡ also → hop ≡ next_hop_from (value side types.NextHop) → ps ≡ qs
     → routes_with (path_from side (value side) hop) ps ≡ routes_with (path_from also (value also) (next_hop_from (value also types.NextHop))) qs
 same_routes value side also hop ps qs s h p = rw (h, s, p) refl
 
-pub mp_routes : (value : Side → AttrType → Option (List ℕ)) (side also : Side) (hop : NextHop) (ps : List PrefixBits) (state : Mp)
-    → side ≡ also → hop ≡ mp_hop state → ps ≡ mp_prefixes state
-    → routes_with (path_from side (value side) hop) ps ≡ routes_with (path_from also (value also) (mp_hop state)) (mp_prefixes state)
+pub mp_routes : (value : Side → AttrType → Option (List ℕ)) (side also : Side) (hop : NextHop) (ps : List Destination) (state : Mp)
+    → side ≡ also → hop ≡ mp_hop state → ps ≡ mp_destinations state
+    → routes_with (path_from side (value side) hop) ps ≡ routes_with (path_from also (value also) (mp_hop state)) (mp_destinations state)
 mp_routes value side also hop ps state s h p = rw (h, s, p) refl
 
 pub appended : (old new group routes : List Route) → new ≡ old ++ group → group ≡ routes → new ≡ old ++ routes
@@ -73,11 +73,11 @@ appended old new group routes e same = e ∙ ap (λ (t : List Route). old ++ t) 
 
 -- ---- the changes
 
-pub withdrawn_changes : (x : Found) (w : List PrefixBits) (a : List Route) (middle remove : List PrefixBits) (put : List Route) → HasWithdrawFault x
-    → middle ≡ w → remove ≡ middle ++ prefixes_among a → put ≡ [] → AreChanges x w a (record { remove = remove; put = put })
+pub withdrawn_changes : (x : Found) (w : List Destination) (a : List Route) (middle remove : List Destination) (put : List Route) → HasWithdrawFault x
+    → middle ≡ w → remove ≡ middle ++ destinations_among a → put ≡ [] → AreChanges x w a (record { remove = remove; put = put })
 withdrawn_changes x w a middle remove put fault first second none = inl (fault, rw (second, first, none) refl)
 
-pub sound_changes : (x : Found) (w : List PrefixBits) (a b : List Route) (remove : List PrefixBits) (one put : List Route) → ¬ HasWithdrawFault x
+pub sound_changes : (x : Found) (w : List Destination) (a b : List Route) (remove : List Destination) (one put : List Route) → ¬ HasWithdrawFault x
     → remove ≡ w → one ≡ a → put ≡ one ++ b → AreChanges x w (a ++ b) (record { remove = remove; put = put })
 sound_changes x w a b remove one put none first o p = inr (none, rw (first, p, o) refl)
 
@@ -88,11 +88,11 @@ from_nothing old new added also e none same = rw (e, none) same
 abbrev pub base_by : Link → Found → (AttrType → Option Attribute) → List Route
 base_by link x first =
     routes_with (path_from (side_of link) (value_by_type (side_of link) first) (next_hop_from (value_by_type (side_of link) first types.NextHop)))
-    (base_prefixes link x.nlri)
+    (base_destinations link x.nlri)
 
 abbrev pub mp_by : Link → Found → (AttrType → Option Attribute) → List Route
 mp_by link x first =
-    routes_with (path_from (side_of link) (value_by_type (side_of link) first) (mp_hop x.reach.state)) (mp_prefixes x.reach.state)
+    routes_with (path_from (side_of link) (value_by_type (side_of link) first) (mp_hop x.reach.state)) (mp_destinations x.reach.state)
 
 pub never : {b : Bool} → b ≡ true → b ≡ false → ⊥
 never h k = absurd cc

@@ -12,9 +12,9 @@ use Rattle.bgp_update.specs.Disabled.{IsDisabled}
 use Rattle.bgp_update.specs.Outcome.{Outcome, Applied, Reset}
 use Rattle.bgp_update.specs.Subcodes.{HasSubcode}
 
--- the routes of a group, each of its prefixes with its path
+-- the routes of a group, each of its destinations with its path
 abbrev pub put_routes : {X : Type 0} → Put X → List Route
-put_routes p = routes_with p.path p.prefixes.items
+put_routes p = routes_with p.path p.destinations.items
 
 -- those of a group that may not be there
 abbrev pub group_routes : {X : Type 0} → Option (Put X) → List Route

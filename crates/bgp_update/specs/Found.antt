@@ -5,7 +5,6 @@ use Rattle.std.specs.Prelude.{is_some, if◌then◌else◌}
 use Rattle.std.specs.List.{list_any}
 use Rattle.bgp_prefix.specs.declared.family.Family.{Family}
 use Rattle.bgp_prefix.specs.declared.family.Family.TheVariants.{V4}
-use Rattle.bgp_prefix.specs.Prefix.{PrefixBits}
 use Rattle.bgp_open.specs.declared.link.Link.{Link}
 use Rattle.bgp_open.specs.declared.route_form.RouteForm.{RouteForm}
 use Rattle.bgp_attr.specs.declared.classes.AttrVerdict.{AttrVerdict}
@@ -21,7 +20,8 @@ use Rattle.bgp_attr.specs.Types.{type_number}
 use Rattle.bgp_attr.specs.Split.{attributes_of, rest_of, tail_at}
 use Rattle.bgp_update.specs.Mp.{Mp, mp_state, has_other_bits}
 use Rattle.bgp_update.specs.MpValue.{Contents, reach_contents, unreach_contents}
-use Rattle.bgp_update.specs.Prefixes.{prefixes_of}
+use Rattle.bgp_update.specs.declared.destination.Destination.{Destination}
+use Rattle.bgp_update.specs.Destinations.{destinations_of, is_identified}
 use Rattle.bgp_update.specs.Sections.{Sections}
 
 -- what of a link decides how attributes are read
@@ -55,9 +55,9 @@ pub record TypesFound : Type 0 where
   pub has_repeats : Bool
 
 pub record Found : Type 0 where
-  -- the prefixes of the Withdrawn Routes and NLRI fields: none where those are incorrect
-  pub withdrawn : Option (List PrefixBits)
-  pub nlri : Option (List PrefixBits)
+  -- the destinations of the Withdrawn Routes and NLRI fields: none where those are incorrect
+  pub withdrawn : Option (List Destination)
+  pub nlri : Option (List Destination)
   pub reach : MpFound
   pub unreach : MpFound
   pub classes : ClassesFound
@@ -110,16 +110,15 @@ mp_found link read t attributes = record {
   is_repeated = is_repeated (type_number t) attributes;
 }
 
--- what prefixes, attributes and a tail come to if routes are spelled in this form; only the first
--- attribute of a type is classed (RFC 7606, 3 g). The form's identified families aren't read here
--- yet: each prefix stands without a path identifier (RFC 7911, 3).
-abbrev pub found_of : Link → RouteForm → Option (List PrefixBits) → Option (List PrefixBits)
+-- what destinations, attributes and a tail come to if routes are spelled in this form; only the
+-- first attribute of a type is classed (RFC 7606, 3 g)
+abbrev pub found_of : Link → RouteForm → Option (List Destination) → Option (List Destination)
     → List Attribute → Option Tail → Found
 found_of link form withdrawn nlri attributes tail = record {
   withdrawn = withdrawn;
   nlri = nlri;
   reach = mp_found link (reach_contents form) types.MpReachNlri attributes;
-  unreach = mp_found link unreach_contents types.MpUnreachNlri attributes;
+  unreach = mp_found link (unreach_contents form) types.MpUnreachNlri attributes;
   classes = classes_found (side_of link) (firsts attributes);
   types = types_found attributes;
   tail = tail;
@@ -128,7 +127,8 @@ found_of link form withdrawn nlri attributes tail = record {
 -- what the three fields come to if routes are spelled in this form
 abbrev pub found_by_form : Link → RouteForm → Sections → Found
 found_by_form link form s =
-    found_of link form (prefixes_of V4 s.withdrawn) (prefixes_of V4 s.nlri)
+    found_of link form (destinations_of (is_identified form V4) V4 s.withdrawn)
+    (destinations_of (is_identified form V4) V4 s.nlri)
     (attributes_of s.attributes) (tail_at (rest_of s.attributes))
 
 -- what those of an UPDATE that was received over the link come to

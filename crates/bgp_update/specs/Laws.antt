@@ -1,5 +1,5 @@
 -- Laws of UPDATEs and their outcomes.
-use Rattle.std.specs.Prelude.{◌≡◌, ◌↔◌, ℕ, List, [], false, IsTrue, All}
+use Rattle.std.specs.Prelude.{◌≡◌, ◌↔◌, ℕ, List, [], false, is_some, IsTrue, All}
 use Rattle.bgp_prefix.specs.declared.family.Family.{Family}
 use Rattle.bgp_prefix.specs.declared.family.Family.TheVariants as families
 use Rattle.bgp_open.specs.declared.families.Families.{Families}
@@ -10,6 +10,8 @@ use Rattle.bgp_path.specs.declared.path.NextHop.TheVariants as hops
 use Rattle.bgp_wire.specs.Message.{message_octets}
 use Rattle.bgp_wire.specs.declared.header.Limit.{Limit}
 use Rattle.bgp_wire.specs.Framing.{IsFrame}
+use Rattle.bgp_update.specs.declared.destination.Destination.{Destination}
+use Rattle.bgp_update.specs.Destinations.{is_identified}
 use Rattle.bgp_update.specs.Changes.{RouteChanges}
 use Rattle.bgp_update.specs.Clean.{IsClean}
 use Rattle.bgp_update.specs.Outcome.{Outcome, Applied, IsOutcome}
@@ -37,12 +39,12 @@ no_families = record { v4 = false; v6 = false }
 
 -- in these two forms, over these two links, an UPDATE is read alike: reading asks a link and a form
 -- for nothing else
-pub record IsReadAlike (one : Link) (form : RouteForm) (other : Link) (another : RouteForm)
+pub record IsReadAlike (one : Link) (one_form : RouteForm) (other : Link) (other_form : RouteForm)
     : Type 0 where
   pub as4 : one.as4 ≡ other.as4
   pub internal : one.internal ≡ other.internal
   pub families : one.families ≡ other.families
-  pub next_hops : form.ipv6_next_hops ≡ another.ipv6_next_hops
+  pub form : one_form ≡ other_form
 
 -- what is received over the second link is read as what is sent over the first. A link whose two
 -- forms are one is so to itself.
@@ -76,7 +78,25 @@ abbrev pub NextHopsAreByForm : Type 0
 NextHopsAreByForm =
     (link : Link) (octets : List ℕ) (changes : RouteChanges) (disabled : Families)
     → IsOutcome link octets (Applied changes disabled)
-    → All (λ route. IsNextHopOf link.received route.prefix.family route.path.next_hop) changes.put
+    → All (λ route. IsNextHopOf link.received route.destination.prefix.family route.path.next_hop)
+    changes.put
+
+-- a destination has a path identifier exactly if routes of its family are identified in the form
+-- (RFC 7911, 3)
+abbrev pub IsDestinationOf : RouteForm → Destination → Type 0
+IsDestinationOf form destination =
+    is_some destination.path ≡ is_identified form destination.prefix.family
+
+-- each destination that is removed or put has an identifier exactly if the received form says so
+pub record DestinationsAreOf (form : RouteForm) (changes : RouteChanges) : Type 0 where
+  pub remove : All (IsDestinationOf form) changes.remove
+  pub put : All (λ route. IsDestinationOf form route.destination) changes.put
+
+abbrev pub DestinationsAreByForm : Type 0
+DestinationsAreByForm =
+    (link : Link) (octets : List ℕ) (changes : RouteChanges) (disabled : Families)
+    → IsOutcome link octets (Applied changes disabled)
+    → DestinationsAreOf link.received changes
 
 -- over links that read alike the same outcomes are allowed, and the same UPDATEs are clean
 pub record DependsOnForm : Type 0 where

@@ -1,9 +1,11 @@
 pub mod Sections
 pub mod Counted
 pub mod Fields
-pub mod Prefixes
+pub mod Destinations
+pub mod Plain
 pub mod Parts
 pub mod Listed
+pub mod Field
 pub mod MpValue
 pub mod Mp
 pub mod MpShown

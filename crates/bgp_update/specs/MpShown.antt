@@ -12,7 +12,7 @@ use Rattle.bgp_update.specs.declared.mp.MpType.TheVariants.{Reach, Unreach}
 use Rattle.bgp_update.specs.Listed.{listed}
 use Rattle.bgp_update.specs.Mp.{Mp, Absent, Cut, Other, Unused, Broken, Sound}
 use Rattle.bgp_update.specs.MpValue.{Contents, reach_contents, unreach_contents}
-use Rattle.bgp_update.specs.Prefixes.{prefixes_of}
+use Rattle.bgp_update.specs.Field.{field_destinations}
 
 -- the attribute type
 abbrev pub type_of_mp : MpType → AttrType
@@ -22,12 +22,12 @@ type_of_mp Unreach = types.MpUnreachNlri
 -- how the contents are read in this form
 abbrev pub contents_read : RouteForm → MpType → Family → List ℕ → Option Contents
 contents_read form Reach = reach_contents form
-contents_read form Unreach = unreach_contents
+contents_read form Unreach = unreach_contents form
 
-abbrev pub contents_of : Family → MpContents → Contents
-contents_of family c = record {
+abbrev pub contents_of : MpContents → Contents
+contents_of c = record {
   next_hop = c.next_hop;
-  prefixes = listed (prefixes_of family c.prefixes.now);
+  destinations = listed (field_destinations c.destinations);
 }
 
 abbrev pub state_of : MpState → Mp
@@ -36,4 +36,4 @@ state_of states.Cut = Cut
 state_of states.Other = Other
 state_of (states.Unused family) = Unused family
 state_of (states.Broken family) = Broken family
-state_of (states.Sound family contents) = Sound family (contents_of family contents)
+state_of (states.Sound family contents) = Sound family (contents_of contents)

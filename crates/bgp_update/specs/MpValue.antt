@@ -5,11 +5,11 @@ use Rattle.std.specs.Option.{option_map}
 use Rattle.byteorder.specs.Endian.{big_number}
 use Rattle.bgp_prefix.specs.declared.family.Family.{Family}
 use Rattle.bgp_prefix.specs.declared.family.Family.TheVariants as families
-use Rattle.bgp_prefix.specs.Prefix.{PrefixBits}
 use Rattle.bgp_open.specs.declared.route_form.RouteForm.{RouteForm}
 use Rattle.bgp_path.specs.declared.path.NextHop.{NextHop}
 use Rattle.bgp_path.specs.declared.path.NextHop.TheVariants as hops
-use Rattle.bgp_update.specs.Prefixes.{ArePrefixes, prefixes_of}
+use Rattle.bgp_update.specs.declared.destination.Destination.{Destination}
+use Rattle.bgp_update.specs.Destinations.{AreDestinations, destinations_of, is_identified}
 
 -- the family of an AFI and a SAFI: unicast is SAFI 1 (RFC 4760, 6)
 abbrev pub family_with : ℕ → ℕ → Option Family
@@ -41,10 +41,10 @@ next_hop_in ipv6_next_hops families.V6 octets = ipv6_hop_in octets
 -- what an MP attribute of a family holds; MP_UNREACH_NLRI has no next hop
 pub record Contents : Type 0 where
   pub next_hop : Option NextHop
-  pub prefixes : List PrefixBits
+  pub destinations : List Destination
 
 -- after AFI and SAFI, the value of MP_REACH_NLRI is the length of the next hop and the next hop, a
--- reserved octet, which means nothing, and the prefixes
+-- reserved octet, which means nothing, and the destinations
 pub record IsReachValue (form : RouteForm) (family : Family) (value : List ℕ) (contents : Contents)
     : Type 0 where
   pub hop : List ℕ
@@ -54,40 +54,43 @@ pub record IsReachValue (form : RouteForm) (family : Family) (value : List ℕ) 
   pub spelled : drop 3 value ≡ length hop ∷ (hop ++ reserved ∷ nlri)
   pub is_hop : next_hop_in form.ipv6_next_hops family hop ≡ Some address
   pub next_hop : contents.next_hop ≡ Some address
-  pub prefixes : ArePrefixes family nlri contents.prefixes
+  pub destinations : AreDestinations (is_identified form family) family nlri contents.destinations
 
--- after AFI and SAFI, that of MP_UNREACH_NLRI is prefixes
-pub record IsUnreachValue (family : Family) (value : List ℕ) (contents : Contents) : Type 0 where
+-- after AFI and SAFI, that of MP_UNREACH_NLRI is destinations
+pub record IsUnreachValue (form : RouteForm) (family : Family) (value : List ℕ)
+    (contents : Contents) : Type 0 where
   pub next_hop : contents.next_hop ≡ None
-  pub prefixes : ArePrefixes family (drop 3 value) contents.prefixes
+  pub destinations : AreDestinations (is_identified form family) family (drop 3 value)
+      contents.destinations
 
-abbrev pub with_hop : Option NextHop → Option (List PrefixBits) → Option Contents
-with_hop None prefixes = None
+abbrev pub with_hop : Option NextHop → Option (List Destination) → Option Contents
+with_hop None destinations = None
 with_hop (Some hop) None = None
-with_hop (Some hop) (Some prefixes) =
-    Some (record { next_hop = Some hop; prefixes = prefixes })
+with_hop (Some hop) (Some destinations) =
+    Some (record { next_hop = Some hop; destinations = destinations })
 
 -- the contents of MP_REACH_NLRI in this form: none if they are wrong, since the value is too short
--- for its fields, or the next hop's length isn't one of the family, or the prefixes are incorrect
--- (RFC 7606, 5.3 and 7.11)
+-- for its fields, or the next hop's length isn't one of the family, or the destinations are
+-- incorrect (RFC 7606, 5.3 and 7.11)
 abbrev pub reach_contents : RouteForm → Family → List ℕ → Option Contents
 reach_contents form family value =
     if nat_lt (length value) (5 + slice_index value 3)
     then None
     else with_hop (next_hop_in form.ipv6_next_hops family
     (take (slice_index value 3) (drop 4 value)))
-    (prefixes_of family (drop (5 + slice_index value 3) value))
+    (destinations_of (is_identified form family) family (drop (5 + slice_index value 3) value))
 
--- those of MP_UNREACH_NLRI: none if the prefixes are incorrect (RFC 7606, 5.3 and 7.12)
-abbrev pub unreach_contents : Family → List ℕ → Option Contents
-unreach_contents family value =
-    option_map (λ prefixes. record { next_hop = None; prefixes = prefixes })
-    (prefixes_of family (drop 3 value))
+-- those of MP_UNREACH_NLRI: none if the destinations are incorrect (RFC 7606, 5.3 and 7.12)
+abbrev pub unreach_contents : RouteForm → Family → List ℕ → Option Contents
+unreach_contents form family value =
+    option_map (λ destinations. record { next_hop = None; destinations = destinations })
+    (destinations_of (is_identified form family) family (drop 3 value))
 
 -- the functions read what the relations say
 pub record ReadsMpValues : Type 0 where
   pub reach : (form : RouteForm) (family : Family) (value : List ℕ) (contents : Contents)
       → IsReachValue form family value contents
       ↔ (reach_contents form family value ≡ Some contents)
-  pub unreach : (family : Family) (value : List ℕ) (contents : Contents)
-      → IsUnreachValue family value contents ↔ (unreach_contents family value ≡ Some contents)
+  pub unreach : (form : RouteForm) (family : Family) (value : List ℕ) (contents : Contents)
+      → IsUnreachValue form family value contents
+      ↔ (unreach_contents form family value ≡ Some contents)

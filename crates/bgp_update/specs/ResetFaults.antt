@@ -45,7 +45,7 @@ abbrev pub ReachesNothing : Found → Type 0
 ReachesNothing x =
     (x.reach.state ≡ Absent)
     ⊎ ((family : Family) × (contents : Contents) × (x.reach.state ≡ Sound family contents)
-    × (contents.prefixes ≡ []))
+    × (contents.destinations ≡ []))
 
 -- Rule "fault without prefixes" (RFC 7606, 5.2): attributes other than MP_UNREACH_NLRI are there
 -- and no reachable prefix is, and a fault asks for more than to discard an attribute.
@@ -80,7 +80,7 @@ HasReset x = (n : ℕ) × IsResetSubcode x n
 abbrev pub HasReachable : Found → Type 0
 HasReachable x =
     (family : Family) × (contents : Contents) × (x.reach.state ≡ Sound family contents)
-    × (contents.prefixes ≢ [])
+    × (contents.destinations ≢ [])
 
 -- Rule "fault with nothing announced": a withdraw-class fault, and no prefix that is announced for
 -- sure (profile, after RFC 7606, 5.2).

@@ -9,15 +9,15 @@ ghost use Rattle.bgp_update.specs.Allowed.{changes_value, group_routes};
 ghost use Rattle.bgp_update.specs.Changes.{
   AreChanges,
   announcements,
-  base_prefixes,
+  base_destinations,
   hop_or,
   mp_hop,
-  mp_prefixes,
-  prefixes_among,
+  mp_destinations,
+  destinations_among,
   routes_with,
   withdrawals,
 };
-ghost use Rattle.bgp_prefix.specs.declared.family.Family.TheVariants.{V4};
+ghost use Rattle.bgp_update.specs.Field.{field_destinations};
 ghost use Rattle.bgp_update.specs.Found.{side_of};
 ghost use Rattle.bgp_update.specs.Groups.{
   AreGroupsBy,
@@ -27,18 +27,18 @@ ghost use Rattle.bgp_update.specs.Groups.{
 };
 ghost use Rattle.bgp_update.specs.Listed.{listed};
 ghost use Rattle.bgp_update.specs.MpShown.{state_of};
-ghost use Rattle.bgp_update.specs.Prefixes.{prefixes_of};
 ghost use Rattle.bgp_update.specs.Surveyed.{found_by};
 
+use crate::destination::Destination;
+use crate::destinations::DestinationField;
 use crate::link_side::side;
 use crate::mp::MpState;
 use crate::outcomes::{Changes, Put};
-use crate::prefixes::push_prefixes;
 use crate::survey::Survey;
 use bgp_attr::{AttrType, FirstAttrs, Side, read_path};
 use bgp_open::Link;
 use bgp_path::NextHop;
-use bgp_prefix::{Family, Prefix};
+use bgp_prefix::Family;
 use byteorder::{BigEndian, ByteOrder};
 use std::alloc::{AllocError, Allocator};
 
@@ -76,58 +76,58 @@ pub(crate) fn changes_of<A: Allocator + Copy>(
     })
 }
 
-/// Appends the prefixes that are withdrawn.
+/// Appends the destinations that are withdrawn.
 fn push_withdrawn<A: Allocator>(
-    out: &mut Vec<Prefix, A>,
+    out: &mut Vec<Destination, A>,
     link: &Link,
     found: &Survey<'_>,
 ) -> Result<(), AllocError>
     ensures { OnOk result (out.new.items
         ≡ out.old.items ++ withdrawals link.now (found_by found.now)) }
 {
-    push_base_prefixes(out, link, found.withdrawn)?;
-    push_mp_prefixes(out, &found.unreach.state)
+    push_base_destinations(out, link, found.withdrawn)?;
+    push_mp_destinations(out, &found.unreach.state)
 }
 
-/// Appends the prefixes that are announced.
+/// Appends the destinations that are announced.
 fn push_announced<A: Allocator>(
-    out: &mut Vec<Prefix, A>,
+    out: &mut Vec<Destination, A>,
     link: &Link,
     found: &Survey<'_>,
 ) -> Result<(), AllocError>
     ensures { OnOk result ((attributes : List Attribute) → out.new.items ≡ out.old.items
-        ++ prefixes_among (announcements link.now (found_by found.now) attributes)) }
+        ++ destinations_among (announcements link.now (found_by found.now) attributes)) }
 {
-    push_base_prefixes(out, link, found.nlri)?;
-    push_mp_prefixes(out, &found.reach.state)
+    push_base_destinations(out, link, found.nlri)?;
+    push_mp_destinations(out, &found.reach.state)
 }
 
-/// Appends the prefixes of a Withdrawn Routes or NLRI field if IPv4 is in use.
+/// Appends the destinations of a Withdrawn Routes or NLRI field if IPv4 is in use.
 #[inline(always)]
-fn push_base_prefixes<A: Allocator>(
-    out: &mut Vec<Prefix, A>,
+fn push_base_destinations<A: Allocator>(
+    out: &mut Vec<Destination, A>,
     link: &Link,
-    field: &[u8],
+    field: DestinationField<'_>,
 ) -> Result<(), AllocError>
     ensures { OnOk result (out.new.items
-        ≡ out.old.items ++ base_prefixes link.now (prefixes_of V4 field.now)) }
+        ≡ out.old.items ++ base_destinations link.now (field_destinations field.entry)) }
 {
     if !link.families.contains(Family::V4) {
         return Ok(());
     }
-    push_prefixes(out, Family::V4, field)
+    field.push_to(out)
 }
 
-/// Appends the prefixes of an MP attribute of a family in use if its contents are right.
+/// Appends the destinations of an MP attribute of a family in use if its contents are right.
 #[inline(always)]
-fn push_mp_prefixes<A: Allocator>(
-    out: &mut Vec<Prefix, A>,
+fn push_mp_destinations<A: Allocator>(
+    out: &mut Vec<Destination, A>,
     state: &MpState<'_>,
 ) -> Result<(), AllocError>
-    ensures { OnOk result (out.new.items ≡ out.old.items ++ mp_prefixes (state_of state.now)) }
+    ensures { OnOk result (out.new.items ≡ out.old.items ++ mp_destinations (state_of state.now)) }
 {
     match state {
-        MpState::Sound(family, contents) => push_prefixes(out, *family, contents.prefixes),
+        MpState::Sound(_, contents) => contents.destinations.push_to(out),
         _ => Ok(()),
     }
 }
@@ -143,16 +143,16 @@ fn base_group<A: Allocator + Copy>(
         ≡ routes_with (path_from (side_of link.now)
         (value_by_type (side_of link.now) (first_at first.now))
         (next_hop_from (value_by_type (side_of link.now) (first_at first.now) types.NextHop)))
-        (base_prefixes link.now (prefixes_of V4 found.now.nlri.now))) }
+        (base_destinations link.now (field_destinations found.now.nlri))) }
     ensures groups { IfOk result (λ group. group_if group
-        ≡ group_with (base_prefixes link.now (prefixes_of V4 found.now.nlri.now))) }
+        ≡ group_with (base_destinations link.now (field_destinations found.now.nlri))) }
 {
     if !link.families.contains(Family::V4) {
         return Ok(None);
     }
     let side = side(link);
     let next_hop = base_hop(side, first);
-    read_group(alloc, side, first, next_hop, Family::V4, found.nlri)
+    read_group(alloc, side, first, next_hop, found.nlri)
 }
 
 /// Returns the routes of MP_REACH_NLRI, with its own next hop.
@@ -166,16 +166,16 @@ fn mp_group<A: Allocator + Copy>(
         ≡ routes_with (path_from (side_of link.now)
         (value_by_type (side_of link.now) (first_at first.now))
         (mp_hop (state_of found.now.reach.state)))
-        (mp_prefixes (state_of found.now.reach.state))) }
+        (mp_destinations (state_of found.now.reach.state))) }
     ensures groups { IfOk result (λ group. group_if group
-        ≡ group_with (mp_prefixes (state_of found.now.reach.state))) }
+        ≡ group_with (mp_destinations (state_of found.now.reach.state))) }
 {
-    let MpState::Sound(family, contents) = found.reach.state else {
+    let MpState::Sound(_, contents) = found.reach.state else {
         return Ok(None);
     };
     let side = side(link);
     let next_hop = hop_or_none(contents.next_hop);
-    read_group(alloc, side, first, next_hop, family, contents.prefixes)
+    read_group(alloc, side, first, next_hop, contents.destinations)
 }
 
 /// Returns the next hop that NEXT_HOP names.
@@ -195,26 +195,25 @@ fn hop_or_none(next_hop: Option<NextHop>) -> NextHop
     next_hop.unwrap_or(NextHop::V4(0))
 }
 
-/// Returns the routes of a field of prefixes, or none if it has no prefix: then no path is read.
+/// Returns the routes of a field, or none if it has no destination: then no path is read.
 fn read_group<A: Allocator + Copy>(
     alloc: A,
     side: Side,
     first: &FirstAttrs<'_>,
     next_hop: NextHop,
-    family: Family,
-    field: &[u8],
+    field: DestinationField<'_>,
 ) -> Result<Option<Put<A>>, AllocError>
     ensures routes { IfOk result (λ group. group_routes group
         ≡ routes_with (path_from side (value_by_type side (first_at first.now)) next_hop)
-        (listed (prefixes_of family field.now))) }
+        (listed (field_destinations field.entry))) }
     ensures groups { IfOk result
-        (λ group. group_if group ≡ group_with (listed (prefixes_of family field.now))) }
+        (λ group. group_if group ≡ group_with (listed (field_destinations field.entry))) }
 {
-    let mut prefixes = Vec::with_capacity(alloc, field.len() / 4)?;
-    push_prefixes(&mut prefixes, family, field)?;
-    if prefixes.is_empty() {
+    let mut destinations = Vec::with_capacity(alloc, field.likely_count())?;
+    field.push_to(&mut destinations)?;
+    if destinations.is_empty() {
         return Ok(None);
     }
     let path = read_path(alloc, side, first, next_hop)?;
-    Ok(Some(Put { path, prefixes }))
+    Ok(Some(Put { path, destinations }))
 }

@@ -38,8 +38,8 @@ pub fn most_octets(link: &Link) -> u16
 /// longer than the link allows, and leaves the peer nothing to forgive. It takes no memory.
 ///
 /// IPv4 routes may have IPv6 next hops in MP_REACH_NLRI if the link's sent form has them (RFC 8950,
-/// 4); NEXT_HOP has 4 octets either way. The identified families of that form aren't read here yet:
-/// prefixes stand without path identifiers (RFC 7911, 3).
+/// 4); NEXT_HOP has 4 octets either way. Prefixes of the families that this form identifies stand
+/// behind path identifiers, and no others do (RFC 7911, 3).
 pub fn is_clean(link: &Link, octets: &[u8]) -> bool
     ensures clean { IsTrue result ↔ IsClean link.now octets.now }
 {

@@ -7,10 +7,11 @@ ghost use Rattle.bgp_update.specs.Laws.{
   CleanHasOneOutcome,
   HasCleanUpdate,
   NextHopsAreByForm,
+  DestinationsAreByForm,
   DependsOnForm,
 };
 ghost use Rattle.bgp_update.specs.MpValue.{ReadsMpValues};
-ghost use Rattle.bgp_update.specs.Prefixes.{ReadsPrefixes};
+ghost use Rattle.bgp_update.specs.Destinations.{ReadsDestinations};
 
 use crate::fields::split_update;
 use crate::survey::survey_of;
@@ -22,10 +23,10 @@ pub fn one_split()
     ensures unique { HasOneSplit }
 {}
 
-/// A law, with nothing to run: lists of prefixes and the values of MP attributes, which definitions
-/// read by functions, are what the standards lay out.
+/// A law, with nothing to run: lists of destinations and the values of MP attributes, which
+/// definitions read by functions, are what the standards lay out.
 pub fn fields_are_read()
-    ensures prefixes { ReadsPrefixes }
+    ensures destinations { ReadsDestinations }
     ensures mp_values { ReadsMpValues }
 {}
 
@@ -63,10 +64,17 @@ pub fn next_hops_are_by_form()
     ensures next_hops { NextHopsAreByForm }
 {}
 
+/// A law, with nothing to run: each destination that an UPDATE removes or puts has a path
+/// identifier exactly if its family is identified in the form in which it was received (RFC 7911,
+/// 3). In the plain form none has.
+pub fn destinations_are_by_form()
+    ensures destinations { DestinationsAreByForm }
+{}
+
 /// A law, with nothing to run: the outcomes of an UPDATE depend on the link only by the width of AS
-/// numbers, by whether the peer is internal, by the families in use, and by whether IPv4 routes
-/// have IPv6 next hops in the received form. Whether an UPDATE is clean depends on the same of the
-/// sent form, and on how long it may be.
+/// numbers, by whether the peer is internal, by the families in use, and by the received form:
+/// which families are identified, and whether IPv4 routes have IPv6 next hops. Whether an UPDATE is
+/// clean depends on the same with the sent form, and on how long it may be.
 pub fn outcomes_depend_on_form()
     ensures form { DependsOnForm }
 {}

@@ -2,8 +2,7 @@
 //! 6.3; RFC 4760; RFC 7606; RFC 8950).
 //!
 //! What is received is read by the link's received form, and what is sent is clean by its sent
-//! form. A form's identified families aren't read here yet: prefixes stand without path
-//! identifiers.
+//! form. A form says of which families prefixes stand behind path identifiers (RFC 7911, 3).
 //!
 //! ```text
 //! let outcomes = read_update(alloc, &link, octets)?;
@@ -17,6 +16,8 @@
 
 mod changes;
 mod clean;
+mod destination;
+mod destinations;
 mod disabled;
 mod fields;
 mod laws;
@@ -26,7 +27,6 @@ mod mp_faults;
 mod outcomes;
 mod parts;
 mod pass;
-mod prefixes;
 mod reading;
 mod reset_faults;
 mod subcodes;
@@ -34,14 +34,15 @@ mod survey;
 mod withdraw_faults;
 
 pub use clean::{is_clean, most_octets};
+pub use destination::{Destination, PathId};
+pub use destinations::Destinations;
 pub use fields::{Fields, split_update};
 pub use laws::{
-    clean_is_applied, empty_is_clean, fields_are_read, next_hops_are_by_form, one_change,
-    one_split, outcomes_depend_on_form, some_outcome,
+    clean_is_applied, destinations_are_by_form, empty_is_clean, fields_are_read,
+    next_hops_are_by_form, one_change, one_split, outcomes_depend_on_form, some_outcome,
 };
 pub use link_side::side;
 pub use outcomes::{Changes, Outcomes, Put};
 pub use parts::{Parts, read_parts};
-pub use prefixes::Prefixes;
 pub use reading::read_update;
 pub use subcodes::{Subcodes, subcodes_are_sets};

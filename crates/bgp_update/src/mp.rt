@@ -6,15 +6,17 @@
 //! MP_UNREACH_NLRI  AFI 2 | SAFI 1 | withdrawn prefixes
 //! ```
 
-ghost use Rattle.std.specs.Prelude.{◌≡◌, ◌≤◌, length, option_map, is_some, IsTrue};
+ghost use Rattle.std.specs.Prelude.{◌≡◌, ◌≤◌, length, option_map, IsTrue};
 ghost use Rattle.bgp_attr.specs.Field.{attribute_of};
 ghost use Rattle.bgp_update.specs.Mp.{has_other_bits, mp_state};
 ghost use Rattle.bgp_update.specs.MpShown.{contents_of, contents_read, state_of, type_of_mp};
 ghost use Rattle.bgp_update.specs.MpValue.{family_in, ipv6_hop_in, next_hop_in};
 ghost use Rattle.bgp_update.specs.MpValue.{reach_contents, unreach_contents};
-ghost use Rattle.bgp_update.specs.Prefixes.{prefixes_of};
+ghost use Rattle.bgp_update.specs.Destinations.{destinations_of, is_identified};
+ghost use Rattle.bgp_update.specs.Field.{field_destinations};
+ghost use Rattle.bgp_update.specs.Listed.{listed};
 
-use crate::prefixes::count_prefixes;
+use crate::destinations::DestinationField;
 use bgp_attr::{Attr, AttrType};
 use bgp_open::{Families, RouteForm};
 use bgp_path::NextHop;
@@ -38,8 +40,8 @@ pub(crate) enum MpType {
 pub(crate) struct MpContents<'a> {
     /// The next hop of MP_REACH_NLRI.
     pub(crate) next_hop: Option<NextHop>,
-    /// The octets of the prefixes.
-    pub(crate) prefixes: &'a [u8],
+    /// The destinations.
+    pub(crate) destinations: DestinationField<'a>,
 }
 
 /// What state an MP attribute is in.
@@ -133,18 +135,18 @@ fn contents<'a>(
     value: &'a [u8],
 ) -> Option<MpContents<'a>>
     requires { 3 ≤ length value.now }
-    ensures { option_map (contents_of family) result
+    ensures { option_map contents_of result
         ≡ contents_read form mp_type family value.entry.now }
 {
     match mp_type {
         MpType::Reach => reach_contents(form, family, value),
-        MpType::Unreach => unreach_contents(family, value),
+        MpType::Unreach => unreach_contents(form, family, value),
     }
 }
 
 /// Reads the contents of MP_REACH_NLRI.
 fn reach_contents(form: RouteForm, family: Family, value: &[u8]) -> Option<MpContents<'_>>
-    ensures { option_map (contents_of family) result
+    ensures { option_map contents_of result
         ≡ reach_contents form family value.entry.now }
 {
     if value.len() < 5 {
@@ -159,36 +161,40 @@ fn reach_contents(form: RouteForm, family: Family, value: &[u8]) -> Option<MpCon
     let Some(next_hop) = next_hop_in(form, family, hop) else {
         return None;
     };
-    let prefixes = rest.split_at(1).1;
-    if !are_prefixes(family, prefixes) {
+    let Some(destinations) = destinations_in(form, family, rest.split_at(1).1) else {
         return None;
-    }
+    };
     Some(MpContents {
         next_hop: Some(next_hop),
-        prefixes,
+        destinations,
     })
 }
 
 /// Reads the contents of MP_UNREACH_NLRI.
-fn unreach_contents(family: Family, value: &[u8]) -> Option<MpContents<'_>>
+fn unreach_contents(form: RouteForm, family: Family, value: &[u8]) -> Option<MpContents<'_>>
     requires { 3 ≤ length value.now }
-    ensures { option_map (contents_of family) result ≡ unreach_contents family value.entry.now }
+    ensures { option_map contents_of result ≡ unreach_contents form family value.entry.now }
 {
-    let prefixes = value.split_at(3).1;
-    if !are_prefixes(family, prefixes) {
+    let Some(destinations) = destinations_in(form, family, value.split_at(3).1) else {
         return None;
-    }
+    };
     Some(MpContents {
         next_hop: None,
-        prefixes,
+        destinations,
     })
 }
 
-/// Checks whether a field is a list of prefixes.
-fn are_prefixes(family: Family, octets: &[u8]) -> bool
-    ensures { result ≡ is_some (prefixes_of family octets.now) }
+/// Returns the field of destinations that these octets are in this form, or none if it is
+/// incorrect.
+fn destinations_in(form: RouteForm, family: Family, octets: &[u8]) -> Option<DestinationField<'_>>
+    ensures { option_map (λ field. listed (field_destinations field)) result
+        ≡ destinations_of (is_identified form family) family octets.entry.now }
 {
-    count_prefixes(family, octets).is_some()
+    let field = DestinationField::new(form, family, octets);
+    if field.count().is_none() {
+        return None;
+    }
+    Some(field)
 }
 
 /// Reads the next hop that so many octets are (RFC 4760, 3; RFC 2545, 3; RFC 8950, 3).

@@ -1,29 +1,29 @@
 //! What may become of an UPDATE (RFC 7606, 2).
 
+use crate::destination::Destination;
 use crate::subcodes::Subcodes;
 use bgp_open::Families;
 use bgp_path::Path;
-use bgp_prefix::Prefix;
 use std::alloc::{Allocator, Global};
 
-/// Prefixes that become reachable by one path, which they share.
+/// Destinations that become reachable by one path, which they share.
 #[derive(Drop)]
 #[derive_where(Debug)]
 pub struct Put<A: Allocator = Global> {
     /// The path.
     pub path: Path<A>,
-    /// The prefixes, in the order in which they stood.
-    pub prefixes: Vec<Prefix, A>,
+    /// The destinations, in the order in which they stood.
+    pub destinations: Vec<Destination, A>,
 }
 
-/// What an UPDATE changes if it is applied: first prefixes are removed, and then routes put, so
-/// that a prefix that is withdrawn and announced is there afterwards.
+/// What an UPDATE changes if it is applied: first destinations are removed, and then routes put, so
+/// that one that is withdrawn and announced is there afterwards.
 #[derive(Drop)]
 #[derive_where(Debug)]
 pub struct Changes<A: Allocator = Global> {
-    /// The prefixes to remove.
-    pub remove: Vec<Prefix, A>,
-    /// The routes of the NLRI field to put: none if it announces no prefix.
+    /// The destinations to remove.
+    pub remove: Vec<Destination, A>,
+    /// The routes of the NLRI field to put: none if it announces no destination.
     pub nlri: Option<Put<A>>,
     /// The routes of MP_REACH_NLRI to put. If the form in which they were received has IPv6 next
     /// hops of IPv4 routes, IPv4 prefixes may have an IPv6 next hop (RFC 8950, 3).

@@ -20,8 +20,8 @@ use std::alloc::{AllocError, Allocator};
 /// List.
 ///
 /// MP_REACH_NLRI of IPv4 has a next hop of 4 octets, or of 16 or 32, too, if the link's received
-/// form has IPv6 next hops (RFC 8950, 3). The identified families of that form aren't read here
-/// yet: prefixes stand without path identifiers (RFC 7911, 3).
+/// form has IPv6 next hops (RFC 8950, 3). Prefixes of the families that this form identifies stand
+/// behind path identifiers, and no others do (RFC 7911, 3).
 ///
 /// The attributes are walked over and none is copied. If the session has to be reset, no memory is
 /// taken.

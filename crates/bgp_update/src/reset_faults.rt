@@ -1,9 +1,7 @@
 //! The faults for which the session has to be reset, or may be (RFC 4271, 6.3; RFC 7606, 3 to 5).
 
 ghost use Rattle.std.specs.Prelude.{◌≡◌, ◌≢◌, [], ◌↔◌, ◌⊎◌, ℕ, IsTrue};
-ghost use Rattle.bgp_update.specs.Listed.{listed};
 ghost use Rattle.bgp_update.specs.MpFaults.{Names, IsBroken};
-ghost use Rattle.bgp_update.specs.Prefixes.{prefixes_of};
 ghost use Rattle.bgp_update.specs.WithdrawFaults.{HasFormFault};
 ghost use Rattle.bgp_update.specs.ResetFaults.{
   HasBadPrefixes,
@@ -23,7 +21,6 @@ ghost use Rattle.bgp_update.specs.Subcodes.{HasSubcode};
 ghost use Rattle.bgp_update.specs.Surveyed.{found_by, mp_found_by};
 
 use crate::mp::MpState;
-use crate::prefixes::count_prefixes;
 use crate::subcodes::Subcodes;
 use crate::survey::{MpSurvey, Survey};
 use bgp_attr::Tail;
@@ -34,8 +31,7 @@ impl Survey<'_> {
     fn has_bad_prefixes(&self) -> bool
         ensures { IsTrue result ↔ HasBadPrefixes (found_by self.now) }
     {
-        count_prefixes(Family::V4, self.withdrawn).is_none()
-            || count_prefixes(Family::V4, self.nlri).is_none()
+        self.withdrawn.count().is_none() || self.nlri.count().is_none()
     }
 
     /// Checks the rule "repeated MP attribute".
@@ -75,7 +71,7 @@ impl Survey<'_> {
     {
         match self.reach.state {
             MpState::Absent => true,
-            MpState::Sound(family, contents) => !has_prefixes(family, contents.prefixes),
+            MpState::Sound(_, contents) => !contents.destinations.has_some(),
             _ => false,
         }
     }
@@ -85,7 +81,7 @@ impl Survey<'_> {
         ensures { IsTrue result ↔ HasReachable (found_by self.now) }
     {
         match self.reach.state {
-            MpState::Sound(family, contents) => has_prefixes(family, contents.prefixes),
+            MpState::Sound(_, contents) => contents.destinations.has_some(),
             _ => false,
         }
     }
@@ -148,16 +144,6 @@ impl Survey<'_> {
         named_if(self.reach.may_reset(), &self.reach)
             .union(named_if(self.unreach.may_reset(), &self.unreach))
             .union(Subcodes::all_if(self.has_fault_with_nothing_announced()))
-    }
-}
-
-/// Checks whether a field of a family has prefixes.
-fn has_prefixes(family: Family, octets: &[u8]) -> bool
-    ensures { IsTrue result ↔ (listed (prefixes_of family octets.now) ≢ []) }
-{
-    match count_prefixes(family, octets) {
-        Some(count) => count > 0,
-        None => false,
     }
 }
 

@@ -9,12 +9,14 @@ ghost use Rattle.bgp_update.specs.Found.{found_by_form, is_repeated, mp_found};
 ghost use Rattle.bgp_update.specs.MpShown.{contents_read, type_of_mp};
 ghost use Rattle.bgp_update.specs.Surveyed.{found_by, mp_found_by};
 
+use crate::destinations::DestinationField;
 use crate::fields::Fields;
 use crate::link_side::side;
 use crate::mp::{MpState, MpType, has_other_bits, mp_state};
 use crate::pass::{Pass, is_repeated, pass_over};
 use bgp_attr::{FirstAttrs, Tail};
 use bgp_open::{Link, RouteForm};
+use bgp_prefix::Family;
 
 /// An MP attribute, by its first occurrence.
 #[derive(Clone, Copy)]
@@ -30,9 +32,9 @@ pub(crate) struct MpSurvey<'a> {
 #[derive(Clone, Copy)]
 pub(crate) struct Survey<'a> {
     /// The Withdrawn Routes field.
-    pub(crate) withdrawn: &'a [u8],
+    pub(crate) withdrawn: DestinationField<'a>,
     /// The NLRI field.
-    pub(crate) nlri: &'a [u8],
+    pub(crate) nlri: DestinationField<'a>,
     /// MP_REACH_NLRI.
     pub(crate) reach: MpSurvey<'a>,
     /// MP_UNREACH_NLRI.
@@ -61,8 +63,8 @@ pub(crate) fn survey_of<'a>(
     let field = fields.attributes;
     let (pass, tail) = pass_over(side(link), field, first);
     Survey {
-        withdrawn: fields.withdrawn,
-        nlri: fields.nlri,
+        withdrawn: DestinationField::new(form, Family::V4, fields.withdrawn),
+        nlri: DestinationField::new(form, Family::V4, fields.nlri),
         reach: mp_survey(
             link,
             form,

@@ -1,14 +1,16 @@
-//! UPDATEs with little memory, the greatest one, how long one may be that is sent, and next hops by
-//! the form of each direction. (Outcomes are compared by the program `real_captures`.)
+//! UPDATEs with little memory, the greatest one, how long one may be that is sent, and next hops
+//! and path identifiers by the form of each direction. (Outcomes are compared by the program
+//! `real_captures`.)
 
 mod extended;
 mod forms;
+mod identifiers;
 mod memory;
 
 use bgp_open::{Config, Link, negotiate, read_open};
 use bgp_path::{NextHop, Origin, PathParts};
 use bgp_prefix::read_prefix;
-use bgp_update::{Changes, Put, is_clean, most_octets, read_update};
+use bgp_update::{Changes, Destination, Put, is_clean, most_octets, read_update};
 use bgp_vectors::SPEAKER_A;
 use bgp_wire::vectors::OPEN_B;
 use std::alloc::{AllocError, Allocator, Global};
@@ -34,20 +36,25 @@ fn is_plain<A: Allocator>(parts: &PathParts<A>) -> bool {
         && parts.multi_exit_disc.is_none()
 }
 
-/// Whether by that path the base fields put so many prefixes, of which the last is 10.0.0.0/8, and
-/// nothing else is changed.
+/// The destination of a prefix without a path identifier.
+fn plain(text: &str) -> Option<Destination> {
+    Some(Destination::plain(read_prefix(text)?))
+}
+
+/// Whether by that path the base fields put so many destinations, of which the last is 10.0.0.0/8,
+/// and nothing else is changed.
 fn are_put<A: Allocator>(changes: &Option<Changes<A>>, count: usize) -> bool {
     match changes {
         Some(
             Changes {
                 remove,
-                nlri: Some(Put { prefixes, path }),
+                nlri: Some(Put { destinations, path }),
                 mp_reach_nlri: None,
             },
         ) => {
             remove.is_empty()
-                && prefixes.len() == count
-                && prefixes.last().copied() == read_prefix("10.0.0.0/8")
+                && destinations.len() == count
+                && destinations.last().copied() == plain("10.0.0.0/8")
                 && is_plain(path.parts())
         }
         _ => false,

@@ -2,9 +2,9 @@
 use Rattle.std.proofs.Common.{◌≡◌, ◌≢◌, ℕ, ◌⊎◌, Bool, true, false, List, [], Option, None, Some, IsTrue, IsNone, inl, inr}
 use Rattle.bgp_prefix.specs.declared.family.Family.{Family}
 use Rattle.bgp_prefix.specs.declared.family.Family.TheVariants.{V4}
-use Rattle.bgp_prefix.specs.Prefix.{PrefixBits}
 use Rattle.bgp_open.specs.declared.link.Link.{Link}
 use Rattle.bgp_open.specs.Families.{contains}
+use Rattle.bgp_update.specs.declared.destination.Destination.{Destination}
 use Rattle.bgp_update.specs.Found.{Found, MpFound}
 use Rattle.bgp_update.specs.Mp.{Absent, Cut, Unused, Broken, Sound}
 use Rattle.bgp_update.specs.MpValue.{Contents}
@@ -26,8 +26,8 @@ IsRight m =
 
 -- nothing is wrong
 pub record IsPlain (x : Found) : Type 0 where
-  pub withdrawn : (prefixes : List PrefixBits) × (x.withdrawn ≡ Some prefixes)
-  pub nlri : (prefixes : List PrefixBits) × (x.nlri ≡ Some prefixes)
+  pub withdrawn : (destinations : List Destination) × (x.withdrawn ≡ Some destinations)
+  pub nlri : (destinations : List Destination) × (x.nlri ≡ Some destinations)
   pub reach : IsRight x.reach
   pub unreach : IsRight x.unreach
   pub reset : x.classes.reset ≡ false

@@ -10,7 +10,8 @@ use Rattle.bgp_prefix.specs.Bits.{bits_of_octets, octets_of, with_zeros}
 use Rattle.bgp_prefix.specs.Prefix.{PrefixBits, IsPrefix, prefix_octets, prefix_length}
 use Rattle.bgp_prefix.specs.PrefixLaws.{length-octets_of}
 use Rattle.bgp_prefix.proofs.BitsAndNumbers.{bits_of_octets-octets_of, bits_of_octets-append}
-use Rattle.bgp_update.specs.Prefixes.{prefix_len, has_prefix, first_prefix, prefixes_in, prefixes_of}
+use Rattle.bgp_update.specs.Destinations.{prefix_len, has_prefix, first_prefix, destination_len, has_destination, first_destination, destinations_in, destinations_of}
+use Rattle.bgp_update.specs.Plain.{plain, all_plain}
 use Rattle.bgp_update_writer.specs.Written.{nlri_octets}
 
 -- what stands at the front is the prefix
@@ -47,8 +48,29 @@ reads p rest fits =
       less = omega arith;
     }
 
+-- where routes aren't identified, a destination is just the prefix
+pub record ReadsPlain (family : Family) (octets : List ℕ) (p : PrefixBits) (rest : List ℕ) : Type 0 where
+  pub some : 1 ≤ length octets
+  pub has : has_destination false family octets ≡ true
+  pub first : first_destination false family octets ≡ plain p
+  pub after : drop (destination_len false octets) octets ≡ rest
+  pub less : length rest + 1 ≤ length octets
+
+from_zero : (n : ℕ) → 0 + n ≡ n
+from_zero n = omega arith
+
+reads_plain : (family : Family) (octets : List ℕ) (p : PrefixBits) (rest : List ℕ) → Reads family octets p rest → ReadsPlain family octets p rest
+unfolding has_destination first_destination destination_len
+reads_plain family octets p rest r = record {
+  some = r.some;
+  has = r.has;
+  first = ap plain r.first;
+  after = ap (λ (n : ℕ). drop n octets) (from_zero (prefix_len octets)) ∙ r.after;
+  less = r.less;
+}
+
 read_in : (family : Family) (fuel : ℕ) (ps : List PrefixBits) → All IsPrefix ps → All (λ p. p.family ≡ family) ps → length (nlri_octets ps) ≤ fuel
-    → prefixes_in fuel family (nlri_octets ps) ≡ Some ps
+    → destinations_in fuel false family (nlri_octets ps) ≡ Some (all_plain ps)
 read_in family zero [] each of enough = refl
 read_in family (suc fuel) [] each of enough = refl
 read_in family zero (p ∷ ps) each of enough =
@@ -56,10 +78,17 @@ read_in family zero (p ∷ ps) each of enough =
     absurd (omega (arith, r.some))
 read_in family (suc fuel) (p ∷ ps) each of enough =
     let is : p.family ≡ family = All-head (λ (q : PrefixBits). q.family ≡ family) p ps of in
-    let r = subst (λ (f : Family). Reads f (prefix_octets p ++ nlri_octets ps) p (nlri_octets ps)) is (reads p (nlri_octets ps) (All-head IsPrefix p ps each)) in
+    let r = reads_plain family (prefix_octets p ++ nlri_octets ps) p (nlri_octets ps)
+    (subst (λ (f : Family). Reads f (prefix_octets p ++ nlri_octets ps) p (nlri_octets ps)) is (reads p (nlri_octets ps) (All-head IsPrefix p ps each))) in
     let more = read_in family fuel ps (All-tail IsPrefix p ps each) (All-tail (λ (q : PrefixBits). q.family ≡ family) p ps of) (omega (arith, r.less)) in
     rw (ne_eqb (length (nlri_octets (p ∷ ps))) 0 (λ e. absurd (omega (arith, r.some))), r.has, r.first, r.after, more) refl
 
-pub written_prefixes : (family : Family) (ps : List PrefixBits) → All IsPrefix ps → All (λ p. p.family ≡ family) ps → prefixes_of family (nlri_octets ps) ≡ Some ps
-unfolding prefixes_of
+pub written_prefixes : (family : Family) (ps : List PrefixBits) → All IsPrefix ps → All (λ p. p.family ≡ family) ps
+    → destinations_of false family (nlri_octets ps) ≡ Some (all_plain ps)
+unfolding destinations_of
 written_prefixes family ps each of = read_in family (length (nlri_octets ps)) ps each of (omega arith)
+
+-- nothing is no destinations, whether or not routes are identified
+pub none_written : (identified : Bool) (family : Family) → destinations_of identified family [] ≡ Some []
+unfolding destinations_of
+none_written identified family = refl

@@ -1,5 +1,5 @@
 -- What is written for an update is clean, and its one outcome is to apply it.
-use Rattle.std.proofs.Common.{◌≡◌, ℕ, ◌+◌, ◌≤◌, ◌⊎◌, ◌==◌, ◌&&◌, ◌||◌, not, nat_lt, bit_and, if◌then◌else◌, suc, Bool, true, false, List, [], ◌∷◌, ◌++◌, length, take, drop, All, Option, None, Some, is_some, IsTrue, refl, sym, ap, ap₂, subst, ◌∙◌, arith, inl, inr}
+use Rattle.std.proofs.Common.{◌≡◌, ◌↔◌, ℕ, ◌+◌, ◌≤◌, ◌⊎◌, ◌==◌, ◌&&◌, ◌||◌, not, nat_lt, bit_and, if◌then◌else◌, suc, Bool, true, false, List, [], ◌∷◌, ◌++◌, length, take, drop, All, Option, None, Some, is_some, IsTrue, refl, sym, ap, ap₂, subst, ◌∙◌, arith, inl, inr}
 use Rattle.std.specs.List.{flat_map, list_any}
 use Rattle.std.proofs.lemmas.Bool.{cases_Bool, cases_lt, le-ltb, eqb-true}
 use Rattle.std.proofs.lemmas.List.{append-nil, length-append}
@@ -7,6 +7,7 @@ use Rattle.std.proofs.lemmas.List.Elements.{All-nil, All-cons, All-head, All-tai
 use Rattle.std.proofs.Math.Seq.{take-append_seam, drop-append-add}
 use Rattle.byteorder.specs.Endian.{big_bytes}
 use Rattle.byteorder.specs.Numbers.{big_number-reads_back}
+use Rattle.bgp_prefix.specs.declared.family.Family.{Family}
 use Rattle.bgp_prefix.specs.declared.family.Family.TheVariants as families
 use Rattle.bgp_prefix.specs.Prefix.{PrefixBits, IsPrefix}
 use Rattle.bgp_open.specs.declared.link.Link.{Link}
@@ -37,7 +38,11 @@ use Rattle.bgp_update.specs.Mp.{Sound, mp_state, has_other_bits}
 use Rattle.bgp_update.specs.MpValue.{reach_contents, unreach_contents, next_hop_in}
 use Rattle.bgp_update.specs.Changes.{RouteChanges, withdrawals, announcements, routes_with}
 use Rattle.bgp_update.specs.Clean.{IsClean, IsCleanBy, most_octets}
-use Rattle.bgp_update.specs.Prefixes.{prefixes_of}
+use Rattle.bgp_update.specs.Destinations.{destinations_of, is_identified}
+use Rattle.bgp_update.specs.Plain.{all_plain}
+use Rattle.bgp_update.specs.declared.destination.Destination.{Destination}
+use Rattle.bgp_update.specs.Laws.{IsReadAlike, no_families}
+use Rattle.bgp_update.specs.Outcome.{Outcome, Applied, IsOutcome}
 use Rattle.bgp_update.specs.Sections.{Sections, section_octets, IsUpdate}
 use Rattle.bgp_update_writer.specs.Update.{UpdateValue, Announces, Withdraws}
 use Rattle.bgp_update_writer.specs.Written.{nlri_octets, hop_octets, reach_octets, unreach_octets, written_attributes, written_sections, update_octets}
@@ -45,17 +50,19 @@ use Rattle.bgp_update_writer.specs.Refusals.{IsHopOf, IsSendable, IsFamilyUsed}
 use Rattle.bgp_update_writer.specs.Applied.{changes_of_update, IsJustApplied, IsFitUpdate, WritesWhatIsApplied}
 use Rattle.bgp_update_writer.proofs.WrittenSections.{written_update, length-section_octets}
 use Rattle.bgp_update.proofs.OneOutcome.{applied_alone}
+use Rattle.bgp_update.proofs.ReadAlike.{depends_on_form}
 use Rattle.bgp_wire.specs.Header.{limit_with}
 use Rattle.bgp_wire.specs.declared.header.MessageType.{MessageType}
 use Rattle.bgp_wire.specs.Framing.{IsFrame}
 use Rattle.bgp_wire.proofs.WholeMessages.{message_is_frame, known_type}
 use Rattle.bgp_update_writer.proofs.Measured.{fits_length, length_of_update}
-use Rattle.bgp_update_writer.proofs.WrittenPrefixes.{written_prefixes}
+use Rattle.bgp_update_writer.proofs.WrittenPrefixes.{written_prefixes, none_written}
 use Rattle.bgp_update_writer.proofs.PlainUpdate.{HasMissing, IsRight, IsPlain, IsTidy, clean}
 
 -- ---- what is found in fields that were written
 
-pub found_by : (link : Link) (form : RouteForm) (s : Sections) (w n : List PrefixBits) (attributes : List Attribute) → prefixes_of families.V4 s.withdrawn ≡ Some w → prefixes_of families.V4 s.nlri ≡ Some n
+pub found_by : (link : Link) (form : RouteForm) (s : Sections) (w n : List Destination) (attributes : List Attribute)
+    → destinations_of (is_identified form families.V4) families.V4 s.withdrawn ≡ Some w → destinations_of (is_identified form families.V4) families.V4 s.nlri ≡ Some n
     → IsAttributeField s.attributes attributes None → found_by_form link form s ≡ found_of link form (Some w) (Some n) attributes None
 found_by link form s w n attributes we ne field =
     let split = is_split s.attributes attributes None field in
@@ -101,7 +108,7 @@ once kind (a ∷ rest) e = elim (cases_Bool (a.kind == kind)) [
 
 -- ---- a withdrawal in the base field
 
-plain_withdrawal_4 : (link : Link) (form : RouteForm) (ps : List PrefixBits) → IsPlain (found_of link form (Some ps) (Some []) [] None)
+plain_withdrawal_4 : (link : Link) (form : RouteForm) (ps : List Destination) → IsPlain (found_of link form (Some ps) (Some []) [] None)
 plain_withdrawal_4 link form ps = record {
   withdrawn = (ps, refl);
   nlri = ([], refl);
@@ -119,9 +126,10 @@ plain_withdrawal_4 link form ps = record {
 
 -- ---- one MP_UNREACH_NLRI
 
-unreach_sound : (link : Link) (ps : List PrefixBits) → IsTrue link.families.v6 → prefixes_of families.V6 (nlri_octets ps) ≡ Some ps
-    → mp_state link.families unreach_contents (Some (attribute_with types.MpUnreachNlri (unreach_octets ps))) ≡ Sound families.V6 (record { next_hop = None; prefixes = ps })
-unreach_sound link ps used read = rw (le-ltb (length (unreach_octets ps)) 3 (omega arith), used, read) refl
+unreach_sound : (link : Link) (form : RouteForm) (ps : List PrefixBits) → IsTrue link.families.v6
+    → destinations_of (is_identified form families.V6) families.V6 (nlri_octets ps) ≡ Some (all_plain ps)
+    → mp_state link.families (unreach_contents form) (Some (attribute_with types.MpUnreachNlri (unreach_octets ps))) ≡ Sound families.V6 (record { next_hop = None; destinations = all_plain ps })
+unreach_sound link form ps used read = rw (le-ltb (length (unreach_octets ps)) 3 (omega arith), used, read) refl
 
 bits_reach : (n : ℕ) → not (bit_and (flags_for types.MpReachNlri n) 192 == 128) ≡ false
 bits_reach n = elim (cases_Bool (nat_lt 255 n)) [ inl e ↦ rw e refl | inr e ↦ rw e refl ]
@@ -141,8 +149,8 @@ five : (n : ℕ) → 5 + n ≡ suc (suc (suc (suc (n + 1))))
 five n = omega arith
 
 reach_sound : (link : Link) (form : RouteForm) (hop : NextHop) (ps : List PrefixBits) → IsTrue link.families.v6 → IsHopOf families.V6 hop → IsFitHop hop
-    → prefixes_of families.V6 (nlri_octets ps) ≡ Some ps
-    → mp_state link.families (reach_contents form) (Some (attribute_with types.MpReachNlri (reach_octets hop ps))) ≡ Sound families.V6 (record { next_hop = Some hop; prefixes = ps })
+    → destinations_of (is_identified form families.V6) families.V6 (nlri_octets ps) ≡ Some (all_plain ps)
+    → mp_state link.families (reach_contents form) (Some (attribute_with types.MpReachNlri (reach_octets hop ps))) ≡ Sound families.V6 (record { next_hop = Some hop; destinations = all_plain ps })
 reach_sound link form hop ps used of fits read =
     let h = hop_octets hop in
     let value = reach_octets hop ps in
@@ -171,10 +179,10 @@ once_of kind (a ∷ rest) e = elim (cases_Bool (a.kind == kind)) [
 abbrev IsFor : Link → List Attribute → Type 0
 IsFor link attributes = All (IsHarmless (side_of link)) attributes
 
-plain_of : (link : Link) (form : RouteForm) (w n : List PrefixBits) (attributes : List Attribute) (reach unreach : Option Attribute) → first_of 14 attributes ≡ reach → first_of 15 attributes ≡ unreach
+plain_of : (link : Link) (form : RouteForm) (w n : List Destination) (attributes : List Attribute) (reach unreach : Option Attribute) → first_of 14 attributes ≡ reach → first_of 15 attributes ≡ unreach
     → has_repeats attributes ≡ false → IsFor link attributes
     → IsRight (record { state = mp_state link.families (reach_contents form) reach; other_bits = has_other_bits types.MpReachNlri reach; is_repeated = false })
-    → IsRight (record { state = mp_state link.families unreach_contents unreach; other_bits = has_other_bits types.MpUnreachNlri unreach; is_repeated = false })
+    → IsRight (record { state = mp_state link.families (unreach_contents form) unreach; other_bits = has_other_bits types.MpUnreachNlri unreach; is_repeated = false })
     → ¬ HasMissing (found_of link form (Some w) (Some n) attributes None) → IsPlain (found_of link form (Some w) (Some n) attributes None)
 plain_of link form w n attributes reach unreach re ue e good r u missing =
     let first = all_first attributes e in
@@ -190,12 +198,12 @@ plain_of link form w n attributes reach unreach re ue e good r u missing =
       missing = missing;
     }
 
-based : (link : Link) (w n : List PrefixBits) → IsTrue (contains link.families families.V4) ⊎ ((w ≡ []) × (n ≡ []))
+based : (link : Link) (w n : List Destination) → IsTrue (contains link.families families.V4) ⊎ ((w ≡ []) × (n ≡ []))
     → IsTrue (contains link.families families.V4) ⊎ ((Some w ≡ Some []) × (Some n ≡ Some []))
 based link w n (inl used) = inl used
 based link w n (inr none) = inr (ap Some none.0, ap Some none.1)
 
-tidy_of : (link : Link) (form : RouteForm) (w n : List PrefixBits) (attributes : List Attribute) → has_repeats attributes ≡ false → IsFor link attributes
+tidy_of : (link : Link) (form : RouteForm) (w n : List Destination) (attributes : List Attribute) → has_repeats attributes ≡ false → IsFor link attributes
     → IsTrue (contains link.families families.V4) ⊎ ((w ≡ []) × (n ≡ [])) → IsTidy link (found_of link form (Some w) (Some n) attributes None)
 tidy_of link form w n attributes e good base = record {
   discard = rw (all_first attributes e) (none_by (side_of link) Discard refl refl attributes good);
@@ -205,17 +213,33 @@ tidy_of link form w n attributes e good base = record {
 
 -- ---- one body, one outcome
 
-total : (link : Link) (octets : List ℕ) → length octets ≤ most_octets link → (s : Sections) (x : RouteForm → Found) (attributes : List Attribute) (changes : RouteChanges) → IsUpdate octets s
-    → ((form : RouteForm) → found_by_form link form s ≡ x form) → attributes_of s.attributes ≡ attributes → ((form : RouteForm) → IsPlain (x form)) → ((form : RouteForm) → IsTidy link (x form))
-    → changes ≡ record { remove = withdrawals link (x link.received); put = announcements link (x link.received) attributes }
+-- the link over which routes are received as they are sent over this one
+abbrev back : Link → Link
+back link = record link { received = link.sent }
+
+-- what just that becomes of where it is received, as it is sent
+wherever : (link : Link) (octets : List ℕ) (changes : RouteChanges)
+    → ((outcome : Outcome) → IsOutcome (back link) octets outcome ↔ (outcome ≡ Applied changes no_families))
+    → IsJustApplied link octets changes
+wherever link octets changes own receiver alike outcome =
+    let there : IsReadAlike (back link) link.sent receiver receiver.received = record { as4 = alike.as4; internal = alike.internal; families = alike.families; form = alike.form } in
+    let here : IsReadAlike receiver receiver.received (back link) link.sent = record { as4 = sym alike.as4; internal = sym alike.internal; families = sym alike.families; form = sym alike.form } in (
+      λ is. (own outcome).0 (depends_on_form.outcome receiver (back link) octets outcome here is),
+      λ same. depends_on_form.outcome (back link) receiver octets outcome there ((own outcome).1 same),
+    )
+
+total : (link : Link) (octets : List ℕ) → length octets ≤ most_octets link → (s : Sections) (x : Found) (attributes : List Attribute) (changes : RouteChanges) → IsUpdate octets s
+    → found_by_form link link.sent s ≡ x → attributes_of s.attributes ≡ attributes → IsPlain x → IsTidy link x
+    → changes ≡ record { remove = withdrawals link x; put = announcements link x attributes }
     → IsClean link octets × IsJustApplied link octets changes
 total link octets few s x attributes changes is e a plain tidy same =
-    let by : (form : RouteForm) → IsCleanBy link (found_by_form link form s) = λ form. subst (IsCleanBy link) (sym (e form)) (clean link (x form) (plain form) (tidy form)) in
+    let by : IsCleanBy link (found_by_form link link.sent s) = subst (IsCleanBy link) (sym e) (clean link x plain tidy) in
     let all : changes
-    ≡ record { remove = withdrawals link (found_by_form link link.received s); put = announcements link (found_by_form link link.received s) (attributes_of s.attributes) } =
-    same ∙ sym (λ i. record { remove = withdrawals link (e link.received i); put = announcements link (e link.received i) (a i) }) in (
-      (few, s, is, by link.sent),
-      subst (IsJustApplied link octets) (sym all) (applied_alone link octets s is (by link.received).alone),
+    ≡ record { remove = withdrawals link (found_by_form link link.sent s); put = announcements link (found_by_form link link.sent s) (attributes_of s.attributes) } =
+    same ∙ sym (λ i. record { remove = withdrawals link (e i); put = announcements link (e i) (a i) }) in (
+      (few, s, is, by),
+      wherever link octets changes
+          (subst (λ (c : RouteChanges). (outcome : Outcome) → IsOutcome (back link) octets outcome ↔ (outcome ≡ Applied c no_families)) (sym all) (applied_alone (back link) octets s is by.alone)),
     )
 
 -- ---- each kind of update
@@ -243,51 +267,58 @@ field_octets : (link : Link) (value : UpdateValue) → length (update_octets lin
     → length (flat_map attribute_octets (written_attributes link value)) ≤ 65535
 field_octets link value h = omega (arith, all_octets link value h, length-section_octets (written_sections link value))
 
-abbrev none_if : Bool → List PrefixBits
+abbrev none_if : Bool → List Destination
 none_if b = if b then [] else []
 
 nothing : (b : Bool) → none_if b ≡ []
 nothing true = refl
 nothing false = refl
 
-withdraw_4 : (link : Link) (ps : List PrefixBits) → All IsPrefix ps → IsTrue link.families.v4 → All (λ p. p.family ≡ families.V4) ps
+-- prefixes that are written are read back where those of their family aren't identified
+read_plainly : (form : RouteForm) (family : Family) (ps : List PrefixBits) → is_identified form family ≡ false → All IsPrefix ps → All (λ p. p.family ≡ family) ps
+    → destinations_of (is_identified form family) family (nlri_octets ps) ≡ Some (all_plain ps)
+read_plainly form family ps free fits of = rw free (written_prefixes family ps fits of)
+
+withdraw_4 : (link : Link) (ps : List PrefixBits) → All IsPrefix ps → IsTrue link.families.v4 → is_identified link.sent families.V4 ≡ false → All (λ p. p.family ≡ families.V4) ps
     → length (update_octets link (Withdraws families.V4 ps)) ≤ most_octets link
-    → IsClean link (update_octets link (Withdraws families.V4 ps)) × IsJustApplied link (update_octets link (Withdraws families.V4 ps)) (record { remove = ps; put = [] })
-withdraw_4 link ps fits used of small =
+    → IsClean link (update_octets link (Withdraws families.V4 ps)) × IsJustApplied link (update_octets link (Withdraws families.V4 ps)) (record { remove = all_plain ps; put = [] })
+withdraw_4 link ps fits used free of small =
     let value = Withdraws families.V4 ps in
     let s = written_sections link value in
-    let x = λ (form : RouteForm). found_of link form (Some ps) (Some []) [] None in
+    let form = link.sent in
+    let x = found_of link form (Some (all_plain ps)) (Some []) [] None in
     let field : IsAttributeField [] [] None = record { rest = []; whole = refl; each = All-nil IsAttribute; last = refl } in
-    let e : (form : RouteForm) → found_by_form link form s ≡ x form = λ form. found_by link form s ps [] [] (written_prefixes families.V4 ps fits of) (written_prefixes families.V4 [] (All-nil IsPrefix) (All-nil (λ p. p.family ≡ families.V4))) field in
-    total link (update_octets link value) small s x [] (record { remove = ps; put = [] }) (written_update s (all_octets link value small)) e
-    (ap (λ (t : Split). t.attributes) (is_split [] [] None field)) (λ form. plain_withdrawal_4 link form ps)
-    (λ form. record { discard = refl; repeats = refl; base = inl used })
-    (rw (used, append-nil ps) refl)
+    let e : found_by_form link form s ≡ x = found_by link form s (all_plain ps) [] [] (read_plainly form families.V4 ps free fits of) (none_written (is_identified form families.V4) families.V4) field in
+    total link (update_octets link value) small s x [] (record { remove = all_plain ps; put = [] }) (written_update s (all_octets link value small)) e
+    (ap (λ (t : Split). t.attributes) (is_split [] [] None field)) (plain_withdrawal_4 link form (all_plain ps))
+    (record { discard = refl; repeats = refl; base = inl used })
+    (rw (used, append-nil (all_plain ps)) refl)
 
-withdraw_6 : (link : Link) (ps : List PrefixBits) → All IsPrefix ps → IsTrue link.families.v6 → All (λ p. p.family ≡ families.V6) ps
+withdraw_6 : (link : Link) (ps : List PrefixBits) → All IsPrefix ps → IsTrue link.families.v6 → is_identified link.sent families.V6 ≡ false → All (λ p. p.family ≡ families.V6) ps
     → length (update_octets link (Withdraws families.V6 ps)) ≤ most_octets link
-    → IsClean link (update_octets link (Withdraws families.V6 ps)) × IsJustApplied link (update_octets link (Withdraws families.V6 ps)) (record { remove = ps; put = [] })
-withdraw_6 link ps fits used of small =
+    → IsClean link (update_octets link (Withdraws families.V6 ps)) × IsJustApplied link (update_octets link (Withdraws families.V6 ps)) (record { remove = all_plain ps; put = [] })
+withdraw_6 link ps fits used free of small =
     let value = Withdraws families.V6 ps in
     let s = written_sections link value in
     let mp = attribute_with types.MpUnreachNlri (unreach_octets ps) in
     let attributes = mp ∷ [] in
-    let x = λ (form : RouteForm). found_of link form (Some []) (Some []) attributes None in
+    let form = link.sent in
+    let x = found_of link form (Some []) (Some []) attributes None in
     let field : IsAttributeField s.attributes attributes None = record {
       rest = [];
       whole = sym (append-nil (flat_map attribute_octets attributes));
       each = All-cons IsAttribute mp [] (is_attribute types.MpUnreachNlri (unreach_octets ps) (omega (arith, field_octets link value small, one_long types.MpUnreachNlri (unreach_octets ps) []))) (All-nil IsAttribute);
       last = refl;
     } in
-    let none = written_prefixes families.V4 [] (All-nil IsPrefix) (All-nil (λ p. p.family ≡ families.V4)) in
-    let e : (form : RouteForm) → found_by_form link form s ≡ x form = λ form. found_by link form s [] [] attributes none none field in
+    let none = none_written (is_identified form families.V4) families.V4 in
+    let e : found_by_form link form s ≡ x = found_by link form s [] [] attributes none none field in
     let good : IsFor link attributes = All-cons (IsHarmless (side_of link)) mp [] (inl refl) (All-nil (IsHarmless (side_of link))) in
-    let state = unreach_sound link ps used (written_prefixes families.V6 ps fits of) in
-    let plain : (form : RouteForm) → IsPlain (x form) = λ form. plain_of link form [] [] attributes None (Some mp) refl refl refl good (inl refl, refl, refl)
-    (inr (families.V6, record { next_hop = None; prefixes = ps }, state), bits_unreach (length (unreach_octets ps)), refl) (nothing_missing_6 link form ps) in
-    total link (update_octets link value) small s x attributes (record { remove = ps; put = [] }) (written_update s (all_octets link value small)) e
+    let state = unreach_sound link form ps used (read_plainly form families.V6 ps free fits of) in
+    let plain : IsPlain x = plain_of link form [] [] attributes None (Some mp) refl refl refl good (inl refl, refl, refl)
+    (inr (families.V6, record { next_hop = None; destinations = all_plain ps }, state), bits_unreach (length (unreach_octets ps)), refl) (nothing_missing_6 link form ps) in
+    total link (update_octets link value) small s x attributes (record { remove = all_plain ps; put = [] }) (written_update s (all_octets link value small)) e
     (ap (λ (t : Split). t.attributes) (is_split s.attributes attributes None field)) plain
-    (λ form. tidy_of link form [] [] attributes refl good (inr (refl, refl)))
+    (tidy_of link form [] [] attributes refl good (inr (refl, refl)))
     (rw (nothing link.families.v4, state) refl)
 
 -- what is written for a path
@@ -323,31 +354,32 @@ hop_there side path (hops.V6WithLinkLocal a b) e of = absurd of
 has_hop : (link : Link) (path : PathValue) → IsHopOf families.V4 path.next_hop → is_some (first_of 3 (P link path)) ≡ true
 has_hop link path of = ap is_some (first_is (value_in (side_of link) path) types.NextHop) ∙ hop_there (side_of link) path path.next_hop refl of
 
-nothing_missing : (link : Link) (form : RouteForm) (ps : List PrefixBits) (path : PathValue) → IsHopOf families.V4 path.next_hop → ¬ HasMissing (found_of link form (Some []) (Some ps) (P link path) None)
+nothing_missing : (link : Link) (form : RouteForm) (ps : List Destination) (path : PathValue) → IsHopOf families.V4 path.next_hop → ¬ HasMissing (found_of link form (Some []) (Some ps) (P link path) None)
 nothing_missing link form ps path of m = elim m [
   | inl some ↦ elim some.0 [ inl origin ↦ origin (has_origin link path) | inr as_path ↦ as_path (has_as_path link path) ]
   | inr some ↦ some.0 (has_hop link path of)
 ]
 
-announce_4 : (link : Link) (ps : List PrefixBits) (path : PathValue) → All IsPrefix ps → IsFit path → IsTrue link.families.v4 → All (λ p. p.family ≡ families.V4) ps
+announce_4 : (link : Link) (ps : List PrefixBits) (path : PathValue) → All IsPrefix ps → IsFit path → IsTrue link.families.v4 → is_identified link.sent families.V4 ≡ false → All (λ p. p.family ≡ families.V4) ps
     → IsHopOf families.V4 path.next_hop → IsForPeer (side_of link) path → length (update_octets link (Announces families.V4 ps path)) ≤ most_octets link
     → IsClean link (update_octets link (Announces families.V4 ps path))
-    × IsJustApplied link (update_octets link (Announces families.V4 ps path)) (record { remove = []; put = routes_with path ps })
-announce_4 link ps path prefixes fits used of hop peer small =
+    × IsJustApplied link (update_octets link (Announces families.V4 ps path)) (record { remove = []; put = routes_with path (all_plain ps) })
+announce_4 link ps path prefixes fits used free of hop peer small =
     let value = Announces families.V4 ps path in
     let s = written_sections link value in
     let attributes = P link path in
-    let x = λ (form : RouteForm). found_of link form (Some []) (Some ps) attributes None in
-    let back = read_back (side_of link) path fits peer in
+    let form = link.sent in
+    let x = found_of link form (Some []) (Some (all_plain ps)) attributes None in
+    let read = read_back (side_of link) path fits peer in
     let field : IsAttributeField s.attributes attributes None = is_a_field (side_of link) path (is_writable (side_of link) path (omega (arith, field_octets link value small))) in
-    let e : (form : RouteForm) → found_by_form link form s ≡ x form = λ form. found_by link form s [] ps attributes (written_prefixes families.V4 [] (All-nil IsPrefix) (All-nil (λ p. p.family ≡ families.V4))) (written_prefixes families.V4 ps prefixes of) field in
+    let e : found_by_form link form s ≡ x = found_by link form s [] (all_plain ps) attributes (none_written (is_identified form families.V4) families.V4) (read_plainly form families.V4 ps free prefixes of) field in
     let reach = first_is (value_in (side_of link) path) types.MpReachNlri in
     let unreach = first_is (value_in (side_of link) path) types.MpUnreachNlri in
-    let plain : (form : RouteForm) → IsPlain (x form) = λ form. plain_of link form [] ps attributes None None reach unreach back.1 (harmless (side_of link) attributes back.0) (inl refl, refl, refl) (inl refl, refl, refl) (nothing_missing link form ps path hop) in
-    total link (update_octets link value) small s x attributes (record { remove = []; put = routes_with path ps }) (written_update s (all_octets link value small)) e
+    let plain : IsPlain x = plain_of link form [] (all_plain ps) attributes None None reach unreach read.1 (harmless (side_of link) attributes read.0) (inl refl, refl, refl) (inl refl, refl, refl) (nothing_missing link form (all_plain ps) path hop) in
+    total link (update_octets link value) small s x attributes (record { remove = []; put = routes_with path (all_plain ps) }) (written_update s (all_octets link value small)) e
     (ap (λ (t : Split). t.attributes) (is_split s.attributes attributes None field)) plain
-    (λ form. tidy_of link form [] ps attributes back.1 (harmless (side_of link) attributes back.0) (inl used))
-    (rw (used, reach, unreach, hop_read link path fits peer hop, path_read link path fits peer, append-nil (routes_with path ps)) refl)
+    (tidy_of link form [] (all_plain ps) attributes read.1 (harmless (side_of link) attributes read.0) (inl used))
+    (rw (used, reach, unreach, hop_read link path fits peer hop, path_read link path fits peer, append-nil (routes_with path (all_plain ps))) refl)
 
 nothing_missing_v6 : (link : Link) (form : RouteForm) (mp : Attribute) (path : PathValue) → mp.kind ≡ 14 → ¬ HasMissing (found_of link form (Some []) (Some []) (mp ∷ P link path) None)
 nothing_missing_v6 link form mp path is m = elim m [
@@ -358,19 +390,20 @@ nothing_missing_v6 link form mp path is m = elim m [
   | inr some ↦ some.1 refl
 ]
 
-announce_6 : (link : Link) (ps : List PrefixBits) (path : PathValue) → All IsPrefix ps → IsFit path → IsTrue link.families.v6 → All (λ p. p.family ≡ families.V6) ps
+announce_6 : (link : Link) (ps : List PrefixBits) (path : PathValue) → All IsPrefix ps → IsFit path → IsTrue link.families.v6 → is_identified link.sent families.V6 ≡ false → All (λ p. p.family ≡ families.V6) ps
     → IsHopOf families.V6 path.next_hop → IsForPeer (side_of link) path → length (update_octets link (Announces families.V6 ps path)) ≤ most_octets link
     → IsClean link (update_octets link (Announces families.V6 ps path))
-    × IsJustApplied link (update_octets link (Announces families.V6 ps path)) (record { remove = []; put = routes_with path ps })
-announce_6 link ps path prefixes fits used of hop peer small =
+    × IsJustApplied link (update_octets link (Announces families.V6 ps path)) (record { remove = []; put = routes_with path (all_plain ps) })
+announce_6 link ps path prefixes fits used free of hop peer small =
     let value = Announces families.V6 ps path in
     let s = written_sections link value in
     let mp_value = reach_octets path.next_hop ps in
     let mp = attribute_with types.MpReachNlri mp_value in
     let others = P link path in
     let attributes = mp ∷ others in
-    let x = λ (form : RouteForm). found_of link form (Some []) (Some []) attributes None in
-    let back = read_back (side_of link) path fits peer in
+    let form = link.sent in
+    let x = found_of link form (Some []) (Some []) attributes None in
+    let read = read_back (side_of link) path fits peer in
     let writable = is_writable (side_of link) path (omega (arith, field_octets link value small, length-append (attribute_octets mp) (flat_map attribute_octets others))) in
     let field : IsAttributeField s.attributes attributes None = record {
       rest = [];
@@ -378,20 +411,20 @@ announce_6 link ps path prefixes fits used of hop peer small =
       each = All-cons IsAttribute mp others (is_attribute types.MpReachNlri mp_value (omega (arith, field_octets link value small, one_long types.MpReachNlri mp_value others))) (is_a_field (side_of link) path writable).each;
       last = refl;
     } in
-    let none = written_prefixes families.V4 [] (All-nil IsPrefix) (All-nil (λ p. p.family ≡ families.V4)) in
-    let e : (form : RouteForm) → found_by_form link form s ≡ x form = λ form. found_by link form s [] [] attributes none none field in
-    let good : IsFor link attributes = All-cons (IsHarmless (side_of link)) mp others (inl refl) (harmless (side_of link) others back.0) in
+    let none = none_written (is_identified form families.V4) families.V4 in
+    let e : found_by_form link form s ≡ x = found_by link form s [] [] attributes none none field in
+    let good : IsFor link attributes = All-cons (IsHarmless (side_of link)) mp others (inl refl) (harmless (side_of link) others read.0) in
     let reach = first_is (value_in (side_of link) path) types.MpReachNlri in
     let unreach = first_is (value_in (side_of link) path) types.MpUnreachNlri in
-    let repeats : has_repeats attributes ≡ false = rw (reach, back.1) refl in
-    let state = λ (form : RouteForm). reach_sound link form path.next_hop ps used hop fits.next_hop (written_prefixes families.V6 ps prefixes of) in
-    let plain : (form : RouteForm) → IsPlain (x form) = λ form. plain_of link form [] [] attributes (Some mp) None refl unreach repeats good
-    (inr (families.V6, record { next_hop = Some path.next_hop; prefixes = ps }, state form), bits_reach (length mp_value), refl) (inl refl, refl, refl)
+    let repeats : has_repeats attributes ≡ false = rw (reach, read.1) refl in
+    let state = reach_sound link form path.next_hop ps used hop fits.next_hop (read_plainly form families.V6 ps free prefixes of) in
+    let plain : IsPlain x = plain_of link form [] [] attributes (Some mp) None refl unreach repeats good
+    (inr (families.V6, record { next_hop = Some path.next_hop; destinations = all_plain ps }, state), bits_reach (length mp_value), refl) (inl refl, refl, refl)
     (nothing_missing_v6 link form mp path refl) in
-    total link (update_octets link value) small s x attributes (record { remove = []; put = routes_with path ps }) (written_update s (all_octets link value small)) e
+    total link (update_octets link value) small s x attributes (record { remove = []; put = routes_with path (all_plain ps) }) (written_update s (all_octets link value small)) e
     (ap (λ (t : Split). t.attributes) (is_split s.attributes attributes None field)) plain
-    (λ form. tidy_of link form [] [] attributes repeats good (inr (refl, refl)))
-    (rw (nothing link.families.v4, unreach, state link.received, path_read link path fits peer) refl)
+    (tidy_of link form [] [] attributes repeats good (inr (refl, refl)))
+    (rw (nothing link.families.v4, unreach, state, path_read link path fits peer) refl)
 
 -- ---- each update
 
@@ -405,12 +438,19 @@ framed link value small =
       | inr more ↦ elim more [ inl many ↦ absurd (omega (arith, many, small)) | inr other ↦ absurd (omega (arith, other.0)) ]
     ])
 
+is_false : (b : Bool) → ¬ IsTrue b → b ≡ false
+is_false true h = absurd (h refl)
+is_false false h = refl
+
+free_of : (link : Link) (family : Family) → ¬ IsTrue (contains link.sent.identified family) → is_identified link.sent family ≡ false
+free_of link family not = is_false (contains link.sent.identified family) not
+
 each_applied : (link : Link) (value : UpdateValue) → IsFitUpdate value → IsFamilyUsed link value → IsSendable link value → length (update_octets link value) ≤ most_octets link
     → IsClean link (update_octets link value) × IsJustApplied link (update_octets link value) (changes_of_update value)
-each_applied link (Announces families.V4 ps path) fits used sendable small = announce_4 link ps path fits.0 fits.1 used sendable.1.0 sendable.1.1 sendable.1.2 small
-each_applied link (Announces families.V6 ps path) fits used sendable small = announce_6 link ps path fits.0 fits.1 used sendable.1.0 sendable.1.1 sendable.1.2 small
-each_applied link (Withdraws families.V4 ps) fits used sendable small = withdraw_4 link ps fits used sendable.1 small
-each_applied link (Withdraws families.V6 ps) fits used sendable small = withdraw_6 link ps fits used sendable.1 small
+each_applied link (Announces families.V4 ps path) fits used sendable small = announce_4 link ps path fits.0 fits.1 used (free_of link families.V4 sendable.0) sendable.1.0 sendable.1.1 sendable.1.2 small
+each_applied link (Announces families.V6 ps path) fits used sendable small = announce_6 link ps path fits.0 fits.1 used (free_of link families.V6 sendable.0) sendable.1.0 sendable.1.1 sendable.1.2 small
+each_applied link (Withdraws families.V4 ps) fits used sendable small = withdraw_4 link ps fits used (free_of link families.V4 sendable.0) sendable.1 small
+each_applied link (Withdraws families.V6 ps) fits used sendable small = withdraw_6 link ps fits used (free_of link families.V6 sendable.0) sendable.1 small
 
 pub written_applied : WritesWhatIsApplied
 written_applied link value fits used sendable small =

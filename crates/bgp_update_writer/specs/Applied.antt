@@ -7,22 +7,27 @@ use Rattle.bgp_open.specs.declared.link.Link.{Link}
 use Rattle.bgp_path.specs.Fit.{IsFit}
 use Rattle.bgp_update.specs.Changes.{RouteChanges, routes_with}
 use Rattle.bgp_update.specs.Clean.{IsClean}
-use Rattle.bgp_update.specs.Laws.{no_families}
+use Rattle.bgp_update.specs.Laws.{IsReceiver, no_families}
 use Rattle.bgp_update.specs.Outcome.{Outcome, Applied, IsOutcome}
+use Rattle.bgp_update.specs.Plain.{all_plain}
 use Rattle.bgp_update_writer.specs.Refusals.{IsFamilyUsed, IsSendable, IsTooLarge}
 use Rattle.bgp_update_writer.specs.Update.{UpdateValue, Announces, Withdraws}
 use Rattle.bgp_update_writer.specs.Written.{update_octets}
 
--- the prefixes are put with the path, or removed
+-- the prefixes, without identifiers, are put with the path, or removed
 abbrev pub changes_of_update : UpdateValue → RouteChanges
 changes_of_update (Announces family prefixes path) =
-    record { remove = []; put = routes_with path prefixes }
-changes_of_update (Withdraws family prefixes) = record { remove = prefixes; put = [] }
+    record { remove = []; put = routes_with path (all_plain prefixes) }
+changes_of_update (Withdraws family prefixes) =
+    record { remove = all_plain prefixes; put = [] }
 
--- the one outcome is to apply those changes, with nothing disabled
+-- wherever what is sent over the link is received, the one outcome is to apply those changes, with
+-- nothing disabled
 abbrev pub IsJustApplied : Link → List ℕ → RouteChanges → Type 0
 IsJustApplied link octets changes =
-    (outcome : Outcome) → IsOutcome link octets outcome ↔ (outcome ≡ Applied changes no_families)
+    (receiver : Link) → IsReceiver link receiver
+    → (outcome : Outcome)
+    → IsOutcome receiver octets outcome ↔ (outcome ≡ Applied changes no_families)
 
 -- the numbers have no more octets than a message has for them, which holds of each `Update`
 abbrev pub IsFitUpdate : UpdateValue → Type 0

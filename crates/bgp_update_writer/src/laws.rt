@@ -3,8 +3,8 @@
 ghost use Rattle.bgp_update_writer.specs.Applied.{WritesWhatIsApplied};
 ghost use Rattle.bgp_update_writer.specs.Short.{OnePrefixCanBeWritten};
 
-/// A law, with nothing to run: what is written for an update is clean, and its one outcome is that
-/// the update is applied.
+/// A law, with nothing to run: what is written for an update is clean, and its one outcome, wherever
+/// it is received, is that the update is applied.
 pub fn written_updates_are_applied()
     ensures { WritesWhatIsApplied }
 {}

@@ -143,8 +143,8 @@ pub fn write_update<A: Allocator, B: Allocator>(
     ensures ok { OnOk result (out.new.items
         ≡ out.old.items ++ update_octets link.now (update_value update.now)) }
 
-    // What was appended is a whole frame and a clean UPDATE, whose one outcome is that it is
-    // applied as it is meant.
+    // What was appended is a whole frame and a clean UPDATE, whose one outcome, wherever it is
+    // received, is that it is applied as it is meant.
     ensures frame { OnOk result
         (IsFrame (limit_with link.now.extended) (drop (length out.old.items) out.new.items)) }
     ensures clean { OnOk result (IsClean link.now (drop (length out.old.items) out.new.items)) }

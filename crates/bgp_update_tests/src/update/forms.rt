@@ -122,8 +122,8 @@ fn is_put_by<A: Allocator>(changes: &Changes<A>, next_hop: Option<NextHop>) -> b
     is_alone
         && match (&changes.mp_reach_nlri, next_hop) {
             (Some(put), Some(next_hop)) => {
-                put.prefixes.len() == 1
-                    && put.prefixes.last().copied() == read_prefix("10.0.0.0/8")
+                put.destinations.len() == 1
+                    && put.destinations.last().copied() == plain("10.0.0.0/8")
                     && put.path.parts().next_hop == next_hop
             }
             (None, None) => true,
