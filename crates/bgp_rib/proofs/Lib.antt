@@ -1,4 +1,6 @@
-pub mod PrefixKeys
+pub mod DestinationKeys
+pub mod Joined
+pub mod KeyParts
 pub mod RoomLemmas
 pub mod MapLaws
 pub mod RouteLemmas

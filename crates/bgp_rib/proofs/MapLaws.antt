@@ -170,7 +170,7 @@ module _ {K V : Type 0} {R : K → K → Ordering} (o : IsTotalOrder R) (exact :
       not_greater : (r : Ordering) → r ≡ Equal → r ≡ Greater → ⊥
       not_greater r a b = absurd cc
 
-  found_put : (q k : K) (v : V) (es : List (K × V))
+  pub found_put : (q k : K) (v : V) (es : List (K × V))
       → lookup (is_at (R q)) (insert_entry R es k v) ≡ cond (is_eq (R k q)) (Some v) (lookup (is_at (R q)) es)
   found_put q k v [] = ap (λ b. cond b (Some v) None) (tie_turned o q k)
   found_put q k v (e ∷ es) = found_put_by q k v e es (R k e.0) refl (found_put q k v es)

@@ -165,6 +165,31 @@ module _ {K V : Type 0} {R : K → K → Ordering} (o : IsTotalOrder R) (exact :
   missing_below k [] h = refl
   missing_below k (e ∷ es) h = rw (h.0, missing_below k es h.1) refl
 
+  -- an entry that goes leaves no room, and gives none to others
+  cut_room_by : (k q : K) (e : K × Option V) (es : List (K × Option V)) (b c : Bool) → is_at (R k) e.0 ≡ b → is_at (R q) e.0 ≡ c
+      → AllByRecursion (λ y. R e.0 y ≡ Less) (keys_of es)
+      → (HasRoom R (remove_entry (is_at (R k)) es) q → HasRoom R es q) → HasRoom R (remove_entry (is_at (R k)) (e ∷ es)) q → HasRoom R (e ∷ es) q
+  cut_room_by k q e es true true t u above more h =
+      absurd (some_none None (sym (rw t at h) ∙ missing_below q es (subst (λ z. AllByRecursion (λ y. R z y ≡ Less) (keys_of es)) (sym (exact q e.0 ((Equal-is _).0 u))) above)))
+  cut_room_by k q e es true false t u above more h = rw u (rw t at h)
+  cut_room_by k q e es false true t u above more h = rw u (rw (t, u) at h)
+  cut_room_by k q e es false false t u above more h = rw u (more (rw (t, u) at h))
+
+  pub cut_room : (k q : K) (es : List (K × Option V)) → IsStrictlySortedBy R (keys_of es) → HasRoom R (remove_entry (is_at (R k)) es) q → HasRoom R es q
+  cut_room k q [] s h = h
+  cut_room k q (e ∷ es) s h =
+      cut_room_by k q e es (is_at (R k) e.0) (is_at (R q) e.0) refl refl (sorted_head R e.0 (keys_of es) s) (cut_room k q es (sorted_tail R e.0 (keys_of es) s)) h
+
+  cut_gone_by : (k : K) (e : K × Option V) (es : List (K × Option V)) (b : Bool) → is_at (R k) e.0 ≡ b → AllByRecursion (λ y. R e.0 y ≡ Less) (keys_of es)
+      → (HasRoom R (remove_entry (is_at (R k)) es) k → ⊥) → HasRoom R (remove_entry (is_at (R k)) (e ∷ es)) k → ⊥
+  cut_gone_by k e es true t above more h =
+      some_none None (sym (rw t at h) ∙ missing_below k es (subst (λ z. AllByRecursion (λ y. R z y ≡ Less) (keys_of es)) (sym (exact k e.0 ((Equal-is _).0 t))) above))
+  cut_gone_by k e es false t above more h = more (rw (t, t) at h)
+
+  pub cut_gone : (k : K) (es : List (K × Option V)) → IsStrictlySortedBy R (keys_of es) → HasRoom R (remove_entry (is_at (R k)) es) k → ⊥
+  cut_gone k [] s h = absurd cc
+  cut_gone k (e ∷ es) s h = cut_gone_by k e es (is_at (R k) e.0) refl (sorted_head R e.0 (keys_of es) s) (cut_gone k es (sorted_tail R e.0 (keys_of es) s)) h
+
   -- what a look-up finds among the routes
   found_with : (q p : K) (v : Option V) (es : List (K × Option V)) (b : Bool) → is_eq (R q p) ≡ b
       → AllByRecursion (λ y. R p y ≡ Less) (keys_of es)

@@ -11,9 +11,8 @@ use Rattle.std.specs.List.Sorted.{IsStrictlySortedBy}
 use Rattle.std.specs.Map.{lookup, keys_of, update_all}
 use Rattle.std.specs.Ordering.{eq_by_cmp}
 use Rattle.std.specs.Set.{is_member}
-use Rattle.bgp_prefix.specs.Prefix.{PrefixBits}
-use Rattle.bgp_prefix.specs.PrefixOrder.{prefix_cmp, prefix_eq}
-use Rattle.bgp_prefix.proofs.RealEquality.{equal_prefixes}
+use Rattle.bgp_update.specs.declared.destination.Destination.{Destination}
+use Rattle.bgp_rib.specs.DestinationOrder.{destination_cmp, destination_eq}
 use Rattle.bgp_open.specs.declared.families.Families.{Families}
 use Rattle.bgp_open.specs.Families.{contains}
 use Rattle.bgp_path.specs.Path.{PathValue}
@@ -22,62 +21,62 @@ use Rattle.bgp_update.specs.Changes.{RouteChanges}
 use Rattle.bgp_rib.specs.Routes.{Routes, AreRoutes, path_to, entry_of, entries_outside, entries_with, entries_without, union, no_routes, routes_after, routes_without}
 use Rattle.bgp_rib.specs.SameRoutes.{same_families, same_entry, same_routes}
 use Rattle.bgp_rib.proofs.MapLaws.{filter_filter, filter_congr, filter_ordered, puts_ordered, filter_puts, found_puts, one_map}
-use Rattle.bgp_rib.proofs.PrefixKeys.{prefixes_total, exact_prefixes, same_tie, same_itself}
+use Rattle.bgp_rib.proofs.DestinationKeys.{destinations_total, exact_destinations, same_tie, same_itself, equal_destinations}
 use Rattle.bgp_rib.proofs.RouteLemmas.{in_union, change_outside, outside_both}
 
--- a look-up in what a test of the prefixes keeps
-found_kept : {V : Type 0} (p : PrefixBits → Bool) (q : PrefixBits) (es : List (PrefixBits × V))
-    → lookup (is_at (prefix_cmp q)) (filter (λ e. p e.0) es) ≡ cond (p q) (lookup (is_at (prefix_cmp q)) es) None
-found_kept p q es = lookup-filter-keys (is_at (prefix_cmp q)) p (p q) (λ k t. ap p (sym (exact_prefixes q k ((Equal-is _).0 t)))) es
+-- a look-up in what a test of the destinations keeps
+found_kept : {V : Type 0} (p : Destination → Bool) (q : Destination) (es : List (Destination × V))
+    → lookup (is_at (destination_cmp q)) (filter (λ e. p e.0) es) ≡ cond (p q) (lookup (is_at (destination_cmp q)) es) None
+found_kept p q es = lookup-filter-keys (is_at (destination_cmp q)) p (p q) (λ k t. ap p (sym (exact_destinations q k ((Equal-is _).0 t)))) es
 
 turn_not : {X : Type 0} (b : Bool) (x y : X) → cond (not b) x y ≡ cond b y x
 turn_not true x y = refl
 turn_not false x y = refl
 
-tie_same : (p q : PrefixBits) → eq_by_cmp prefix_cmp p q ≡ prefix_eq p q
+tie_same : (p q : Destination) → eq_by_cmp destination_cmp p q ≡ destination_eq p q
 tie_same p q = sym (same_tie p q)
 
-pub changed : (changes : RouteChanges) (routes : Routes) (prefix : PrefixBits)
-    → path_to (routes_after changes routes) prefix
-    ≡ update_all prefix_eq (λ p. cond (is_member prefix_eq changes.remove p) None (path_to routes p)) (entries_outside routes.disabled (map entry_of changes.put)) prefix
+pub changed : (changes : RouteChanges) (routes : Routes) (destination : Destination)
+    → path_to (routes_after changes routes) destination
+    ≡ update_all destination_eq (λ p. cond (is_member destination_eq changes.remove p) None (path_to routes p)) (entries_outside routes.disabled (map entry_of changes.put)) destination
 unfolding routes_after
-changed changes routes prefix =
+changed changes routes destination =
     let puts = entries_outside routes.disabled (map entry_of changes.put) in
-    let gone = λ (p : PrefixBits). is_member prefix_eq changes.remove p in
-    let before : PrefixBits → Option PathValue = λ p. cond (gone p) None (path_to routes p) in
-    found_puts prefixes_total exact_prefixes puts (entries_without changes.remove routes.entries) before
-    (λ q. found_kept (λ p. not (gone p)) q routes.entries ∙ turn_not (gone q) (path_to routes q) None) prefix
-    ∙ (λ i. update_all (λ x y. tie_same x y i) before puts prefix)
+    let gone = λ (p : Destination). is_member destination_eq changes.remove p in
+    let before : Destination → Option PathValue = λ p. cond (gone p) None (path_to routes p) in
+    found_puts destinations_total exact_destinations puts (entries_without changes.remove routes.entries) before
+    (λ q. found_kept (λ p. not (gone p)) q routes.entries ∙ turn_not (gone q) (path_to routes q) None) destination
+    ∙ (λ i. update_all (λ x y. tie_same x y i) before puts destination)
 
-pub disabled : (families : Families) (routes : Routes) (prefix : PrefixBits)
-    → path_to (routes_without families routes) prefix ≡ cond (contains families prefix.family) None (path_to routes prefix)
+pub disabled : (families : Families) (routes : Routes) (destination : Destination)
+    → path_to (routes_without families routes) destination ≡ cond (contains families destination.prefix.family) None (path_to routes destination)
 unfolding routes_without
-disabled families routes prefix =
-    found_kept (λ p. not (contains families p.family)) prefix routes.entries
-    ∙ turn_not (contains families prefix.family) (path_to routes prefix) None
+disabled families routes destination =
+    found_kept (λ p. not (contains families p.prefix.family)) destination routes.entries
+    ∙ turn_not (contains families destination.prefix.family) (path_to routes destination) None
 
-pub one : (routes others : Routes) → AreRoutes routes → AreRoutes others → ((prefix : PrefixBits) → path_to routes prefix ≡ path_to others prefix)
+pub one : (routes others : Routes) → AreRoutes routes → AreRoutes others → ((destination : Destination) → path_to routes destination ≡ path_to others destination)
     → routes.disabled ≡ others.disabled → routes ≡ others
 one routes others r s h d =
-    let same = one_map prefixes_total exact_prefixes routes.entries others.entries r.ordered s.ordered h in
+    let same = one_map destinations_total exact_destinations routes.entries others.entries r.ordered s.ordered h in
     λ i. record { entries = same i; disabled = d i }
 
 pub none_are : AreRoutes no_routes
 unfolding IsStrictlySortedBy
-none_are = record { ordered = tt; enabled = All-nil (λ p. IsFalse (contains (record { v4 = false; v6 = false }) p.family)) }
+none_are = record { ordered = tt; enabled = All-nil (λ p. IsFalse (contains (record { v4 = false; v6 = false }) p.prefix.family)) }
 
 pub changed_are : (changes : RouteChanges) (routes : Routes) → AreRoutes routes → AreRoutes (routes_after changes routes)
 unfolding routes_after
 changed_are changes routes r = record {
-  ordered = puts_ordered prefixes_total exact_prefixes (entries_outside routes.disabled (map entry_of changes.put)) (entries_without changes.remove routes.entries)
-      (filter_ordered prefixes_total exact_prefixes (λ p. not (is_member prefix_eq changes.remove p)) routes.entries r.ordered);
+  ordered = puts_ordered destinations_total exact_destinations (entries_outside routes.disabled (map entry_of changes.put)) (entries_without changes.remove routes.entries)
+      (filter_ordered destinations_total exact_destinations (λ p. not (is_member destination_eq changes.remove p)) routes.entries r.ordered);
   enabled = change_outside routes.disabled changes.remove (map entry_of changes.put) routes.entries r.enabled;
 }
 
 pub disabled_are : (families : Families) (routes : Routes) → AreRoutes routes → AreRoutes (routes_without families routes)
 unfolding routes_without
 disabled_are families routes r = record {
-  ordered = filter_ordered prefixes_total exact_prefixes (λ p. not (contains families p.family)) routes.entries r.ordered;
+  ordered = filter_ordered destinations_total exact_destinations (λ p. not (contains families p.prefix.family)) routes.entries r.ordered;
   enabled = outside_both routes.disabled families routes.entries r.enabled;
 }
 
@@ -86,11 +85,11 @@ neither : (a b : Bool) → cond (not a) (not b) false ≡ not (a || b)
 neither true b = refl
 neither false b = refl
 
-pub outside_union : {V : Type 0} (a b : Families) (es : List (PrefixBits × V)) → entries_outside b (entries_outside a es) ≡ entries_outside (union a b) es
+pub outside_union : {V : Type 0} (a b : Families) (es : List (Destination × V)) → entries_outside b (entries_outside a es) ≡ entries_outside (union a b) es
 outside_union {V} a b es =
-    filter_filter (λ e. not (contains b e.0.family)) (λ e. not (contains a e.0.family)) es
-    ∙ filter_congr (λ e. cond (not (contains a e.0.family)) (not (contains b e.0.family)) false) (λ e. not (contains (union a b) e.0.family)) es
-    (λ (e : PrefixBits × V). neither (contains a e.0.family) (contains b e.0.family) ∙ ap not (sym (in_union a b e.0.family)))
+    filter_filter (λ e. not (contains b e.0.prefix.family)) (λ e. not (contains a e.0.prefix.family)) es
+    ∙ filter_congr (λ e. cond (not (contains a e.0.prefix.family)) (not (contains b e.0.prefix.family)) false) (λ e. not (contains (union a b) e.0.prefix.family)) es
+    (λ (e : Destination × V). neither (contains a e.0.prefix.family) (contains b e.0.prefix.family) ∙ ap not (sym (in_union a b e.0.prefix.family)))
 
 exchanged : (a b : Bool) → cond (not a) (not b) false ≡ cond (not b) (not a) false
 exchanged true true = refl
@@ -98,12 +97,12 @@ exchanged true false = refl
 exchanged false true = refl
 exchanged false false = refl
 
-outside_gone : {V : Type 0} (f : Families) (ps : List PrefixBits) (es : List (PrefixBits × V))
+outside_gone : {V : Type 0} (f : Families) (ps : List Destination) (es : List (Destination × V))
     → entries_outside f (entries_without ps es) ≡ entries_without ps (entries_outside f es)
 outside_gone {V} f ps es =
-    filter_filter (λ e. not (contains f e.0.family)) (λ e. not (is_member prefix_eq ps e.0)) es
-    ∙ filter_congr _ _ es (λ (e : PrefixBits × V). exchanged (is_member prefix_eq ps e.0) (contains f e.0.family))
-    ∙ sym (filter_filter (λ e. not (is_member prefix_eq ps e.0)) (λ e. not (contains f e.0.family)) es)
+    filter_filter (λ e. not (contains f e.0.prefix.family)) (λ e. not (is_member destination_eq ps e.0)) es
+    ∙ filter_congr _ _ es (λ (e : Destination × V). exchanged (is_member destination_eq ps e.0) (contains f e.0.prefix.family))
+    ∙ sym (filter_filter (λ e. not (is_member destination_eq ps e.0)) (λ e. not (contains f e.0.prefix.family)) es)
 
 assoc : (a b c : Bool) → ((a || b) || c) ≡ (a || (b || c))
 assoc true b c = refl
@@ -113,12 +112,12 @@ union_assoc : (a b c : Families) → union (union a b) c ≡ union a (union b c)
 union_assoc a b c = λ i. record { v4 = assoc a.v4 b.v4 c.v4 i; v6 = assoc a.v6 b.v6 c.v6 i }
 
 -- the families of a change's result
-pub outside_change : (f : Families) (d : Families) (ps : List PrefixBits) (puts es : List (PrefixBits × PathValue)) → IsStrictlySortedBy prefix_cmp (keys_of es)
+pub outside_change : (f : Families) (d : Families) (ps : List Destination) (puts es : List (Destination × PathValue)) → IsStrictlySortedBy destination_cmp (keys_of es)
     → entries_outside f (entries_with (entries_outside d puts) (entries_without ps es))
     ≡ entries_with (entries_outside (union d f) puts) (entries_without ps (entries_outside f es))
 outside_change f d ps puts es s =
-    filter_puts prefixes_total exact_prefixes (λ p. not (contains f p.family)) (entries_outside d puts) (entries_without ps es)
-    (filter_ordered prefixes_total exact_prefixes (λ p. not (is_member prefix_eq ps p)) es s)
+    filter_puts destinations_total exact_destinations (λ p. not (contains f p.prefix.family)) (entries_outside d puts) (entries_without ps es)
+    (filter_ordered destinations_total exact_destinations (λ p. not (is_member destination_eq ps p)) es s)
     ∙ (λ i. entries_with (outside_union d f puts i) (outside_gone f ps es i))
 
 pub left_out : (changes : RouteChanges) (families others : Families) (routes : Routes) → AreRoutes routes
@@ -131,7 +130,7 @@ left_out changes families others routes r =
     let es = routes.entries in
     let seen = entries_outside families es in
     let one_side = outside_change others (union d families) changes.remove puts seen
-    (filter_ordered prefixes_total exact_prefixes (λ p. not (contains families p.family)) es r.ordered) in
+    (filter_ordered destinations_total exact_destinations (λ p. not (contains families p.prefix.family)) es r.ordered) in
     let other_side = outside_change (union families others) d changes.remove puts es r.ordered in
     let between : entries_with (entries_outside (union (union d families) others) puts) (entries_without changes.remove (entries_outside others seen)) ≡ entries_with (entries_outside (union d (union families others)) puts) (entries_without changes.remove (entries_outside (union families others) es)) =
     λ i. entries_with (entries_outside (union_assoc d families others i) puts) (entries_without changes.remove (outside_union families others es i)) in
@@ -144,9 +143,9 @@ families_decide a b =
     let both = Decides-and _ _ (booleans_Decides a.v4 b.v4) (booleans_Decides a.v6 b.v6) in
     (λ e. let p = both.0 e in λ i. record { v4 = p.0 i; v6 = p.1 i }, λ e. both.1 (λ i. (e i).v4, λ i. (e i).v6))
 
-entry_decides : (a b : PrefixBits × PathValue) → Decides (same_entry a b) (a ≡ b)
+entry_decides : (a b : Destination × PathValue) → Decides (same_entry a b) (a ≡ b)
 entry_decides a b =
-    let keys : Decides (prefix_eq a.0 b.0) (a.0 ≡ b.0) = (equal_prefixes a.0 b.0, λ e. subst (λ z. prefix_eq a.0 z ≡ true) e (same_itself a.0)) in
+    let keys : Decides (destination_eq a.0 b.0) (a.0 ≡ b.0) = (equal_destinations a.0 b.0, λ e. subst (λ z. destination_eq a.0 z ≡ true) e (same_itself a.0)) in
     let both = Decides-and _ _ keys (same_value_decides a.1 b.1) in
     (λ e. let p = both.0 e in λ i. (p.0 i, p.1 i), λ e. both.1 (λ i. (e i).0, λ i. (e i).1))
 

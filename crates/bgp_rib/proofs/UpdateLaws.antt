@@ -8,8 +8,8 @@ use Rattle.std.specs.List.Sorted.{IsStrictlySortedBy}
 use Rattle.std.specs.Map.{keys_of}
 use Rattle.std.specs.Set.{is_member}
 use Rattle.bgp_prefix.specs.declared.family.Family.{Family}
-use Rattle.bgp_prefix.specs.Prefix.{PrefixBits}
-use Rattle.bgp_prefix.specs.PrefixOrder.{prefix_cmp, prefix_eq}
+use Rattle.bgp_update.specs.declared.destination.Destination.{Destination}
+use Rattle.bgp_rib.specs.DestinationOrder.{destination_cmp, destination_eq}
 use Rattle.bgp_open.specs.declared.families.Families.{Families}
 use Rattle.bgp_open.specs.Families.{contains}
 use Rattle.bgp_path.specs.Path.{PathValue}
@@ -46,7 +46,7 @@ union_itself : (d : Families) → union d d ≡ d
 union_itself d = λ i. record { v4 = or_itself d.v4 i; v6 = or_itself d.v6 i }
 
 -- a change to a table that has routes of disabled families too: it is seen without them as the change of what was seen
-pub change_seen : (d f : Families) (changes : RouteChanges) (es new : List (PrefixBits × PathValue)) → IsStrictlySortedBy prefix_cmp (keys_of es)
+pub change_seen : (d f : Families) (changes : RouteChanges) (es new : List (Destination × PathValue)) → IsStrictlySortedBy destination_cmp (keys_of es)
     → new ≡ entries_with (entries_outside d (map entry_of changes.put)) (entries_without changes.remove es)
     → record { entries = entries_outside (union d f) new; disabled = union d f }
     ≡ routes_without f (routes_after changes (record { entries = entries_outside d es; disabled = d }))
@@ -83,12 +83,12 @@ either_true : (a b : Bool) → b ≡ true → (a || b) ≡ true
 either_true true b e = refl
 either_true false b e = e
 
--- a prefix that is among some is among more
-pub member_before : (ps qs : List PrefixBits) (q : PrefixBits) → is_member prefix_eq ps q ≡ true → is_member prefix_eq (ps ++ qs) q ≡ true
-member_before ps qs q t = rw (list_any-append (prefix_eq q) ps qs, t) refl
+-- a destination that is among some is among more
+pub member_before : (ps qs : List Destination) (q : Destination) → is_member destination_eq ps q ≡ true → is_member destination_eq (ps ++ qs) q ≡ true
+member_before ps qs q t = rw (list_any-append (destination_eq q) ps qs, t) refl
 
-pub member_after : (ps qs : List PrefixBits) (q : PrefixBits) → is_member prefix_eq qs q ≡ true → is_member prefix_eq (ps ++ qs) q ≡ true
-member_after ps qs q t = list_any-append (prefix_eq q) ps qs ∙ either_true (is_member prefix_eq ps q) (is_member prefix_eq qs q) t
+pub member_after : (ps qs : List Destination) (q : Destination) → is_member destination_eq qs q ≡ true → is_member destination_eq (ps ++ qs) q ≡ true
+member_after ps qs q t = list_any-append (destination_eq q) ps qs ∙ either_true (is_member destination_eq ps q) (is_member destination_eq qs q) t
 
 -- what is outside more families is outside fewer
 not_either : (a b : Bool) → (a || b) ≡ false → a ≡ false
@@ -98,22 +98,22 @@ not_either false b e = refl
 pub within_union : (d f : Families) (g : Family) → IsFalse (contains (union d f) g) → IsFalse (contains d g)
 within_union d f g h = not_either (contains d g) (contains f g) (sym (in_union d f g) ∙ h)
 
-fewer : {V : Type 0} (d f : Families) (es : List (PrefixBits × V)) → ((g : Family) → IsFalse (contains f g) → IsFalse (contains d g))
+fewer : {V : Type 0} (d f : Families) (es : List (Destination × V)) → ((g : Family) → IsFalse (contains f g) → IsFalse (contains d g))
     → AreOutside f (keys_of es) → AreOutside d (keys_of es)
 fewer d f [] within h = All-nil _
 fewer d f (e ∷ es) within h =
-    All-cons (λ p. IsFalse (contains d p.family)) e.0 (keys_of es) (within e.0.family (All-head (λ p. IsFalse (contains f p.family)) e.0 (keys_of es) h))
-    (fewer d f es within (All-tail (λ p. IsFalse (contains f p.family)) e.0 (keys_of es) h))
+    All-cons (λ p. IsFalse (contains d p.prefix.family)) e.0 (keys_of es) (within e.0.prefix.family (All-head (λ p. IsFalse (contains f p.prefix.family)) e.0 (keys_of es) h))
+    (fewer d f es within (All-tail (λ p. IsFalse (contains f p.prefix.family)) e.0 (keys_of es) h))
 
-pub change_within : {V : Type 0} (d f : Families) (ps : List PrefixBits) (puts es : List (PrefixBits × V)) → ((g : Family) → IsFalse (contains f g) → IsFalse (contains d g))
+pub change_within : {V : Type 0} (d f : Families) (ps : List Destination) (puts es : List (Destination × V)) → ((g : Family) → IsFalse (contains f g) → IsFalse (contains d g))
     → AreOutside d (keys_of es) → AreOutside d (keys_of (entries_with (entries_outside f puts) (entries_without ps es)))
 change_within d f ps puts es within h =
-    with_keys (λ p. IsFalse (contains d p.family)) (entries_outside f puts) (entries_without ps es) (fewer d f (entries_outside f puts) within (outside_own f puts))
-    (kept_keys (λ p. IsFalse (contains d p.family)) (λ p. not (is_member prefix_eq ps p)) es h)
+    with_keys (λ p. IsFalse (contains d p.prefix.family)) (entries_outside f puts) (entries_without ps es) (fewer d f (entries_outside f puts) within (outside_own f puts))
+    (kept_keys (λ p. IsFalse (contains d p.prefix.family)) (λ p. not (is_member destination_eq ps p)) es h)
 
 -- what is outside has nothing to lose
-pub outside_all : {V : Type 0} (d : Families) (es : List (PrefixBits × V)) → AreOutside d (keys_of es) → entries_outside d es ≡ es
+pub outside_all : {V : Type 0} (d : Families) (es : List (Destination × V)) → AreOutside d (keys_of es) → entries_outside d es ≡ es
 outside_all d [] h = refl
 outside_all {V} d (e ∷ es) h =
-    rw (All-head (λ p. IsFalse (contains d p.family)) e.0 (keys_of es) h)
-    (ap (λ (l : List (PrefixBits × V)). e ∷ l) (outside_all d es (All-tail (λ p. IsFalse (contains d p.family)) e.0 (keys_of es) h)))
+    rw (All-head (λ p. IsFalse (contains d p.prefix.family)) e.0 (keys_of es) h)
+    (ap (λ (l : List (Destination × V)). e ∷ l) (outside_all d es (All-tail (λ p. IsFalse (contains d p.prefix.family)) e.0 (keys_of es) h)))

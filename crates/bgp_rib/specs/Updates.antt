@@ -1,6 +1,6 @@
 -- UPDATEs that are applied one after another (RFC 4271, 3.2 and 9; RFC 7606, 2).
 use Rattle.std.specs.Prelude.{List, [], ◌∷◌, Option, flat_map}
-use Rattle.bgp_prefix.specs.Prefix.{PrefixBits}
+use Rattle.bgp_update.specs.declared.destination.Destination.{Destination}
 use Rattle.bgp_open.specs.declared.families.Families.{Families}
 use Rattle.bgp_path.specs.Path.{PathValue}
 use Rattle.bgp_update.specs.Allowed.{changes_value}
@@ -26,15 +26,15 @@ abbrev pub after_updates : List AppliedUpdate → Routes → Routes
 after_updates [] routes = routes
 after_updates (update ∷ updates) routes = after_updates updates (after_update update routes)
 
--- the prefixes that any of them removes
-abbrev pub removed_by : List AppliedUpdate → List PrefixBits
+-- the destinations that any of them removes
+abbrev pub removed_by : List AppliedUpdate → List Destination
 removed_by updates = flat_map (λ update. update.changes.remove) updates
 
 -- the routes of a table, beside the families that are disabled
-abbrev pub seen_in : Families → List (PrefixBits × Option PathValue) → Routes
+abbrev pub seen_in : Families → List (Destination × Option PathValue) → Routes
 seen_in families entries = record { entries = routes_in entries; disabled = families }
 
 -- the routes that a table has of the families that aren't disabled
-abbrev pub enabled_in : Families → List (PrefixBits × Option PathValue) → Routes
+abbrev pub enabled_in : Families → List (Destination × Option PathValue) → Routes
 enabled_in families entries =
     record { entries = entries_outside families (routes_in entries); disabled = families }

@@ -14,8 +14,8 @@ ghost use Rattle.std.specs.Prelude.{
 };
 ghost use Rattle.std.specs.Map.{update_all};
 ghost use Rattle.std.specs.Set.{is_member};
-ghost use Rattle.bgp_prefix.specs.Prefix.{PrefixBits};
-ghost use Rattle.bgp_prefix.specs.PrefixOrder.{prefix_eq};
+ghost use Rattle.bgp_update.specs.declared.destination.Destination.{Destination};
+ghost use Rattle.bgp_rib.specs.DestinationOrder.{destination_eq};
 ghost use Rattle.bgp_open.specs.declared.families.Families.{Families};
 ghost use Rattle.bgp_open.specs.Families.{contains};
 ghost use Rattle.bgp_update.specs.Changes.{RouteChanges};
@@ -33,29 +33,29 @@ ghost use Rattle.bgp_rib.specs.Routes.{
 ghost use Rattle.bgp_rib.specs.SameRoutes.{same_routes};
 ghost use Rattle.bgp_rib.specs.Updates.{AppliedUpdate, after_updates};
 
-/// Routes are a map. After changes a prefix leads where the last route put to it does, unless its
-/// family is disabled; else nowhere, where it was removed; else where it led before. Where families
-/// are disabled theirs lead nowhere, and the others where they led.
+/// Routes are a map. After changes a destination leads where the last route put to it does, unless
+/// its family is disabled; else nowhere, where it was removed; else where it led before. Where
+/// families are disabled theirs lead nowhere, and the others where they led.
 pub fn each_change_is_the_maps()
-    ensures changed { (changes : RouteChanges) (routes : Routes) (prefix : PrefixBits)
-        → path_to (routes_after changes routes) prefix
-        ≡ update_all prefix_eq
-        (λ p. if is_member prefix_eq changes.remove p then None else path_to routes p)
-        (entries_outside routes.disabled (map entry_of changes.put)) prefix }
-    ensures disabled { (families : Families) (routes : Routes) (prefix : PrefixBits)
-        → path_to (routes_without families routes) prefix
-        ≡ if contains families prefix.family then None else path_to routes prefix }
+    ensures changed { (changes : RouteChanges) (routes : Routes) (destination : Destination)
+        → path_to (routes_after changes routes) destination
+        ≡ update_all destination_eq
+        (λ p. if is_member destination_eq changes.remove p then None else path_to routes p)
+        (entries_outside routes.disabled (map entry_of changes.put)) destination }
+    ensures disabled { (families : Families) (routes : Routes) (destination : Destination)
+        → path_to (routes_without families routes) destination
+        ≡ if contains families destination.prefix.family then None else path_to routes destination }
 {}
 
-/// Routes of which each prefix leads to the same path, and of which the same families are disabled,
-/// are one: the map and its order say all.
+/// Routes of which each destination leads to the same path, and of which the same families are
+/// disabled, are one: the map and its order say all.
 pub fn equal_maps_are_one()
     ensures { (routes others : Routes) → AreRoutes routes → AreRoutes others
-        → ((prefix : PrefixBits) → path_to routes prefix ≡ path_to others prefix)
+        → ((destination : Destination) → path_to routes destination ≡ path_to others destination)
         → routes.disabled ≡ others.disabled → routes ≡ others }
 {}
 
-/// Whatever is done to routes, their prefixes ascend, and none is of a disabled family.
+/// Whatever is done to routes, their destinations ascend, and none is of a disabled family.
 pub fn changes_leave_routes()
     ensures none { AreRoutes no_routes }
     ensures changed { (changes : RouteChanges) (routes : Routes) → AreRoutes routes

@@ -6,17 +6,19 @@
 //! if let Some(changes) = &read_update(alloc, &link, octets)?.changes {
 //!     rib.apply(changes)?;
 //! }
-//! for (prefix, path) in rib.routes() { print(prefix, path); }
+//! for (destination, path) in rib.routes() { print(destination, path); }
 //! ```
 #![tactic(auto)]
 
 mod applying;
 mod families;
+mod keys;
 mod laws;
 mod rib_in;
 mod route_iter;
 mod table;
 mod updates;
+mod writing;
 
 pub use laws::{
     changes_leave_routes, disabled_families_are_left_out, each_change_is_the_maps,

@@ -14,20 +14,20 @@ ghost use Rattle.bgp_rib.specs.Updates.{applied_value, after_updates};
 use crate::applying::apply_changes;
 use crate::families::{NO_FAMILIES, only, union};
 use crate::route_iter::RouteIter;
-use crate::table::{Log, Table, drop_families, have_same_routes};
+use crate::table::Table;
 use crate::updates::{Applied, apply_updates};
+use crate::writing::{Log, drop_families, have_same_routes};
 use bgp_open::Families;
 use bgp_path::Path;
 use bgp_prefix::Family;
 use bgp_update::Changes;
 use std::alloc::{AllocError, Allocator, Global};
-use std::collections::BTreeMap;
 use std::marker::Model;
 
-/// The routes of a peer, at most one to a prefix, and the families that are disabled (RFC 7606, 2):
-/// those have no routes and take none.
+/// The routes of a peer, at most one to a destination, and the families that are disabled (RFC 7606,
+/// 2): those have no routes and take none.
 ///
-/// A route is a prefix and a [`Path`], which is shared with the changes that it came in.
+/// A route is a destination and a [`Path`], which is shared with the changes that it came in.
 #[derive(Drop)]
 pub struct RibIn<A: Allocator = Global> {
     alloc: A,
@@ -38,7 +38,7 @@ pub struct RibIn<A: Allocator = Global> {
 }
 
 impl<A: Allocator> Model for RibIn<A> {
-    ghost use Rattle.bgp_prefix.specs.PrefixOrder.{prefix_cmp};
+    ghost use Rattle.bgp_rib.specs.DestinationOrder.{destination_cmp};
     ghost use Rattle.std.specs.Prelude.{◌≡◌, []};
     ghost use Rattle.std.specs.Map.{keys_of};
     ghost use Rattle.bgp_rib.specs.Rooms.{routes_in, HasNoRoom};
@@ -46,10 +46,10 @@ impl<A: Allocator> Model for RibIn<A> {
 
     ghost Value = { Routes };
 
-    ghost view = { λ r. record { entries = routes_in r.table.entries; disabled = r.disabled } };
+    ghost view = { λ r. record { entries = routes_in r.table; disabled = r.disabled } };
 
-    ghost invariant = { λ r. HasNoRoom prefix_cmp r.table.entries
-        × AreOutside r.disabled (keys_of (routes_in r.table.entries)) × (r.log.items ≡ []) };
+    ghost invariant = { λ r. HasNoRoom destination_cmp r.table
+        × AreOutside r.disabled (keys_of (routes_in r.table)) × (r.log.items ≡ []) };
 }
 
 impl<A: Allocator> RibIn<A> {
@@ -62,12 +62,12 @@ impl<A: Allocator> RibIn<A> {
         RibIn {
             alloc,
             disabled: NO_FAMILIES,
-            table: BTreeMap::new(alloc),
+            table: Table::new(alloc),
             log: Vec::new(alloc),
         }
     }
 
-    /// Removes prefixes, and then puts routes. What the changes say of a disabled family is
+    /// Removes destinations, and then puts routes. What the changes say of a disabled family is
     /// ignored.
     ///
     /// Refused for memory it leaves everything as it was, and called again it does what it would
@@ -87,8 +87,8 @@ impl<A: Allocator> RibIn<A> {
     /// disables its families.
     ///
     /// Refused for memory it leaves everything as it was before the first, and called again it does
-    /// what it would have done. It looks at the prefixes that the changes name, and at all routes
-    /// only where it disables a family that wasn't disabled, or is refused.
+    /// what it would have done. It looks at the destinations that the changes name, and at all
+    /// routes only where it disables a family that wasn't disabled, or is refused.
     pub fn apply_each(&mut self, updates: &[Applied<A>]) -> Result<(), AllocError>
     where
         A: Copy,
@@ -136,8 +136,8 @@ impl<A: Allocator> RibIn<A> {
         self.table.len()
     }
 
-    /// The routes in the order of their prefixes: IPv4 before IPv6, then by address, then by
-    /// length.
+    /// The routes in the order of their destinations: IPv4 before IPv6, of a family those without a
+    /// path identifier before those with one, then by address, length and identifier.
     pub fn routes(&self) -> RouteIter<'_, A>
         ensures rest { result ≡ self.now.entries }
         ensures are { AreRoutes self.now }
@@ -162,7 +162,7 @@ impl<A: Allocator> RibIn<A> {
         Ok(RibIn {
             alloc: self.alloc,
             disabled: self.disabled,
-            table: self.table.clone()?,
+            table: self.table.copy()?,
             log: Vec::new(self.alloc),
         })
     }

@@ -11,7 +11,7 @@ use bgp_open::Families;
 use bgp_path::{AsPath, Items, NextHop, Origin, Path, PathParts, Segment, SegmentKind};
 use bgp_prefix::{Address, Family, Prefix};
 use bgp_rib::*;
-use bgp_update::{Changes, Put};
+use bgp_update::{Changes, Destination, PathId, Put};
 use std::alloc::{AllocError, Allocator, Global};
 
 /// The set without a family.
@@ -20,19 +20,22 @@ const NONE: Families = Families {
     v6: false,
 };
 
-/// Prefixes: the number of the first, what each further one has more, and how many there are.
+/// Destinations: the number of the first, what each further one has more, and how many there are.
 type Numbers = (u32, u32, u32);
 
-/// The mark of a path, and prefixes that have it.
+/// The mark of a path, and destinations that have it.
 type Group = (u32, Numbers);
 
-/// What is to change: prefixes to remove, and then groups to put.
+/// What is to change: destinations to remove, and then groups to put.
 type Told = (Numbers, Option<Group>, Option<Group>);
 
-/// No prefix.
+/// The number of the first destination that has a path identifier.
+const IDENTIFIED: u32 = 10_000;
+
+/// No destination.
 const NOTHING: Numbers = (0, 0, 0);
 
-/// The family of a number's prefix.
+/// The family of a number's destination.
 fn family_of(number: u32) -> Family {
     if number % 2 == 0 {
         Family::V4
@@ -52,19 +55,33 @@ fn prefix_of(number: u32) -> Option<Prefix> {
     Prefix::new(address, more.saturating_add(length))
 }
 
-/// The number of the prefix at an index.
+/// The destination of a number: one of four paths to a prefix from `IDENTIFIED` on, and below a
+/// prefix alone. The identifiers differ in their highest octet that isn't 0.
+fn destination_of(number: u32) -> Option<Destination> {
+    let Some(place) = number.checked_sub(IDENTIFIED) else {
+        return Some(Destination::plain(prefix_of(number)?));
+    };
+    let prefix = prefix_of(place / 8 * 2 + place % 2)?;
+    let path = Some(PathId(1 << (place / 2 % 4 * 8)));
+    Some(Destination { prefix, path })
+}
+
+/// The number of the destination at an index.
 fn number_at((first, more, _): Numbers, index: u32) -> u32 {
     first.saturating_add(more.saturating_mul(index))
 }
 
-/// The prefixes.
-fn prefixes<A: Allocator>(alloc: A, numbers: Numbers) -> Result<Vec<Prefix, A>, AllocError> {
-    let mut prefixes = Vec::new(alloc);
+/// The destinations.
+fn destinations<A: Allocator>(
+    alloc: A,
+    numbers: Numbers,
+) -> Result<Vec<Destination, A>, AllocError> {
+    let mut destinations = Vec::new(alloc);
     for index in 0..numbers.2 {
-        let prefix = prefix_of(number_at(numbers, index)).ok_or(AllocError)?;
-        prefixes.push(prefix)?;
+        let destination = destination_of(number_at(numbers, index)).ok_or(AllocError)?;
+        destinations.push(destination)?;
     }
-    Ok(prefixes)
+    Ok(destinations)
 }
 
 /// An AS_PATH that takes memory.
@@ -100,15 +117,15 @@ fn group<A: Allocator + Copy>(alloc: A, told: Option<Group>) -> Result<Option<Pu
     let Some((mark, numbers)) = told else {
         return Ok(None);
     };
-    let prefixes = prefixes(alloc, numbers)?;
+    let destinations = destinations(alloc, numbers)?;
     let path = path(alloc, mark)?;
-    Ok(Some(Put { path, prefixes }))
+    Ok(Some(Put { path, destinations }))
 }
 
 /// The changes that are told of.
 fn changes<A: Allocator + Copy>(alloc: A, told: &Told) -> Result<Changes<A>, AllocError> {
     let (numbers, first, second) = *told;
-    let remove = prefixes(alloc, numbers)?;
+    let remove = destinations(alloc, numbers)?;
     let nlri = group(alloc, first)?;
     let mp_reach_nlri = group(alloc, second)?;
     Ok(Changes {
@@ -128,17 +145,17 @@ fn change<A: Allocator + Copy>(
     rib.apply(&changes)
 }
 
-/// Whether the next route is that to the prefix of this number, by a path of this mark.
+/// Whether the next route is that to the destination of this number, by a path of this mark.
 fn is_next<A: Allocator>(routes: &mut RouteIter<'_, A>, number: u32, mark: u32) -> bool {
     match routes.next() {
-        Some((prefix, path)) => {
-            prefix_of(number) == Some(*prefix) && path.parts().local_pref == Some(mark)
+        Some((destination, path)) => {
+            destination_of(number) == Some(destination) && path.parts().local_pref == Some(mark)
         }
         None => false,
     }
 }
 
-/// The number of the prefix at an index of all that groups have, and the mark of its path.
+/// The number of the destination at an index of all that groups have, and the mark of its path.
 fn route_at(told: &[Group], index: u32) -> Option<(u32, u32)> {
     let mut left = index;
     for (mark, numbers) in told {
@@ -153,11 +170,12 @@ fn route_at(told: &[Group], index: u32) -> Option<(u32, u32)> {
 /// Whether these are just the routes, in this order.
 fn are<A: Allocator>(routes: RouteIter<'_, A>, told: &[Group]) -> bool {
     let mut index = 0u32;
-    for (prefix, path) in routes {
-        match route_at(told, index) {
-            Some((number, mark))
-                if prefix_of(number) == Some(*prefix) && path.parts().local_pref == Some(mark) => {}
-            _ => return false,
+    for (destination, path) in routes {
+        let Some((number, mark)) = route_at(told, index) else {
+            return false;
+        };
+        if destination_of(number) != Some(destination) || path.parts().local_pref != Some(mark) {
+            return false;
         }
         index = index.saturating_add(1);
     }

@@ -1,9 +1,10 @@
-//! Ten thousand changes of a few hundred prefixes, beside a list that the test keeps itself.
+//! Ten thousand changes of a few hundred destinations, beside a list that the test keeps itself.
 
 use super::*;
 
-/// How many prefixes there are: of IPv4 those with an even number, of IPv6 the others.
-const PREFIXES: u32 = 300;
+/// How many destinations there are without identifiers, and how many with: of IPv4 those with an
+/// even number, of IPv6 the others.
+const COUNT: u32 = 300;
 
 /// How many changes.
 const CHANGES: u32 = 10_000;
@@ -26,9 +27,11 @@ impl Dice {
             .unwrap_or(0)
     }
 
-    /// Some prefixes, up to five of them, some twice.
+    /// Some destinations of one kind, up to five of them, some twice.
     fn numbers(&mut self) -> Numbers {
-        (self.below(220), self.below(20), self.below(6))
+        let kind = self.below(2).saturating_mul(IDENTIFIED);
+        let first = kind.saturating_add(self.below(220));
+        (first, self.below(20), self.below(6))
     }
 
     /// Changes with up to two groups, whose marks no other turn has.
@@ -46,6 +49,14 @@ impl Dice {
     }
 }
 
+/// Where a number's destination stands in the list.
+fn place_of(number: u32) -> usize {
+    match number.checked_sub(IDENTIFIED) {
+        Some(place) => COUNT.saturating_add(place) as usize,
+        None => number as usize,
+    }
+}
+
 /// For each number the mark of its route's path, where there is a route; and what is disabled.
 #[derive(Drop)]
 struct Plain {
@@ -54,7 +65,7 @@ struct Plain {
 }
 
 impl Plain {
-    /// Whether the family of a number's prefix is disabled.
+    /// Whether the family of a number's destination is disabled.
     fn is_disabled(&self, number: u32) -> bool {
         match family_of(number) {
             Family::V4 => self.disabled.v4,
@@ -64,7 +75,7 @@ impl Plain {
 
     /// Sets the mark of a number's route, or takes the route away, if its family isn't disabled.
     fn set(&mut self, number: u32, mark: Option<u32>) {
-        let index = number as usize;
+        let index = place_of(number);
         if index < self.marks.len() && !self.is_disabled(number) {
             self.marks[index] = mark;
         }
@@ -92,15 +103,21 @@ impl Plain {
         self.put(second);
     }
 
+    /// Takes the routes of the family away whose first number this is, of both kinds.
+    fn clear_both(&mut self, first: u32) {
+        self.set_all((first, 2, COUNT / 2), None);
+        self.set_all((IDENTIFIED.saturating_add(first), 2, COUNT / 2), None);
+    }
+
     /// Takes the routes of a family away, and disables it.
     fn disable(&mut self, family: Family) {
         match family {
             Family::V4 => {
-                self.set_all((0, 2, PREFIXES / 2), None);
+                self.clear_both(0);
                 self.disabled.v4 = true;
             }
             Family::V6 => {
-                self.set_all((1, 2, PREFIXES / 2), None);
+                self.clear_both(1);
                 self.disabled.v6 = true;
             }
         }
@@ -109,14 +126,15 @@ impl Plain {
     /// Clears all.
     fn clear(&mut self) {
         self.disabled = NONE;
-        self.set_all((0, 1, PREFIXES), None);
+        self.clear_both(0);
+        self.clear_both(1);
     }
 
-    /// Whether the next routes are those of a family, which begin with this number.
+    /// Whether the next routes are those of a kind and a family, which begin with this number.
     fn is_begun(&self, routes: &mut RouteIter<'_, Global>, first: u32) -> bool {
-        for index in 0..PREFIXES / 2 {
+        for index in 0..COUNT / 2 {
             let number = number_at((first, 2, 0), index);
-            if let Some(Some(mark)) = self.marks.get(number as usize)
+            if let Some(Some(mark)) = self.marks.get(place_of(number))
                 && !is_next(routes, number, *mark)
             {
                 return false;
@@ -125,11 +143,14 @@ impl Plain {
         true
     }
 
-    /// Whether these are the routes, those of IPv4 first, and each family's in ascending order.
+    /// Whether these are the routes, those of IPv4 first, each family's without identifiers before
+    /// those with, and in ascending order.
     fn is_listed(&self, rib: &RibIn) -> bool {
         let mut routes = rib.routes();
         self.is_begun(&mut routes, 0)
+            && self.is_begun(&mut routes, IDENTIFIED)
             && self.is_begun(&mut routes, 1)
+            && self.is_begun(&mut routes, IDENTIFIED + 1)
             && routes.next().is_none()
             && rib.disabled() == self.disabled
             && rib.len() == self.marks.iter().filter(|mark| mark.is_some()).count()
@@ -179,7 +200,7 @@ fn turns_alike(alloc: Global, rib: &mut RibIn, plain: &mut Plain) -> u32 {
 /// The same of a table and a list of its own.
 fn turns_of_its_own(alloc: Global) -> Result<u32, AllocError> {
     let mut plain = Plain {
-        marks: vec![in alloc; None; 300]?,
+        marks: vec![in alloc; None; 600]?,
         disabled: NONE,
     };
     let mut rib = RibIn::new(alloc);

@@ -28,7 +28,7 @@ struct Case {
     grows: bool,
 }
 
-/// All prefixes that an UPDATE of 4096 octets has room for, if they have 24 bits each and three
+/// All destinations that an UPDATE of 4096 octets has room for, if they have 24 bits each and three
 /// attributes, are put, of one family and then of the other one.
 static MOST_OF_BOTH: [Update; 2] = [
     ((NOTHING, Some((6, (1, 2, 1013))), None), false),
@@ -44,7 +44,7 @@ static WITHOUT_V4: [Update; 1] = [(((0, 2, 1013), None, None), false)];
 /// What a table holds at first: three routes, of both families.
 const THREE: Update = ((NOTHING, Some((1, (0, 1, 3))), None), false);
 
-/// Twelve prefixes, of which two are removed and one is put again.
+/// Twelve destinations, of which two are removed and one is put again.
 const TWELVE: Update = (
     ((0, 2, 3), Some((2, (0, 6, 5))), Some((3, (8, 3, 5)))),
     false,
@@ -73,11 +73,37 @@ macro_rules! put_more {
     };
 }
 
-/// A known prefix is put.
+/// A known destination is put.
 const AGAIN: Update = ((NOTHING, Some((4, (0, 0, 1))), None), false);
 
 /// Another one is withdrawn.
 const GONE: Update = (((2, 0, 1), None, None), false);
+
+/// Three paths to each of two prefixes.
+const PATHS: Update = ((NOTHING, Some((1, (10_000, 1, 6))), None), false);
+
+/// Two of them are removed, others put, and prefixes alone.
+const OTHERS: Update = (
+    (
+        (10_000, 2, 2),
+        Some((2, (10_002, 1, 6))),
+        Some((3, (0, 1, 4))),
+    ),
+    false,
+);
+
+/// The same, and IPv6 is disabled.
+const OTHERS_DISABLING: Update = (
+    (
+        (10_000, 2, 2),
+        Some((2, (10_002, 1, 6))),
+        Some((3, (0, 1, 4))),
+    ),
+    true,
+);
+
+/// One is withdrawn.
+const PATH_GONE: Update = (((10_002, 0, 1), None, None), false);
 
 /// Where an UPDATE is applied or a copy made.
 ///
@@ -85,7 +111,7 @@ const GONE: Update = (((2, 0, 1), None, None), false);
 /// the second: what is written by then, and what is taken away, has to be written back. Of 14
 /// routes and one more the map doesn't grow, and the log has the room that the first change took.
 /// Of one route and 13 more it's the log alone that grows.
-static CASES: [Case; 9] = [
+static CASES: [Case; 13] = [
     Case {
         call: Call::Apply,
         before: &[THREE],
@@ -155,6 +181,38 @@ static CASES: [Case; 9] = [
         before: &[THREE, AGAIN],
         asked: &[GONE],
         size: 1 << 12,
+        step: 16,
+        grows: false,
+    },
+    Case {
+        call: Call::Apply,
+        before: &[PATHS],
+        asked: &[OTHERS],
+        size: 1 << 14,
+        step: 64,
+        grows: true,
+    },
+    Case {
+        call: Call::ApplyEach,
+        before: &[PATHS],
+        asked: &[OTHERS_DISABLING, OTHERS],
+        size: 1 << 14,
+        step: 64,
+        grows: true,
+    },
+    Case {
+        call: Call::Copy,
+        before: &[PATHS, OTHERS],
+        asked: &[],
+        size: 1 << 14,
+        step: 64,
+        grows: true,
+    },
+    Case {
+        call: Call::Apply,
+        before: &[PATHS],
+        asked: &[PATH_GONE],
+        size: 1 << 13,
         step: 16,
         grows: false,
     },

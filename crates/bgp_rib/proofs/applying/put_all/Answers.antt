@@ -12,7 +12,7 @@ returns-clause-routes g c =
     let second = group_routes c.args.changes.now.mp_reach_nlri in
     c.in_ok-put_group_if-2.ensures.routes
     ∙ ap (entries_with (entries_outside d (map entry_of second))) c.in_ok-put_group_if.ensures.routes
-    ∙ sym (groups_put d first second (routes_in c.args.table.now.entries))
+    ∙ sym (groups_put d first second (routes_in c.args.table.now))
 
 pub returns-clause-noted : goal.returns-clause-noted
 returns-clause-noted g c = λ h. c.put_group_if-2.ensures.noted (c.put_group_if.ensures.noted h)

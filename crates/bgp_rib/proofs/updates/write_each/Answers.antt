@@ -3,14 +3,14 @@ use Rattle.std.proofs.Math.Logic.{⊎_elim}
 use Rattle.std.proofs.lemmas.List.{take_all}
 use Rattle.std.specs.Map.{keys_of}
 use Rattle.std.specs.Set.{is_member}
-use Rattle.bgp_prefix.specs.PrefixOrder.{prefix_eq}
+use Rattle.bgp_rib.specs.DestinationOrder.{destination_eq}
 use Rattle.bgp_open.specs.declared.families.Families.{Families}
 use Rattle.bgp_open.specs.Families.{contains}
 use Rattle.bgp_update.specs.Allowed.{changes_value}
 use Rattle.bgp_rib.specs.Rooms.{routes_in}
 use Rattle.bgp_rib.specs.Routes.{AreOutside, entry_of}
 use Rattle.bgp_rib.specs.Updates.{applied_value, after_update, removed_by, enabled_in}
-use Rattle.bgp_rib.proofs.PrefixKeys.{prefixes_total, exact_prefixes}
+use Rattle.bgp_rib.proofs.DestinationKeys.{destinations_total, exact_destinations}
 use Rattle.bgp_rib.proofs.RoomLemmas.{ordered_routes}
 use Rattle.bgp_rib.proofs.UpdateLaws.{change_seen, change_within, update_more, removed_more, member_before, member_after, within_union}
 use Rattle.bgp_rib.proofs.updates.write_each.Goals as goal
@@ -35,21 +35,21 @@ loop-update-preserved g c =
     let u = c.update-item.result in
     let d = c.loop-update.after in
     let changes = changes_value u.changes in
-    let ds = c.loop-update.table.entries in
-    let es = c.write_all.new.table.entries in
+    let ds = c.loop-update.table in
+    let es = c.write_all.new.table in
     let removed = removed_by (map applied_value (take i us)) in
     let more = removed_more us i u c.loop-update-test.true c.update-item.is in
     record {
       routes = (λ j. enabled_in (c.union-after.ensures j) es)
-          ∙ change_seen d u.disabled changes (routes_in ds) (routes_in es) (ordered_routes prefixes_total exact_prefixes ds c.len.ensures.ordered) c.in_ok-write_all.ensures.routes
+          ∙ change_seen d u.disabled changes (routes_in ds) (routes_in es) (ordered_routes destinations_total exact_destinations ds c.len.ensures.ordered) c.in_ok-write_all.ensures.routes
           ∙ ap (after_update (applied_value u)) c.loop-update.invariant.routes
-          ∙ update_more us i u (enabled_in c.args.disabled c.args.table.now.entries) c.loop-update-test.true c.update-item.is;
+          ∙ update_more us i u (enabled_in c.args.disabled c.args.table.now) c.loop-update-test.true c.update-item.is;
       within = λ f h. c.loop-update.invariant.within f (within_union d u.disabled f (subst (λ (x : Families). IsFalse (contains x f)) c.union-after.ensures h));
       outside = λ h. subst (λ l. AreOutside c.args.disabled (keys_of l)) (sym c.in_ok-write_all.ensures.routes)
           (change_within c.args.disabled d changes.remove (map entry_of changes.put) (routes_in ds) c.loop-update.invariant.within (c.loop-update.invariant.outside h));
       rooms = λ q h. ⊎_elim
-          (λ t. ⊎_elim inl (λ m. inr (subst (λ ps. is_member prefix_eq ps q ≡ true) more (member_before removed u.changes.remove.items q m))) (c.loop-update.invariant.rooms q t))
-          (λ m. inr (subst (λ ps. is_member prefix_eq ps q ≡ true) more (member_after removed u.changes.remove.items q m)))
+          (λ t. ⊎_elim inl (λ m. inr (subst (λ ps. is_member destination_eq ps q ≡ true) more (member_before removed u.changes.remove.items q m))) (c.loop-update.invariant.rooms q t))
+          (λ m. inr (subst (λ ps. is_member destination_eq ps q ≡ true) more (member_after removed u.changes.remove.items q m)))
           (c.write_all.ensures.rooms q h);
       back = λ q. c.write_all.ensures.back q ∙ c.loop-update.invariant.back q;
       noted = λ h. c.write_all.ensures.noted (c.loop-update.invariant.noted h);
@@ -61,5 +61,5 @@ returns-in_err-write_all-clause-back g c = λ q. c.write_all.ensures.back q ∙ 
 pub returns-clause-rooms : goal.returns-clause-rooms
 returns-clause-rooms g c = λ q h.
     ⊎_elim inl
-    (λ m. inr (subst (λ us. is_member prefix_eq (removed_by (map applied_value us)) q ≡ true) (take_all c.loop-update.update-index c.args.updates.now c.loop-update-test.false) m))
+    (λ m. inr (subst (λ us. is_member destination_eq (removed_by (map applied_value us)) q ≡ true) (take_all c.loop-update.update-index c.args.updates.now c.loop-update-test.false) m))
     (c.loop-update.invariant.rooms q h)

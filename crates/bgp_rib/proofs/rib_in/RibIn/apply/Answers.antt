@@ -10,7 +10,7 @@ use Rattle.bgp_rib.proofs.rib_in.RibIn.apply.Goals as goal
 pub invariant_of-self : goal.invariant_of-self
 invariant_of-self g c =
     let d = c.self.inside.disabled in
-    let es = routes_in c.self.inside.table.entries in
+    let es = routes_in c.self.inside.table in
     let changes = changes_value c.args.changes.now in (
       c.apply_changes.ensures.full,
       either c.apply_changes.result c.apply_changes.ensures.ok c.apply_changes.ensures.err
@@ -22,8 +22,8 @@ invariant_of-self g c =
 pub returns-clause-ok : goal.returns-clause-ok
 returns-clause-ok g c =
     let d = c.self.inside.disabled in
-    let es = routes_in c.self.inside.table.entries in
+    let es = routes_in c.self.inside.table in
     let changes = changes_value c.args.changes.now in
     on_ok c.apply_changes.result c.apply_changes.ensures.ok
-    (λ e. seen_changed changes d changes.remove (entries_outside d (map entry_of changes.put)) es (routes_in c.apply_changes.new.table.entries) refl refl e
+    (λ e. seen_changed changes d changes.remove (entries_outside d (map entry_of changes.put)) es (routes_in c.apply_changes.new.table) refl refl e
     ∙ ap (routes_after changes) c.self.view_is)

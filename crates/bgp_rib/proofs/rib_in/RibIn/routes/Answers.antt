@@ -6,8 +6,8 @@ use Rattle.bgp_rib.proofs.rib_in.RibIn.routes.Goals as goal
 
 pub returns-clause-rest : goal.returns-clause-rest
 returns-clause-rest g c =
-    c.new.ensures.rest ∙ outside_none (routes_in c.self.inside.table.entries) ∙ ap (λ (r : Routes). r.entries) c.self.view_is
+    c.new.ensures.rest ∙ outside_none (routes_in c.self.inside.table) ∙ ap (λ (r : Routes). r.entries) c.self.view_is
 
 pub returns-clause-are : goal.returns-clause-are
 returns-clause-are g c =
-    subst AreRoutes c.self.view_is (seen_are c.self.inside.disabled c.self.inside.table.entries c.new.ensures.ordered c.self.invariant.1)
+    subst AreRoutes c.self.view_is (seen_are c.self.inside.disabled c.self.inside.table c.new.ensures.ordered c.self.invariant.1)

@@ -10,4 +10,4 @@ returns-clause-rest g c =
 
 pub returns-clause-are : goal.returns-clause-are
 returns-clause-are g c =
-    subst AreRoutes c.self.view_is (seen_are c.self.inside.disabled c.self.inside.table.entries c.new.ensures.ordered c.self.invariant.1)
+    subst AreRoutes c.self.view_is (seen_are c.self.inside.disabled c.self.inside.table c.new.ensures.ordered c.self.invariant.1)
