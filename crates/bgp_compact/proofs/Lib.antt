@@ -19,4 +19,5 @@ pub mod Behind
 pub mod Refusals
 pub mod OneTable
 pub mod RunTables
+mod FourEnds
 mod WholeTracker

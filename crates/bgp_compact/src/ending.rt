@@ -65,6 +65,7 @@ fn families(v4: bool, v6: bool) -> Families
 }
 
 /// The ends of the members of the base, in the order of their disabled families.
+#[tactic(auto, using(crate::proofs::FourEnds::four_ends))]
 pub(crate) fn ends_of<A: Allocator + Copy>(
     alloc: A,
     base: Base,

@@ -15,21 +15,21 @@ use bgp_judge::impossible_only_where_owed;
 use bgp_open::{Config, Link};
 use std::alloc::{Allocator, Global};
 
-/// Law: a tracker over the program's own allocator takes at most 272 octets, whatever it took: its
-/// configuration, at most 128 octets, its words, at most 84, its one table, at most 56, and the 4
+/// Law: a tracker over the program's own allocator takes at most 352 octets, whatever it took: its
+/// configuration, at most 128 octets, its words, at most 84, its one table, at most 128, and the 12
 /// octets that its alignment asks for, in which nothing is ([`trackers_hold_their_parts_alone`]).
 ///
 /// Words and configuration are `Copy`, so that nothing of them lies elsewhere. What does is the
 /// table's own: its routes, and room to note what one UPDATE writes, which stays until the session
 /// ends.
 pub fn trackers_have_a_fixed_size()
-    ensures tracker { type_size (tracker_row global_row ⟦<Global as Allocator>⟧) ≤ 272 }
+    ensures tracker { type_size (tracker_row global_row ⟦<Global as Allocator>⟧) ≤ 352 }
     ensures config { type_size config_row ≤ 128 }
     ensures words { type_size words_row ≤ 84 }
-    ensures table { type_size (table_row global_row ⟦<Global as Allocator>⟧) ≤ 56 }
+    ensures table { type_size (table_row global_row ⟦<Global as Allocator>⟧) ≤ 128 }
     ensures alone { type_size (tracker_row global_row ⟦<Global as Allocator>⟧)
         ≡ type_size config_row + type_size words_row
-        + type_size (table_row global_row ⟦<Global as Allocator>⟧) + 4 }
+        + type_size (table_row global_row ⟦<Global as Allocator>⟧) + 12 }
 {}
 
 /// Law: trackers that have the same allocator, configuration, words and table are the same. So a

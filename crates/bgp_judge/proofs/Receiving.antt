@@ -10,7 +10,7 @@ use Rattle.bgp_open.specs.Families.{contains}
 use Rattle.bgp_attr.specs.Split.{attributes_of}
 use Rattle.bgp_update.specs.declared.outcomes.Outcomes.{Outcomes}
 use Rattle.bgp_update.specs.Allowed.{Allows}
-use Rattle.bgp_update.specs.Changes.{RouteChanges, announcements, prefixes_among, withdrawals}
+use Rattle.bgp_update.specs.Changes.{RouteChanges, announcements, destinations_among, withdrawals}
 use Rattle.bgp_update.specs.Disabled.{IsCertain}
 use Rattle.bgp_update.specs.Found.{found}
 use Rattle.bgp_update.specs.Laws.{HasAnOutcome}
@@ -69,7 +69,7 @@ applied : (link : Link) (octets : List ℕ) (s : Sections) (faulty : Bool) (disa
     → IsTrue faulty ↔ HasWithdrawFault (found link s) → ((f : Family) → IsTrue (contains disabled f) ↔ IsCertain (found link s) f)
     → (changes : RouteChanges) × (families : Families) × IsOutcome link octets (Applied changes families)
 applied link octets s true disabled is none fault certain = (
-  record { remove = withdrawals link (found link s) ++ prefixes_among (announcements link (found link s) (attributes_of s.attributes)); put = [] },
+  record { remove = withdrawals link (found link s) ++ destinations_among (announcements link (found link s) (attributes_of s.attributes)); put = [] },
   disabled,
   inr (s, is, (none, inl (fault.0 refl, refl), λ f. ((certain f).1, λ on. inl ((certain f).0 on)))),
 )

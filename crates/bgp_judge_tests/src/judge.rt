@@ -9,6 +9,7 @@ use bgp_judge::{End, PlainTracker, Verdict, judge};
 use bgp_machine::Fsm;
 use bgp_open::{Config, Families};
 use bgp_prefix::{Address, read_prefix};
+use bgp_update::Destination;
 use bgp_vectors::ROUTER_A;
 use mrt::{FaultKind, MemSink, MemSource, Record, Sink, is_writable, write_record};
 use std::alloc::{AllocError, Allocator, Global};
@@ -30,15 +31,24 @@ pub(crate) fn router_a() -> Option<Config> {
     Config::new(ROUTER_A)
 }
 
-/// An end: the state, the disabled families and the prefixes of its routes.
+/// An end: the state, the disabled families and the prefixes of its routes, which have no
+/// identifiers.
 pub(crate) type Expected<'a> = (Fsm, Families, &'a [&'a str]);
+
+/// Whether the destination is just the prefix of this text.
+fn is_just(destination: Destination, text: &str) -> bool {
+    match read_prefix(text) {
+        Some(prefix) => destination == Destination::plain(prefix),
+        None => false,
+    }
+}
 
 /// Whether an end is that.
 fn is_end<A: Allocator>(end: &End<A>, (fsm, disabled, texts): &Expected<'_>) -> bool {
     let mut texts = texts.iter();
-    for (prefix, _) in end.rib.routes() {
+    for (destination, _) in end.rib.routes() {
         match texts.next() {
-            Some(text) if read_prefix(text) == Some(*prefix) => {}
+            Some(text) if is_just(destination, text) => {}
             _ => return false,
         }
     }

@@ -1,12 +1,12 @@
 -- What it is to disable several families, and to make no changes.
 use Rattle.std.proofs.Common.{◌≡◌, ◌∙◌, ◌||◌, ◌⊎◌, inl, inr, Bool, true, false, cond, not, List, refl, ap, sym}
 use Rattle.bgp_prefix.specs.declared.family.Family.TheVariants.{V4, V6}
-use Rattle.bgp_prefix.specs.Prefix.{PrefixBits}
+use Rattle.bgp_update.specs.declared.destination.Destination.{Destination}
 use Rattle.bgp_open.specs.declared.families.Families.{Families}
 use Rattle.bgp_open.specs.Families.{contains}
 use Rattle.bgp_rib.specs.Routes.{Routes, entries_outside, only, union, routes_after, routes_without}
 use Rattle.bgp_rib.proofs.MapLaws.{filter_filter, filter_congr}
-use Rattle.bgp_rib.proofs.PrefixKeys.{without_none}
+use Rattle.bgp_rib.proofs.DestinationKeys.{without_none}
 use Rattle.bgp_rib.proofs.RouteLemmas.{outside_none, in_union}
 use Rattle.bgp_machine.specs.Listed.{no_changes}
 
@@ -22,11 +22,11 @@ neither : (a b : Bool) → cond (not a) (not b) false ≡ not (a || b)
 neither true b = refl
 neither false b = refl
 
-outside_union : {V : Type 0} (a b : Families) (es : List (PrefixBits × V)) → entries_outside b (entries_outside a es) ≡ entries_outside (union a b) es
+outside_union : {V : Type 0} (a b : Families) (es : List (Destination × V)) → entries_outside b (entries_outside a es) ≡ entries_outside (union a b) es
 outside_union {V} a b es =
-    filter_filter (λ e. not (contains b e.0.family)) (λ e. not (contains a e.0.family)) es
-    ∙ filter_congr (λ e. cond (not (contains a e.0.family)) (not (contains b e.0.family)) false) (λ e. not (contains (union a b) e.0.family)) es
-    (λ (e : PrefixBits × V). neither (contains a e.0.family) (contains b e.0.family) ∙ ap not (sym (in_union a b e.0.family)))
+    filter_filter (λ e. not (contains b e.0.prefix.family)) (λ e. not (contains a e.0.prefix.family)) es
+    ∙ filter_congr (λ e. cond (not (contains a e.0.prefix.family)) (not (contains b e.0.prefix.family)) false) (λ e. not (contains (union a b) e.0.prefix.family)) es
+    (λ (e : Destination × V). neither (contains a e.0.prefix.family) (contains b e.0.prefix.family) ∙ ap not (sym (in_union a b e.0.prefix.family)))
 
 -- no family is disabled
 pub without_no_family : (routes : Routes) → routes_without (record { v4 = false; v6 = false }) routes ≡ routes

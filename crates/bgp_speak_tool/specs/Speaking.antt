@@ -38,7 +38,7 @@ announce_note families speaking =
     option_and_then (note_of_prefix families speaking.cleared) speaking.announce
 
 -- how often the wire was read, and the routes that the peer had announced, in the order of their
--- prefixes
+-- destinations
 abbrev pub report_text : ℕ → Routes → List ℕ
 report_text turns routes =
     codes "turns " ++ (decimal turns ++ (codes "\n" ++ flat_map route_line routes.entries))

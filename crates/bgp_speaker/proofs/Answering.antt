@@ -8,7 +8,7 @@ use Rattle.bgp_prefix.specs.PrefixOrder.{prefix_cmp, prefix_eq}
 use Rattle.bgp_prefix.specs.Shown.{ShownRecord}
 use Rattle.bgp_machine.specs.declared.state.Head.{Head}
 use Rattle.bgp_machine.specs.declared.state.Head.TheVariants.{Idle, Connect, Active, OpenSent, OpenConfirm, Established}
-use Rattle.bgp_rib.proofs.PrefixKeys.{same_tie}
+use Rattle.bgp_speaker.proofs.PrefixTies.{same_tie}
 use Rattle.bgp_wire.specs.Held.{Held, after_feed}
 use Rattle.bgp_wire.specs.declared.header.Limit.{Limit}
 use Rattle.bgp_speaker.specs.declared.draft.Draft.{Draft}

@@ -11,7 +11,7 @@ use Rattle.std.specs.Set.{remove_key}
 use Rattle.bgp_prefix.specs.Prefix.{PrefixBits}
 use Rattle.bgp_prefix.specs.Shown.{ShownRecord}
 use Rattle.bgp_prefix.specs.PrefixOrder.{prefix_cmp}
-use Rattle.bgp_rib.proofs.PrefixKeys.{prefixes_total}
+use Rattle.bgp_speaker.proofs.PrefixTies.{prefixes_total}
 use Rattle.bgp_speaker.specs.Choosing.{Drives, kept_after}
 use Rattle.bgp_speaker.specs.Core.{CoreState, InputValue, Start, Passive, Stop, Connected, Failed, Bytes, Tick, Announce, Withdraw}
 use Rattle.bgp_speaker.specs.Driven.{EachKeptListAscends}

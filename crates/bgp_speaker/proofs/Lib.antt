@@ -1,3 +1,4 @@
+mod PrefixTies
 mod PlainFrames
 mod SaidIsMeant
 mod ChosenIsAStep

@@ -17,6 +17,7 @@ use Rattle.bgp_path.specs.declared.path.Origin.TheVariants.{Igp}
 use Rattle.bgp_path.specs.Path.{PathValue}
 use Rattle.bgp_update.specs.Changes.{RouteChanges}
 use Rattle.bgp_update.specs.Clean.{IsClean}
+use Rattle.bgp_update.specs.Plain.{plain}
 use Rattle.bgp_update_writer.specs.Applied.{IsJustApplied}
 use Rattle.bgp_machine.specs.declared.want.FaultSet.{FaultSet}
 use Rattle.bgp_machine.specs.declared.want.Want.{Want}
@@ -56,12 +57,12 @@ own_path speaker link family = record {
 abbrev pub announced : Speaker → Link → PrefixBits → RouteChanges
 announced speaker link prefix = record {
   remove = [];
-  put = (record { prefix = prefix; path = own_path speaker link prefix.family }) ∷ [];
+  put = (record { destination = plain prefix; path = own_path speaker link prefix.family }) ∷ [];
 }
 
 -- the prefix is reachable no more
 abbrev pub withdrawn : PrefixBits → RouteChanges
-withdrawn prefix = record { remove = prefix ∷ []; put = [] }
+withdrawn prefix = record { remove = plain prefix ∷ []; put = [] }
 
 -- The octets are a clean UPDATE that reads as these changes. It has at most 4096 octets on every
 -- link, so that a capture of the session can hold it where the peer alone offers longer ones.

@@ -92,11 +92,11 @@ fn changes_beside<A: Allocator + Copy>(
     list_message_steps(alloc, config, up, 120, message, &mut steps)
 }
 
-/// Whether the changes of an UPDATE take no prefix away and put one.
+/// Whether the changes of an UPDATE take no destination away and put one.
 fn put_one<A: Allocator>(changes: Told<'_, A>) -> bool {
     match changes {
         Some(changes) => match &changes.nlri {
-            Some(group) => changes.remove.is_empty() && group.prefixes.len() == 1,
+            Some(group) => changes.remove.is_empty() && group.destinations.len() == 1,
             None => false,
         },
         None => false,
