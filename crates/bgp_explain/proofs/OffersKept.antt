@@ -76,9 +76,9 @@ settling_more records r =
 by_state : (f : Fsm) (octets : List ℕ) (stood : Option (List ℕ)) (before offer : RouteOffer) → IsOfferOf stood before → IsRouteOffer octets offer
     → IsOfferOf (settling_in f stood octets) (settling_by f before offer)
 by_state fsms.Idle octets stood before offer stands is = stands
-by_state fsms.Connect octets stood before offer stands is = refl
-by_state fsms.Active octets stood before offer stands is = refl
-by_state fsms.OpenSent octets stood before offer stands is = refl
+by_state fsms.Connect octets stood before offer stands is = stands
+by_state fsms.Active octets stood before offer stands is = stands
+by_state fsms.OpenSent octets stood before offer stands is = stands
 by_state fsms.OpenConfirm octets stood before offer stands is = is
 by_state fsms.Established octets stood before offer stands is = is
 

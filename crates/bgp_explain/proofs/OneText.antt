@@ -27,13 +27,13 @@ use Rattle.bgp_text.specs.Capture.{IsMessageText, IsRecordText, faulty_text, mes
 use Rattle.bgp_text.specs.Text.{text_of}
 use Rattle.bgp_text.proofs.OneMessage.{one_message}
 use Rattle.bgp_reason_text.specs.declared.notes.Notes.{Notes}
-use Rattle.bgp_reason_text.specs.Notes.{notes_text, with_offers}
+use Rattle.bgp_reason_text.specs.Notes.{judged_without, notes_text}
 use Rattle.bgp_reason_text.specs.NotWhole.{not_whole_line}
-use Rattle.bgp_reason_text.specs.Record.{state_line}
+use Rattle.bgp_reason_text.specs.Record.{form_on, state_line}
 use Rattle.bgp_tool.specs.Judging.{SaysVerdict}
 use Rattle.bgp_open.specs.declared.route_offer.RouteOffer.{RouteOffer}
 use Rattle.bgp_open.specs.RouteOffer.{IsRouteOffer}
-use Rattle.bgp_parts.specs.BothOffers.{identified_families}
+use Rattle.bgp_open.specs.declared.route_form.RouteForm.{RouteForm}
 use Rattle.bgp_parts.proofs.ReadableOpen.{readable_or_not}
 use Rattle.bgp_explain.specs.declared.left_out.LeftOut.{LeftOut}
 use Rattle.bgp_explain.specs.LeftOut.{IsLeftOut, IsWithout, LeavesOut}
@@ -106,29 +106,29 @@ headed records each = headed_from 0 nothing_told [] records each (λ some. absur
 
 -- ---- the line of a record
 
-module _ (limit : Limit) where
+module _ (form : RouteForm) (limit : Limit) where
   one_faulty_text : (header : List ℕ) (a b : HeaderFaults) → AreFaults limit header a → AreFaults limit header b → faulty_text a ≡ faulty_text b
   unfolding faulty_text
   one_faulty_text header a b h k = let e = same_fields limit header a b h k in rw (e.0, e.1, e.2) refl
 
-  one_message_text : (octets text other : List ℕ) → IsMessageText limit octets text → IsMessageText limit octets other → text ≡ other
-  one_message_text octets text other (inl a) (inl b) = a.1.2 ∙ ap text_of (one_message octets a.1.0 b.1.0 a.1.1 b.1.1) ∙ sym b.1.2
+  one_message_text : (octets text other : List ℕ) → IsMessageText form limit octets text → IsMessageText form limit octets other → text ≡ other
+  one_message_text octets text other (inl a) (inl b) = a.1.2 ∙ ap text_of (one_message form octets a.1.0 b.1.0 a.1.1 b.1.1) ∙ sym b.1.2
   one_message_text octets text other (inl a) (inr b) = absurd (b.0.1 a.0.sound)
   one_message_text octets text other (inr a) (inl b) = absurd (a.0.1 b.0.sound)
   one_message_text octets text other (inr a) (inr b) = a.1.2 ∙ one_faulty_text (header_of octets) a.1.0 b.1.0 a.1.1 b.1.1 ∙ sym b.1.2
 
-one_record_text : (session : Session) (shown : ShownRecord) (text other : List ℕ) → IsRecordText session shown text → IsRecordText session shown other → text ≡ other
-one_record_text session (Received t octets) text other h k =
-    h.2 ∙ ap (message_text t (codes " received ")) (one_message_text (limit_with session.extended) octets h.0 k.0 h.1 k.1) ∙ sym k.2
-one_record_text session (Sent t octets) text other h k =
-    h.2 ∙ ap (message_text t (codes " sent ")) (one_message_text (limit_with session.extended) octets h.0 k.0 h.1 k.1) ∙ sym k.2
-one_record_text session (Changed t x y) text other h k = h ∙ sym k
+one_record_text : (session : Session) (form : RouteForm) (shown : ShownRecord) (text other : List ℕ) → IsRecordText session form shown text → IsRecordText session form shown other → text ≡ other
+one_record_text session form (Received t octets) text other h k =
+    h.2 ∙ ap (message_text t (codes " received ")) (one_message_text form (limit_with session.extended) octets h.0 k.0 h.1 k.1) ∙ sym k.2
+one_record_text session form (Sent t octets) text other h k =
+    h.2 ∙ ap (message_text t (codes " sent ")) (one_message_text form (limit_with session.extended) octets h.0 k.0 h.1 k.1) ∙ sym k.2
+one_record_text session form (Changed t x y) text other h k = h ∙ sym k
 
 -- ---- the notes
 
 module _ (config : Config) (t : Told) (link : Option Link) (octets : List ℕ) (p : Possible) where
   with_notes : (next : Option (ℕ × ShownRecord)) (u : LeftOut) (a b : Notes) → AreNotesOn config t link octets p next a → AreNotesOn config t link octets p next b
-      → with_offers u.add_path u.without a ≡ with_offers u.add_path u.without b
+      → judged_without u.without a ≡ judged_without u.without b
   with_notes None u a b h k =
       let elsewhere = h.begins_elsewhere ∙ sym k.begins_elsewhere in
       let first = h.open_came_first ∙ sym k.open_came_first in
@@ -139,7 +139,6 @@ module _ (config : Config) (t : Told) (link : Option Link) (octets : List ℕ) (
       λ i. record {
         begins_elsewhere = elsewhere i;
         open_came_first = first i;
-        add_path = u.add_path;
         without = u.without;
         extended_parameters = parameters i;
         keepalive_without_hold = alive i;
@@ -156,7 +155,6 @@ module _ (config : Config) (t : Told) (link : Option Link) (octets : List ℕ) (
       λ i. record {
         begins_elsewhere = elsewhere i;
         open_came_first = first i;
-        add_path = u.add_path;
         without = u.without;
         extended_parameters = parameters i;
         keepalive_without_hold = alive i;
@@ -185,12 +183,9 @@ one_without configured own peers None (Some y) h k = absurd (h k.0)
 one_without configured own peers (Some x) None h k = absurd (k h.0)
 one_without configured own peers (Some x) (Some y) h k = ap (λ (o : RouteOffer). Some o) (h.1 ∙ sym k.1)
 
-both_left_out : (x y : LeftOut) → x.add_path ≡ y.add_path → x.without ≡ y.without → x ≡ y
-both_left_out x y add_path without = λ i. record { add_path = add_path i; without = without i }
-
 one_left : (config : Config) (own peers : RouteOffer) (a b : LeftOut) → IsLeftOut config own peers a → IsLeftOut config own peers b → a ≡ b
 one_left config own peers a b h k =
-    both_left_out a b (h.add_path ∙ sym k.add_path) (one_without config.parts.offers own peers a.without b.without h.without k.without)
+    let without = one_without config.parts.offers own peers a.without b.without h.without k.without in λ i. record { without = without i }
 
 one_left_out : (config : Config) (records : List ShownRecord) (a b : LeftOut) → LeavesOut config records a → LeavesOut config records b → a ≡ b
 one_left_out config records a b h k =
@@ -231,7 +226,8 @@ module _ (sets : SubcodesAreSets) (config : Config) where
       → TellsWhyNot config style config.parts.session places before records other → text ≡ other
   one_why_not style places before records text other each h k =
       let shown = one_last before h.shown k.shown (sym h.next ∙ k.next) in
-      let line = one_record_text config.parts.session h.shown h.line k.line h.is_line (subst (λ (r : ShownRecord). IsRecordText config.parts.session r k.line) (sym shown) k.is_line) in
+      let line = one_record_text config.parts.session (form_on (sending_link config before) h.shown) h.shown h.line k.line h.is_line
+      (subst (λ (r : ShownRecord). IsRecordText config.parts.session (form_on (sending_link config before) r) r k.line) (sym shown) k.is_line) in
       let rest = one_why style places before (Some (length before + 1, h.shown)) h.rest k.rest each h.why
       (subst (λ (r : ShownRecord). TellsWhy config style places before (Some (length before + 1, r)) k.rest) (sym shown) k.why)
       in h.whole ∙ (λ i. line_at style (places (length before + 1)) (line i) ++ rest i) ∙ sym k.whole

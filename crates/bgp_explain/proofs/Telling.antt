@@ -29,6 +29,8 @@ use Rattle.bgp_open.specs.declared.link.Link.{Link}
 use Rattle.bgp_reason.specs.Sending.{sending_link}
 use Rattle.bgp_reason.specs.Told.{last_message, told}
 use Rattle.bgp_reason_text.specs.declared.style.Style.{Style}
+use Rattle.bgp_reason_text.specs.Record.{form_on}
+use Rattle.bgp_text.specs.Capture.{IsRecordText}
 use Rattle.bgp_reason_text.specs.Style.{plain}
 use Rattle.bgp_text.specs.Capture.{refused_line}
 use Rattle.bgp_tool.specs.Answer.{IsWritten, answer_status, answer_text, verdict_status}
@@ -43,7 +45,7 @@ use Rattle.bgp_explain.specs.Details.{next_in}
 use Rattle.bgp_explain.specs.Explaining.{Explains, ExplainsBy, IsExplained}
 use Rattle.bgp_explain.specs.Kept.{shown_by}
 use Rattle.bgp_explain.specs.declared.left_out.LeftOut.{LeftOut}
-use Rattle.bgp_explain.specs.LeftOut.{IsLeftOutBy, JudgesWithout, LeavesOut}
+use Rattle.bgp_explain.specs.LeftOut.{IsLeftOutBy, JudgesWithout}
 use Rattle.bgp_explain.specs.Opened.{IsOfConfederation, confederation_in, fault_told, left_out_in}
 use Rattle.bgp_explain.specs.Reason.{AreSummed, HasReason, IsNext, IsReasonAt}
 use Rattle.bgp_explain.specs.Text.{CanBePutOf, IsExplainedText, IsImpossibleLine, IsMoreBy, IsMoreOf, IsReasonText, IsWhy, line_at, no_memory_line}
@@ -78,7 +80,7 @@ module _ {X : Type 0} (config : Config) (style : Style) (session : Session) (pla
   }
 
   tells_not : (before records : List ShownRecord) (reason : Reason X) (o : Option (Impossible X)) (first rest : List ℕ)
-      → IsNext config before o records → IsImpossibleLine style session places o first → IsReasonAt config before reason
+      → IsNext config before o records → IsImpossibleLine style session places reason.link o first → IsReasonAt config before reason
       → IsWhy config style places reason.told reason.link reason.left_out reason.last_message.items reason.possible (next_in o) rest
       → TellsWhyNot config style session places before records (first ++ rest)
   tells_not before records reason None first rest next line at why = absurd next
@@ -86,7 +88,7 @@ module _ {X : Type 0} (config : Config) (style : Style) (session : Session) (pla
     shown = shown_by i.«record»;
     next = next.1;
     line = line.0;
-    is_line = line.1;
+    is_line = subst (λ (l : Option Link). IsRecordText session (form_on l (shown_by i.«record»)) (shown_by i.«record») line.0) at.link line.1;
     rest = rest;
     why = tells_why before reason (Some (length before + 1, shown_by i.«record»)) rest at
         (subst (λ (n : ℕ). IsWhy config style places reason.told reason.link reason.left_out reason.last_message.items reason.possible (Some (n, shown_by i.«record»)) rest) next.0.number why);
@@ -104,7 +106,7 @@ module _ {X : Type 0} (config : Config) (style : Style) (session : Session) (pla
   pub why_unfinished : (Y : Type 0) (records : List ShownRecord) (reason : Reason X) (more : List ℕ) → HasReason {X = Y} config records Unfinished (Some reason)
       → IsReasonText config style session places reason more → TellsWhy config style places records None more
   why_unfinished Y records reason more has is =
-      let none : is.first ≡ [] = subst (λ (o : Option (Impossible X)). IsImpossibleLine style session places o is.first) has.1 is.impossible in
+      let none : is.first ≡ [] = subst (λ (o : Option (Impossible X)). IsImpossibleLine style session places reason.link o is.first) has.1 is.impossible in
       let why = subst (λ (o : Option (Impossible X)). IsWhy config style places reason.told reason.link reason.left_out reason.last_message.items reason.possible (next_in o) is.rest) has.1 is.why in
       let whole = is.whole ∙ ap (λ (f : List ℕ). f ++ is.rest) none in
       subst (λ (t : List ℕ). TellsWhy config style places records None t) (sym whole) (tells_why records reason None is.rest has.0 why)

@@ -12,6 +12,7 @@ use Rattle.bgp_reason.specs.Possible.{ArePossible}
 use Rattle.bgp_reason.specs.Sending.{sending_link}
 use Rattle.bgp_reason.specs.Told.{told, last_message}
 use Rattle.bgp_reason_text.specs.declared.style.Style.{Style}
+use Rattle.bgp_reason_text.specs.Record.{form_on}
 use Rattle.bgp_reason_text.specs.Style.{plain}
 use Rattle.bgp_text.specs.Capture.{IsRecordText}
 use Rattle.bgp_tool.specs.Answer.{IsWritten}
@@ -40,14 +41,14 @@ pub record TellsWhy (config : Config) (style : Style) (places : ℕ → Place)
   pub why : IsWhy config style places (told records) (sending_link config records) left_out
       (last_message records) possible next text
 
--- the line of the record after these, as of a capture of this session, and then the lines on those
--- before it
+-- the line of the record after these, as of a capture of this session, where routes are spelled by
+-- the link that these settle, if they do; and then the lines on those before it
 pub record TellsWhyNot (config : Config) (style : Style) (session : Session)
     (places : ℕ → Place) (before records : List ShownRecord) (text : List ℕ) : Type 0 where
   pub shown : ShownRecord
   pub next : records ≡ before ++ shown ∷ []
   pub line : List ℕ
-  pub is_line : IsRecordText session shown line
+  pub is_line : IsRecordText session (form_on (sending_link config before) shown) shown line
   pub rest : List ℕ
   pub why : TellsWhy config style places before (Some (length before + 1, shown)) rest
   pub whole : text ≡ line_at style (places (length before + 1)) line ++ rest

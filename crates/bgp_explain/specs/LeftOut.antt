@@ -1,33 +1,33 @@
 -- What both OPENs of a session offer about routes, and judging leaves out.
-use Rattle.std.specs.Prelude.{◌≡◌, ◌≤◌, ◌<◌, ◌++◌, ◌⊎◌, ℕ, false, IsTrue, List, [], ◌∷◌}
+use Rattle.std.specs.Prelude.{◌≡◌, ◌≤◌, ◌<◌, ◌++◌, ◌⊎◌, ℕ, IsTrue, List, [], ◌∷◌}
 use Rattle.std.specs.Prelude.{Option, None, Some}
 use Rattle.bgp_prefix.specs.Shown.{ShownRecord}
 use Rattle.bgp_open.specs.declared.config.Config.{Config}
 use Rattle.bgp_open.specs.declared.route_offer.RouteOffer.{RouteOffer}
 use Rattle.bgp_open.specs.RouteOffer.{nothing}
 use Rattle.bgp_machine.specs.Run.{Begins}
-use Rattle.bgp_parts.specs.BothOffers.{both_have_next_hops, identified_families}
+use Rattle.bgp_parts.specs.BothOffers.{settle_something}
 use Rattle.bgp_parts.specs.Opens.{HasOwnOpen}
 use Rattle.bgp_explain.specs.declared.left_out.LeftOut.{LeftOut}
 use Rattle.bgp_explain.specs.Offers.{IsOfferOf, settling_open}
 
 abbrev pub nothing_left_out : LeftOut
-nothing_left_out = record { add_path = record { v4 = false; v6 = false }; without = None }
+nothing_left_out = record { without = None }
 
--- nothing is configured to be offered, though both OPENs offer IPv6 next hops of IPv4 routes
-abbrev pub LacksNextHops : RouteOffer → RouteOffer → RouteOffer → Type 0
-LacksNextHops configured own peers =
-    (configured ≡ nothing) × IsTrue (both_have_next_hops own peers)
+-- nothing is configured to be offered, though both OPENs settle something: several paths to a prefix,
+-- in one direction at least, or IPv6 next hops of IPv4 routes in both
+abbrev pub LacksOffers : RouteOffer → RouteOffer → RouteOffer → Type 0
+LacksOffers configured own peers =
+    (configured ≡ nothing) × IsTrue (settle_something own peers)
 
 -- then what the own OPEN offers
 abbrev pub IsWithout : RouteOffer → RouteOffer → RouteOffer → Option RouteOffer → Type 0
-IsWithout configured own peers None = ¬ LacksNextHops configured own peers
+IsWithout configured own peers None = ¬ LacksOffers configured own peers
 IsWithout configured own peers (Some offer) =
-    LacksNextHops configured own peers × (offer ≡ own)
+    LacksOffers configured own peers × (offer ≡ own)
 
 -- by what both OPENs offer
 pub record IsLeftOut (config : Config) (own peers : RouteOffer) (left_out : LeftOut) : Type 0 where
-  pub add_path : left_out.add_path ≡ identified_families own peers
   pub without : IsWithout config.parts.offers own peers left_out.without
 
 -- of a session's records: by what the first OPEN offers that was sent, and the one that settles the

@@ -12,13 +12,14 @@ use Rattle.bgp_explain.specs.declared.offers.Offers.{Offers}
 
 -- ---- the OPEN that settles the link
 
--- It does in OpenConfirm and Established. In Idle it is the one that stood before, since the
--- NOTIFICATION that ends a session may be shown after its change of state.
+-- It does in OpenConfirm and Established. In another state it is the one that stood before: the
+-- NOTIFICATION that ends a session may be shown after its change of state, and an answer on records
+-- that go on to another session is about this one, too.
 abbrev pub settling_in : Fsm → Option (List ℕ) → List ℕ → Option (List ℕ)
 settling_in fsms.Idle before octets = before
-settling_in fsms.Connect before octets = None
-settling_in fsms.Active before octets = None
-settling_in fsms.OpenSent before octets = None
+settling_in fsms.Connect before octets = before
+settling_in fsms.Active before octets = before
+settling_in fsms.OpenSent before octets = before
 settling_in fsms.OpenConfirm before octets = Some octets
 settling_in fsms.Established before octets = Some octets
 
@@ -55,9 +56,9 @@ IsOwnOffer records (Some offer) =
 -- by what was offered before and what the message offers that was received last before OpenConfirm
 abbrev pub settling_by : Fsm → RouteOffer → RouteOffer → RouteOffer
 settling_by fsms.Idle before offer = before
-settling_by fsms.Connect before offer = nothing
-settling_by fsms.Active before offer = nothing
-settling_by fsms.OpenSent before offer = nothing
+settling_by fsms.Connect before offer = before
+settling_by fsms.Active before offer = before
+settling_by fsms.OpenSent before offer = before
 settling_by fsms.OpenConfirm before offer = offer
 settling_by fsms.Established before offer = offer
 

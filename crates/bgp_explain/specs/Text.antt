@@ -15,8 +15,8 @@ use Rattle.bgp_reason_text.specs.declared.notes.Notes.{Notes}
 use Rattle.bgp_reason_text.specs.Asked.{Asks, last_received_line}
 use Rattle.bgp_reason_text.specs.declared.whole.NotWhole.{NotWhole}
 use Rattle.bgp_reason_text.specs.NotWhole.{IsWhyNotSent, not_whole_line}
-use Rattle.bgp_reason_text.specs.Notes.{AreEndNotes, AreNotes, notes_text, with_offers}
-use Rattle.bgp_reason_text.specs.Record.{record_line, state_line}
+use Rattle.bgp_reason_text.specs.Notes.{AreEndNotes, AreNotes, judged_without, notes_text}
+use Rattle.bgp_reason_text.specs.Record.{form_on, record_line, state_line}
 use Rattle.bgp_reason_text.specs.declared.style.Style.{Style}
 use Rattle.bgp_reason_text.specs.Style.{plain}
 use Rattle.bgp_text.specs.Capture.{IsRecordText}
@@ -80,12 +80,12 @@ AreNotesOn config told link octets possible None notes = AreEndNotes config told
 AreNotesOn config told link octets possible (Some next) notes =
     AreNotes config told link octets possible next.0 next.1 notes
 
--- these, with those on what both OPENs offer
+-- these, with the one that this is judged without what both OPENs offer
 abbrev pub AreNotesOf : Config → Told → Option Link → LeftOut → List ℕ → Possible
     → Option (ℕ × ShownRecord) → Notes → Type 0
 AreNotesOf config told link left_out octets possible next notes =
     (others : Notes) × AreNotesOn config told link octets possible next others
-    × (notes ≡ with_offers left_out.add_path left_out.without others)
+    × (notes ≡ judged_without left_out.without others)
 
 -- what the records tell; the message received last; whether the next record is whole; what may
 -- follow, and what the next record lacks of it; and the notes
@@ -115,19 +115,22 @@ pub record IsWhy (config : Config) (style : Style) (places : ℕ → Place) (tol
 
 -- ---- of a reason
 
--- the line of the first impossible record, where there is one, as of a capture of this session
-abbrev pub IsImpossibleLine : {X : Type 0} → Style → Session → (ℕ → Place)
+-- the line of the first impossible record, where there is one, as of a capture of this session; its
+-- routes are spelled by this link, if one is settled
+abbrev pub IsImpossibleLine : {X : Type 0} → Style → Session → (ℕ → Place) → Option Link
     → Option (Impossible X) → List ℕ → Type 0
-IsImpossibleLine style session places None text = text ≡ []
-IsImpossibleLine style session places (Some impossible) text =
-    (line : List ℕ) × IsRecordText session (shown_by impossible.«record») line
+IsImpossibleLine style session places link None text = text ≡ []
+IsImpossibleLine style session places link (Some impossible) text =
+    (line : List ℕ)
+    × IsRecordText session (form_on link (shown_by impossible.«record»))
+    (shown_by impossible.«record») line
     × (text ≡ line_at style (places impossible.number) line)
 
 pub record IsReasonText {X : Type 0} (config : Config) (style : Style) (session : Session)
     (places : ℕ → Place) (reason : Reason X) (text : List ℕ) : Type 0 where
   pub first : List ℕ
   pub rest : List ℕ
-  pub impossible : IsImpossibleLine style session places reason.impossible first
+  pub impossible : IsImpossibleLine style session places reason.link reason.impossible first
   pub why : IsWhy config style places reason.told reason.link reason.left_out
       reason.last_message.items reason.possible (next_in reason.impossible) rest
   pub whole : text ≡ first ++ rest

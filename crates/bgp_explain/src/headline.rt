@@ -51,9 +51,9 @@ pub(crate) fn write_explained<W: Sink, A: Allocator + Copy>(
 ///   tell; the message received last, and what it asks for; each kind of record that could have
 ///   stood in its place, and no other, with what the record lacks of it; and each note whose
 ///   condition holds. What both OPENs offer is told of the first OPEN that was sent and of the one
-///   that settles the link: that they offer ADD-PATH for a family, which isn't judged, and that
-///   nothing is configured to be offered, though both offer IPv6 next hops of IPv4 routes. The other
-///   conditions stand in `specs/Notes` of bgp_reason_text.
+///   that settles the link: that nothing is configured to be offered, though both offer several
+///   paths of a family or IPv6 next hops of IPv4 routes. The other conditions stand in `specs/Notes`
+///   of bgp_reason_text.
 /// * after an unfinished the same, of what may follow all records.
 /// * after a yes how many records there are, and of which kinds; and how many were skipped, since
 ///   they are of another session, with the addresses of the first of these, or of another kind.

@@ -1,36 +1,33 @@
 //! What both OPENs of a session offer about routes, and judging leaves out.
 
 ghost use Rattle.std.specs.Prelude.{◌≡◌, ◌↔◌, IsTrue};
-ghost use Rattle.bgp_explain.specs.LeftOut.{IsLeftOut, IsWithout, LacksNextHops};
-ghost use Rattle.bgp_explain.specs.LeftOut.{nothing_left_out};
+ghost use Rattle.bgp_explain.specs.LeftOut.{IsLeftOut, IsWithout, LacksOffers, nothing_left_out};
 
-use bgp_open::{Config, Families, RouteOffer};
-use bgp_parts::{both_have_next_hops, identified_families};
+use bgp_open::{Config, RouteOffer};
+use bgp_parts::settle_something;
 
 /// What both OPENs of a session offer about routes, and judging leaves out. So the answer may be one
 /// that such a session can't have given.
 #[derive(Clone, Copy, Debug, PartialEq, Eq)]
 pub struct LeftOut {
-    /// The families whose prefixes have path identifiers in one direction at least (ADD-PATH, RFC
-    /// 7911): these aren't read.
-    pub add_path: Families,
-    /// What the OPEN offers that was sent, where nothing is configured to be offered, though both
-    /// OPENs offer IPv6 next hops of IPv4 routes (RFC 8950).
+    /// What the OPEN offers that was sent, if nothing is configured to be offered, though both
+    /// OPENs settle several paths to a prefix (ADD-PATH, RFC 7911) or IPv6 next hops of IPv4 routes
+    /// (RFC 8950).
     pub without: Option<RouteOffer>,
 }
 
-/// Whether nothing is configured to be offered, though both OPENs offer IPv6 next hops.
-fn lacks_next_hops(config: &Config, own: RouteOffer, peers: RouteOffer) -> bool
-    ensures { IsTrue result ↔ LacksNextHops config.now.parts.offers own peers }
+/// Checks whether nothing is configured to be offered, though both OPENs settle something.
+fn lacks_offers(config: &Config, own: RouteOffer, peers: RouteOffer) -> bool
+    ensures { IsTrue result ↔ LacksOffers config.now.parts.offers own peers }
 {
-    config.parts.offers.is_nothing() && both_have_next_hops(own, peers)
+    config.parts.offers.is_nothing() && settle_something(own, peers)
 }
 
 /// What the own OPEN offers, where it is so.
 fn without(config: &Config, own: RouteOffer, peers: RouteOffer) -> Option<RouteOffer>
     ensures { IsWithout config.now.parts.offers own peers result }
 {
-    if lacks_next_hops(config, own, peers) {
+    if lacks_offers(config, own, peers) {
         return Some(own);
     }
     None
@@ -41,13 +38,7 @@ impl LeftOut {
     pub fn nothing() -> LeftOut
         ensures { result ≡ nothing_left_out }
     {
-        LeftOut {
-            add_path: Families {
-                v4: false,
-                v6: false,
-            },
-            without: None,
-        }
+        LeftOut { without: None }
     }
 
     /// What is left out of what both OPENs offer.
@@ -55,7 +46,6 @@ impl LeftOut {
         ensures { IsLeftOut config.now own peers result }
     {
         LeftOut {
-            add_path: identified_families(own, peers),
             without: without(config, own, peers),
         }
     }

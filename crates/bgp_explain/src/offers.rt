@@ -88,8 +88,7 @@ fn settling_in(state: Fsm, before: RouteOffer, peers: RouteOffer) -> RouteOffer
     ensures { result ≡ settling_by state before peers }
 {
     match state {
-        Fsm::Idle => before,
-        Fsm::Connect | Fsm::Active | Fsm::OpenSent => RouteOffer::NOTHING,
+        Fsm::Idle | Fsm::Connect | Fsm::Active | Fsm::OpenSent => before,
         Fsm::OpenConfirm | Fsm::Established => peers,
     }
 }

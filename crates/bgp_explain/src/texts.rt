@@ -15,7 +15,6 @@ ghost use Rattle.bgp_explain.specs.Updates.{asking_of, update_line};
 
 use crate::details::Details;
 use crate::explained::{Explained, Impossible, Reason, Totals};
-use crate::left_out::LeftOut;
 use crate::places::{Place, Places, place_of};
 use crate::tally::put_yes_lines;
 use bgp_judge::Verdict;
@@ -91,8 +90,7 @@ fn notes_of<A: Allocator + Copy>(config: &Config, reason: &Reason<A>) -> Notes
     ensures { AreNotesOf config.now reason.now.told reason.now.link reason.now.left_out
         reason.now.last_message.items reason.now.possible (next_in reason.now.impossible) result }
 {
-    let LeftOut { add_path, without } = reason.left_out;
-    notes_on(config, reason).with_offers(add_path, without)
+    notes_on(config, reason).judged_without(reason.left_out.without)
 }
 
 /// The line of an UPDATE that was received last, with all that may become of it.
@@ -181,7 +179,7 @@ fn put_why<W: Sink, A: Allocator>(
 /// with what the impossible one lacks of it; and notes.
 ///
 /// The lines are in this style and name the records by where they stand, and the impossible one's
-/// is put as of a capture of this session.
+/// is put as of a capture of this session. If a link is settled, its routes are put by it.
 pub fn put_reason<W: Sink, A: Allocator + Copy>(
     lines: &mut Lines<'_, W>,
     config: &Config,
@@ -199,7 +197,15 @@ pub fn put_reason<W: Sink, A: Allocator + Copy>(
     if let Some(impossible) = &reason.impossible {
         let shown = impossible.record.as_record();
         let place = place_of(places, impossible.number);
-        put_record_line(lines, style, place.number, place.packet, session, &shown);
+        put_record_line(
+            lines,
+            style,
+            place.number,
+            place.packet,
+            session,
+            reason.link,
+            &shown,
+        );
     }
     let received = received_of(config, places, reason);
     let unwhole = unwhole_of(reason);

@@ -28,14 +28,14 @@ use Rattle.bgp_update.specs.Clean.{IsClean, IsCleanBy, most_octets}
 use Rattle.bgp_update.specs.Found.{found_by_form, mp_found, side_of, is_class}
 use Rattle.bgp_update.specs.Mp.{Mp, Absent, Cut, Other, Unused, Broken, Sound, mp_state, in_family, with_contents, has_other_bits}
 use Rattle.bgp_update.specs.MpValue.{Contents, family_in, reach_contents, unreach_contents}
-use Rattle.bgp_update.specs.Prefixes.{prefixes_of}
 use Rattle.bgp_update.specs.Sections.{Sections, IsUpdate}
 use Rattle.bgp_update.specs.WithdrawFaults.{IsEmptyNlri}
 use Rattle.bgp_update.proofs.OneSplit.{one_split}
-use Rattle.bgp_update.proofs.PrefixLists.{no_prefixes}
+use Rattle.bgp_update.specs.Destinations.{is_identified}
+use Rattle.bgp_update.proofs.DestinationLists.{no_destinations}
 use Rattle.bgp_update.proofs.Seen.{single}
 use Rattle.bgp_parts.specs.AttributeFaults.{faults_with, first_faults, fault_if, mp_contents, mp_faults, state_fault, state_in}
-use Rattle.bgp_parts.specs.UpdateParts.{Part, WithdrawnMalformed, NlriMalformed, Missing, BaseNotInUse, part_if, attribute_parts, tail_parts, is_filled, has_prefixes, missing_parts, base_parts, section_parts, AreUpdateParts, CleanLacksNothing}
+use Rattle.bgp_parts.specs.UpdateParts.{Part, WithdrawnMalformed, NlriMalformed, Missing, BaseNotInUse, part_if, attribute_parts, tail_parts, is_filled, base_list, has_destinations, missing_parts, base_parts, section_parts, AreUpdateParts, CleanLacksNothing}
 use Rattle.bgp_parts.specs.declared.attribute.AttributeFault.{AttributeFault}
 use Rattle.bgp_parts.specs.declared.attribute.AttributeFault.TheVariants.{Flags}
 use Rattle.bgp_parts.proofs.FineUpdates.{IsFineMp, IsFine, clean_if_fine, fine_if_clean}
@@ -181,7 +181,7 @@ mp_number t mp = elim (or_cases (type_number t == 14) _ mp) [
 
 record AreFineMp (link : Link) (form : RouteForm) (all : List Attribute) : Type 0 where
   reach : IsFineMp (mp_found link (reach_contents form) types.MpReachNlri all)
-  unreach : IsFineMp (mp_found link unreach_contents types.MpUnreachNlri all)
+  unreach : IsFineMp (mp_found link (unreach_contents form) types.MpUnreachNlri all)
 
 fine_of : (link : Link) (form : RouteForm) (t : AttrType) (all : List Attribute) → is_multiprotocol t ≡ true → AreFineMp link form all
     → IsFineMp (mp_found link (mp_contents form t) t all)
@@ -225,11 +225,11 @@ quiet_tail None e = refl
 quiet_tail (Some tails.ShortHeader) e = absurd cc
 quiet_tail (Some (tails.Overrun kind)) e = absurd cc
 
-pub filled : (family : Family) (field : List ℕ) → is_filled field ≡ true → prefixes_of family field ≢ Some []
-filled family field e none = both (sym e ∙ ap not ((no_prefixes family field (eqb (length field) 0) refl).1 none))
+pub filled : (form : RouteForm) (field : List ℕ) → is_filled field ≡ true → base_list form field ≢ Some []
+filled form field e none = both (sym e ∙ ap not ((no_destinations (is_identified form V4) V4 field (eqb (length field) 0) refl).1 none))
 
-not_filled : (family : Family) (field : List ℕ) → is_filled field ≡ false → prefixes_of family field ≡ Some []
-not_filled family field e = (no_prefixes family field (eqb (length field) 0) refl).0 (not_not (eqb (length field) 0) e)
+not_filled : (form : RouteForm) (field : List ℕ) → is_filled field ≡ false → base_list form field ≡ Some []
+not_filled form field e = (no_destinations (is_identified form V4) V4 field (eqb (length field) 0) refl).0 (not_not (eqb (length field) 0) e)
 
 pub present : (link : Link) (read : Family → List ℕ → Option Contents) (first : Option Attribute) → is_some first ≡ true → mp_state link.families read first ≢ Absent
 present link read None some is = absurd cc
@@ -292,8 +292,8 @@ in_use false false w_is true true sure also e = absurd cc
 in_use false false w_is true false sure also e = absurd cc
 in_use false false w_is false n_is sure also e = inr (refl, refl)
 
-no_prefix : (filled is : Bool) → filled ≡ false → (filled && is) ≡ false
-no_prefix filled is e = rw e refl
+no_destination : (filled is : Bool) → filled ≡ false → (filled && is) ≡ false
+no_destination filled is e = rw e refl
 
 not_unused : (v4 withdrawn nlri : Bool) → (v4 ≡ true) ⊎ ((withdrawn ≡ false) × (nlri ≡ false)) → (not v4 && (withdrawn || nlri)) ≡ false
 not_unused v4 withdrawn nlri used = elim used [ inl v ↦ rw v refl | inr none ↦ rw (none.0, none.1) (unused v4) ]
@@ -304,39 +304,39 @@ not_unused v4 withdrawn nlri used = elim used [ inl v ↦ rw v refl | inr none �
 
 -- ---- all parts of an UPDATE
 
-abbrev pub base_after : Link → Sections → List Part
-base_after link s = missing_parts s.nlri (attributes_of s.attributes) ++ base_parts link s
+abbrev pub base_after : Link → RouteForm → Sections → List Part
+base_after link form s = missing_parts s.nlri (attributes_of s.attributes) ++ base_parts link form s
 
-abbrev pub tail_after : Link → Sections → List Part
-tail_after link s = tail_parts (tail_at (rest_of s.attributes)) ++ base_after link s
+abbrev pub tail_after : Link → RouteForm → Sections → List Part
+tail_after link form s = tail_parts (tail_at (rest_of s.attributes)) ++ base_after link form s
 
 abbrev pub attributes_after : Link → RouteForm → Sections → List Part
-attributes_after link form s = attribute_parts link form [] (attributes_of s.attributes) ++ tail_after link s
+attributes_after link form s = attribute_parts link form [] (attributes_of s.attributes) ++ tail_after link form s
 
 abbrev pub nlri_after : Link → RouteForm → Sections → List Part
-nlri_after link form s = part_if (is_none (prefixes_of V4 s.nlri)) NlriMalformed ++ attributes_after link form s
+nlri_after link form s = part_if (is_none (base_list form s.nlri)) NlriMalformed ++ attributes_after link form s
 
 record HasNoPart (link : Link) (form : RouteForm) (s : Sections) : Type 0 where
-  withdrawn : part_if (is_none (prefixes_of V4 s.withdrawn)) WithdrawnMalformed ≡ []
-  nlri : part_if (is_none (prefixes_of V4 s.nlri)) NlriMalformed ≡ []
+  withdrawn : part_if (is_none (base_list form s.withdrawn)) WithdrawnMalformed ≡ []
+  nlri : part_if (is_none (base_list form s.nlri)) NlriMalformed ≡ []
   attributes : attribute_parts link form [] (attributes_of s.attributes) ≡ []
   tail : tail_parts (tail_at (rest_of s.attributes)) ≡ []
   missing : missing_parts s.nlri (attributes_of s.attributes) ≡ []
-  base : base_parts link s ≡ []
+  base : base_parts link form s ≡ []
 
 each_none : (link : Link) (form : RouteForm) (s : Sections) → section_parts link form s ≡ [] → HasNoPart link form s
 each_none link form s e =
-    let one = back_nil (part_if (is_none (prefixes_of V4 s.withdrawn)) WithdrawnMalformed) (nlri_after link form s) e in
-    let two = back_nil (part_if (is_none (prefixes_of V4 s.nlri)) NlriMalformed) (attributes_after link form s) one in
-    let three = back_nil (attribute_parts link form [] (attributes_of s.attributes)) (tail_after link s) two in
-    let four = back_nil (tail_parts (tail_at (rest_of s.attributes))) (base_after link s) three in
+    let one = back_nil (part_if (is_none (base_list form s.withdrawn)) WithdrawnMalformed) (nlri_after link form s) e in
+    let two = back_nil (part_if (is_none (base_list form s.nlri)) NlriMalformed) (attributes_after link form s) one in
+    let three = back_nil (attribute_parts link form [] (attributes_of s.attributes)) (tail_after link form s) two in
+    let four = back_nil (tail_parts (tail_at (rest_of s.attributes))) (base_after link form s) three in
     record {
-      withdrawn = front_nil (part_if (is_none (prefixes_of V4 s.withdrawn)) WithdrawnMalformed) (nlri_after link form s) e;
-      nlri = front_nil (part_if (is_none (prefixes_of V4 s.nlri)) NlriMalformed) (attributes_after link form s) one;
-      attributes = front_nil (attribute_parts link form [] (attributes_of s.attributes)) (tail_after link s) two;
-      tail = front_nil (tail_parts (tail_at (rest_of s.attributes))) (base_after link s) three;
-      missing = front_nil (missing_parts s.nlri (attributes_of s.attributes)) (base_parts link s) four;
-      base = back_nil (missing_parts s.nlri (attributes_of s.attributes)) (base_parts link s) four;
+      withdrawn = front_nil (part_if (is_none (base_list form s.withdrawn)) WithdrawnMalformed) (nlri_after link form s) e;
+      nlri = front_nil (part_if (is_none (base_list form s.nlri)) NlriMalformed) (attributes_after link form s) one;
+      attributes = front_nil (attribute_parts link form [] (attributes_of s.attributes)) (tail_after link form s) two;
+      tail = front_nil (tail_parts (tail_at (rest_of s.attributes))) (base_after link form s) three;
+      missing = front_nil (missing_parts s.nlri (attributes_of s.attributes)) (base_parts link form s) four;
+      base = back_nil (missing_parts s.nlri (attributes_of s.attributes)) (base_parts link form s) four;
     }
 
 both_nil : (xs ys : List Part) → xs ≡ [] → ys ≡ [] → xs ++ ys ≡ []
@@ -344,18 +344,18 @@ both_nil xs ys e f = ap (λ (zs : List Part). zs ++ ys) e ∙ f
 
 all_none : (link : Link) (form : RouteForm) (s : Sections) → HasNoPart link form s → section_parts link form s ≡ []
 all_none link form s n =
-    both_nil (part_if (is_none (prefixes_of V4 s.withdrawn)) WithdrawnMalformed) (nlri_after link form s) n.withdrawn
-    (both_nil (part_if (is_none (prefixes_of V4 s.nlri)) NlriMalformed) (attributes_after link form s) n.nlri
-    (both_nil (attribute_parts link form [] (attributes_of s.attributes)) (tail_after link s) n.attributes
-    (both_nil (tail_parts (tail_at (rest_of s.attributes))) (base_after link s) n.tail
-    (both_nil (missing_parts s.nlri (attributes_of s.attributes)) (base_parts link s) n.missing n.base))))
+    both_nil (part_if (is_none (base_list form s.withdrawn)) WithdrawnMalformed) (nlri_after link form s) n.withdrawn
+    (both_nil (part_if (is_none (base_list form s.nlri)) NlriMalformed) (attributes_after link form s) n.nlri
+    (both_nil (attribute_parts link form [] (attributes_of s.attributes)) (tail_after link form s) n.attributes
+    (both_nil (tail_parts (tail_at (rest_of s.attributes))) (base_after link form s) n.tail
+    (both_nil (missing_parts s.nlri (attributes_of s.attributes)) (base_parts link form s) n.missing n.base))))
 
 pub announced : (link : Link) (form : RouteForm) (s : Sections) → (¬ IsEmptyNlri (found_by_form link form s)) ⊎ ((found_by_form link form s).reach.state ≢ Absent)
     → (is_filled s.nlri ≡ true) ⊎ (is_some (first_by_type (attributes_of s.attributes) types.MpReachNlri) ≡ true)
 announced link form s why = elim why [
   | inl nlri ↦ elim (cases_Bool (is_filled s.nlri)) [
     | inl full ↦ inl full
-    | inr bare ↦ absurd (nlri (not_filled V4 s.nlri bare))
+    | inr bare ↦ absurd (nlri (not_filled form s.nlri bare))
   ]
   | inr reach ↦ elim (cases_Bool (is_some (first_by_type (attributes_of s.attributes) types.MpReachNlri))) [
     | inl full ↦ inr full
@@ -367,19 +367,19 @@ pub why_announced : (link : Link) (form : RouteForm) (s : Sections)
     → (is_filled s.nlri ≡ true) ⊎ (is_some (first_by_type (attributes_of s.attributes) types.MpReachNlri) ≡ true)
     → (¬ IsEmptyNlri (found_by_form link form s)) ⊎ ((found_by_form link form s).reach.state ≢ Absent)
 why_announced link form s announces = elim announces [
-  | inl nlri ↦ inl (filled V4 s.nlri nlri)
+  | inl nlri ↦ inl (filled form s.nlri nlri)
   | inr reach ↦ inr (present link (reach_contents form) (first_by_type (attributes_of s.attributes) types.MpReachNlri) reach)
 ]
 
 pub not_empty : (s : Sections) (link : Link) (form : RouteForm) → (¬ IsEmptyNlri (found_by_form link form s)) → is_filled s.nlri ≡ true
 not_empty s link form nlri = elim (cases_Bool (is_filled s.nlri)) [
   | inl full ↦ full
-  | inr bare ↦ absurd (nlri (not_filled V4 s.nlri bare))
+  | inr bare ↦ absurd (nlri (not_filled form s.nlri bare))
 ]
 
-is_empty : (family : Family) (field : List ℕ) → prefixes_of family field ≡ Some [] → is_filled field ≡ false
-is_empty family field none = elim (cases_Bool (is_filled field)) [
-  | inl full ↦ absurd (filled family field full none)
+is_empty : (form : RouteForm) (field : List ℕ) → base_list form field ≡ Some [] → is_filled field ≡ false
+is_empty form field none = elim (cases_Bool (is_filled field)) [
+  | inl full ↦ absurd (filled form field full none)
   | inr bare ↦ bare
 ]
 
@@ -429,8 +429,8 @@ clean_if_no_parts link form s n =
     let quiet = fine_if_quiet link form attributes n.attributes in
     let are = none_missing s n.missing in
     let fine : IsFine link (found_by_form link form s) = record {
-      withdrawn = not_not (is_some (prefixes_of V4 s.withdrawn)) (not_part _ WithdrawnMalformed n.withdrawn);
-      nlri = not_not (is_some (prefixes_of V4 s.nlri)) (not_part _ NlriMalformed n.nlri);
+      withdrawn = not_not (is_some (base_list form s.withdrawn)) (not_part _ WithdrawnMalformed n.withdrawn);
+      nlri = not_not (is_some (base_list form s.nlri)) (not_part _ NlriMalformed n.nlri);
       reach = fine_mp link form types.MpReachNlri _ (first_of 14 attributes) refl (first_is_fine link form 14 attributes quiet.0);
       unreach = fine_mp link form types.MpUnreachNlri _ (first_of 15 attributes) refl (first_is_fine link form 15 attributes quiet.0);
       reset = no_class link form (λ a. is_class Reset (class_of (side_of link) a)) attributes quiet.0 quiet.1 (λ a c. c.reset);
@@ -443,11 +443,11 @@ clean_if_no_parts link form s n =
         | inr path ↦ lacking _ _ _ are.path path (announced link form s lacks.1)
       ];
       hop = λ lacks. hopless _ _ are.hop lacks.0 (not_empty s link form lacks.1);
-      base = elim (in_use (contains link.families V4) (is_filled s.withdrawn) (is_some (prefixes_of V4 s.withdrawn)) (is_filled s.nlri) (is_some (prefixes_of V4 s.nlri))
-          (not_not (is_some (prefixes_of V4 s.withdrawn)) (not_part _ WithdrawnMalformed n.withdrawn))
-          (not_not (is_some (prefixes_of V4 s.nlri)) (not_part _ NlriMalformed n.nlri)) (not_part _ BaseNotInUse n.base)) [
+      base = elim (in_use (contains link.families V4) (is_filled s.withdrawn) (is_some (base_list form s.withdrawn)) (is_filled s.nlri) (is_some (base_list form s.nlri))
+          (not_not (is_some (base_list form s.withdrawn)) (not_part _ WithdrawnMalformed n.withdrawn))
+          (not_not (is_some (base_list form s.nlri)) (not_part _ NlriMalformed n.nlri)) (not_part _ BaseNotInUse n.base)) [
             | inl used ↦ inl used
-            | inr none ↦ inr (not_filled V4 s.withdrawn none.0, not_filled V4 s.nlri none.1)
+            | inr none ↦ inr (not_filled form s.withdrawn none.0, not_filled form s.nlri none.1)
           ];
     } in
     clean_if_fine link (found_by_form link form s) fine (single 14 attributes quiet.1) (single 15 attributes quiet.1)
@@ -459,7 +459,7 @@ no_parts_if_clean link form s clean =
     let attributes = attributes_of s.attributes in
     let fine = fine_if_clean link (found_by_form link form s) clean
     (no_bits link types.MpReachNlri (reach_contents form) (first_of 14 attributes))
-    (no_bits link types.MpUnreachNlri unreach_contents (first_of 15 attributes)) in
+    (no_bits link types.MpUnreachNlri (unreach_contents form) (first_of 15 attributes)) in
     let firsts_all : firsts attributes ≡ attributes = firsts_are_all attributes fine.no_repeats in
     let side = side_of link in
     record {
@@ -476,13 +476,13 @@ no_parts_if_clean link form s clean =
       missing = not_missing s (record {
         origin = not_lacking _ _ _ (λ none why. fine.path (inl none, why_announced link form s why));
         path = not_lacking _ _ _ (λ none why. fine.path (inr none, why_announced link form s why));
-        hop = not_hopless _ _ (λ none nlri. fine.hop (none, filled V4 s.nlri nlri));
+        hop = not_hopless _ _ (λ none nlri. fine.hop (none, filled form s.nlri nlri));
       });
-      base = no_part _ BaseNotInUse (not_unused (contains link.families V4) (has_prefixes s.withdrawn) (has_prefixes s.nlri) (elim fine.base [
+      base = no_part _ BaseNotInUse (not_unused (contains link.families V4) (has_destinations form s.withdrawn) (has_destinations form s.nlri) (elim fine.base [
         | inl used ↦ inl used
         | inr none ↦ inr (
-          no_prefix (is_filled s.withdrawn) _ (is_empty V4 s.withdrawn none.0),
-          no_prefix (is_filled s.nlri) _ (is_empty V4 s.nlri none.1),
+          no_destination (is_filled s.withdrawn) _ (is_empty form s.withdrawn none.0),
+          no_destination (is_filled s.nlri) _ (is_empty form s.nlri none.1),
         )
       ]));
     }

@@ -3,7 +3,6 @@ use Rattle.std.proofs.Common.{◌≡◌, ◌≢◌, ◌↔◌, ◌⊎◌, ◌==�
 use Rattle.std.specs.List.{list_any}
 use Rattle.std.proofs.lemmas.Bool.{cases_Bool, eq-eqb, eqb-true, eqb-false}
 use Rattle.std.proofs.lemmas.List.Folds.{list_any-append}
-use Rattle.bgp_prefix.specs.declared.family.Family.{Family}
 use Rattle.bgp_prefix.specs.declared.family.Family.TheVariants.{V4}
 use Rattle.bgp_open.specs.declared.link.Link.{Link}
 use Rattle.bgp_open.specs.Families.{contains}
@@ -22,12 +21,11 @@ use Rattle.bgp_attr.proofs.GoodRows.{type_back}
 use Rattle.bgp_update.specs.Found.{found, is_class, is_repeated, side_of}
 use Rattle.bgp_update.specs.Mp.{Mp, Absent, Cut, Other, Unused, Broken, Sound, mp_state, has_other_bits}
 use Rattle.bgp_update.specs.MpFaults.{HasBitsInConflict, IsSound, IsUnused}
-use Rattle.bgp_update.specs.Prefixes.{prefixes_of}
 use Rattle.bgp_update.specs.Sections.{Sections}
 use Rattle.bgp_update.specs.WithdrawFaults.{HasBrokenTail, HasWithdrawFault, IsEmptyNlri, LacksNextHop, LacksOriginOrPath}
 use Rattle.bgp_update.proofs.OneSplit.{one_split}
-use Rattle.bgp_parts.specs.AttributeFaults.{class_fault, fault_if, faults_with, first_faults, is_for_internal_peers, is_for_two_octets, mp_contents, mp_faults, state_fault, state_in, value_fault}
-use Rattle.bgp_parts.specs.UpdateParts.{Part, WithdrawnMalformed, NlriMalformed, Faulty, Missing, BaseNotInUse, attribute_parts, base_parts, has_prefixes, is_filled, missing_parts, part_if, parts_after, section_parts, shown_part, tail_parts}
+use Rattle.bgp_parts.specs.AttributeFaults.{class_fault, fault_if, faults_with, first_faults, is_for_internal_peers, is_for_two_octets, mp_contents, state_fault, state_in, value_fault}
+use Rattle.bgp_parts.specs.UpdateParts.{Part, WithdrawnMalformed, NlriMalformed, Faulty, Missing, BaseNotInUse, attribute_parts, base_list, base_parts, has_destinations, is_filled, missing_parts, part_if, parts_after, section_parts, shown_part, tail_parts}
 use Rattle.bgp_parts.specs.Withdrawal.{PartsTellWithdrawals, fault_withdraws, is_flags, is_mild, is_mild_mp, is_repeat, withdraws}
 use Rattle.bgp_parts.specs.declared.attribute.AttributeFault.{AttributeFault}
 use Rattle.bgp_parts.specs.declared.update.UpdatePart.{UpdatePart}
@@ -439,7 +437,7 @@ of_missing link s = (
       | inl path ↦ let is = lacks_one link s types.AsPath path in inl (inr is.0, is.1)
       | inr hop ↦
           let are = and_true (not (there s types.NextHop)) _ hop in
-          inr (is_not (there s types.NextHop) are.0, filled V4 s.nlri are.1)
+          inr (is_not (there s types.NextHop) are.0, filled link.received s.nlri are.1)
     ]
   ],
   λ is. any_missing link s ∙ elim is [
@@ -464,17 +462,17 @@ any_section : (link : Link) (s : Sections)
     || list_any (withdraws link) (missing_parts s.nlri (attributes_of s.attributes))))
 any_section link s =
     let any = list_any (withdraws link) in
-    list_any-append (withdraws link) (part_if (is_none (prefixes_of V4 s.withdrawn)) WithdrawnMalformed) (nlri_after link link.received s)
-    ∙ ap (λ (b : Bool). b || any (nlri_after link link.received s)) (no_if link (is_none (prefixes_of V4 s.withdrawn)) WithdrawnMalformed refl)
-    ∙ list_any-append (withdraws link) (part_if (is_none (prefixes_of V4 s.nlri)) NlriMalformed) (attributes_after link link.received s)
-    ∙ ap (λ (b : Bool). b || any (attributes_after link link.received s)) (no_if link (is_none (prefixes_of V4 s.nlri)) NlriMalformed refl)
-    ∙ list_any-append (withdraws link) (attribute_parts link link.received [] (attributes_of s.attributes)) (tail_after link s)
+    list_any-append (withdraws link) (part_if (is_none (base_list link.received s.withdrawn)) WithdrawnMalformed) (nlri_after link link.received s)
+    ∙ ap (λ (b : Bool). b || any (nlri_after link link.received s)) (no_if link (is_none (base_list link.received s.withdrawn)) WithdrawnMalformed refl)
+    ∙ list_any-append (withdraws link) (part_if (is_none (base_list link.received s.nlri)) NlriMalformed) (attributes_after link link.received s)
+    ∙ ap (λ (b : Bool). b || any (attributes_after link link.received s)) (no_if link (is_none (base_list link.received s.nlri)) NlriMalformed refl)
+    ∙ list_any-append (withdraws link) (attribute_parts link link.received [] (attributes_of s.attributes)) (tail_after link link.received s)
     ∙ ap (λ (b : Bool). any (attribute_parts link link.received [] (attributes_of s.attributes)) || b)
-    (list_any-append (withdraws link) (tail_parts (tail_at (rest_of s.attributes))) (base_after link s)
+    (list_any-append (withdraws link) (tail_parts (tail_at (rest_of s.attributes))) (base_after link link.received s)
     ∙ ap (λ (b : Bool). any (tail_parts (tail_at (rest_of s.attributes))) || b)
-    (list_any-append (withdraws link) (missing_parts s.nlri (attributes_of s.attributes)) (base_parts link s)
+    (list_any-append (withdraws link) (missing_parts s.nlri (attributes_of s.attributes)) (base_parts link link.received s)
     ∙ ap (λ (b : Bool). any (missing_parts s.nlri (attributes_of s.attributes)) || b)
-    (no_if link (not (contains link.families V4) && (has_prefixes s.withdrawn || has_prefixes s.nlri)) BaseNotInUse refl)
+    (no_if link (not (contains link.families V4) && (has_destinations link.received s.withdrawn || has_destinations link.received s.nlri)) BaseNotInUse refl)
     ∙ or_none (any (missing_parts s.nlri (attributes_of s.attributes)))))
 
 of_section : (link : Link) (s : Sections) → IsTrue (list_any (withdraws link) (section_parts link link.received s)) ↔ HasWithdrawFault (found link s)

@@ -49,7 +49,7 @@ class_fault link (Some t) flags verdict =
 -- how the contents of MP_REACH_NLRI and of MP_UNREACH_NLRI are read, where routes are spelled in
 -- this form
 abbrev pub mp_contents : RouteForm → AttrType → Family → List ℕ → Option Contents
-mp_contents form t = if type_number t == 14 then reach_contents form else unreach_contents
+mp_contents form t = if type_number t == 14 then reach_contents form else unreach_contents form
 
 -- the state of an MP attribute of this type
 abbrev pub state_in : Families → RouteForm → AttrType → Attribute → mp.Mp

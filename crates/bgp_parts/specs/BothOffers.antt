@@ -18,3 +18,9 @@ identified_families own peers =
 abbrev pub both_have_next_hops : RouteOffer → RouteOffer → Bool
 both_have_next_hops own peers =
     (received_form own peers).ipv6_next_hops && (sent_form own peers).ipv6_next_hops
+
+-- they settle one of both
+abbrev pub settle_something : RouteOffer → RouteOffer → Bool
+settle_something own peers =
+    (identified_families own peers).v4
+    || ((identified_families own peers).v6 || both_have_next_hops own peers)

@@ -1,5 +1,5 @@
 -- The parts of an UPDATE on a link, in one form in which its routes may be spelled: all that keeps
--- it from being clean (RFC 4271, 4.3 and 5; RFC 7606, 3; RFC 8950, 4).
+-- it from being clean (RFC 4271, 4.3 and 5; RFC 7606, 3; RFC 7911, 5; RFC 8950, 4).
 use Rattle.std.specs.Prelude.{◌≡◌, ◌≤◌, ◌↔◌, ◌==◌, ◌&&◌, ◌||◌, ◌++◌, ◌⊎◌, ◌∷◌, Bool, not, ℕ}
 use Rattle.std.specs.Prelude.{if◌then◌else◌, List, []}
 use Rattle.std.specs.Prelude.{Option, None, Some, is_some, is_none, length, map}
@@ -16,9 +16,10 @@ use Rattle.bgp_attr.specs.declared.types.AttrType.TheVariants as types
 use Rattle.bgp_attr.specs.Field.{Attribute, attribute_of}
 use Rattle.bgp_attr.specs.First.{first_of, first_by_type}
 use Rattle.bgp_attr.specs.Split.{attributes_of, rest_of, tail_at}
+use Rattle.bgp_update.specs.declared.destination.Destination.{Destination}
 use Rattle.bgp_update.specs.Clean.{IsClean, most_octets}
 use Rattle.bgp_update.specs.Found.{is_repeated}
-use Rattle.bgp_update.specs.Prefixes.{prefixes_of}
+use Rattle.bgp_update.specs.Destinations.{destinations_of, is_identified}
 use Rattle.bgp_update.specs.Sections.{Sections, IsUpdate, IsMalformed}
 use Rattle.bgp_parts.specs.AttributeFaults.{first_faults}
 use Rattle.bgp_parts.specs.declared.attribute.AttributeFault.{AttributeFault}
@@ -29,7 +30,7 @@ use Rattle.bgp_parts.specs.declared.update.UpdatePart.TheVariants as parts
 pub data Part : Type 0 where
   -- the lengths of the fields run over the message
   LengthsRunOver : Part
-  -- the Withdrawn Routes field, or NLRI, isn't a list of IPv4 prefixes
+  -- the Withdrawn Routes field, or NLRI, isn't a list of IPv4 destinations
   WithdrawnMalformed : Part
   NlriMalformed : Part
   -- an attribute has this fault
@@ -39,7 +40,7 @@ pub data Part : Type 0 where
   Overrun : ℕ → Part
   -- a mandatory attribute isn't there
   Missing : AttrType → Part
-  -- IPv4 isn't in use, and there are prefixes of it in one of both fields
+  -- IPv4 isn't in use, and there are destinations of it in one of both fields
   BaseNotInUse : Part
 
 -- what a part that was read tells
@@ -95,25 +96,31 @@ missing_parts nlri attributes =
     ++ (part_if (is_absent attributes types.AsPath && announces) (Missing types.AsPath)
     ++ part_if (is_absent attributes types.NextHop && is_filled nlri) (Missing types.NextHop))
 
--- a field holds IPv4 prefixes: an incorrect one holds none
-abbrev pub has_prefixes : List ℕ → Bool
-has_prefixes field = is_filled field && is_some (prefixes_of V4 field)
+-- the IPv4 destinations of the Withdrawn Routes field or of NLRI, where routes are spelled in this
+-- form: none where the field is incorrect
+abbrev pub base_list : RouteForm → List ℕ → Option (List Destination)
+base_list form field = destinations_of (is_identified form V4) V4 field
 
--- IPv4 isn't in use, and one of both fields holds prefixes of it
-abbrev pub base_parts : Link → Sections → List Part
-base_parts link s =
-    part_if (not (contains link.families V4) && (has_prefixes s.withdrawn || has_prefixes s.nlri))
+-- such a field holds some: an incorrect one holds none
+abbrev pub has_destinations : RouteForm → List ℕ → Bool
+has_destinations form field = is_filled field && is_some (base_list form field)
+
+-- IPv4 isn't in use, and one of both fields holds destinations of it
+abbrev pub base_parts : Link → RouteForm → Sections → List Part
+base_parts link form s =
+    part_if (not (contains link.families V4)
+    && (has_destinations form s.withdrawn || has_destinations form s.nlri))
     BaseNotInUse
 
 -- all parts of an UPDATE with these fields, in the order in which they are told
 abbrev pub section_parts : Link → RouteForm → Sections → List Part
 section_parts link form s =
-    part_if (is_none (prefixes_of V4 s.withdrawn)) WithdrawnMalformed
-    ++ (part_if (is_none (prefixes_of V4 s.nlri)) NlriMalformed
+    part_if (is_none (base_list form s.withdrawn)) WithdrawnMalformed
+    ++ (part_if (is_none (base_list form s.nlri)) NlriMalformed
     ++ (attribute_parts link form [] (attributes_of s.attributes)
     ++ (tail_parts (tail_at (rest_of s.attributes))
     ++ (missing_parts s.nlri (attributes_of s.attributes)
-    ++ base_parts link s))))
+    ++ base_parts link form s))))
 
 -- the parts of octets; where the lengths run over, or they are no UPDATE at all, nothing else
 abbrev pub AreUpdateParts : Link → RouteForm → List ℕ → List Part → Type 0

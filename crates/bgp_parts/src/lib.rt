@@ -25,7 +25,7 @@ mod update;
 mod withdrawal;
 
 pub use attribute::AttributeFault;
-pub use both_offers::{both_have_next_hops, identified_families};
+pub use both_offers::settle_something;
 pub use confederations::{has_confederation, shows_confederation, some_show_confederations};
 pub use laws::{
     clean_lacks_nothing, own_open_lacks_nothing, parts_tell_withdrawals, possible_lacks_nothing,

@@ -3,19 +3,19 @@
 //!
 //! ```text
 //! MP_REACH_NLRI    AFI 2 | SAFI 1 | next-hop length 1 | next hop | reserved 1 | NLRI
-//! MP_UNREACH_NLRI  AFI 2 | SAFI 1 | withdrawn prefixes
+//! MP_UNREACH_NLRI  AFI 2 | SAFI 1 | withdrawn destinations
 //! ```
 
 ghost use Rattle.std.specs.Prelude.{◌≡◌, ◌≤◌, is_some, length};
 ghost use Rattle.bgp_update.specs.MpValue.{family_in, ipv6_hop_in, next_hop_in};
 ghost use Rattle.bgp_update.specs.MpValue.{reach_contents, unreach_contents};
-ghost use Rattle.bgp_update.specs.Prefixes.{prefixes_of};
+ghost use Rattle.bgp_update.specs.Destinations.{destinations_of, is_identified};
 ghost use Rattle.bgp_parts.specs.AttributeFaults.{mp_contents};
 
 use bgp_attr::AttrType;
 use bgp_open::RouteForm;
 use bgp_prefix::Family;
-use bgp_update::Prefixes;
+use bgp_update::Destinations;
 use byteorder::{BigEndian, ByteOrder};
 
 /// The Subsequent Address Family Identifier of unicast.
@@ -53,7 +53,7 @@ pub(crate) fn has_contents(
     if attr_type.row().number == MP_REACH_NLRI {
         is_reach(form, family, value)
     } else {
-        is_unreach(family, value)
+        is_unreach(form, family, value)
     }
 }
 
@@ -73,15 +73,15 @@ fn is_reach(form: RouteForm, family: Family, value: &[u8]) -> bool
     if !is_next_hop(form.ipv6_next_hops, family, hop) {
         return false;
     }
-    are_prefixes(family, rest.split_at(1).1)
+    are_destinations(form, family, rest.split_at(1).1)
 }
 
 /// Whether it is right for MP_UNREACH_NLRI.
-fn is_unreach(family: Family, value: &[u8]) -> bool
+fn is_unreach(form: RouteForm, family: Family, value: &[u8]) -> bool
     requires { 3 ≤ length value.now }
-    ensures { result ≡ is_some (unreach_contents family value.now) }
+    ensures { result ≡ is_some (unreach_contents form family value.now) }
 {
-    are_prefixes(family, value.split_at(3).1)
+    are_destinations(form, family, value.split_at(3).1)
 }
 
 /// Whether an IPv6 next hop has so many octets (RFC 2545, 3).
@@ -102,9 +102,10 @@ fn is_next_hop(ipv6_next_hops: bool, family: Family, octets: &[u8]) -> bool
     }
 }
 
-/// Whether a field is a list of prefixes of the family.
-pub(crate) fn are_prefixes(family: Family, octets: &[u8]) -> bool
-    ensures { result ≡ is_some (prefixes_of family octets.now) }
+/// Checks whether a field is a list of destinations of the family, where routes are spelled in this
+/// form.
+pub(crate) fn are_destinations(form: RouteForm, family: Family, field: &[u8]) -> bool
+    ensures { result ≡ is_some (destinations_of (is_identified form family) family field.now) }
 {
-    Prefixes::new(family, octets).is_some()
+    Destinations::new(form, family, field).is_some()
 }

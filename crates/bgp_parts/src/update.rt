@@ -7,11 +7,11 @@ ghost use Rattle.bgp_attr.specs.Split.{attributes_of, rest_of, tail_at};
 ghost use Rattle.bgp_update.specs.Fields.{sections_of};
 ghost use Rattle.bgp_parts.specs.AttributeFaults.{first_faults, mp_faults};
 ghost use Rattle.bgp_parts.specs.UpdateParts.{AreUpdateParts, Faulty, attribute_parts, base_parts};
-ghost use Rattle.bgp_parts.specs.UpdateParts.{has_prefixes, is_absent, missing_parts, part_if};
-ghost use Rattle.bgp_parts.specs.UpdateParts.{section_parts, shown_part, tail_parts};
+ghost use Rattle.bgp_parts.specs.UpdateParts.{has_destinations, is_absent, missing_parts};
+ghost use Rattle.bgp_parts.specs.UpdateParts.{part_if, section_parts, shown_part, tail_parts};
 
 use crate::attribute::{AttributeFault, class_fault, state_fault};
-use crate::multiprotocol::are_prefixes;
+use crate::multiprotocol::are_destinations;
 use bgp_attr::{Attr, AttrType, AttrVerdict, Attrs, Tail, class, first_of};
 use bgp_open::{Link, RouteForm};
 use bgp_prefix::Family;
@@ -23,9 +23,9 @@ use std::alloc::{AllocError, Allocator};
 pub enum UpdatePart<'a> {
     /// The lengths of its fields run over the message; then nothing else is told.
     LengthsRunOver,
-    /// The Withdrawn Routes field isn't a list of IPv4 prefixes.
+    /// The Withdrawn Routes field isn't a list of IPv4 destinations.
     WithdrawnMalformed,
-    /// The NLRI field isn't a list of IPv4 prefixes.
+    /// The NLRI field isn't a list of IPv4 destinations.
     NlriMalformed,
     /// An attribute, and what is wrong with it.
     Faulty(Attr<'a>, AttributeFault),
@@ -35,7 +35,7 @@ pub enum UpdatePart<'a> {
     Overrun(u8),
     /// ORIGIN, AS_PATH or NEXT_HOP isn't there, and has to be.
     Missing(AttrType),
-    /// IPv4 isn't in use, and there are prefixes of it in the Withdrawn Routes or the NLRI field.
+    /// IPv4 isn't in use, and the Withdrawn Routes or the NLRI field has destinations of it.
     BaseNotInUse,
 }
 
@@ -199,23 +199,24 @@ fn push_missing<'a, A: Allocator>(
     push_if(out, lacks_hop, UpdatePart::Missing(AttrType::NextHop))
 }
 
-/// Whether a field holds IPv4 prefixes: an incorrect one holds none.
-fn has_prefixes(field: &[u8]) -> bool
-    ensures { result ≡ has_prefixes field.now }
+/// Checks whether a field holds IPv4 destinations: an incorrect one holds none.
+fn has_destinations(form: RouteForm, field: &[u8]) -> bool
+    ensures { result ≡ has_destinations form field.now }
 {
-    !field.is_empty() && are_prefixes(Family::V4, field)
+    !field.is_empty() && are_destinations(form, Family::V4, field)
 }
 
-/// Appends that IPv4 isn't in use, where one of both fields holds prefixes of it.
+/// Appends that IPv4 isn't in use, where one of both fields holds destinations of it.
 fn push_base<'a, A: Allocator>(
     out: &mut Vec<UpdatePart<'a>, A>,
     link: &Link,
+    form: RouteForm,
     fields: &Fields<'a>,
 ) -> Result<(), AllocError>
     ensures { OnOk result (map shown_part out.new.items
-        ≡ map shown_part out.old.items ++ base_parts link.now (sections_of fields.now)) }
+        ≡ map shown_part out.old.items ++ base_parts link.now form (sections_of fields.now)) }
 {
-    let has_some = has_prefixes(fields.withdrawn) || has_prefixes(fields.nlri);
+    let has_some = has_destinations(form, fields.withdrawn) || has_destinations(form, fields.nlri);
     let is_unused = !link.families.contains(Family::V4) && has_some;
     push_if(out, is_unused, UpdatePart::BaseNotInUse)
 }
@@ -230,19 +231,19 @@ fn push_parts<'a, A: Allocator>(
     ensures { OnOk result (map shown_part out.new.items
         ≡ map shown_part out.old.items ++ section_parts link.now form (sections_of fields.now)) }
 {
-    let has_bad_withdrawn = !are_prefixes(Family::V4, fields.withdrawn);
-    let has_bad_nlri = !are_prefixes(Family::V4, fields.nlri);
+    let has_bad_withdrawn = !are_destinations(form, Family::V4, fields.withdrawn);
+    let has_bad_nlri = !are_destinations(form, Family::V4, fields.nlri);
     push_if(out, has_bad_withdrawn, UpdatePart::WithdrawnMalformed)?;
     push_if(out, has_bad_nlri, UpdatePart::NlriMalformed)?;
     push_attribute_parts(out, link, form, fields.attributes)?;
     push_tail(out, fields.attributes)?;
     push_missing(out, fields.nlri, fields.attributes)?;
-    push_base(out, link, fields)
+    push_base(out, link, form, fields)
 }
 
 /// All that keeps an UPDATE on the link from being clean, part by part: its lengths, and then
-/// nothing else; or its lists of prefixes, its attributes in wire order, what follows them,
-/// the mandatory attributes that it lacks, and prefixes of IPv4 that isn't in use. Octets that are
+/// nothing else; or its lists of destinations, its attributes in wire order, what follows them, the
+/// mandatory attributes that it lacks, and destinations of IPv4 that isn't in use. Octets that are
 /// no UPDATE count as one whose lengths run over. Its routes are to be spelled in this form: the
 /// link's `sent` or `received`.
 ///

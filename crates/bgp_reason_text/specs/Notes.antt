@@ -1,22 +1,19 @@
 -- Notes on a reason: facts by which a no is often not the fault of the system that is judged. That
 -- one of them is the cause of a no isn't said.
-use Rattle.std.specs.Prelude.{◌≡◌, ◌≢◌, ◌<◌, ◌↔◌, ◌++◌, ◌||◌, ℕ, Bool, List, [], Option, None}
+use Rattle.std.specs.Prelude.{◌≡◌, ◌≢◌, ◌<◌, ◌↔◌, ◌++◌, ℕ, Bool, List, [], Option, None}
 use Rattle.std.specs.Prelude.{Some, IsTrue, IsFalse, if◌then◌else◌, is_some, length, slice_index}
 use Rattle.std.specs.Prelude.{codes}
 use Rattle.bgp_prefix.specs.Shown.{ShownRecord, Received, Sent, Changed}
 use Rattle.bgp_wire.specs.Message.{IsKeepalive}
 use Rattle.bgp_open.specs.declared.config.Config.{Config}
-use Rattle.bgp_open.specs.declared.families.Families.{Families}
 use Rattle.bgp_open.specs.declared.link.Link.{Link}
 use Rattle.bgp_open.specs.declared.route_offer.RouteOffer.{RouteOffer}
 use Rattle.bgp_open.specs.Notification.{IsNotification}
-use Rattle.bgp_update.specs.Laws.{no_families}
 use Rattle.bgp_machine.specs.declared.fsm.Fsm.{Fsm}
 use Rattle.bgp_machine.specs.declared.fsm.Fsm.TheVariants as states
 use Rattle.bgp_machine.specs.Heard.{Announces}
 use Rattle.bgp_reason.specs.declared.kinds.Possible.{Possible}
 use Rattle.bgp_reason.specs.declared.told.Told.{Told}
-use Rattle.bgp_parts_text.specs.Names.{families_text}
 use Rattle.bgp_parts_text.specs.Offers.{offer_text}
 use Rattle.bgp_reason_text.specs.declared.notes.Notes.{Notes}
 use Rattle.bgp_reason_text.specs.Items.{has_sent}
@@ -98,7 +95,6 @@ pub record AreNotes (config : Config) (told : Told) (link : Option Link) (last :
   pub begins_elsewhere : IsTrue notes.begins_elsewhere ↔ BeginsElsewhere number shown
   pub open_came_first : IsTrue notes.open_came_first
       ↔ CameFirst config told.state (since_idle told last) shown
-  pub add_path : notes.add_path ≡ no_families
   pub without : notes.without ≡ None
   pub extended_parameters : IsTrue notes.extended_parameters
       ↔ IsExtendedOpen config (since_idle told last)
@@ -113,7 +109,6 @@ pub record AreEndNotes (config : Config) (told : Told) (last : List ℕ) (notes 
   where
     pub begins_elsewhere : IsFalse notes.begins_elsewhere
     pub open_came_first : IsFalse notes.open_came_first
-    pub add_path : notes.add_path ≡ no_families
     pub without : notes.without ≡ None
     pub extended_parameters : IsTrue notes.extended_parameters
         ↔ IsExtendedOpen config (since_idle told last)
@@ -121,20 +116,9 @@ pub record AreEndNotes (config : Config) (told : Told) (last : List ℕ) (notes 
     pub may_have_ended : IsFalse notes.may_have_ended
     pub may_be_missing : IsFalse notes.may_be_missing
 
--- the same notes, and those on what both OPENs offer
-abbrev pub with_offers : Families → Option RouteOffer → Notes → Notes
-with_offers add_path without notes =
-    record notes { add_path = add_path; without = without }
-
--- both OPENs offer ADD-PATH (RFC 7911) for these families
-unfoldable pub add_path_said : Families → List ℕ
-add_path_said families =
-    codes "note both OPENs offer ADD-PATH for "
-    ++ (families_text families ++ codes ", which is not judged")
-
-abbrev pub add_path_line : Style → Families → List ℕ
-add_path_line style families =
-    if families.v4 || families.v6 then line style (add_path_said families) None else []
+-- the same notes, and the one that this is judged without what both OPENs offer, if it is
+abbrev pub judged_without : Option RouteOffer → Notes → Notes
+judged_without without notes = record notes { without = without }
 
 -- this is judged without what both OPENs offer; the OPEN that was sent offers this
 unfoldable pub without_said : RouteOffer → List ℕ
@@ -156,7 +140,6 @@ notes_text style notes =
     (codes "note a capture begins in Idle: with change 1 2 or change 1 3")
     ++ (note_line style notes.open_came_first
     (codes "note an OPEN was received before one was sent: DelayOpen, or the order of packets")
-    ++ (add_path_line style notes.add_path
     ++ (without_line style notes.without
     ++ (note_line style notes.extended_parameters
     (codes "note the OPEN received has parameters of RFC 9072, which is not judged")
@@ -165,4 +148,4 @@ notes_text style notes =
     ++ (note_line style notes.may_have_ended
     (codes "note the connection may have ended before what is owed was written")
     ++ note_line style notes.may_be_missing (codes
-    "note a message that was sent may be missing here, or stand later in the capture")))))))
+    "note a message that was sent may be missing here, or stand later in the capture"))))))

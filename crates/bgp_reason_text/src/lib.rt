@@ -5,7 +5,7 @@
 //!
 //! ```text
 //! let style = Style::plain();
-//! put_record_line(&mut lines, &style, number, None, &session, &shown);
+//! put_record_line(&mut lines, &style, number, None, &session, link, &shown);
 //! put_state(&mut lines, &style, told.state, told.told_by);
 //! put_last_received(&mut lines, &style, received, None, &asked);
 //! put_possible(&mut lines, &style, &possible);

@@ -10,28 +10,20 @@ ghost use Rattle.bgp_reason_text.specs.Notes.{BeginsElsewhere, WaitsForAnOpen, I
 ghost use Rattle.bgp_reason_text.specs.Notes.{IsSentKeepalive, HasExtendedParameters};
 ghost use Rattle.bgp_reason_text.specs.Notes.{EndsTheSession, GoesOn, HasNoHold, IsSendOwed};
 ghost use Rattle.bgp_reason_text.specs.Notes.{CameFirst, IsExtendedOpen, since_idle};
-ghost use Rattle.bgp_reason_text.specs.Notes.{AreNotes, AreEndNotes, add_path_line, add_path_said};
-ghost use Rattle.bgp_reason_text.specs.Notes.{note_line, notes_text, with_offers, without_line};
-ghost use Rattle.bgp_reason_text.specs.Notes.{without_said};
+ghost use Rattle.bgp_reason_text.specs.Notes.{AreNotes, AreEndNotes, judged_without, note_line};
+ghost use Rattle.bgp_reason_text.specs.Notes.{notes_text, without_line, without_said};
 
 use crate::items::has_sent;
 use crate::said::Said;
 use crate::style::{Style, put_line};
-use crate::texts::has_some;
 use bgp_machine::{Fsm, received_limit};
-use bgp_open::{Config, Families, Link, RouteOffer};
-use bgp_parts_text::{families_text, put_offer};
+use bgp_open::{Config, Link, RouteOffer};
+use bgp_parts_text::put_offer;
 use bgp_reason::{Possible, Told};
 use bgp_text::Lines;
 use bgp_wire::{HeaderVerdict, MessageType, check_header, header_at, message_body};
 use mrt::{Record, Sink};
 use std::alloc::Global;
-
-/// No family.
-const NO_FAMILY: Families = Families {
-    v4: false,
-    v6: false,
-};
 
 /// Which notes stand after a reason.
 #[derive(Clone, Copy)]
@@ -40,9 +32,6 @@ pub struct Notes {
     pub begins_elsewhere: bool,
     /// An OPEN was received before the local system sent its own, and something is sent now.
     pub open_came_first: bool,
-    /// Both OPENs offer ADD-PATH (RFC 7911) for these families, so that UPDATEs have identifiers of
-    /// paths.
-    pub add_path: Families,
     /// What the OPEN offers that was sent, where this is judged without what both OPENs offer.
     pub without: Option<RouteOffer>,
     /// The OPEN that was received last has parameters of another form (RFC 9072), which is not
@@ -208,7 +197,6 @@ impl Notes {
         Notes {
             begins_elsewhere: begins_elsewhere(number, shown),
             open_came_first: came_first(config, told.state, received, shown),
-            add_path: NO_FAMILY,
             without: None,
             extended_parameters: is_extended_open(config, received),
             keepalive_without_hold: is_sent_keepalive(shown)
@@ -227,7 +215,6 @@ impl Notes {
         Notes {
             begins_elsewhere: false,
             open_came_first: false,
-            add_path: NO_FAMILY,
             without: None,
             extended_parameters: is_extended_open(config, since_idle(told, last)),
             keepalive_without_hold: false,
@@ -236,34 +223,12 @@ impl Notes {
         }
     }
 
-    /// These notes, and those on what both OPENs offer: ADD-PATH for these families, and that this
-    /// is judged without it, with what the OPEN offers that was sent.
-    pub fn with_offers(self, add_path: Families, without: Option<RouteOffer>) -> Notes
-        ensures { result ≡ with_offers add_path without self }
+    /// Returns these notes, and if this is judged without what both OPENs offer, the one with what
+    /// the OPEN offers that was sent.
+    pub fn judged_without(self, without: Option<RouteOffer>) -> Notes
+        ensures { result ≡ judged_without without self }
     {
-        Notes {
-            add_path,
-            without,
-            ..self
-        }
-    }
-}
-
-/// That both OPENs offer ADD-PATH for these families.
-pub(crate) fn put_add_path_said<W: Sink>(lines: &mut Lines<'_, W>, families: Families)
-    ensures { Writes lines.old lines.new (add_path_said families) }
-{
-    lines.put(b"note both OPENs offer ADD-PATH for ");
-    lines.put(families_text(families).as_bytes());
-    lines.put(b", which is not judged");
-}
-
-/// The line on it, if there is such a family.
-fn put_add_path<W: Sink>(lines: &mut Lines<'_, W>, style: &Style, families: Families)
-    ensures { Writes lines.old lines.new (add_path_line style.now families) }
-{
-    if has_some(families) {
-        put_line::<W, Global>(lines, style, &Said::AddPath(families), None);
+        Notes { without, ..self }
     }
 }
 
@@ -309,7 +274,6 @@ pub fn put_notes<W: Sink>(lines: &mut Lines<'_, W>, style: &Style, notes: &Notes
         notes.open_came_first,
         "note an OPEN was received before one was sent: DelayOpen, or the order of packets",
     );
-    put_add_path(lines, style, notes.add_path);
     put_without(lines, style, notes.without);
     put_note(
         lines,

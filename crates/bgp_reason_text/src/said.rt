@@ -8,13 +8,13 @@ use crate::applying::{AskedUpdate, put_update_said};
 use crate::asked::{Asked, put_received_said};
 use crate::items::Item;
 use crate::lacks::Lacks;
-use crate::notes::{put_add_path_said, put_without_said};
+use crate::notes::put_without_said;
 use crate::possible::put_item_said;
 use crate::record::{put_record_said, put_state_said};
 use crate::style::Style;
 use crate::whole::{NotWhole, put_not_whole_said};
 use bgp_machine::Fsm;
-use bgp_open::{Families, RouteOffer};
+use bgp_open::{RouteForm, RouteOffer};
 use bgp_prefix::Session;
 use bgp_text::Lines;
 use mrt::{Record, Sink};
@@ -23,8 +23,9 @@ use std::alloc::{Allocator, Global};
 /// What a line of a reason says, without the indent, the packet that it names and its end.
 #[derive(Drop)]
 pub(crate) enum Said<'a, A: Allocator = Global> {
-    /// The record with this number, as of a capture of this session.
-    Record(u64, &'a Session, &'a Record<'a>),
+    /// The record with this number, as of a capture of this session, where routes are spelled in
+    /// this form.
+    Record(u64, &'a Session, RouteForm, &'a Record<'a>),
     /// The state, and the number of the record that told it, if one did.
     State(Fsm, Option<u64>),
     /// What the message asks for that was received last, by the record with this number.
@@ -35,8 +36,6 @@ pub(crate) enum Said<'a, A: Allocator = Global> {
     NotWhole(NotWhole),
     /// An item after a word, and what the impossible record lacks of it.
     Item(&'static [u8], Item, &'a Lacks<'a, A>),
-    /// That both OPENs offer ADD-PATH for these families.
-    AddPath(Families),
     /// That this is judged without what both OPENs offer, where the one that was sent offers this.
     Without(RouteOffer),
     /// This note.
@@ -54,7 +53,9 @@ pub(crate) fn put_said<W: Sink, A: Allocator>(
         × Writes lines.old lines.new text }
 {
     match said {
-        Said::Record(number, session, shown) => put_record_said(lines, *number, session, shown),
+        Said::Record(number, session, form, shown) => {
+            put_record_said(lines, *number, session, *form, shown)
+        }
         Said::State(state, told_by) => put_state_said(lines, *state, *told_by),
         Said::Received(number, asked) => {
             put_received_said(lines, style.peer_as_is_free, *number, asked)
@@ -62,7 +63,6 @@ pub(crate) fn put_said<W: Sink, A: Allocator>(
         Said::Update(number, update) => put_update_said(lines, *number, update),
         Said::NotWhole(why) => put_not_whole_said(lines, *why),
         Said::Item(word, item, lacks) => put_item_said(lines, style.own_faults, word, *item, lacks),
-        Said::AddPath(families) => put_add_path_said(lines, *families),
         Said::Without(offer) => put_without_said(lines, *offer),
         Said::Note(note) => lines.put(note.as_bytes()),
     }

@@ -9,6 +9,8 @@ use Rattle.bgp_wire.specs.Framing.{IsFrame}
 use Rattle.bgp_open.proofs.EachOpen.{each_open}
 use Rattle.bgp_wire.proofs.WholeFrame.{least_holds, frame_is_message, frame_is_keepalive, type_of_frame}
 use Rattle.bgp_open.specs.Open.{IsOpen, open_of}
+use Rattle.bgp_open.specs.declared.route_form.RouteForm.{RouteForm}
+use Rattle.bgp_open.specs.RouteForm.{plain_form}
 use Rattle.bgp_update.proofs.OneParts.{each_parts}
 use Rattle.bgp_text.specs.Message.{Message, open_message, malformed_open_message, update_message, malformed_update_message, notification_message, keepalive_message, Says, Say}
 
@@ -23,8 +25,8 @@ body_length : (limit : Limit) (frame : List ℕ) (least : ℕ) → IsFrame limit
     → least - 19 ≤ length (body_of frame)
 body_length limit frame least whole enough = omega (arith, whole.whole, length-drop 19 frame)
 
-pub each_message : (limit : Limit) (frame : List ℕ) → IsFrame limit frame → (message : Message) × Says frame message
-each_message limit frame whole = elim (type_of_frame limit frame whole) [
+pub each_message : (form : RouteForm) (limit : Limit) (frame : List ℕ) → IsFrame limit frame → (message : Message) × Says form frame message
+each_message form limit frame whole = elim (type_of_frame limit frame whole) [
   | inl is ↦
       let fields : 10 ≤ length (body_of frame) = body_length limit frame 29 whole (least_holds limit (header_of frame) 1 whole.sound is) in
       let open_ : IsOpen frame = record { message = frame_is_message limit frame 1 whole is; fields = fields } in
@@ -33,7 +35,7 @@ each_message limit frame whole = elim (type_of_frame limit frame whole) [
         | inr fault ↦ (malformed_open_message fault.0, (is, fault.1))
       ]
   | inr others ↦ elim others [
-    | inl is ↦ elim (each_parts frame (frame_is_message limit frame 2 whole is)) [
+    | inl is ↦ elim (each_parts form frame (frame_is_message limit frame 2 whole is)) [
       | inl parts ↦ (update_message parts.0, (is, parts.1))
       | inr none ↦ (malformed_update_message, (is, none))
     ]
@@ -52,6 +54,6 @@ each_message limit frame whole = elim (type_of_frame limit frame whole) [
 pub each_say : (limit : Limit) (frames : List (List ℕ)) → All (IsFrame limit) frames → (messages : List Message) × Say frames messages
 each_say limit [] each = ([], tt)
 each_say limit (frame ∷ frames) each =
-    let first = each_message limit frame (All-head (IsFrame limit) frame frames each) in
+    let first = each_message plain_form limit frame (All-head (IsFrame limit) frame frames each) in
     let others = each_say limit frames (All-tail (IsFrame limit) frame frames each) in
     (first.0 ∷ others.0, (first.1, others.1))

@@ -9,6 +9,8 @@ use Rattle.bgp_wire.specs.declared.header.HeaderFaults.{HeaderFaults}
 use Rattle.bgp_wire.specs.Header.{header_of, limit_with}
 use Rattle.bgp_wire.specs.Verdict.{AreFaults}
 use Rattle.bgp_wire.specs.Framing.{IsFrame, IsFaulty}
+use Rattle.bgp_open.specs.declared.route_form.RouteForm.{RouteForm}
+use Rattle.bgp_open.specs.RouteForm.{plain_form}
 use Rattle.mrt.specs.Fault.{fault_number, fault_name}
 use Rattle.mrt.specs.declared.fault.FaultKind.{FaultKind}
 use Rattle.bgp_text.specs.Message.{Message, Says}
@@ -18,12 +20,12 @@ use Rattle.bgp_text.specs.Text.{text_of, subcodes_text}
 unfoldable pub faulty_text : HeaderFaults → List ℕ
 faulty_text faults = codes "fault" ++ subcodes_text faults
 
--- What is told of a message's octets, where it may be so long: the text of what they say, or of a
--- header with faults.
-abbrev pub IsMessageText : Limit → List ℕ → List ℕ → Type 0
-IsMessageText limit octets text =
+-- The text of a message's octets, where it may be so long and routes are spelled in this form: of
+-- what they say, or of a header with faults.
+abbrev pub IsMessageText : RouteForm → Limit → List ℕ → List ℕ → Type 0
+IsMessageText form limit octets text =
     (IsFrame limit octets
-    × ((message : Message) × Says octets message × (text ≡ text_of message)))
+    × ((message : Message) × Says form octets message × (text ≡ text_of message)))
     ⊎ (IsFaulty limit octets
     × ((faults : HeaderFaults) × AreFaults limit (header_of octets) faults
     × (text ≡ faulty_text faults)))
@@ -38,22 +40,23 @@ change_text second old new =
     codes "@" ++ (decimal second ++ (codes " change " ++ (decimal old
     ++ (codes " " ++ decimal new))))
 
--- The line of a record of the session without its end. A message that was received may be as long
--- as the local system offers (RFC 8654, 4); one that was sent is told by the same limit, so that a
--- longer one is told as a fault where the peer alone offers longer ones.
-abbrev pub IsRecordText : Session → ShownRecord → List ℕ → Type 0
-IsRecordText session (Received second octets) text =
-    (told : List ℕ) × IsMessageText (limit_with session.extended) octets told
+-- The line of a record of the session without its end, where routes are spelled in this form. A
+-- message that was received may be as long as the local system offers (RFC 8654, 4); one that was
+-- sent is told by the same limit, so that a longer one is told as a fault where the peer alone
+-- offers longer ones.
+abbrev pub IsRecordText : Session → RouteForm → ShownRecord → List ℕ → Type 0
+IsRecordText session form (Received second octets) text =
+    (told : List ℕ) × IsMessageText form (limit_with session.extended) octets told
     × (text ≡ message_text second (codes " received ") told)
-IsRecordText session (Sent second octets) text =
-    (told : List ℕ) × IsMessageText (limit_with session.extended) octets told
+IsRecordText session form (Sent second octets) text =
+    (told : List ℕ) × IsMessageText form (limit_with session.extended) octets told
     × (text ≡ message_text second (codes " sent ") told)
-IsRecordText session (Changed second old new) text = text ≡ change_text second old new
+IsRecordText session form (Changed second old new) text = text ≡ change_text second old new
 
--- the line of a record of the session
+-- the line of a record of the session, by the plain form: what both OPENs settle isn't known here
 abbrev pub IsRecordLine : Session → ShownRecord → List ℕ → Type 0
 IsRecordLine session shown line =
-    (text : List ℕ) × IsRecordText session shown text × (line ≡ text ++ codes "\n")
+    (text : List ℕ) × IsRecordText session plain_form shown text × (line ≡ text ++ codes "\n")
 
 -- the lines of records, one after another
 abbrev pub AreRecordLines : Session → List ShownRecord → List ℕ → Type 0

@@ -1,13 +1,12 @@
--- The text of a route: its prefix, and then what its path attributes say (RFC 4271, 5; 1997; 4360;
--- 4456; 8092), each behind a word.
+-- The text of a route: its destination, and then what its path attributes say (RFC 4271, 5; 1997;
+-- 4360; 4456; 8092), each behind a word.
 use Rattle.std.specs.Prelude.{◌++◌, ℕ, ◌/◌, ◌%◌, List, [], ◌∷◌, if◌then◌else◌, map, codes, Option}
 use Rattle.std.specs.Prelude.{None, Some}
 use Rattle.std.specs.Fmt.{decimal}
 use Rattle.std.specs.List.{flat_map, join_with_byte}
 use Rattle.byteorder.specs.Endian.{big_bytes}
 use Rattle.hex.specs.Hex.{encode_lower}
-use Rattle.bgp_prefix.specs.Prefix.{PrefixBits}
-use Rattle.bgp_prefix.specs.Text.{address_text, prefix_text}
+use Rattle.bgp_prefix.specs.Text.{address_text}
 use Rattle.bgp_prefix.specs.declared.address.Address.TheVariants.{V4, V6}
 use Rattle.bgp_path.specs.AsPath.{PathSegment}
 use Rattle.bgp_path.specs.LargeCommunities.{large_community_text}
@@ -19,6 +18,8 @@ use Rattle.bgp_path.specs.declared.path.NextHop.{NextHop}
 use Rattle.bgp_path.specs.declared.path.NextHop.TheVariants as hops
 use Rattle.bgp_path.specs.declared.path.Origin.{Origin}
 use Rattle.bgp_path.specs.declared.path.Origin.TheVariants.{Igp, Egp, Incomplete}
+use Rattle.bgp_update.specs.declared.destination.Destination.{Destination}
+use Rattle.bgp_text.specs.Text.{destination_text}
 
 -- a next hop: one address, or two with a comma between them
 unfoldable pub next_hop_text : NextHop → List ℕ
@@ -96,9 +97,9 @@ optional_text p =
     ++ (router_text (codes " originator ") p.originator_id
     ++ list_text (codes " clusters") cluster_text p.cluster_list)))))))
 
--- a route: prefix, next hop, AS path, origin, and then what else it has
-unfoldable pub route_text : PrefixBits → PathValue → List ℕ
-route_text prefix p =
-    prefix_text prefix ++ (codes " via " ++ (next_hop_text p.next_hop
+-- a route: destination, next hop, AS path, origin, and then what else it has
+unfoldable pub route_text : Destination → PathValue → List ℕ
+route_text destination p =
+    destination_text destination ++ (codes " via " ++ (next_hop_text p.next_hop
     ++ (codes " path " ++ (as_path_text p.as_path
     ++ (codes " origin " ++ (decimal (origin_number p.origin) ++ optional_text p))))))

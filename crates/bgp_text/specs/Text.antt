@@ -1,11 +1,11 @@
 -- The lines that a stream prints, as octets: one a message, and one for what is no message. A text
 -- is a line without its end, or a part of one.
 use Rattle.std.specs.Prelude.{◌++◌, ℕ, Bool, List, [], ◌∷◌, if◌then◌else◌, is_some, map, codes}
+use Rattle.std.specs.Prelude.{Option, None, Some}
 use Rattle.std.specs.List.{flat_map, join_with_byte}
 use Rattle.std.specs.Fmt.{decimal}
 use Rattle.hex.specs.Hex.{encode_lower}
 use Rattle.bgp_prefix.specs.declared.address.Address.TheVariants.{V4}
-use Rattle.bgp_prefix.specs.Prefix.{PrefixBits}
 use Rattle.bgp_prefix.specs.Text.{address_text, prefix_text}
 use Rattle.bgp_attr.specs.Field.{Attribute}
 use Rattle.bgp_wire.specs.declared.header.HeaderFaults.{HeaderFaults}
@@ -13,6 +13,8 @@ use Rattle.bgp_open.specs.Triplet.{Triplet}
 use Rattle.bgp_open.specs.Open.{OpenFields}
 use Rattle.bgp_open.specs.OpenFault.{open_fault_number}
 use Rattle.bgp_open.specs.declared.fault.OpenFault.{OpenFault}
+use Rattle.bgp_update.specs.declared.destination.Destination.{Destination}
+use Rattle.bgp_update.specs.declared.destination.PathId.{PathId}
 use Rattle.bgp_update.specs.Parts.{UpdateParts}
 use Rattle.bgp_text.specs.Message.{Message, open_message, malformed_open_message, update_message}
 use Rattle.bgp_text.specs.Message.{malformed_update_message, notification_message}
@@ -44,10 +46,21 @@ open_text fields =
 unfoldable pub malformed_open_text : OpenFault → List ℕ
 malformed_open_text fault = codes "open malformed " ++ decimal (open_fault_number fault)
 
--- prefixes with blanks (octet 32) between them; a dash for none
-unfoldable pub prefixes_text : List PrefixBits → List ℕ
-prefixes_text [] = codes "-"
-prefixes_text (prefix ∷ prefixes) = join_with_byte 32 (map prefix_text (prefix ∷ prefixes))
+-- the identifier of a path, in decimal behind `#`; nothing where it has none
+unfoldable pub path_id_text : Option PathId → List ℕ
+path_id_text None = []
+path_id_text (Some id) = codes "#" ++ decimal id.0
+
+-- a destination: its prefix, and which of the paths to it (RFC 7911, 3)
+unfoldable pub destination_text : Destination → List ℕ
+destination_text destination =
+    prefix_text destination.prefix ++ path_id_text destination.path
+
+-- destinations with blanks (octet 32) between them; a dash for none
+unfoldable pub destinations_text : List Destination → List ℕ
+destinations_text [] = codes "-"
+destinations_text (destination ∷ destinations) =
+    join_with_byte 32 (map destination_text (destination ∷ destinations))
 
 -- a path attribute: its flags octet and its type in decimal, and its value
 unfoldable pub attribute_text : Attribute → List ℕ
@@ -59,13 +72,13 @@ unfoldable pub attributes_text : List Attribute → List ℕ
 attributes_text [] = codes "-"
 attributes_text (a ∷ attributes) = join_with_byte 32 (map attribute_text (a ∷ attributes))
 
--- an UPDATE: withdrawn prefixes, path attributes in wire order, and announced prefixes (RFC 4271,
--- 4.3)
+-- an UPDATE: withdrawn destinations, path attributes in wire order, and announced destinations (RFC
+-- 4271, 4.3)
 unfoldable pub update_text : UpdateParts → List ℕ
 update_text parts =
-    codes "update " ++ (prefixes_text parts.withdrawn
+    codes "update " ++ (destinations_text parts.withdrawn
     ++ (codes " | " ++ (attributes_text parts.attributes
-    ++ (codes " | " ++ prefixes_text parts.nlri))))
+    ++ (codes " | " ++ destinations_text parts.nlri))))
 
 -- a NOTIFICATION: its error code and subcode, and its data (RFC 4271, 4.5)
 unfoldable pub notification_text : ℕ → ℕ → List ℕ → List ℕ

@@ -4,6 +4,7 @@ ghost use Rattle.std.specs.Prelude.{◌≡◌};
 ghost use Rattle.bgp_wire.specs.Header.{header_of, type_of};
 ghost use Rattle.bgp_wire.specs.Verdict.{type_code};
 ghost use Rattle.bgp_open.specs.Capability.{capability_of};
+ghost use Rattle.bgp_open.specs.RouteForm.{plain_form};
 ghost use Rattle.bgp_text.specs.Lines.{Writes};
 ghost use Rattle.bgp_text.specs.Message.{Message, Says};
 ghost use Rattle.bgp_text.specs.Text.{line_of, text_of, capability_text, capabilities_text};
@@ -13,7 +14,8 @@ ghost use Rattle.bgp_text.specs.Text.{subcode_text, subcodes_text, fault_line, r
 use crate::lines::Lines;
 use crate::updates::put_update;
 use bgp_open::{
-    Capabilities, Capability, Notification, Open, OpenFault, read_notification, read_open,
+    Capabilities, Capability, Notification, Open, OpenFault, RouteForm, read_notification,
+    read_open,
 };
 use bgp_update::read_parts;
 use bgp_wire::{HeaderFaults, MessageType};
@@ -77,11 +79,17 @@ fn put_notification<W: Sink>(lines: &mut Lines<'_, W>, message: Notification<'_>
     lines.put_hex(message.detail);
 }
 
-/// The line of a frame whose header says this type, without its end.
-pub(crate) fn put_message_text<W: Sink>(lines: &mut Lines<'_, W>, kind: MessageType, frame: &[u8])
+/// Puts the line of a frame whose header says this type, without its end. Its routes are spelled in
+/// this form.
+pub(crate) fn put_message_text<W: Sink>(
+    lines: &mut Lines<'_, W>,
+    form: RouteForm,
+    kind: MessageType,
+    frame: &[u8],
+)
     requires kind { type_code kind ≡ type_of (header_of frame.now) }
-    requires says { (message : Message) × Says frame.now message }
-    ensures { (message : Message) → Says frame.now message
+    requires says { (message : Message) × Says form frame.now message }
+    ensures { (message : Message) → Says form frame.now message
         → Writes lines.old lines.new (text_of message) }
 {
     match kind {
@@ -89,7 +97,7 @@ pub(crate) fn put_message_text<W: Sink>(lines: &mut Lines<'_, W>, kind: MessageT
             Ok(message) => put_open(lines, &message),
             Err(fault) => put_malformed_open(lines, fault),
         },
-        MessageType::Update => match read_parts(frame) {
+        MessageType::Update => match read_parts(form, frame) {
             Some(parts) => put_update(lines, parts),
             None => lines.put(b"update malformed"),
         },
@@ -101,14 +109,14 @@ pub(crate) fn put_message_text<W: Sink>(lines: &mut Lines<'_, W>, kind: MessageT
     }
 }
 
-/// The line of a frame whose header says this type.
+/// Puts the line of a frame whose header says this type. Its routes are spelled in the plain form.
 pub fn put_message<W: Sink>(lines: &mut Lines<'_, W>, kind: MessageType, frame: &[u8])
     requires kind { type_code kind ≡ type_of (header_of frame.now) }
-    requires says { (message : Message) × Says frame.now message }
-    ensures { (message : Message) → Says frame.now message
+    requires says { (message : Message) × Says plain_form frame.now message }
+    ensures { (message : Message) → Says plain_form frame.now message
         → Writes lines.old lines.new (line_of message) }
 {
-    put_message_text(lines, kind, frame);
+    put_message_text(lines, RouteForm::PLAIN, kind, frame);
     lines.put(b"\n");
 }
 

@@ -11,6 +11,7 @@ ghost use Rattle.bgp_text.specs.Capture.{IsRecordText, IsRecordLine, refused_lin
 
 use crate::lines::Lines;
 use crate::messages::{put_message_text, put_subcodes};
+use bgp_open::RouteForm;
 use bgp_prefix::{Seconds, Session};
 use bgp_wire::{HeaderFaults, HeaderVerdict, Limit, check_header, header_at};
 use mrt::{CaptureFault, Record, Sink};
@@ -23,18 +24,19 @@ fn put_faulty<W: Sink>(lines: &mut Lines<'_, W>, faults: HeaderFaults)
     put_subcodes(lines, faults);
 }
 
-/// The text of a message that a record holds, where it may be so long.
-fn put_octets<W: Sink>(lines: &mut Lines<'_, W>, limit: Limit, octets: &[u8])
+/// Puts the text of a message that a record holds. It may be so long, and its routes are spelled in
+/// this form.
+fn put_octets<W: Sink>(lines: &mut Lines<'_, W>, form: RouteForm, limit: Limit, octets: &[u8])
     requires long { 19 ≤ length octets.now }
     requires whole { ¬ HasOtherLength limit octets.now }
-    ensures { (text : List ℕ) × IsMessageText limit octets.now text
+    ensures { (text : List ℕ) × IsMessageText form limit octets.now text
         × Writes lines.old lines.new text }
 {
     let Some(header) = header_at(octets) else {
         unreachable!();
     };
     match check_header(header, limit) {
-        HeaderVerdict::Whole(_, kind) => put_message_text(lines, kind, octets),
+        HeaderVerdict::Whole(_, kind) => put_message_text(lines, form, kind, octets),
         HeaderVerdict::Faulty(faults) => put_faulty(lines, faults),
     }
 }
@@ -43,19 +45,20 @@ fn put_octets<W: Sink>(lines: &mut Lines<'_, W>, limit: Limit, octets: &[u8])
 fn put_message_of<W: Sink>(
     lines: &mut Lines<'_, W>,
     session: &Session,
+    form: RouteForm,
     second: Seconds,
     went: &str,
     octets: &[u8],
 )
     requires long { 19 ≤ length octets.now }
     requires whole { ¬ HasOtherLength (limit_with session.now.extended) octets.now }
-    ensures { (text : List ℕ) × IsMessageText (limit_with session.now.extended) octets.now text
+    ensures { (text : List ℕ) × IsMessageText form (limit_with session.now.extended) octets.now text
         × Writes lines.old lines.new (message_text second went.now text) }
 {
     lines.put(b"@");
     lines.put_decimal(second);
     lines.put(went.as_bytes());
-    put_octets(lines, Limit::with_extended(session.extended), octets);
+    put_octets(lines, form, Limit::with_extended(session.extended), octets);
 }
 
 /// The text of a change of state.
@@ -70,29 +73,37 @@ fn put_change<W: Sink>(lines: &mut Lines<'_, W>, second: Seconds, old: u16, new:
     lines.put_decimal(new);
 }
 
-/// The line of a record that a capture of the session may have, without its end, so that more may
-/// be put after it.
-pub fn put_record_text<W: Sink>(lines: &mut Lines<'_, W>, session: &Session, shown: &Record<'_>)
+/// Puts the line of a record that a capture of the session may have, without its end, so that more
+/// may be put after it. Its routes are spelled in this form.
+pub fn put_record_text<W: Sink>(
+    lines: &mut Lines<'_, W>,
+    session: &Session,
+    form: RouteForm,
+    shown: &Record<'_>,
+)
     requires { (last : Option ℕ) × IsAllowed session.now last (shown_of shown.now) }
-    ensures { (text : List ℕ) × IsRecordText session.now (shown_of shown.now) text
+    ensures { (text : List ℕ) × IsRecordText session.now form (shown_of shown.now) text
         × Writes lines.old lines.new text }
 {
     match shown {
         Record::In(second, octets) => {
-            put_message_of(lines, session, *second, " received ", octets)
+            put_message_of(lines, session, form, *second, " received ", octets)
         }
-        Record::Out(second, octets) => put_message_of(lines, session, *second, " sent ", octets),
+        Record::Out(second, octets) => {
+            put_message_of(lines, session, form, *second, " sent ", octets)
+        }
         Record::Change(second, old, new) => put_change(lines, *second, *old, *new),
     }
 }
 
-/// The line of a record that a capture of the session may have.
+/// Puts the line of a record that a capture of the session may have. Its routes are spelled in the
+/// plain form.
 pub fn put_record<W: Sink>(lines: &mut Lines<'_, W>, session: &Session, shown: &Record<'_>)
     requires { (last : Option ℕ) × IsAllowed session.now last (shown_of shown.now) }
     ensures { (line : List ℕ) × IsRecordLine session.now (shown_of shown.now) line
         × Writes lines.old lines.new line }
 {
-    put_record_text(lines, session, shown);
+    put_record_text(lines, session, RouteForm::PLAIN, shown);
     lines.put(b"\n");
 }
 

@@ -1,4 +1,4 @@
-//! The text of a route (RFC 4271, 1.1): its prefix and its path attributes.
+//! The text of a route (RFC 4271, 1.1): its destination and its path attributes.
 
 ghost use Rattle.std.specs.Prelude.{◌≡◌, ◌<◌, [], if◌then◌else◌, codes, OnOk, OnErr};
 ghost use Rattle.mrt.specs.Sink.{TakesBeginning};
@@ -10,10 +10,12 @@ ghost use Rattle.bgp_text.specs.RouteText.{aggregator_text, list_text, community
 ghost use Rattle.bgp_text.specs.RouteText.{extended_text, cluster_text, optional_text, route_text};
 ghost use Rattle.bgp_path.specs.LargeCommunities.{large_community_text};
 
-use crate::addresses::{put_address, put_prefix};
+use crate::addresses::put_address;
 use crate::lines::Lines;
+use crate::updates::put_destination;
 use bgp_path::{Aggregator, LargeCommunity, NextHop, Origin, Path, Segment, SegmentKind};
-use bgp_prefix::{Address, Prefix};
+use bgp_prefix::Address;
+use bgp_update::Destination;
 use mrt::{Failed, Sink};
 use std::alloc::Allocator;
 
@@ -216,12 +218,16 @@ fn origin_number(origin: Origin) -> u8
     origin as u8
 }
 
-/// A route: its prefix, its next hop, AS path and origin, and then what else it has.
-pub fn put_route<W: Sink, A: Allocator>(lines: &mut Lines<'_, W>, prefix: Prefix, path: &Path<A>)
-    ensures { Writes lines.old lines.new (route_text prefix path.now) }
+/// Puts a route: its destination, its next hop, AS path and origin, and then what else it has.
+pub fn put_route<W: Sink, A: Allocator>(
+    lines: &mut Lines<'_, W>,
+    destination: Destination,
+    path: &Path<A>,
+)
+    ensures { Writes lines.old lines.new (route_text destination path.now) }
 {
     let parts = path.parts();
-    put_prefix(lines, prefix);
+    put_destination(lines, destination);
     lines.put(b" via ");
     put_next_hop(lines, parts.next_hop);
     lines.put(b" path ");
@@ -231,23 +237,23 @@ pub fn put_route<W: Sink, A: Allocator>(lines: &mut Lines<'_, W>, prefix: Prefix
     put_optional(lines, path);
 }
 
-/// Writes the text of a route to a sink: `PREFIX via NEXT HOP path AS .. origin N`, and then what
-/// else its path has. No word stands before it, and no end of line behind.
+/// Writes the text of a route to a sink: `DESTINATION via NEXT HOP path AS .. origin N`, and then
+/// what else its path has. No word stands before it, and no end of line behind.
 ///
 /// It takes no memory. Where the sink fails, a beginning of the text is written.
 pub fn write_route<W: Sink, A: Allocator>(
     sink: &mut W,
-    prefix: Prefix,
+    destination: Destination,
     path: &Path<A>,
 ) -> Result<(), Failed>
     requires { W.failures sink.old < u64.MAX }
-    ensures ok { OnOk result (W.takes sink.old sink.new (route_text prefix path.now)) }
+    ensures ok { OnOk result (W.takes sink.old sink.new (route_text destination path.now)) }
     ensures err { OnErr result
-        (TakesBeginning W.takes sink.old sink.new (route_text prefix path.now)) }
+        (TakesBeginning W.takes sink.old sink.new (route_text destination path.now)) }
     ensures failures { W.failures sink.new ≡ failures_after (W.failures sink.old) result }
 {
     let mut lines = Lines::new(sink);
-    put_route(&mut lines, prefix, path);
+    put_route(&mut lines, destination, path);
     let handed_over = lines.hand_over();
     // No effect: it ends the loan of the sink.
     lines.into_sink();

@@ -3,25 +3,45 @@
 ghost use Rattle.bgp_attr.specs.Field.{attribute_of};
 ghost use Rattle.bgp_update.specs.Parts.{parts_of};
 ghost use Rattle.bgp_text.specs.Lines.{Writes};
-ghost use Rattle.bgp_text.specs.Text.{attribute_text, attributes_text, prefixes_text, update_text};
+ghost use Rattle.bgp_text.specs.Text.{attribute_text, attributes_text, destination_text};
+ghost use Rattle.bgp_text.specs.Text.{destinations_text, path_id_text, update_text};
 
 use crate::addresses::put_prefix;
 use crate::lines::Lines;
 use bgp_attr::{Attr, Attrs};
-use bgp_update::{Parts, Prefixes};
+use bgp_update::{Destination, Destinations, Parts, PathId};
 use mrt::Sink;
 
-/// Prefixes with blanks between them, or a dash for none.
-fn put_prefixes<W: Sink>(lines: &mut Lines<'_, W>, mut prefixes: Prefixes<'_>)
-    ensures { Writes lines.old lines.new (prefixes_text prefixes.entry) }
+/// Puts the identifier of a path behind `#`, or nothing if it has none.
+#[tactic(auto, unfolding(crate::specs::Text::path_id_text))]
+fn put_path_id<W: Sink>(lines: &mut Lines<'_, W>, path: Option<PathId>)
+    ensures { Writes lines.old lines.new (path_id_text path) }
 {
-    let Some(first) = prefixes.next() else {
+    if let Some(PathId(number)) = path {
+        lines.put(b"#");
+        lines.put_decimal(number);
+    }
+}
+
+/// Puts a destination: its prefix, and the identifier of the path if it has one.
+pub(crate) fn put_destination<W: Sink>(lines: &mut Lines<'_, W>, destination: Destination)
+    ensures { Writes lines.old lines.new (destination_text destination) }
+{
+    put_prefix(lines, destination.prefix);
+    put_path_id(lines, destination.path);
+}
+
+/// Puts destinations with blanks between them, or a dash for none.
+fn put_destinations<W: Sink>(lines: &mut Lines<'_, W>, mut destinations: Destinations<'_>)
+    ensures { Writes lines.old lines.new (destinations_text destinations.entry) }
+{
+    let Some(first) = destinations.next() else {
         return lines.put(b"-");
     };
-    put_prefix(lines, first);
-    for prefix in prefixes {
+    put_destination(lines, first);
+    for destination in destinations {
         lines.put(b" ");
-        put_prefix(lines, prefix);
+        put_destination(lines, destination);
     }
 }
 
@@ -55,9 +75,9 @@ pub fn put_update<W: Sink>(lines: &mut Lines<'_, W>, parts: Parts<'_>)
     ensures { Writes lines.old lines.new (update_text (parts_of parts.entry)) }
 {
     lines.put(b"update ");
-    put_prefixes(lines, parts.withdrawn);
+    put_destinations(lines, parts.withdrawn);
     lines.put(b" | ");
     put_attributes(lines, parts.attributes);
     lines.put(b" | ");
-    put_prefixes(lines, parts.nlri);
+    put_destinations(lines, parts.nlri);
 }

@@ -2,6 +2,7 @@ use Rattle.std.proofs.Common.{◌++◌, [], refl, subst, sym}
 use Rattle.bgp_prefix.specs.Shown.{ShownRecord}
 use Rattle.bgp_text.proofs.Pieces.{Joins, and_then}
 use Rattle.bgp_text.specs.Capture.{IsRecordText}
+use Rattle.bgp_reason_text.specs.Record.{form_on}
 use Rattle.bgp_explain.specs.Details.{asking_in, next_in}
 use Rattle.bgp_explain.specs.Lacked.{lacked_of}
 use Rattle.bgp_explain.specs.Places.{places_of}
@@ -41,13 +42,13 @@ returns g c =
       | in-Some w ↦ (
           let (line, is_line, put) = w.put_record_line.ensures in
           let first = line_at style (places w.in-Some.impossible.number) line in
-          let is = subst (λ (r : ShownRecord). IsRecordText session r line) w.as_record-shown.ensures is_line in
+          let is = subst (λ (r : ShownRecord). IsRecordText session (form_on reason.link r) r line) w.as_record-shown.ensures is_line in
           let put = rw w.place_of-place.ensures at put in (
             first ++ rest,
             record {
               first = first;
               rest = rest;
-              impossible = subst (λ o. IsImpossibleLine style session places o first) (sym w.in-Some.is) (line, is, refl);
+              impossible = subst (λ o. IsImpossibleLine style session places reason.link o first) (sym w.in-Some.is) (line, is, refl);
               why = why;
               whole = refl;
             },
@@ -59,7 +60,7 @@ returns g c =
         record {
           first = [];
           rest = rest;
-          impossible = subst (λ o. IsImpossibleLine style session places o []) (sym w.in_default.is) refl;
+          impossible = subst (λ o. IsImpossibleLine style session places reason.link o []) (sym w.in_default.is) refl;
           why = why;
           whole = refl;
         },

@@ -7,4 +7,4 @@ returns c =
     let valid : c.is_next_hop.result ≡ true = search rules in
     is_reached c.args.form c.args.family c.args.value.now c.split_at.result.1.now c.split_at-2.result.0.now c.split_at-2.result.1.now c.split_at-3.result.1.now c.from-hop_len.result _
     c.from-hop_len.ensures c.split_at.ensures.back c.split_at-2.ensures.front c.split_at-2.ensures.back c.split_at-3.ensures.back
-    (omega (arith, c.if-rest-hop_len.false, c.split_at.ensures.back_len)) (sym c.is_next_hop.ensures ∙ valid) c.are_prefixes.ensures
+    (omega (arith, c.if-rest-hop_len.false, c.split_at.ensures.back_len)) (sym c.is_next_hop.ensures ∙ valid) c.are_destinations.ensures

@@ -6,5 +6,5 @@ pub returns : goal.returns
 unfolding notes_text
 returns g c =
     let law : Joins g.W.Sink = record { joined = g.met.W.Sink.joined } in
-    and_then law c.put_note.ensures (and_then law c.put_note-2.ensures (and_then law c.put_add_path.ensures (and_then law c.put_without.ensures (and_then law c.put_note-3.ensures
-    (and_then law c.put_note-4.ensures (and_then law c.put_note-5.ensures c.put_note-6.ensures))))))
+    and_then law c.put_note.ensures (and_then law c.put_note-2.ensures (and_then law c.put_without.ensures (and_then law c.put_note-3.ensures
+    (and_then law c.put_note-4.ensures (and_then law c.put_note-5.ensures c.put_note-6.ensures)))))

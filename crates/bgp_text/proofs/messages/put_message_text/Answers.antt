@@ -8,9 +8,9 @@ use Rattle.bgp_text.proofs.messages.put_message_text.Goals as goal
 pub returns-in-Some : goal.returns-in-Some
 returns-in-Some g c message says =
     let two : type_of (header_of c.args.frame.now) ≡ 2 = sym (rw c.in-Update.is at c.requires.kind) in
-    rw (one_message c.args.frame.now message (update_message (parts_of c.in-Some.parts)) says (two, c.in-Some.ensures.some)) c.put_update.ensures
+    rw (one_message c.args.form c.args.frame.now message (update_message (parts_of c.in-Some.parts)) says (two, c.in-Some.ensures.some)) c.put_update.ensures
 
 pub returns-in-None : goal.returns-in-None
 returns-in-None g c message says =
     let two : type_of (header_of c.args.frame.now) ≡ 2 = sym (rw c.in-Update.is at c.requires.kind) in
-    rw (one_message c.args.frame.now message malformed_update_message says (two, c.in-None.ensures.none)) c.put.ensures
+    rw (one_message c.args.form c.args.frame.now message malformed_update_message says (two, c.in-None.ensures.none)) c.put.ensures

@@ -15,5 +15,5 @@ returns g c =
     let law : Joins g.W.Sink = record { joined = g.met.W.Sink.joined } in
     let (said, is, wrote) = c.put_octets.ensures in
     let text = and_then law c.put.ensures (and_then law c.put_decimal.ensures (and_then law c.put-2.ensures wrote)) in
-    let told = subst (λ (limit : Limit). IsMessageText limit c.args.octets.now said) c.with_extended.ensures is in
+    let told = subst (λ (limit : Limit). IsMessageText c.args.form limit c.args.octets.now said) c.with_extended.ensures is in
     (said, told, rw (c.as_bytes.ensures.value) at text)

@@ -10,13 +10,13 @@ use Rattle.bgp_text.proofs.records.put_octets.Goals as goal
 pub put_message_text-requires-clause-says : goal.put_message_text-requires-clause-says
 put_message_text-requires-clause-says g c =
     let sound = subst (λ (o : List ℕ). IsSound c.args.limit o) c.in-Some.ensures.some c.in-Whole.ensures.verdict.0 in
-    each_message c.args.limit c.args.octets.now (is_frame c.args.limit c.args.octets.now c.requires.long c.requires.whole sound)
+    each_message c.args.form c.args.limit c.args.octets.now (is_frame c.args.limit c.args.octets.now c.requires.long c.requires.whole sound)
 
 pub returns-in-Whole : goal.returns-in-Whole
 returns-in-Whole g c =
     let sound = subst (λ (o : List ℕ). IsSound c.args.limit o) c.in-Some.ensures.some c.in-Whole.ensures.verdict.0 in
     let frame = is_frame c.args.limit c.args.octets.now c.requires.long c.requires.whole sound in
-    let says = each_message c.args.limit c.args.octets.now frame in
+    let says = each_message c.args.form c.args.limit c.args.octets.now frame in
     (text_of says.0, inl (frame, (says.0, says.1, refl)), c.put_message_text.ensures says.0 says.1)
 
 pub returns-in-Faulty : goal.returns-in-Faulty

@@ -10,5 +10,5 @@ returns g c =
     let origin = rw c.origin_number.ensures at c.put_decimal.ensures in
     let optional = rw (← c.parts-parts.ensures.value) at c.put_optional.ensures in
     rw (← c.parts-parts.ensures.value)
-    (and_then law c.put_prefix.ensures (and_then law c.put.ensures (and_then law c.put_next_hop.ensures (and_then law c.put-2.ensures
+    (and_then law c.put_destination.ensures (and_then law c.put.ensures (and_then law c.put_next_hop.ensures (and_then law c.put-2.ensures
     (and_then law as_path (and_then law c.put-3.ensures (and_then law origin optional)))))))

@@ -11,7 +11,7 @@ returns-clause-ok g c =
     let fresh : IsFresh c.new-lines.result = record { empty = c.new-lines.ensures.empty; calm = c.new-lines.ensures.fresh } in
     let wrote = and_nothing law c.put_route.ensures c.hand_over-handed_over.ensures.writes in
     let same = wrote.same_sink ∙ c.new-lines.ensures.same in
-    takes_all c.new-lines.result c.hand_over-handed_over.new.self (route_text c.args.prefix c.args.path.now) fresh wrote
+    takes_all c.new-lines.result c.hand_over-handed_over.new.self (route_text c.args.destination c.args.path.now) fresh wrote
     c.hand_over-handed_over.ensures.none c.args.sink.now _ c.new-lines.ensures.now (search rules) c.hand_over-handed_over.result c.hand_over-handed_over.ensures.ok
 
 pub returns-clause-err : goal.returns-clause-err
@@ -20,7 +20,7 @@ returns-clause-err g c =
     let fresh : IsFresh c.new-lines.result = record { empty = c.new-lines.ensures.empty; calm = c.new-lines.ensures.fresh } in
     let wrote = and_nothing law c.put_route.ensures c.hand_over-handed_over.ensures.writes in
     let same = wrote.same_sink ∙ c.new-lines.ensures.same in
-    takes_beginning c.new-lines.result c.hand_over-handed_over.new.self (route_text c.args.prefix c.args.path.now) fresh wrote
+    takes_beginning c.new-lines.result c.hand_over-handed_over.new.self (route_text c.args.destination c.args.path.now) fresh wrote
     c.hand_over-handed_over.ensures.none c.args.sink.now _ c.new-lines.ensures.now (search rules) c.hand_over-handed_over.result
 
 pub returns-clause-failures : goal.returns-clause-failures
@@ -29,5 +29,5 @@ returns-clause-failures g c =
     let fresh : IsFresh c.new-lines.result = record { empty = c.new-lines.ensures.empty; calm = c.new-lines.ensures.fresh } in
     let wrote = and_nothing law c.put_route.ensures c.hand_over-handed_over.ensures.writes in
     let same = wrote.same_sink ∙ c.new-lines.ensures.same in
-    counts c.new-lines.result c.hand_over-handed_over.new.self (route_text c.args.prefix c.args.path.now) fresh wrote
+    counts c.new-lines.result c.hand_over-handed_over.new.self (route_text c.args.destination c.args.path.now) fresh wrote
     c.hand_over-handed_over.ensures.none c.args.sink.now _ c.new-lines.ensures.now (search rules) c.hand_over-handed_over.result c.hand_over-handed_over.ensures.ok c.hand_over-handed_over.ensures.err

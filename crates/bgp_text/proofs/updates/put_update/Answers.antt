@@ -6,4 +6,4 @@ pub returns : goal.returns
 unfolding update_text
 returns g c =
     let law : Joins g.W.Sink = record { joined = g.met.W.Sink.joined } in
-    and_then law c.put.ensures (and_then law c.put_prefixes.ensures (and_then law c.put-2.ensures (and_then law c.put_attributes.ensures (and_then law c.put-3.ensures c.put_prefixes-2.ensures))))
+    and_then law c.put.ensures (and_then law c.put_destinations.ensures (and_then law c.put-2.ensures (and_then law c.put_attributes.ensures (and_then law c.put-3.ensures c.put_destinations-2.ensures))))
