@@ -8,14 +8,12 @@ use Rattle.std.specs.Option.{option_or}
 use Rattle.bgp_prefix.specs.Shown.{ShownRecord, Sent}
 use Rattle.bgp_open.specs.Offer.{families_of}
 use Rattle.bgp_open.specs.Open.{OpenFields, open_of}
-use Rattle.bgp_open.specs.RouteOffer.{route_offer_in}
 use Rattle.bgp_open.specs.Triplet.{Triplet}
 use Rattle.bgp_check.specs.declared.not_judged.NotJudged.{NotJudged}
 use Rattle.bgp_check.specs.declared.not_judged.NotJudged.TheVariants.{NothingSent}
 use Rattle.bgp_check.specs.declared.not_judged.NotJudged.TheVariants.{ExtendedParameters, NoFamily}
-use Rattle.bgp_check.specs.declared.not_judged.NotJudged.TheVariants.{AddPath, DynamicCapabilities}
+use Rattle.bgp_check.specs.declared.not_judged.NotJudged.TheVariants.{DynamicCapabilities}
 use Rattle.bgp_check.specs.declared.not_judged.NotJudged.TheVariants.{Confederations}
-use Rattle.bgp_parts.specs.BothOffers.{identified_families}
 use Rattle.bgp_parts.specs.Confederations.{SomeShowConfederations}
 use Rattle.bgp_parts.specs.Opens.{HasOwnOpen, HasPeersOpen, HasWholeOpen}
 use Rattle.bgp_check.specs.WidestOf.{AreTold}
@@ -46,10 +44,7 @@ offers_dynamic message = list_any is_dynamic message.capabilities
 -- the one of both OPENs, where their fields can be told
 abbrev pub why_by_both : OpenFields → OpenFields → Option NotJudged
 why_by_both own peers =
-    let identified = identified_families (route_offer_in own) (route_offer_in peers) in
-    if identified.v4 || identified.v6 then Some (AddPath identified)
-    else if offers_dynamic own && offers_dynamic peers then Some DynamicCapabilities
-    else None
+    if offers_dynamic own && offers_dynamic peers then Some DynamicCapabilities else None
 
 -- the peer's may be missing
 abbrev pub why_with : OpenFields → Option OpenFields → Option NotJudged

@@ -1,11 +1,11 @@
 //! A stretch that is left: what the record tells with which the next one begins.
 
-ghost use Rattle.std.specs.Prelude.{◌≡◌, IfOk};
+ghost use Rattle.std.specs.Prelude.{◌≡◌, ◌∷◌, [], IfOk};
 ghost use Rattle.bgp_machine.specs.Run.{end_of};
 ghost use Rattle.bgp_machine.specs.State.{fresh_state};
 ghost use Rattle.bgp_check.specs.Answered.{answer_value};
 ghost use Rattle.bgp_judge.specs.Ends.{end_value};
-ghost use Rattle.bgp_judge.specs.Verdict.{verdict_value};
+ghost use Rattle.bgp_judge.specs.Verdict.{Yes, verdict_value};
 ghost use Rattle.bgp_check.specs.StretchTold.{left_answer, left_verdict};
 
 use crate::answering::{Answer, Judged};
@@ -24,6 +24,15 @@ fn idle<A: Allocator + Copy>(alloc: A) -> End<A>
     }
 }
 
+/// A yes with the end of a stretch that is left.
+fn left_alone<A: Allocator + Copy>(alloc: A) -> Result<Verdict<A>, AllocError>
+    ensures { IfOk result (λ left. verdict_value left ≡ Yes (end_of fresh_state ∷ [])) }
+{
+    let mut ends = Vec::new(alloc);
+    ends.push(idle(alloc))?;
+    Ok(Verdict::Yes(ends))
+}
+
 /// The verdict on a stretch, of that on its records and the one that leaves it: a yes with one end
 /// where these begin a run.
 fn left_verdict<A: Allocator + Copy>(
@@ -34,11 +43,7 @@ fn left_verdict<A: Allocator + Copy>(
 {
     match verdict {
         Verdict::No(count) => Ok(Verdict::No(count)),
-        Verdict::Yes(_) | Verdict::Unfinished => {
-            let mut ends = Vec::new(alloc);
-            ends.push(idle(alloc))?;
-            Ok(Verdict::Yes(ends))
-        }
+        Verdict::Yes(_) | Verdict::Unfinished => left_alone(alloc),
     }
 }
 

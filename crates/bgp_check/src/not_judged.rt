@@ -14,8 +14,8 @@ ghost use Rattle.bgp_check.specs.WidestOf.{AreTold, OffersNone};
 use crate::dynamic::offers_dynamic;
 use crate::offer::offer_of;
 use crate::opens::whole_open;
-use bgp_open::{Families, Open, RouteOffer, read_fields};
-use bgp_parts::{identified_families, some_show_confederations};
+use bgp_open::{Open, read_fields};
+use bgp_parts::some_show_confederations;
 use mrt::Record;
 
 /// Why an end isn't judged.
@@ -27,8 +27,6 @@ pub enum NotJudged {
     ExtendedParameters,
     /// Its OPEN offers neither IPv4 nor IPv6 unicast.
     NoFamily,
-    /// Both OPENs offer ADD-PATH (RFC 7911) for these families: UPDATEs have path identifiers.
-    AddPath(Families),
     /// Both OPENs offer dynamic capabilities: the session may have messages of type 6.
     DynamicCapabilities,
     /// An UPDATE has an AS_PATH with segments of a confederation (RFC 5065).
@@ -71,10 +69,7 @@ fn have_extended_length(one: Option<&[u8]>, other: Option<&[u8]>) -> bool
 fn why_by_both(own: &Open<'_>, peers: &Open<'_>) -> Option<NotJudged>
     ensures { result ≡ why_by_both own.now peers.now }
 {
-    let identified = identified_families(RouteOffer::in_open(own), RouteOffer::in_open(peers));
-    if identified.v4 || identified.v6 {
-        Some(NotJudged::AddPath(identified))
-    } else if offers_dynamic(own) && offers_dynamic(peers) {
+    if offers_dynamic(own) && offers_dynamic(peers) {
         Some(NotJudged::DynamicCapabilities)
     } else {
         None

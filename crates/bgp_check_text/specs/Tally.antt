@@ -5,7 +5,7 @@ use Rattle.std.specs.Fmt.{decimal}
 use Rattle.bgp_judge.specs.Verdict.{No, Unfinished, VerdictValue, Yes}
 use Rattle.bgp_check.specs.Answered.{AnswerValue, JudgedAs, Unjudged}
 use Rattle.bgp_check.specs.declared.not_judged.NotJudged.{NotJudged}
-use Rattle.bgp_check.specs.declared.not_judged.NotJudged.TheVariants.{AddPath, Confederations}
+use Rattle.bgp_check.specs.declared.not_judged.NotJudged.TheVariants.{Confederations}
 use Rattle.bgp_check.specs.declared.not_judged.NotJudged.TheVariants.{DynamicCapabilities}
 use Rattle.bgp_check.specs.declared.not_judged.NotJudged.TheVariants.{ExtendedParameters, NoFamily}
 use Rattle.bgp_check.specs.declared.not_judged.NotJudged.TheVariants.{NothingSent}
@@ -25,7 +25,6 @@ abbrev pub is_for_lack : NotJudged → Bool
 is_for_lack NothingSent = true
 is_for_lack ExtendedParameters = false
 is_for_lack NoFamily = false
-is_for_lack (AddPath families) = false
 is_for_lack DynamicCapabilities = false
 is_for_lack Confederations = false
 

@@ -3,7 +3,7 @@ use Rattle.std.specs.Prelude.{◌++◌, ◌+◌, ◌==◌, Bool, true, false, �
 use Rattle.std.specs.Prelude.{codes, if◌then◌else◌, length, nat_lt}
 use Rattle.std.specs.Fmt.{decimal}
 use Rattle.std.specs.List.{flat_map}
-use Rattle.bgp_prefix.specs.Prefix.{PrefixBits}
+use Rattle.bgp_update.specs.declared.destination.Destination.{Destination}
 use Rattle.bgp_path.specs.Path.{PathValue}
 use Rattle.bgp_open.specs.declared.families.Families.{Families}
 use Rattle.bgp_machine.specs.Run.{End}
@@ -39,8 +39,6 @@ abbrev pub why_text : NotJudged → List ℕ
 why_text reasons.NothingSent = codes "no sent message"
 why_text reasons.ExtendedParameters = codes "an OPEN has parameters of RFC 9072"
 why_text reasons.NoFamily = codes "its OPEN offers neither v4 nor v6"
-why_text (reasons.AddPath families) =
-    codes "both OPENs offer ADD-PATH for " ++ families_name families
 why_text reasons.DynamicCapabilities = codes "both OPENs offer dynamic capabilities"
 why_text reasons.Confederations = codes "an AS_PATH has confederation segments"
 
@@ -61,7 +59,7 @@ abbrev pub reached_text : ℕ → ℕ → List ℕ
 reached_text last highest =
     if nat_lt last highest then codes " reached " ++ state_name highest else []
 
-unfoldable pub route_line : PrefixBits × PathValue → List ℕ
+unfoldable pub route_line : Destination × PathValue → List ℕ
 route_line route = codes "  route " ++ (route_text route.0 route.1 ++ codes "\n")
 
 unfoldable pub ending_line : ℕ → End → List ℕ

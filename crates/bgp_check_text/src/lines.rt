@@ -12,9 +12,9 @@ use bgp_check::{NotJudged, PeerAs};
 use bgp_judge::End;
 use bgp_open::Families;
 use bgp_path::Path;
-use bgp_prefix::Prefix;
 use bgp_rib::RibIn;
 use bgp_text::{Lines, put_route};
+use bgp_update::Destination;
 use mrt::Sink;
 use std::alloc::Allocator;
 
@@ -52,10 +52,6 @@ pub fn put_why<W: Sink>(lines: &mut Lines<'_, W>, why: NotJudged)
         NotJudged::NothingSent => lines.put(b"no sent message"),
         NotJudged::ExtendedParameters => lines.put(b"an OPEN has parameters of RFC 9072"),
         NotJudged::NoFamily => lines.put(b"its OPEN offers neither v4 nor v6"),
-        NotJudged::AddPath(families) => {
-            lines.put(b"both OPENs offer ADD-PATH for ");
-            lines.put(families_name(families).as_bytes());
-        }
         NotJudged::DynamicCapabilities => lines.put(b"both OPENs offer dynamic capabilities"),
         NotJudged::Confederations => lines.put(b"an AS_PATH has confederation segments"),
     }
@@ -101,20 +97,24 @@ fn put_reached<W: Sink>(lines: &mut Lines<'_, W>, last: u16, highest: u16)
 }
 
 /// The line of a route.
-fn put_route_line<W: Sink, A: Allocator>(lines: &mut Lines<'_, W>, prefix: Prefix, path: &Path<A>)
-    ensures { Writes lines.old lines.new (route_line (prefix, path.now)) }
+fn put_route_line<W: Sink, A: Allocator>(
+    lines: &mut Lines<'_, W>,
+    destination: Destination,
+    path: &Path<A>,
+)
+    ensures { Writes lines.old lines.new (route_line (destination, path.now)) }
 {
     lines.put(b"  route ");
-    put_route(lines, prefix, path);
+    put_route(lines, destination, path);
     lines.put(b"\n");
 }
 
-/// The lines of routes, in the order of their prefixes.
+/// The lines of routes, in the order of their destinations.
 fn put_routes<W: Sink, A: Allocator>(lines: &mut Lines<'_, W>, rib: &RibIn<A>)
     ensures { Writes lines.old lines.new (flat_map route_line rib.now.entries) }
 {
-    for (prefix, path) in rib.routes() {
-        put_route_line(lines, *prefix, path);
+    for (destination, path) in rib.routes() {
+        put_route_line(lines, destination, path);
     }
 }
 

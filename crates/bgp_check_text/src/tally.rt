@@ -49,7 +49,6 @@ fn is_for_lack(why: NotJudged) -> bool
         NotJudged::NothingSent => true,
         NotJudged::ExtendedParameters
         | NotJudged::NoFamily
-        | NotJudged::AddPath(_)
         | NotJudged::DynamicCapabilities
         | NotJudged::Confederations => false,
     }

@@ -27,6 +27,7 @@ use Rattle.bgp_list.specs.declared.listed.ListedRecording.{ListedRecording as Re
 use Rattle.bgp_list.specs.declared.listed.NothingListed.{NothingListed as NoList}
 use Rattle.bgp_check_tool.specs.declared.checking.CheckedRecording.{CheckedRecording as RecordingCheck}
 use Rattle.bgp_check_capture_tool.specs.declared.checking.CheckedCapture.{CheckedCapture as CaptureCheck}
+use Rattle.bgp_open.specs.declared.route_offer.RouteOffer.{RouteOffer}
 use Rattle.bgp_recording_tool.specs.Told.{refused_status}
 use Rattle.bgp_recording_tool.specs.declared.files.FileOutcome.{FileOutcome}
 use Rattle.bgp_recording_tool.specs.declared.remark.Remark.{Remark as AnyRemark}
@@ -162,10 +163,15 @@ abbrev pub confederation_sentence : Bool → Option Sentence
 confederation_sentence true = Some (Note notes.Confederation)
 confederation_sentence false = None
 
+abbrev pub without_sentence : Option RouteOffer → Option Sentence
+without_sentence None = None
+without_sentence (Some offer) = Some (Note (notes.Without offer))
+
 abbrev pub record_sentences : {X : Type 0} → FileOutcome X → List Sentence
 record_sentences outcome = some_of (option_map CutShort outcome.cut_short
     ∷ received_sentence outcome.skipped ∷ sent_sentence outcome.skipped
-    ∷ confederation_sentence outcome.confederation ∷ [])
+    ∷ confederation_sentence outcome.confederation
+    ∷ without_sentence outcome.left_out.without ∷ [])
 
 abbrev pub read_sentences : {X : Type 0} → FileOutcome X → List Sentence
 read_sentences outcome = record_sentences outcome

@@ -18,7 +18,7 @@ use crate::sentence::Sentence;
 use crate::sentences::{
     cause_sentence, confederation_sentence, cut_short_sentence, fault_sentence, help_sentence,
     made_sentence, note_or, note_sentence, nothing_listed, one_help, passed_over_sentences,
-    unmade_sentence, unwritten_sentence, wrapped_sentence,
+    unmade_sentence, unwritten_sentence, without_sentence, wrapped_sentence,
 };
 use crate::voice::{Voice, say_each, say_remarks, say_some};
 use bgp_check_capture_tool::CheckedCapture;
@@ -54,7 +54,8 @@ fn of_records<A: Allocator, V: Voice>(voice: &mut V, outcome: &FileOutcome<'_, A
     let cut_short = cut_short_sentence(outcome.cut_short);
     let (received, sent) = passed_over_sentences(outcome.skipped);
     let confederation = confederation_sentence(outcome.confederation);
-    say_each(voice, &[cut_short, received, sent, confederation]);
+    let without = without_sentence(outcome.left_out.without);
+    say_each(voice, &[cut_short, received, sent, confederation, without]);
 }
 
 /// Says that `import` names one file twice.

@@ -10,6 +10,7 @@ use crate::ends::{Ends, Output};
 use crate::sentence::Sentence;
 use bgp_import::{self as import, Cause, CutShort, NotLookedInto, Refusal};
 use bgp_list::{ListedRecording, NothingListed};
+use bgp_open::RouteOffer;
 use bgp_tool::{Note, passed_over};
 use mrt::{CaptureFault, FaultKind, SkippedRecords};
 use std::io::ErrorKind;
@@ -54,6 +55,17 @@ pub(crate) fn confederation_sentence<'a>(is_there: bool) -> Option<Sentence<'a>>
         Some(Sentence::Note(Note::Confederation))
     } else {
         None
+    }
+}
+
+/// Returns that a file is judged without what both OPENs offer, if it is, and what the OPEN offers
+/// that was sent.
+pub(crate) fn without_sentence<'a>(without: Option<RouteOffer>) -> Option<Sentence<'a>>
+    ensures { result ≡ specs.without_sentence without }
+{
+    match without {
+        Some(offer) => Some(Sentence::Note(Note::Without { offer })),
+        None => None,
     }
 }
 

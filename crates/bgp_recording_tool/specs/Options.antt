@@ -39,7 +39,6 @@ IsMisfitFor wanted (kinds.No before packet within) = ⊥
 IsMisfitFor wanted (kinds.NoOrder before packet within) = ⊥
 IsMisfitFor wanted kinds.AnotherOrder = ⊥
 IsMisfitFor wanted (kinds.Refused help) = ⊥
-IsMisfitFor wanted (kinds.AddPath families) = ⊥
 IsMisfitFor wanted (kinds.Without offer) = ⊥
 IsMisfitFor wanted kinds.TwoFamilies = ¬ IsOneFamily wanted.selection.session
 IsMisfitFor wanted kinds.OneAddress =

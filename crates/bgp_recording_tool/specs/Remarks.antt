@@ -1,7 +1,7 @@
 -- What is told of a recording and its connections besides what is answered, sentence by sentence.
 use Rattle.std.specs.Prelude.{◌≡◌, ◌⊎◌, ℕ, Bool, true, false, List, [], ◌∷◌, ◌++◌, map}
 use Rattle.std.specs.Prelude.{Option, None, Some}
-use Rattle.std.specs.Prelude.{◌||◌, if◌then◌else◌}
+use Rattle.std.specs.Prelude.{if◌then◌else◌}
 use Rattle.std.specs.List.{list_any, slice_get}
 use Rattle.mrt.specs.Reader.{shown_of}
 use Rattle.bgp_tool.specs.Seen.{is_sent}
@@ -16,7 +16,6 @@ use Rattle.bgp_import.specs.declared.refusal.Cause.TheVariants as causes
 use Rattle.bgp_import.specs.declared.refusal.Refusal.{Refusal}
 use Rattle.bgp_import.specs.declared.note.Note.{Note}
 use Rattle.bgp_import.specs.declared.note.Notes.{Notes}
-use Rattle.bgp_open.specs.declared.families.Families.{Families}
 use Rattle.bgp_open.specs.declared.route_offer.RouteOffer.{RouteOffer}
 use Rattle.bgp_explain.specs.declared.left_out.LeftOut.{LeftOut}
 use Rattle.bgp_recording_tool.specs.Found.{Found, Nothing, ByNone, ByAnother, ByAll}
@@ -66,13 +65,7 @@ abbrev pub confederation_remark : Option ℕ → Bool → Option Remark
 confederation_remark connection true = Some (remark_on connection kinds.Confederation)
 confederation_remark connection false = None
 
--- that path identifiers of these families aren't read, where there are some
-abbrev pub add_path_remark : Option ℕ → Families → Option Remark
-add_path_remark connection families =
-    if families.v4 || families.v6 then Some (remark_on connection (kinds.AddPath families))
-    else None
-
--- that nothing is configured to be offered about routes, though both OPENs offer IPv6 next hops
+-- that nothing is configured to be offered about routes, though both OPENs offer something
 abbrev pub without_remark : Option ℕ → Option RouteOffer → Option Remark
 without_remark connection None = None
 without_remark connection (Some offer) = Some (remark_on connection (kinds.Without offer))
@@ -115,8 +108,7 @@ abbrev pub remarks_on : Option ℕ → ℕ → List Entry → Notes → Bool →
     → List Remark
 remarks_on connection within entries notes confederation left_out verdict found =
     some_of (making_remarks connection notes ++ confederation_remark connection confederation
-    ∷ add_path_remark connection left_out.add_path ∷ without_remark connection left_out.without
-    ∷ another_remark connection found
+    ∷ without_remark connection left_out.without ∷ another_remark connection found
     ∷ verdict_remark connection within entries verdict found ∷ [])
 
 -- that is told, or nothing where there was no memory for it

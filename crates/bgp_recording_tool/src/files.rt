@@ -39,7 +39,7 @@ pub struct FileOutcome<'a, A: Allocator> {
     /// be told then, by [`Note::Confederation`]. Of a recording a remark tells it.
     pub confederation: bool,
     /// What judging a capture left out of what both OPENs offer: to be told then, by
-    /// [`Note::AddPath`] and [`Note::Without`]. Of a recording remarks tell it.
+    /// [`Note::Without`]. Of a recording remarks tell it.
     pub left_out: LeftOut,
     /// What there is to tell of a recording's connections, in their order: to be told then.
     pub remarks: Vec<Remark, A>,

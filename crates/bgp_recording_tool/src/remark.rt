@@ -4,7 +4,7 @@ ghost use Rattle.std.specs.Prelude.{◌≡◌, ◌++◌, OnOk, OnErr};
 ghost use Rattle.bgp_recording_tool.specs.Remarks.{AddsTold, IsHelp, refused_remark, some_of};
 
 use bgp_import::{Help, Note, Refusal};
-use bgp_open::{Families, RouteOffer};
+use bgp_open::RouteOffer;
 use bgp_tool::Note as ToolNote;
 use std::alloc::{AllocError, Allocator};
 use std::fmt;
@@ -28,10 +28,9 @@ pub enum RemarkKind {
     NothingSent,
     /// An UPDATE of a confederation (RFC 5065) is among the records that were judged.
     Confederation,
-    /// Path identifiers of these families aren't read, though both OPENs offer them (RFC 7911).
-    AddPath(Families),
-    /// Nothing is configured to be offered about routes, though both OPENs offer IPv6 next hops of
-    /// IPv4 routes (RFC 8950): what the OPEN offers that was sent.
+    /// Nothing is configured to be offered about routes, though both OPENs offer several paths for
+    /// a prefix (RFC 7911) or IPv6 next hops of IPv4 routes (RFC 8950): what the OPEN offers that
+    /// was sent.
     Without(RouteOffer),
     /// A connection is answered no, in one order of its messages that the packets allow.
     No {
@@ -79,7 +78,6 @@ impl fmt::Display for RemarkKind {
                 f.write_str("no message was sent: nothing of the local system was judged")
             }
             RemarkKind::Confederation => write!(f, "{}", ToolNote::Confederation),
-            RemarkKind::AddPath(families) => write!(f, "{}", ToolNote::AddPath { families }),
             RemarkKind::Without(offer) => write!(f, "{}", ToolNote::Without { offer }),
             RemarkKind::No {
                 before,

@@ -7,7 +7,7 @@ ghost use Rattle.bgp_recording_tool.specs.Remarks.{making_remarks, verdict_remar
 ghost use Rattle.bgp_recording_tool.specs.Remarks.{confederation_remark, has_sent, notes_of};
 ghost use Rattle.bgp_recording_tool.specs.Found.{found_of};
 ghost use Rattle.bgp_recording_tool.specs.Remarks.{AddsTold, AreRemarks, remarks_on};
-ghost use Rattle.bgp_recording_tool.specs.Remarks.{add_path_remark, without_remark};
+ghost use Rattle.bgp_recording_tool.specs.Remarks.{without_remark};
 ghost use Rattle.bgp_recording_tool.specs.Remarks.{another_remark, packet_after};
 ghost use Rattle.bgp_recording_tool.specs.Remarks.{unsent_remark};
 ghost use Rattle.bgp_tool.specs.Seen.{is_sent};
@@ -18,7 +18,7 @@ use crate::remark::{Remark, RemarkKind, add_remarks};
 use bgp_explain::LeftOut;
 use bgp_import::{Note, notes_on};
 use bgp_judge::Verdict;
-use bgp_open::{Families, RouteOffer};
+use bgp_open::RouteOffer;
 use bgp_recording::{Entry, Recording};
 use mrt::Record;
 use std::alloc::{AllocError, Allocator};
@@ -96,21 +96,7 @@ fn confederation_remark(connection: Option<usize>, confederation: bool) -> Optio
     })
 }
 
-/// That path identifiers of these families aren't read, where there are some.
-fn add_path_remark(connection: Option<usize>, families: Families) -> Option<Remark>
-    ensures { result ≡ add_path_remark connection families }
-{
-    if families.v4 || families.v6 {
-        Some(Remark {
-            connection,
-            kind: RemarkKind::AddPath(families),
-        })
-    } else {
-        None
-    }
-}
-
-/// That nothing is configured to be offered about routes, though both OPENs offer IPv6 next hops.
+/// That nothing is configured to be offered about routes, though both OPENs offer something.
 fn without_remark(connection: Option<usize>, without: Option<RouteOffer>) -> Option<Remark>
     ensures { result ≡ without_remark connection without }
 {
@@ -231,7 +217,6 @@ fn try_to_add<A: Allocator + Copy>(
         put_off,
     ] = making_remarks(named, made);
     let shown = confederation_remark(named, confederation);
-    let add_path = add_path_remark(named, left_out.add_path);
     let without = without_remark(named, left_out.without);
     let another = another_remark(named, searched);
     let judged = verdict_remark(named, within, made.entries.as_slice(), verdict, searched);
@@ -244,7 +229,6 @@ fn try_to_add<A: Allocator + Copy>(
             sent_left,
             put_off,
             shown,
-            add_path,
             without,
             another,
             judged,

@@ -5,6 +5,7 @@ use Rattle.std.proofs.lemmas.List.Elements.{All-nil, All-push, All-append}
 use Rattle.std.proofs.lemmas.Grind.{flat_map-append}
 use Rattle.bgp_wire.specs.declared.header.Limit.{Limit}
 use Rattle.bgp_wire.specs.Framing.{IsFrame, joined}
+use Rattle.bgp_open.specs.RouteForm.{plain_form}
 use Rattle.bgp_text.specs.Message.{Message, Says, Say}
 use Rattle.bgp_text.specs.Text.{line_of}
 use Rattle.bgp_tool.specs.Decoding.{lines_of}
@@ -24,7 +25,7 @@ no_lines limit octets = record { frames = []; split = refl; each = All-nil (IsFr
 
 -- one frame more
 pub one_line_more : {limit : Limit} (octets rest behind lines frame : List ℕ) (message : Message) → AreLines limit octets rest lines → IsFrame limit frame
-    → rest ≡ frame ++ behind → Says frame message → AreLines limit octets behind (lines ++ line_of message)
+    → rest ≡ frame ++ behind → Says plain_form frame message → AreLines limit octets behind (lines ++ line_of message)
 one_line_more {limit} octets rest behind lines frame message so_far whole is says = record {
   frames = so_far.frames ++ frame ∷ [];
   split =

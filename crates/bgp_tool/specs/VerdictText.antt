@@ -3,7 +3,6 @@
 use Rattle.std.specs.Prelude.{◌++◌, ◌+◌, ℕ, Bool, true, false, List, map, codes}
 use Rattle.std.specs.Fmt.{decimal}
 use Rattle.std.specs.List.{flat_map}
-use Rattle.bgp_prefix.specs.Prefix.{PrefixBits}
 use Rattle.bgp_path.specs.Path.{PathValue}
 use Rattle.bgp_open.specs.declared.families.Families.{Families}
 use Rattle.bgp_machine.specs.declared.fsm.Fsm.{Fsm}
@@ -12,6 +11,7 @@ use Rattle.bgp_machine.specs.Run.{End}
 use Rattle.bgp_judge.specs.declared.verdict.Verdict.{Verdict}
 use Rattle.bgp_judge.specs.declared.verdict.Verdict.TheVariants.{Yes, No, Unfinished}
 use Rattle.bgp_judge.specs.Ends.{end_value}
+use Rattle.bgp_update.specs.declared.destination.Destination.{Destination}
 use Rattle.bgp_text.specs.RouteText.{route_text}
 
 -- a state by its name
@@ -33,11 +33,11 @@ families_by true true = codes "v4,v6"
 abbrev pub families_text : Families → List ℕ
 families_text families = families_by families.v4 families.v6
 
--- a route: its prefix and its path
-unfoldable pub route_line : PrefixBits × PathValue → List ℕ
+-- a route: its destination and its path
+unfoldable pub route_line : Destination × PathValue → List ℕ
 route_line route = codes "route " ++ (route_text route.0 route.1 ++ codes "\n")
 
--- an end: the state and the disabled families, and then its routes in the order of their prefixes
+-- an end: the state and the disabled families, and then its routes, in the order of destinations
 unfoldable pub end_text : End → List ℕ
 end_text e =
     codes "end " ++ (state_text e.fsm ++ (codes " disabled " ++ (families_text e.routes.disabled

@@ -3,11 +3,11 @@
 use crate::error_words::ErrorWords;
 use crate::front::Form;
 use crate::front_note::{Word, put_form};
-use crate::offer_note::{FamilyWords, OfferWords};
+use crate::offer_note::OfferWords;
 use crate::pair_fault::{PairEnd, PairFault};
 use crate::refusal_note::put_refusal;
 use crate::seen::Seen;
-use bgp_open::{Families, RouteOffer};
+use bgp_open::RouteOffer;
 use mrt::{CaptureFault, Endpoints};
 use std::fmt;
 use std::io::ErrorKind;
@@ -123,14 +123,8 @@ pub enum Note<'a> {
     },
     /// An UPDATE of a confederation is among the records that were judged.
     Confederation,
-    /// Path identifiers aren't read, though both OPENs offer them (RFC 7911).
-    AddPath {
-        /// The families of which one end offers to send them and the other to receive them: at
-        /// least one.
-        families: Families,
-    },
-    /// Nothing is configured to be offered about routes, though both OPENs offer IPv6 next hops of
-    /// IPv4 routes (RFC 8950).
+    /// Nothing is configured to be offered about routes, though both OPENs offer several paths for
+    /// a prefix (RFC 7911) or IPv6 next hops of IPv4 routes (RFC 8950).
     Without {
         /// What the OPEN offers that was sent.
         offer: RouteOffer,
@@ -205,11 +199,6 @@ impl fmt::Display for Note<'_> {
             }
             Note::Confederation => f.write_str(
                 "an AS_PATH has confederation segments (RFC 5065), which are not judged",
-            ),
-            Note::AddPath { families } => write!(
-                f,
-                "both OPENs offer ADD-PATH for {}, which is not judged",
-                FamilyWords(families)
             ),
             Note::Without { offer } => write!(
                 f,

@@ -1,18 +1,7 @@
 //! The words of what OPENs offer about routes.
 
-use bgp_open::{Families, RouteOffer};
+use bgp_open::RouteOffer;
 use std::fmt;
-
-/// Families, with a comma between them.
-#[derive(Clone, Copy)]
-pub(crate) struct FamilyWords(pub(crate) Families);
-
-impl fmt::Display for FamilyWords {
-    fn fmt<W: fmt::Write>(&self, f: &mut fmt::Formatter<W>) -> fmt::Result {
-        let Families { v4, v6 } = self.0;
-        put_words(f, &[(v4, "v4"), (v6, "v6")])
-    }
-}
 
 /// An offer, as `--offers` names it.
 #[derive(Clone, Copy)]

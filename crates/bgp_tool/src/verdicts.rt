@@ -11,9 +11,9 @@ use bgp_judge::{End, Verdict};
 use bgp_machine::Fsm;
 use bgp_open::Families;
 use bgp_path::Path;
-use bgp_prefix::Prefix;
 use bgp_rib::RibIn;
 use bgp_text::{Lines, put_route};
+use bgp_update::Destination;
 use mrt::Sink;
 use std::alloc::Allocator;
 
@@ -44,20 +44,24 @@ fn families_text(families: Families) -> &'static str
 }
 
 /// The line of a route.
-fn put_route_line<W: Sink, A: Allocator>(lines: &mut Lines<'_, W>, prefix: Prefix, path: &Path<A>)
-    ensures { Writes lines.old lines.new (route_line (prefix, path.now)) }
+fn put_route_line<W: Sink, A: Allocator>(
+    lines: &mut Lines<'_, W>,
+    destination: Destination,
+    path: &Path<A>,
+)
+    ensures { Writes lines.old lines.new (route_line (destination, path.now)) }
 {
     lines.put(b"route ");
-    put_route(lines, prefix, path);
+    put_route(lines, destination, path);
     lines.put(b"\n");
 }
 
-/// Puts the lines of routes, in the order of their prefixes.
+/// Puts the lines of routes, in the order of their destinations.
 pub fn put_routes<W: Sink, A: Allocator>(lines: &mut Lines<'_, W>, rib: &RibIn<A>)
     ensures { Writes lines.old lines.new (flat_map route_line rib.now.entries) }
 {
-    for (prefix, path) in rib.routes() {
-        put_route_line(lines, *prefix, path);
+    for (destination, path) in rib.routes() {
+        put_route_line(lines, destination, path);
     }
 }
 

@@ -43,10 +43,12 @@ records that the router at --local made, or a recording: a packet capture, as tc
 
 --offers names what its OPEN offers about routes, each word once, with a comma between each two:
   send-v4, send-v6, receive-v4, receive-v6
-                        several paths for a prefix (ADD-PATH, RFC 7911), of a family and direction;
-                        where both OPENs offer them, UPDATEs aren't judged rightly yet
+                        several paths to a prefix (ADD-PATH, RFC 7911), of a family and direction;
+                        if one OPEN offers to send them and the other to receive them, # and the
+                        path identifier follow each prefix
   next-hops             IPv6 next hops of IPv4 routes (RFC 8950), as in unnumbered sessions
-Without it the OPEN may offer what it likes, and nothing of it counts.
+Without it the OPEN may offer what it likes, and nothing of it counts; standard error says if both
+OPENs settle something of it.
 
 With --explain the reason follows a no and an unfinished, in lines of its own: the record, the state
 before it, the message received last, and every record that could have stood there, and no other.

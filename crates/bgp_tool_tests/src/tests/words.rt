@@ -25,7 +25,7 @@ fn each_status_has_its_number(rt: HostRuntime) {
 }
 
 /// What is told, and its words.
-static NOTES: [(Note<'static>, &str); 17] = [
+static NOTES: [(Note<'static>, &str); 16] = [
     (
         Note::NothingDone {
             file: "-",
@@ -142,12 +142,6 @@ static NOTES: [(Note<'static>, &str); 17] = [
             fault: PairFault::Connection(ErrorKind::ConnectionReset),
         },
         "the connection on 127.0.0.1: Connection reset by peer",
-    ),
-    (
-        Note::AddPath {
-            families: Families { v4: true, v6: true },
-        },
-        "both OPENs offer ADD-PATH for v4,v6, which is not judged",
     ),
     (
         Note::Without {

@@ -5,7 +5,7 @@ use Rattle.bgp_check_text.specs.Text.{route_line}
 use Rattle.bgp_check_text.proofs.lines.put_routes.Given as goal
 
 -- what is written and what is left to write are the routes
-abbrev pub invariant-loop-prefix : goal.invariant-loop-prefix
-invariant-loop-prefix g l =
+abbrev pub invariant-loop-destination : goal.invariant-loop-destination
+invariant-loop-destination g l =
     (text : List ℕ) × Writes l.fn.lines l.lines text
-    × (text ++ flat_map route_line l.prefix-iterator ≡ flat_map route_line l.fn.rib.entries)
+    × (text ++ flat_map route_line l.destination-iterator ≡ flat_map route_line l.fn.rib.entries)

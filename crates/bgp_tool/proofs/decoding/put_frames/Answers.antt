@@ -1,4 +1,5 @@
 use Rattle.std.proofs.Common.{◌≡◌, ◌∙◌, ◌++◌, ◌-◌, [], List, ℕ, length, drop, refl, sym, ap, subst, inr, arith}
+use Rattle.bgp_open.specs.RouteForm.{plain_form}
 use Rattle.bgp_wire.specs.declared.header.Limit.{Limit}
 use Rattle.bgp_wire.specs.Header.{header_of}
 use Rattle.bgp_wire.specs.Verdict.{AreFaults}
@@ -51,7 +52,7 @@ loop-kind-init g c =
 pub put_message-requires-clause-says : goal.put_message-requires-clause-says
 put_message-requires-clause-says g c =
     let limit = limit_is c.args.frames.now c.loop-kind.frames c.loop-kind.invariant.state in
-    each_message c.args.frames.now.limit c.in-Frame.frame.now (subst (λ (l : Limit). IsFrame l c.in-Frame.frame.now) limit c.in-Frame.ensures.first.0)
+    each_message plain_form c.args.frames.now.limit c.in-Frame.frame.now (subst (λ (l : Limit). IsFrame l c.in-Frame.frame.now) limit c.in-Frame.ensures.first.0)
 
 pub loop-kind-preserved : goal.loop-kind-preserved
 loop-kind-preserved g c =
@@ -63,7 +64,7 @@ loop-kind-preserved g c =
     let behind = drop (length frame) c.loop-kind.frames.octets in
     let limit = limit_is c.args.frames.now c.loop-kind.frames state in
     let whole = subst (λ (l : Limit). IsFrame l frame) limit c.in-Frame.ensures.first.0 in
-    let said = each_message c.args.frames.now.limit frame whole in
+    let said = each_message plain_form c.args.frames.now.limit frame whole in
     let lines = one_line_more c.args.frames.now.octets c.loop-kind.frames.octets behind so_far.0 frame said.0 so_far.1 whole c.in-Frame.ensures.first.2 said.1 in
     record {
       state = kept c.args.frames.now c.loop-kind.frames c.next.follows.lender-at-none behind state now;
