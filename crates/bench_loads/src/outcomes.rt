@@ -37,7 +37,7 @@ impl Totals {
 /// How many routes a group has.
 fn count<A: Allocator>(group: &Option<Put<A>>) -> u64 {
     match group {
-        Some(group) => group.prefixes.len() as u64,
+        Some(group) => group.destinations.len() as u64,
         None => 0,
     }
 }

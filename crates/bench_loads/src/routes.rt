@@ -7,9 +7,8 @@ use crate::parties::local_link;
 use crate::{broken, number_of};
 use bgp_open::Link;
 use bgp_path::Path;
-use bgp_prefix::Prefix;
 use bgp_rib::RibIn;
-use bgp_update::{Changes, read_update};
+use bgp_update::{Changes, Destination, read_update};
 use feed::Feed;
 use std::alloc::Global;
 use std::rt::{Clock, Files};
@@ -192,13 +191,13 @@ fn fill<R: Clock + AllocGlobal>(
 
 /// Whether as many routes as there are prefixes are listed, each above the one before it.
 fn is_in_order(routes: &RibIn, feed: &Feed) -> bool {
-    let mut last: Option<Prefix> = None;
+    let mut last: Option<Destination> = None;
     let mut count = 0u32;
-    for (prefix, _) in routes.routes() {
-        if last.is_some_and(|last| last >= *prefix) {
+    for (destination, _) in routes.routes() {
+        if last.is_some_and(|last| last >= destination) {
             return false;
         }
-        last = Some(*prefix);
+        last = Some(destination);
         count = count.saturating_add(1);
     }
     count == feed.prefixes()

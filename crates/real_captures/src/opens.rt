@@ -73,12 +73,16 @@ fn offer_with(offer: RouteOffer, word: &str) -> Option<RouteOffer> {
     })
 }
 
-/// The offer of a list of words; nothing where there is none.
-fn offer_of(words: &[&str]) -> Option<RouteOffer> {
+/// The offer of a list of words with commas, or of a dash for nothing; and nothing where there is no
+/// list.
+pub(crate) fn offer_of(list: Option<&str>) -> Option<RouteOffer> {
     let mut offer = RouteOffer::NOTHING;
-    if let Some(list) = words.first() {
-        for word in list.split(',') {
-            offer = offer_with(offer, word)?;
+    match list {
+        None | Some("-") => {}
+        Some(list) => {
+            for word in list.split(',') {
+                offer = offer_with(offer, word)?;
+            }
         }
     }
     Some(offer)
@@ -120,7 +124,7 @@ fn parts_of(words: &[&str]) -> Option<ConfigParts> {
         delay_open: false,
         large_hold: large_hold.parse::<u32>().ok()?,
         session: session_of(session)?,
-        offers: offer_of(session.get(4..).unwrap_or(&[]))?,
+        offers: offer_of(session.get(4).copied())?,
     })
 }
 

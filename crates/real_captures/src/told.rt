@@ -149,12 +149,7 @@ fn is_outcome(alloc: Global, block: &str, judged: &JudgedCapture<'_>) -> Result<
     if *confederation {
         told.push_str(told_of(alloc, Some(Note::Confederation))?.as_str())?;
     }
-    let LeftOut { add_path, without } = *left_out;
-    if add_path.v4 || add_path.v6 {
-        let families = add_path;
-        told.push_str(told_of(alloc, Some(Note::AddPath { families }))?.as_str())?;
-    }
-    if let Some(offer) = without {
+    if let Some(offer) = left_out.without {
         told.push_str(told_of(alloc, Some(Note::Without { offer }))?.as_str())?;
     }
     told.push_str(told_of(alloc, outcome.note)?.as_str())?;

@@ -4,52 +4,37 @@
 //!
 //! A line of `case` says what a block teaches. `link` and `octets` are given; told are the families
 //! that an Apply disables (`apply`), what it removes and puts (`remove`, `put`), the subcodes of a
-//! reset (`reset`), and whether the UPDATE is clean (`clean`).
+//! reset (`reset`), and whether the UPDATE is clean (`clean`). Where OPENs offer anything about
+//! routes, two lists stand behind the link: what the own OPEN offers, and what the peer's does.
 
-use crate::case::octets_of;
-use bgp_open::{Config, ConfigParts, Families, Link, negotiate, read_open};
+use crate::case::{malformed, octets_of};
+use crate::opens::offer_of;
+use bgp_open::{
+    Config, ConfigParts, Families, Link, RouteOffer, negotiate, read_open, write_own_open,
+};
 use bgp_path::Path;
-use bgp_prefix::Prefix;
 use bgp_text::write_route;
-use bgp_update::{Changes, Outcomes, Subcodes, is_clean, read_update};
+use bgp_update::{Changes, Destination, Outcomes, PathId, Subcodes, is_clean, read_update};
 use bgp_vectors::SPEAKER_A;
 use mrt::MemSink;
 use std::alloc::{AllocError, Global};
 use std::io;
 
-/// The peer's OPEN where both families are used, and where none or one of ours is.
-const OPEN: [u8; 49] = [
-    255, 255, 255, 255, 255, 255, 255, 255, 255, 255, 255, 255, 255, 255, 255, 255, // marker
-    0x00, 0x31, // Length: 49
-    0x01, // Type: OPEN
-    0x04, // version 4
-    0xfd, 0xea, // My Autonomous System: 65002
-    0x00, 0x5a, // Hold Time: 90
-    0xc0, 0x00, 0x02, 0x02, // BGP Identifier: 192.0.2.2
-    0x14, // Optional Parameters Length: 20
-    0x02, 0x12, // Capabilities, 18 octets
-    0x01, 0x04, 0x00, 0x01, 0x00, 0x01, // multiprotocol: IPv4 unicast
-    0x01, 0x04, 0x00, 0x02, 0x00, 0x01, // multiprotocol: IPv6 unicast
-    0x41, 0x04, 0x00, 0x00, 0xfd, 0xea, // four-octet AS number: 65002
-];
-
-/// Where the OPEN names AFI 2, which is 3 in one that offers no IPv6.
-const SECOND_AFI: usize = 40;
-
 /// Whether a case is so.
 pub(crate) fn is_outcome(alloc: Global, block: &str) -> io::Result<bool> {
-    let Some((link, digits, told)) = parts_of(block) else {
+    let Some((line, digits, told)) = parts_of(block) else {
         return Ok(false);
     };
+    let link = link_of(alloc, line)?;
     let octets = octets_of(alloc, digits)?;
     has_outcomes(alloc, &link, octets.as_slice(), told)
 }
 
-/// The link, the digits of the UPDATE and the lines that a block tells.
-fn parts_of(block: &str) -> Option<(Link, &str, &str)> {
-    let (link, rest) = given_in(block).split_once('\n')?;
+/// The line of the link, the digits of the UPDATE and the lines that a block tells.
+fn parts_of(block: &str) -> Option<(&str, &str, &str)> {
+    let (line, rest) = given_in(block).split_once('\n')?;
     let (digits, told) = rest.split_once('\n').unwrap_or((rest, ""));
-    Some((link_of(link)?, digits.strip_prefix("octets ")?, told))
+    Some((line, digits.strip_prefix("octets ")?, told))
 }
 
 /// Whether an UPDATE has the outcomes that are told.
@@ -95,16 +80,25 @@ fn is_ordered(outcomes: &Outcomes<Global>) -> bool {
         && (outcomes.changes.is_some() || are_kept)
 }
 
-/// The link that a line tells: the octets of an AS number, the peer and the families in use.
-fn link_of(line: &str) -> Option<Link> {
+/// The link that a line tells: the octets of an AS number, the peer and the families in use, and
+/// what both OPENs offer about routes, if they offer anything.
+fn link_of(alloc: Global, line: &str) -> io::Result<Link> {
+    let (config, peers) = configs_of(line).ok_or_else(malformed)?;
+    let mut octets = Vec::new(alloc);
+    write_own_open(&peers, &mut octets)?;
+    let open = read_open(octets.as_slice()).map_err(|_| malformed())?;
+    Ok(negotiate(&config, &open))
+}
+
+/// The configurations of both ends of the link that a line tells, the own one first.
+fn configs_of(line: &str) -> Option<(Config, Config)> {
     let mut words = line.split(' ').skip(1);
     let as4 = words.next()? == "4";
     let is_internal = words.next()? == "internal";
     let used = families_of(words.next()?);
-    let config = config_of(as4, is_internal, used)?;
-    let octets = open_of(used);
-    let open = read_open(&octets).ok()?;
-    Some(negotiate(&config, &open))
+    let config = config_of(as4, is_internal, used, offer_of(words.next())?)?;
+    let peers = peers_config_of(used, offer_of(words.next())?)?;
+    Some((config, peers))
 }
 
 /// The families that are named.
@@ -115,17 +109,8 @@ pub(crate) fn families_of(names: &str) -> Families {
     }
 }
 
-/// The peer's OPEN where these families are used.
-fn open_of(used: Families) -> [u8; 49] {
-    let mut open = OPEN;
-    if !used.v6 {
-        open[SECOND_AFI] = 3;
-    }
-    open
-}
-
 /// A configuration by which these families are used.
-fn config_of(as4: bool, is_internal: bool, used: Families) -> Option<Config> {
+fn config_of(as4: bool, is_internal: bool, used: Families, offers: RouteOffer) -> Option<Config> {
     Config::new(ConfigParts {
         local_as: if is_internal { 65002 } else { 65001 },
         families: Families {
@@ -133,6 +118,23 @@ fn config_of(as4: bool, is_internal: bool, used: Families) -> Option<Config> {
             v6: used.v6 || !used.v4,
         },
         as4,
+        offers,
+        ..SPEAKER_A
+    })
+}
+
+/// The peer's: it offers IPv4 in any case, so that no family is used where the own OPEN offers IPv6
+/// alone.
+fn peers_config_of(used: Families, offers: RouteOffer) -> Option<Config> {
+    Config::new(ConfigParts {
+        local_as: 65002,
+        peer_as: 65001,
+        local_id: 0xc000_0202,
+        families: Families {
+            v4: true,
+            v6: used.v6,
+        },
+        offers,
         ..SPEAKER_A
     })
 }
@@ -190,30 +192,44 @@ fn may_be(disabled: bool, certain: bool, optional: bool) -> bool {
 fn push_changes(alloc: Global, text: &mut String, changes: &Changes<Global>) -> io::Result<()> {
     if !changes.remove.is_empty() {
         text.push_str("remove")?;
-        for prefix in changes.remove.as_slice() {
-            text.push_str(format!(in alloc; " {prefix}")?.as_str())?;
+        for destination in changes.remove.as_slice() {
+            push_destination(alloc, text, *destination)?;
         }
         text.push_str("\n")?;
     }
     for group in changes.nlri.iter().chain(&changes.mp_reach_nlri) {
-        for prefix in group.prefixes.as_slice() {
+        for destination in group.destinations.as_slice() {
             text.push_str("put ")?;
-            push_route(alloc, text, *prefix, &group.path)?;
+            push_route(alloc, text, *destination, &group.path)?;
             text.push_str("\n")?;
         }
     }
     Ok(())
 }
 
+/// Appends the text of a destination, after a blank.
+fn push_destination(
+    alloc: Global,
+    text: &mut String,
+    destination: Destination,
+) -> Result<(), AllocError> {
+    let Destination { prefix, path } = destination;
+    text.push_str(format!(in alloc; " {prefix}")?.as_str())?;
+    match path {
+        Some(PathId(number)) => text.push_str(format!(in alloc; "#{number}")?.as_str()),
+        None => Ok(()),
+    }
+}
+
 /// Appends the text of a route.
 fn push_route(
     alloc: Global,
     text: &mut String,
-    prefix: Prefix,
+    destination: Destination,
     path: &Path<Global>,
 ) -> io::Result<()> {
     let mut sink = MemSink::new(alloc);
-    if write_route(&mut sink, prefix, path).is_err() {
+    if write_route(&mut sink, destination, path).is_err() {
         return Err(io::Error::from(AllocError));
     }
     match str::from_utf8(sink.octets()) {

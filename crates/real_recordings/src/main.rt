@@ -8,6 +8,8 @@
 //! settings aren't known: by hand, at random with planted oddities, and of real sessions; and where
 //! a verdict is told with the options of `bgp judge`, that is asked by them for the same.
 //! `forms.txt` has files that are neither, made by other programs, and what is told of them.
+//! `offers.txt` has captures and recordings whose OPENs offer several paths for a prefix or IPv6 next
+//! hops of IPv4 routes, judged, explained and checked: rows worked out by hand, and random ones.
 //! `slow.txt` has nine recordings, each of which is imported, judged, decoded and checked: of
 //! routers that answer an OPEN late, and of messages in the packet that ends the connection.
 //! `orders.txt` has recordings that are judged over all orders that their packets allow; of `check`

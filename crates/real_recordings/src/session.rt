@@ -9,7 +9,8 @@ use std::{fs, io};
 
 /// The recordings that lie in `sessions/`, each with the status of judging it from the ends a and
 /// b.
-static SESSIONS: [(&str, u8, u8); 13] = [
+static SESSIONS: [(&str, u8, u8); 14] = [
+    ("addpath-bird-frr", 0, 0),
     ("bad-as-bird", 0, 0),
     ("bad-as-trans", 1, 0),
     ("bird-frr-plain", 0, 0),

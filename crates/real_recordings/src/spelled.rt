@@ -2,7 +2,7 @@
 
 use bgp_commands::words_status;
 use bgp_import::RecordingOptions;
-use bgp_open::{ConfigParts, Families};
+use bgp_open::{ConfigParts, Families, RouteOffer};
 use bgp_prefix::{Address, RouteRefresh, Session};
 use bgp_talk::{Speaking, Start};
 use bgp_words::{Command, command_line};
@@ -281,7 +281,29 @@ fn put_offers(text: &mut String, parts: &ConfigParts) -> Result<(), AllocError> 
     let extended = extended_text(parts.session.extended);
     let refresh = refresh_text(parts.session.refresh);
     write!(text, " v4 {v4} v6 {v6} as4 {as4} delay-open {delay_open}")?;
-    write!(text, " refresh {refresh}{extended} large-hold {large_hold}")
+    write!(text, " refresh {refresh}{extended} large-hold {large_hold}")?;
+    put_route_offer(text, parts.offers)
+}
+
+/// Puts what is offered about routes, each word after its name; nothing where nothing is.
+fn put_route_offer(text: &mut String, offers: RouteOffer) -> Result<(), AllocError> {
+    let RouteOffer {
+        sends,
+        receives,
+        next_hops,
+    } = offers;
+    for (is_offered, name) in [
+        (sends.v4, "send-v4"),
+        (sends.v6, "send-v6"),
+        (receives.v4, "receive-v4"),
+        (receives.v6, "receive-v6"),
+        (next_hops, "next-hops"),
+    ] {
+        if is_offered {
+            write!(text, " offers {name}")?;
+        }
+    }
+    Ok(())
 }
 
 /// Puts what `speak` is told besides, each part after its name; a dash where nothing is announced.

@@ -16,7 +16,7 @@ enum Kind {
     Prefixes,
 }
 
-static TABLES: [(&str, Kind); 12] = [
+static TABLES: [(&str, Kind); 13] = [
     ("cases.txt", Kind::Cases),
     ("judged.txt", Kind::Cases),
     ("explained.txt", Kind::Cases),
@@ -24,6 +24,7 @@ static TABLES: [(&str, Kind); 12] = [
     ("checked.txt", Kind::Cases),
     ("captures.txt", Kind::Cases),
     ("forms.txt", Kind::Cases),
+    ("offers.txt", Kind::Cases),
     ("slow.txt", Kind::Cases),
     ("orders.txt", Kind::FirstColumn),
     ("options.txt", Kind::Cases),

@@ -4,7 +4,7 @@ use crate::parties::{PEER_ADDRESS, PEER_AS};
 use crate::paths::{Attributes, path_of};
 use bgp_path::{Origin, Path};
 use bgp_prefix::{Address, Family, Prefix};
-use bgp_update::{Changes, Put};
+use bgp_update::{Changes, Destination, Put};
 use std::alloc::{AllocError, Global};
 use std::ops::Range;
 
@@ -64,16 +64,16 @@ impl Feed {
         prefix(family, number)
     }
 
-    /// The prefixes of a group.
-    fn group(&self, alloc: Global, group: u32) -> Result<Vec<Prefix>, AllocError> {
+    /// The prefixes of a group, without path identifiers.
+    fn group(&self, alloc: Global, group: u32) -> Result<Vec<Destination>, AllocError> {
         let (family, members) = self.members(group);
-        let mut prefixes = Vec::new(alloc);
+        let mut destinations = Vec::new(alloc);
         for index in members {
             if let Some(prefix) = self.prefix(family, index) {
-                prefixes.push(prefix)?;
+                destinations.push(Destination::plain(prefix))?;
             }
         }
-        Ok(prefixes)
+        Ok(destinations)
     }
 
     /// The group is announced.
@@ -83,9 +83,9 @@ impl Feed {
         group: u32,
         path: &Path,
     ) -> Result<Changes, AllocError> {
-        let prefixes = self.group(alloc, group)?;
+        let destinations = self.group(alloc, group)?;
         let path = path.clone()?;
-        let put = Some(Put { path, prefixes });
+        let put = Some(Put { path, destinations });
         let (nlri, mp_reach_nlri) = if self.members(group).0 == Family::V4 {
             (put, None)
         } else {
