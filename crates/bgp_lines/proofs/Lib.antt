@@ -1,0 +1,4 @@
+pub mod PieceLists
+pub mod WideFamilies
+pub mod SegmentLists
+pub mod LastOffer

@@ -1,0 +1,9 @@
+use Rattle.bgp_lines.specs.AttributeLine.{attribute_value_text}
+use Rattle.bgp_text.proofs.Pieces.{Joins, and_then}
+use Rattle.bgp_lines.proofs.attribute_line.put_aggregator.Goals as goal
+
+pub returns : goal.returns
+unfolding attribute_value_text
+returns g c =
+    let law : Joins g.W.Sink = record { joined = g.met.W.Sink.joined } in
+    and_then law c.put.ensures (and_then law c.put_decimal.ensures (and_then law c.put-2.ensures c.put_ipv4.ensures))

@@ -1,0 +1,13 @@
+use Rattle.bgp_lines.specs.Notifications.{detail_text}
+use Rattle.bgp_text.proofs.Pieces.{Joins, and_then}
+use Rattle.bgp_lines.proofs.notifications.put_detail.Goals as goal
+
+pub returns-in-None : goal.returns-in-None
+unfolding detail_text
+returns-in-None g c = rw c.in-None.is c.put_hidden.ensures
+
+pub returns-in-Some : goal.returns-in-Some
+unfolding detail_text
+returns-in-Some g c =
+    let law : Joins g.W.Sink = record { joined = g.met.W.Sink.joined } in
+    rw c.in-Some.is (and_then law c.put.ensures c.put_data.ensures)

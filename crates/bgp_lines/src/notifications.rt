@@ -1,0 +1,113 @@
+//! The line of a NOTIFICATION in words.
+
+ghost use Rattle.std.specs.Prelude.{◌++◌, codes, option_map};
+ghost use Rattle.hex.specs.Hex.{encode_lower};
+ghost use Rattle.bgp_text.specs.Lines.{Writes};
+ghost use Rattle.bgp_lines.specs.ErrorData.{data_of, error_of};
+ghost use Rattle.bgp_lines.specs.Notifications.{codes_text, data_text, detail_text, error_text};
+ghost use Rattle.bgp_lines.specs.Notifications.{hidden_text, named_notification, plain_error_text};
+
+use crate::error_data::{ErrorData, cause_of};
+use crate::quoting::put_quoted;
+use bgp_names::{put_error_name, put_family_name};
+use bgp_open::Notification;
+use bgp_text::Lines;
+use mrt::Sink;
+
+/// Puts the codes of an error in numbers and in words, as in `6/4 Cease, Administrative Reset`.
+fn put_codes<W: Sink>(lines: &mut Lines<'_, W>, error: Notification<'_>)
+    ensures { Writes lines.old lines.new (codes_text (error_of error.entry)) }
+{
+    lines.put_decimal(error.code);
+    lines.put(b"/");
+    lines.put_decimal(error.subcode);
+    lines.put(b" ");
+    put_error_name(lines, error.code, error.subcode);
+}
+
+/// Puts what data say.
+#[tactic(auto, unfolding(crate::specs::Notifications::data_text))]
+fn put_data<W: Sink>(lines: &mut Lines<'_, W>, said: ErrorData<'_>)
+    ensures { Writes lines.old lines.new (data_text (data_of said.entry)) }
+{
+    match said {
+        ErrorData::Communication(text) => put_quoted(lines, text),
+        ErrorData::Maximum {
+            afi,
+            safi,
+            prefixes,
+        } => {
+            put_family_name(lines, afi, safi);
+            lines.put(b" ");
+            lines.put_decimal(prefixes);
+            lines.put(b" prefixes");
+        }
+    }
+}
+
+/// Puts octets in hexadecimal, behind a colon.
+fn put_behind_colon<W: Sink>(lines: &mut Lines<'_, W>, octets: &[u8])
+    ensures { Writes lines.old lines.new (codes ": " ++ encode_lower octets.now) }
+{
+    lines.put(b": ");
+    lines.put_digits(octets);
+}
+
+/// Puts data without a value, in hexadecimal.
+#[tactic(auto, unfolding(crate::specs::Notifications::hidden_text))]
+fn put_hidden<W: Sink>(lines: &mut Lines<'_, W>, detail: &[u8])
+    ensures { Writes lines.old lines.new (hidden_text detail.now) }
+{
+    match detail {
+        [] => lines.put(b""),
+        _ => put_behind_colon(lines, detail),
+    }
+}
+
+/// Puts what data say, or else the data, behind a colon.
+fn put_detail<W: Sink>(lines: &mut Lines<'_, W>, said: Option<ErrorData<'_>>, detail: &[u8])
+    ensures { Writes lines.old lines.new (detail_text (option_map data_of said.entry) detail.now) }
+{
+    match said {
+        None => put_hidden(lines, detail),
+        Some(said) => {
+            lines.put(b": ");
+            put_data(lines, said);
+        }
+    }
+}
+
+/// Puts an error with what its data say, but for the cause of a Hard Reset.
+fn put_plain_error<W: Sink>(lines: &mut Lines<'_, W>, error: Notification<'_>)
+    ensures { Writes lines.old lines.new (plain_error_text (error_of error.entry)) }
+{
+    put_codes(lines, error);
+    put_detail(lines, ErrorData::of(error), error.detail);
+}
+
+/// Puts an error, with the cause of a Hard Reset if it has one.
+fn put_error<W: Sink>(
+    lines: &mut Lines<'_, W>,
+    error: Notification<'_>,
+    cause: Option<Notification<'_>>,
+)
+    ensures { Writes lines.old lines.new
+        (error_text (error_of error.entry) (option_map error_of cause.entry)) }
+{
+    match cause {
+        None => put_plain_error(lines, error),
+        Some(cause) => {
+            put_codes(lines, error);
+            lines.put(b": ");
+            put_plain_error(lines, cause);
+        }
+    }
+}
+
+/// Puts the line of a NOTIFICATION, without its end.
+pub fn put_notification<W: Sink>(lines: &mut Lines<'_, W>, error: Notification<'_>)
+    ensures { Writes lines.old lines.new (named_notification (error_of error.entry)) }
+{
+    lines.put(b"notification ");
+    put_error(lines, error, cause_of(error));
+}
