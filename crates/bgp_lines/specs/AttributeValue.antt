@@ -1,5 +1,5 @@
--- What the value of a path attribute says (RFC 4271, 4.3 and 5), but for the two that have routes of
--- other families. It says something if its octets have the form that its type demands.
+-- What the value of a path attribute says (RFC 4271, 4.3 and 5), but for the two that have routes
+-- of other families. It says something if its octets have the form that its type demands.
 use Rattle.std.specs.Prelude.{◌==◌, ◌&&◌, ◌||◌, nat_le, ℕ, Bool, true, List, ◌+◌, Option, None}
 use Rattle.std.specs.Prelude.{Some, if◌then◌else◌, length, drop, slice_index}
 use Rattle.byteorder.specs.Endian.{big_number}
@@ -69,12 +69,14 @@ aggregator_value as4 octets =
 -- items, one at least
 abbrev pub items_value : Item → List ℕ → Option AttributeValue
 items_value kind octets =
-    if are_some_pieces (item_size kind) octets then Some (items kind (items_of kind octets)) else None
+    if are_some_pieces (item_size kind) octets
+    then Some (items kind (items_of kind octets)) else None
 
 -- one TLV of type 1 and length 11, its header included (RFC 7311, 3)
 abbrev pub metric_value : List ℕ → Option AttributeValue
 metric_value octets =
-    if (length octets == 11) && ((slice_index octets 0 == 1) && (big_number 2 (drop 1 octets) == 11))
+    if (length octets == 11)
+    && ((slice_index octets 0 == 1) && (big_number 2 (drop 1 octets) == 11))
     then Some (metric (big_number 8 (drop 3 octets))) else None
 
 -- NEXT_HOP and ORIGINATOR_ID

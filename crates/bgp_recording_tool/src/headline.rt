@@ -27,9 +27,9 @@ use std::alloc::Allocator;
 /// Packets don't tell when the local system read a message, and what came may have waited. So one
 /// order is made in which it may have handled them, and the records of that are judged. What a yes
 /// is worth says [`each_end_is_shown`]. If the verdict isn't a yes, all orders that the packets
-/// allow are searched. If another is a yes, that yes is reported, and a remark says so. A no over all
-/// is reported by the packet of a sent message ([`a_no_at_a_packet_is_by_no_order`]). If some order
-/// explains all that was sent and none is a yes, unfinished is reported
+/// allow are searched. If another is a yes, that yes is reported, and a remark says so. A no over
+/// all is reported by the packet of a sent message ([`a_no_at_a_packet_is_by_no_order`]). If some
+/// order explains all that was sent and none is a yes, unfinished is reported
 /// ([`what_is_unfinished_is_so`]). If there are too many to be searched or no memory for it, the
 /// verdict on the made order is reported: a no by its record, which is about this one order, and
 /// another may be a yes. By [`import_and_judge_agree`] the capture that is imported has the verdict
@@ -61,8 +61,8 @@ use std::alloc::Allocator;
 ///   it was whole; each kind of record that could have stood in its place, and no other, with what
 ///   the record lacks of it; and each note whose condition holds, as
 ///   [`explain_capture`](bgp_explain::explain_capture) has them.
-/// * after an unfinished the same, of what may follow all records; if the made order is a no, and it
-///   is unfinished over all, the same as after a no.
+/// * after an unfinished the same, of what may follow all records; if the made order is a no, and
+///   it is unfinished over all, the same as after a no.
 /// * after a yes how many records there are, and of which kinds; of another order its own.
 ///
 /// After a refusal it writes nothing more. Where memory is refused for the reason of a connection,
@@ -130,9 +130,9 @@ pub fn judge_recording<A: Allocator + Copy, T: Tracker<A>, R: Source, W: Sink>(
 /// others that keep to these limits the law is the same, and only a no or an unfinished could
 /// become a yes, or the other way round.
 ///
-/// A yes of another order than the made one is worth the same: some run shows just the records of an
-/// order of the connection's messages that the packets allow within the patience, and ends so. The
-/// session may begin in Connect or in Active then, whoever opened the connection.
+/// A yes of another order than the made one is worth the same: some run shows just the records of
+/// an order of the connection's messages that the packets allow within the patience, and ends so.
+/// The session may begin in Connect or in Active then, whoever opened the connection.
 ///
 /// It rests on the packets: that the recorder missed none, that the file has them in the order in
 /// which they passed, by a clock that is right, and that what was recorded is what arrived.
@@ -171,12 +171,14 @@ pub fn what_is_unfinished_is_so()
 ///
 /// Whatever is imported of a recording and whatever is judged of it, each by its own contract, are
 /// one list of records ([`recordings_are_made_once`]). The capture that
-/// [`import_recording`](bgp_import::import_recording) writes reads as just these, and whatever
-/// verdict holds of what it reads as is the one that is answered of the recording; a no, if a no
-/// over all orders is answered, or unfinished over all; and no yes, if the yes of another order is. A reader refuses such a
-/// capture at its first ROUTE-REFRESH, where the session refuses one, and for nothing else
-/// (7 RouteRefresh); and exactly there is the recording refused for that (18 RouteRefresh). Where
-/// both pass such messages over, none is in the capture.
+/// [`import_recording`](bgp_import::import_recording) writes reads as just these. The verdict on
+/// what it reads as is the one that is answered of the recording, unless that is over all orders:
+/// then the capture's is a no, if the answer is a no or unfinished, and it is no yes, if the answer
+/// is the yes of another order.
+///
+/// A reader refuses such a capture at its first ROUTE-REFRESH, where the session refuses one, and
+/// for nothing else (7 RouteRefresh); and exactly there is the recording refused for that (18
+/// RouteRefresh). Where both pass such messages over, none is in the capture.
 pub fn import_and_judge_agree()
     ensures agree { ImportAndJudgeAgree }
     ensures told { JudgeTellsTheCapture }

@@ -122,8 +122,8 @@ fn unsent_remark(connection: Option<usize>, entries: &[Entry<'_>]) -> Option<Rem
     })
 }
 
-/// What there is to tell of a verdict on the made order: of a yes, that nothing was sent, where that
-/// is so; of a no, at which record and packet, and how long a message may have waited.
+/// The remark on a verdict on the made order: on a yes, that nothing was sent, if that is so; on a
+/// no, at which record and packet it is, and how long a message may have waited.
 fn made_order_remark<A: Allocator>(
     connection: Option<usize>,
     within: u16,
@@ -188,12 +188,11 @@ fn another_remark<A: Allocator>(
     }
 }
 
-/// Adds what there is to tell of a connection: how its records were made; whether they show an
-/// UPDATE of a confederation, and what is left out of what both OPENs offer, as the caller found; of
-/// a no the sent message that no order explains,
-/// or at which of the records it is, and in which packet; of a yes that it is that of another order,
-/// if it is, and that nothing was sent. It is told with this number, where several connections are.
-/// None of it where a growth is refused.
+/// Adds the remarks on a connection: how its records were made; whether they show an UPDATE of a
+/// confederation, and what is left out of what both OPENs offer, as the caller found; on a no, the
+/// sent message that no order explains, or at which record and packet it is; on a yes, that another
+/// order is one, if that is so, and that nothing was sent. Each has this number, if there are
+/// several connections. None is added if a growth is refused.
 fn try_to_add<A: Allocator + Copy>(
     remarks: &mut Vec<Remark, A>,
     named: Option<usize>,

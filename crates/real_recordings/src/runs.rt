@@ -85,8 +85,10 @@ static READERS: [&str; 27] = [
     "bgp list none.pcap",
     "bgp decode --mrt --peer 192.0.2.2 --local 192.0.2.1 made.mrt",
     "bgp decode --mrt --peer 192.0.2.2 --local 192.0.2.1 session.pcap",
-    "bgp judge --local-as 65001 --peer-as 65002 --local-id 192.0.2.1 --local 192.0.2.1 --peer 192.0.2.2 --families both made.mrt",
-    "bgp judge --explain --local-as 65001 --peer-as 65003 --local-id 192.0.2.1 --local 192.0.2.1 --peer 192.0.2.2 --families both session.pcap",
+    "bgp judge --local-as 65001 --peer-as 65002 --local-id 192.0.2.1 --local 192.0.2.1 \
+     --peer 192.0.2.2 --families both made.mrt",
+    "bgp judge --explain --local-as 65001 --peer-as 65003 --local-id 192.0.2.1 --local 192.0.2.1 \
+     --peer 192.0.2.2 --families both session.pcap",
     "bgp check --routes session.pcap",
     "bgp check --routes --settings made.mrt",
     "bgp list",
@@ -94,14 +96,18 @@ static READERS: [&str; 27] = [
     "bgp check -",
     "bgp decode -",
     "bgp decode --mrt --peer 192.0.2.2 --local 192.0.2.1 -",
-    "bgp judge --local-as 65001 --peer-as 65002 --local-id 192.0.2.1 --local 192.0.2.1 --peer 192.0.2.2 -",
+    "bgp judge --local-as 65001 --peer-as 65002 --local-id 192.0.2.1 --local 192.0.2.1 \
+     --peer 192.0.2.2 -",
     "bgp list sessions",
     "bgp check none.pcap",
     "bgp decode none.pcap",
     "bgp decode session.pcap",
-    "bgp judge --hold 180 --local-as 65001 --peer-as 65002 --local-id 192.0.2.1 --local 192.0.2.1 --peer 192.0.2.2 --families both made.mrt",
-    "bgp judge --connection 2 --local-as 65001 --peer-as 65002 --local-id 192.0.2.1 --local 192.0.2.1 --peer 192.0.2.2 --families both session.pcap",
-    "bgp judge --local-port 40000 --local-as 65001 --peer-as 65002 --local-id 192.0.2.1 --local 192.0.2.1 --peer 192.0.2.2 --families both session.pcap",
+    "bgp judge --hold 180 --local-as 65001 --peer-as 65002 --local-id 192.0.2.1 --local 192.0.2.1 \
+     --peer 192.0.2.2 --families both made.mrt",
+    "bgp judge --connection 2 --local-as 65001 --peer-as 65002 --local-id 192.0.2.1 \
+     --local 192.0.2.1 --peer 192.0.2.2 --families both session.pcap",
+    "bgp judge --local-port 40000 --local-as 65001 --peer-as 65002 --local-id 192.0.2.1 \
+     --local 192.0.2.1 --peer 192.0.2.2 --families both session.pcap",
     "bgp check --port 1179 session.pcap",
     "bgp check half.pcap",
     "bgp --version",
