@@ -1,4 +1,1 @@
-pub mod PieceLists
 pub mod WideFamilies
-pub mod SegmentLists
-pub mod LastOffer

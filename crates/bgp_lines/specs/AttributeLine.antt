@@ -8,12 +8,13 @@ use Rattle.bgp_attr.specs.Segments.{WireSegment}
 use Rattle.bgp_names.specs.Attributes.{origin_names}
 use Rattle.bgp_names.specs.Naming.{name_in, name_or}
 use Rattle.bgp_text.specs.Text.{hex_text}
-use Rattle.bgp_lines.specs.Items.{item_text, items_of}
+use Rattle.bgp_values.specs.Items.{items_of}
+use Rattle.bgp_lines.specs.ItemText.{item_text}
 use Rattle.bgp_lines.specs.Joined.{joined}
-use Rattle.bgp_lines.specs.AttributeValue.{AttributeValue, origin, path, address, number, atomic}
-use Rattle.bgp_lines.specs.AttributeValue.{aggregator, items, metric}
-use Rattle.bgp_lines.specs.declared.items.Item.{Item}
-use Rattle.bgp_lines.specs.declared.items.Item.TheVariants.{AsNumber2, AsNumber4}
+use Rattle.bgp_values.specs.AttributeValue.{AttributeValue, origin, path, address, number, atomic}
+use Rattle.bgp_values.specs.AttributeValue.{aggregator, items, metric}
+use Rattle.bgp_values.specs.declared.items.Item.{Item}
+use Rattle.bgp_values.specs.declared.items.Item.TheVariants.{AsNumber2, AsNumber4}
 
 -- ---- flags
 

@@ -1,14 +1,7 @@
 pub mod Joined
-pub mod Pieces
 pub mod Quoting
-pub mod ErrorData
 pub mod Notifications
 pub mod Others
-pub mod Items
-pub mod CapabilityValue
-pub mod CountedText
+pub mod ItemText
 pub mod OpenLine
-pub mod PathSegments
-pub mod AttributeValue
 pub mod AttributeLine
-pub mod Opens

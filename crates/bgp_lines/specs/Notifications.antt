@@ -5,8 +5,8 @@ use Rattle.hex.specs.Hex.{encode_lower}
 use Rattle.bgp_names.specs.Errors.{error_name}
 use Rattle.bgp_names.specs.Families.{family_name}
 use Rattle.bgp_lines.specs.Quoting.{quoted_text}
-use Rattle.bgp_lines.specs.ErrorData.{ErrorFields, DataValue, communication, maximum}
-use Rattle.bgp_lines.specs.ErrorData.{data_value, cause_of}
+use Rattle.bgp_values.specs.ErrorData.{ErrorFields, DataValue, communication, maximum}
+use Rattle.bgp_values.specs.ErrorData.{data_value, cause_of}
 
 -- the codes in numbers and in words, as in `6/4 Cease, Administrative Reset`
 unfoldable pub codes_text : ErrorFields → List ℕ

@@ -15,13 +15,13 @@ use Rattle.bgp_names.specs.Families.{family_name}
 use Rattle.bgp_names.specs.Naming.{name_in, name_or}
 use Rattle.bgp_text.specs.Text.{hex_text}
 use Rattle.bgp_lines.specs.Quoting.{quoted_text}
-use Rattle.bgp_lines.specs.Items.{item_text}
+use Rattle.bgp_lines.specs.ItemText.{item_text}
 use Rattle.bgp_lines.specs.Joined.{each_behind, joined}
-use Rattle.bgp_lines.specs.CapabilityValue.{CapabilityValue, family, offered, next_hops, role}
-use Rattle.bgp_lines.specs.CapabilityValue.{restart, as_number, paths, long_lived, names}
-use Rattle.bgp_lines.specs.CapabilityValue.{capability_value}
-use Rattle.bgp_lines.specs.declared.items.Item.TheVariants.{HopFamily, RestartFamily, PathFamily}
-use Rattle.bgp_lines.specs.declared.items.Item.TheVariants.{LongLivedFamily}
+use Rattle.bgp_values.specs.CapabilityValue.{CapabilityValue, family, offered, next_hops, role}
+use Rattle.bgp_values.specs.CapabilityValue.{restart, as_number, paths, long_lived, names}
+use Rattle.bgp_values.specs.CapabilityValue.{capability_value}
+use Rattle.bgp_values.specs.declared.items.Item.TheVariants.{HopFamily, RestartFamily, PathFamily}
+use Rattle.bgp_values.specs.declared.items.Item.TheVariants.{LongLivedFamily}
 
 -- the name of a role
 abbrev pub role_text : ℕ → List ℕ

@@ -5,18 +5,17 @@ ghost use Rattle.std.specs.Fmt.{decimal};
 ghost use Rattle.bgp_attr.specs.Segments.{number_width};
 ghost use Rattle.bgp_text.specs.Lines.{Writes};
 ghost use Rattle.bgp_lines.specs.Joined.{each_behind};
-ghost use Rattle.bgp_lines.specs.PathSegments.{segment_of, segments_of};
-ghost use Rattle.bgp_lines.specs.AttributeValue.{aggregator, attribute_value_of};
+ghost use Rattle.bgp_values.specs.PathSegments.{segment_of, segments_of};
+ghost use Rattle.bgp_values.specs.AttributeValue.{aggregator, attribute_value_of};
 ghost use Rattle.bgp_lines.specs.AttributeLine.{are_right_flags, as_item, attribute_value_text};
 ghost use Rattle.bgp_lines.specs.AttributeLine.{between, bits_of_type, closing, flags_text, opening};
 ghost use Rattle.bgp_lines.specs.AttributeLine.{octets_text, origin_text, path_text, segment_text};
 ghost use Rattle.bgp_lines.specs.AttributeLine.{unknown_text, value_or_octets};
 
-use crate::attribute_value::AttributeValue;
-use crate::items::{Item, put_joined};
-use crate::segments::{Segment, first_segment};
+use crate::items::put_joined;
 use bgp_names::name_of_origin;
 use bgp_text::Lines;
+use bgp_values::{AttributeValue, Item, Segment, first_segment};
 use mrt::Sink;
 
 /// Every bit of an Attribute Flags octet but Extended Length.

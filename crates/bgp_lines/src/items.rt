@@ -1,67 +1,17 @@
-//! Items of one size, of which lists of capabilities and attributes consist, and their texts.
+//! The texts of items, of which lists of capabilities and attributes consist.
 
-ghost use Rattle.std.specs.Prelude.{◌≡◌, ◌<◌, ◌≤◌, [], drop, length, if◌then◌else◌};
+ghost use Rattle.std.specs.Prelude.{◌≡◌, ◌≤◌, [], drop, length, if◌then◌else◌};
 ghost use Rattle.bgp_text.specs.Lines.{Writes};
 ghost use Rattle.bgp_names.specs.Families.{family_name, family_numbers};
-ghost use Rattle.bgp_lines.specs.Items.{family_text, has_bits, item_size, item_text};
-ghost use Rattle.bgp_lines.specs.Items.{items_of, preserved_text, way_text};
+ghost use Rattle.bgp_values.specs.Items.{item_size, items_of};
+ghost use Rattle.bgp_lines.specs.ItemText.{family_text, item_text, preserved_text, way_text};
 ghost use Rattle.bgp_lines.specs.Joined.{each_behind, joined};
 
-use crate::pieces::first_piece;
 use bgp_names::{name_of_way, put_afi_name, put_family_name};
 use bgp_text::Lines;
+use bgp_values::{Item, first_piece, has_bits};
 use byteorder::{BigEndian, ByteOrder};
 use mrt::Sink;
-
-/// What an item of a list is.
-#[derive(Clone, Copy, Debug, PartialEq, Eq)]
-pub enum Item {
-    /// A family and the AFI of its next hops (RFC 8950, 4).
-    HopFamily,
-    /// A family of Graceful Restart (RFC 4724, 3).
-    RestartFamily,
-    /// A family and what is done with its path identifiers (RFC 7911, 4).
-    PathFamily,
-    /// A family of Long-Lived Graceful Restart (RFC 9494, 3).
-    LongLivedFamily,
-    /// An AS number of two octets.
-    AsNumber2,
-    /// An AS number of four octets.
-    AsNumber4,
-    /// A community (RFC 1997).
-    Community,
-    /// An extended community (RFC 4360, 2).
-    ExtendedCommunity,
-    /// A large community (RFC 8092, 3).
-    LargeCommunity,
-    /// A cluster (RFC 4456, 8).
-    Cluster,
-}
-
-impl Item {
-    /// Returns how many octets an item has.
-    pub fn size(self) -> usize
-        ensures size { result ≡ item_size self }
-        ensures some { 0 < result }
-    {
-        match self {
-            Item::AsNumber2 => 2,
-            Item::RestartFamily | Item::PathFamily => 4,
-            Item::AsNumber4 | Item::Community | Item::Cluster => 4,
-            Item::HopFamily => 6,
-            Item::LongLivedFamily => 7,
-            Item::ExtendedCommunity => 8,
-            Item::LargeCommunity => 12,
-        }
-    }
-}
-
-/// Checks whether these bits of an octet of flags are set.
-pub(crate) fn has_bits(flags: u8, bits: u8) -> bool
-    ensures { result ≡ has_bits bits flags }
-{
-    flags & bits == bits
-}
 
 /// Returns the octets behind so many.
 pub(crate) fn behind(count: usize, octets: &[u8]) -> &[u8]
@@ -188,7 +138,7 @@ fn put_large_community<W: Sink>(lines: &mut Lines<'_, W>, octets: &[u8])
 }
 
 /// Puts an item.
-#[tactic(auto, unfolding(crate::specs::Items::item_text))]
+#[tactic(auto, unfolding(crate::specs::ItemText::item_text))]
 fn put_item<W: Sink>(lines: &mut Lines<'_, W>, item: Item, octets: &[u8])
     requires { length octets.now ≡ item_size item }
     ensures { Writes lines.old lines.new (item_text item octets.now) }

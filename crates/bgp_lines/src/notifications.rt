@@ -3,15 +3,15 @@
 ghost use Rattle.std.specs.Prelude.{◌++◌, codes, option_map};
 ghost use Rattle.hex.specs.Hex.{encode_lower};
 ghost use Rattle.bgp_text.specs.Lines.{Writes};
-ghost use Rattle.bgp_lines.specs.ErrorData.{data_of, error_of};
+ghost use Rattle.bgp_values.specs.ErrorData.{data_of, error_of};
 ghost use Rattle.bgp_lines.specs.Notifications.{codes_text, data_text, detail_text, error_text};
 ghost use Rattle.bgp_lines.specs.Notifications.{hidden_text, named_notification, plain_error_text};
 
-use crate::error_data::{ErrorData, cause_of};
 use crate::quoting::put_quoted;
 use bgp_names::{put_error_name, put_family_name};
 use bgp_open::Notification;
 use bgp_text::Lines;
+use bgp_values::{ErrorData, cause_of};
 use mrt::Sink;
 
 /// Puts the codes of an error in numbers and in words, as in `6/4 Cease, Administrative Reset`.

@@ -3,19 +3,19 @@
 ghost use Rattle.std.specs.Prelude.{◌≡◌, codes, if◌then◌else◌, option_map};
 ghost use Rattle.bgp_open.specs.Capability.{capability_of};
 ghost use Rattle.bgp_text.specs.Lines.{Writes};
-ghost use Rattle.bgp_lines.specs.CapabilityValue.{capability_value_of, names, restart};
-ghost use Rattle.bgp_lines.specs.Items.{items_of};
+ghost use Rattle.bgp_values.specs.CapabilityValue.{capability_value_of, names, restart};
+ghost use Rattle.bgp_values.specs.Items.{items_of};
 ghost use Rattle.bgp_lines.specs.Joined.{each_behind};
 ghost use Rattle.bgp_lines.specs.OpenLine.{capability_value_text, hidden_capability_text};
 ghost use Rattle.bgp_lines.specs.OpenLine.{is_known_code, named_capability, named_malformed_open};
 ghost use Rattle.bgp_lines.specs.OpenLine.{named_open, open_fault_name, role_text, said_text};
 
-use crate::capability_value::CapabilityValue;
-use crate::items::{Item, put_each, put_if, put_joined};
+use crate::items::{put_each, put_if, put_joined};
 use crate::quoting::put_quoted;
 use bgp_names::{name_of_role, put_capability_name, put_family_name, put_subcode_name};
 use bgp_open::{Capabilities, Capability, Open, OpenFault};
 use bgp_text::Lines;
+use bgp_values::{CapabilityValue, Item};
 use mrt::Sink;
 
 /// The Error code OPEN Message Error.

@@ -2,7 +2,7 @@ use Rattle.std.proofs.Common.{◌≡◌, ◌∙◌, ◌++◌, List, [], refl, sy
 use Rattle.bgp_text.proofs.Pieces.{Joins, and_then, nothing_yet}
 use Rattle.bgp_lines.specs.Joined.{each_behind}
 use Rattle.bgp_lines.specs.AttributeLine.{segment_text}
-use Rattle.bgp_lines.specs.PathSegments.{segment_of, segments_of}
+use Rattle.bgp_values.specs.PathSegments.{segment_of, segments_of}
 use Rattle.bgp_attr.specs.Segments.{WireSegment, number_width}
 use Rattle.bgp_lines.proofs.attribute_line.put_more_segments.Goals as goal
 

@@ -2,7 +2,7 @@ use Rattle.std.proofs.Common.{◌≡◌, ◌++◌, List, ℕ, length, codes}
 use Rattle.bgp_text.specs.Lines.{Writes}
 use Rattle.bgp_lines.specs.Joined.{each_behind}
 use Rattle.bgp_lines.specs.AttributeLine.{segment_text}
-use Rattle.bgp_lines.specs.PathSegments.{segments_of}
+use Rattle.bgp_values.specs.PathSegments.{segments_of}
 use Rattle.bgp_attr.specs.Segments.{number_width}
 use Rattle.bgp_lines.proofs.attribute_line.put_more_segments.Given as goal
 

@@ -1,7 +1,8 @@
 use Rattle.std.proofs.Common.{◌≡◌, ◌∙◌, ◌++◌, List, [], ℕ, refl, sym, ap, append-nil, append_assoc}
 use Rattle.bgp_text.proofs.Pieces.{Joins, and_then, nothing_yet}
 use Rattle.bgp_lines.specs.Joined.{each_behind}
-use Rattle.bgp_lines.specs.Items.{item_text, items_of}
+use Rattle.bgp_values.specs.Items.{items_of}
+use Rattle.bgp_lines.specs.ItemText.{item_text}
 use Rattle.bgp_lines.proofs.items.put_each.Goals as goal
 
 pub loop-piece-init : goal.loop-piece-init

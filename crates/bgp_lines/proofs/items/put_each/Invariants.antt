@@ -1,7 +1,8 @@
 use Rattle.std.proofs.Common.{◌≡◌, ◌++◌, List, ℕ, length}
 use Rattle.bgp_text.specs.Lines.{Writes}
 use Rattle.bgp_lines.specs.Joined.{each_behind}
-use Rattle.bgp_lines.specs.Items.{item_text, items_of}
+use Rattle.bgp_values.specs.Items.{items_of}
+use Rattle.bgp_lines.specs.ItemText.{item_text}
 use Rattle.bgp_lines.proofs.items.put_each.Given as goal
 
 -- what is written and what is left to write are all

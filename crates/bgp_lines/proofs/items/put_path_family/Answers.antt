@@ -1,4 +1,4 @@
-use Rattle.bgp_lines.specs.Items.{item_text}
+use Rattle.bgp_lines.specs.ItemText.{item_text}
 use Rattle.bgp_text.proofs.Pieces.{Joins, and_then}
 use Rattle.bgp_lines.proofs.items.put_path_family.Goals as goal
 

@@ -1,0 +1,9 @@
+pub mod Pieces
+pub mod Readable
+pub mod ErrorData
+pub mod Items
+pub mod CapabilityValue
+pub mod CountedText
+pub mod PathSegments
+pub mod AttributeValue
+pub mod Opens
