@@ -1,5 +1,6 @@
 pub mod Octets
 pub mod AsNumber
+pub mod ErrorCode
 pub mod Header
 pub mod Verdict
 pub mod Least

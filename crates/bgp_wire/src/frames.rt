@@ -72,6 +72,13 @@ impl<A: Allocator + Copy> Frames<A> {
         }
     }
 
+    /// Lends the octets that came and aren't handed out: what stands behind the last frame.
+    pub fn held(&self) -> &[u8]
+        ensures { result.now ≡ self.now.octets }
+    {
+        octets_from(&self.octets, self.taken)
+    }
+
     /// How many octets are held: those that came before a fault was answered, less those of the
     /// frames handed out.
     pub fn len(&self) -> usize

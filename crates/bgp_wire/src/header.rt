@@ -18,7 +18,8 @@ ghost use Rattle.bgp_wire.specs.Verdict.{type_code, Names, IsEmpty, AreEachFault
 ghost use Rattle.bgp_wire.specs.Verdict.{IsVerdict};
 ghost use Rattle.bgp_wire.specs.Least.{IsLeastNamed};
 
-use crate::named_fault::{MESSAGE_HEADER_ERROR, NamedFault};
+use crate::error_code::ErrorCode;
+use crate::named_fault::NamedFault;
 use crate::octets::{put, put_u8, put_u16};
 use byteorder::{BigEndian, ByteOrder};
 use std::alloc::Allocator;
@@ -149,16 +150,17 @@ impl HeaderFaults {
         ensures some { IfSome result (λ fault. IsLeastNamed 1 (Names self.now) fault) }
         ensures none { IfNone result (IsEmpty self.now) }
     {
+        let code = ErrorCode::MessageHeader.code();
         if self.marker {
-            return Some(NamedFault::new(MESSAGE_HEADER_ERROR, 1, &[]));
+            return Some(NamedFault::new(code, 1, &[]));
         }
         if let Some(length) = self.length {
             let mut octets = [0; 2];
             BigEndian::write_u16(&mut octets, length);
-            return Some(NamedFault::new(MESSAGE_HEADER_ERROR, 2, &octets));
+            return Some(NamedFault::new(code, 2, &octets));
         }
         let kind = self.kind?;
-        Some(NamedFault::new(MESSAGE_HEADER_ERROR, 3, &[kind]))
+        Some(NamedFault::new(code, 3, &[kind]))
     }
 }
 

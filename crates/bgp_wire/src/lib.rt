@@ -14,6 +14,7 @@
 #![tactic(auto)]
 
 mod as_number;
+mod error_code;
 mod frames;
 mod header;
 mod laws;
@@ -23,6 +24,7 @@ mod octets;
 pub mod vectors;
 
 pub use as_number::{AS_TRANS, needs_four_octets, two_octet_as};
+pub use error_code::ErrorCode;
 pub use frames::{Frames, Next, is_frame};
 pub use header::{
     HEADER_LEN, HeaderFaults, HeaderVerdict, Limit, MessageType, check_header, header_at,

@@ -4,9 +4,6 @@ ghost use Rattle.std.specs.Prelude.{◌≡◌, ◌≤◌, length};
 
 use arrayvec::ArrayVec;
 
-/// The Error code of a Message Header Error.
-pub(crate) const MESSAGE_HEADER_ERROR: u8 = 1;
-
 /// A fault of a message, as a NOTIFICATION names it. It takes no memory.
 #[derive(Debug, Drop, PartialEq, Eq)]
 pub struct NamedFault {
