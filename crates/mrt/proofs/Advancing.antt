@@ -1,9 +1,8 @@
 -- How far a reader is behind some pieces, and behind one more.
-use Rattle.std.proofs.Common.{◌≡◌, ◌∙◌, ℕ, Bool, ◌+◌, ◌≤◌, List, [], ◌∷◌, ◌++◌, length, drop, refl, sym, ap, subst, arith, inl, inr, append-nil, length-append, Option, None, Some, IsTrue, ◌⊎◌}
+use Rattle.std.proofs.Common.{◌≡◌, ◌∙◌, ℕ, Bool, ◌+◌, ◌≤◌, List, [], ◌∷◌, ◌++◌, length, drop, refl, sym, ap, subst, arith, inl, inr, append-nil, length-append, Option, Some, IsTrue, ◌⊎◌}
 use Rattle.std.proofs.lemmas.Grind.{flat_map-append}
 use Rattle.bgp_prefix.specs.Shown.{ShownRecord, second_of}
 use Rattle.bgp_prefix.specs.declared.session.Session.{Session}
-use Rattle.mrt.specs.declared.record.Endpoints.{Endpoints}
 use Rattle.mrt.specs.declared.fault.FaultKind.{FaultKind}
 use Rattle.mrt.specs.declared.fault.FaultKind.TheVariants as kinds
 use Rattle.mrt.specs.declared.judging.Found.{Found}
@@ -12,15 +11,16 @@ use Rattle.mrt.specs.declared.judging.Shows.TheVariants as shows
 use Rattle.mrt.specs.Layout.{content_in, header_of, body_of}
 use Rattle.mrt.specs.Rules.{Rule, FirstSays, Judgement, judgement_of, Refused}
 use Rattle.mrt.specs.Rules as r
-use Rattle.mrt.specs.Capture.{Piece, Other, OtherEnds, PassedOver, Shown, octets_of, IsPiece, ArePieces, IsBegun, last_after, last_of, joined, shown_by, records_of, first_other, ends_of, shown_of}
+use Rattle.mrt.specs.Capture.{Piece, Shown, octets_of, IsPiece, ArePieces, IsBegun, last_after, last_of, joined, shown_by, records_of, others_of, shown_of}
 use Rattle.mrt.specs.Skipped.{IsSkipOf, piece_for, skipped_in, both_skipped}
 use Rattle.mrt.specs.Found.{shown_as}
 use Rattle.mrt.specs.Reading.{IsFoundIn, IsRefused}
 use Rattle.mrt.specs.Reader.{ReaderState, fresh_reader, after_pieces, at_end, at_fault, at_record, device_count, Ends, Fails}
-use Rattle.mrt.specs.Progress.{after_skipped, after_record, first_after, first_seen, fault_at, shown_from, Finds}
+use Rattle.mrt.specs.Progress.{after_skipped, after_record, fault_at, shown_from, Finds}
 use Rattle.mrt.specs.declared.skipped.Skip.{Skip}
 use Rattle.mrt.specs.declared.skipped.Skip.TheVariants as whys
 use Rattle.mrt.proofs.Counts.{counts_chain, counts_one, counts_shown}
+use Rattle.mrt.proofs.OtherPairs.{others_chain, others_shown, others_skipped}
 
 -- ---- one piece more
 
@@ -40,41 +40,6 @@ pub pieces_more : (session : Session) (last : Option ℕ) (pieces : List Piece) 
     → IsPiece session (last_of last pieces) piece → ArePieces session last (pieces ++ piece ∷ [])
 pieces_more session last [] piece are is = (is, tt)
 pieces_more session last (first ∷ pieces) piece are is = (are.0, pieces_more session (last_after last first) pieces piece are.1 is)
-
--- the first of the addresses, if there were some before
-first_other_of : (ends : Option Endpoints) (octets : List ℕ) → first_other ends (Other octets ∷ []) ≡ ends
-first_other_of None octets = refl
-first_other_of (Some e) octets = refl
-
-first_other_passed : (ends : Option Endpoints) (octets : List ℕ) → first_other ends (PassedOver octets ∷ []) ≡ ends
-first_other_passed None octets = refl
-first_other_passed (Some e) octets = refl
-
-first_other_shown : (ends : Option Endpoints) (octets : List ℕ) → first_other ends (Shown octets ∷ []) ≡ ends
-first_other_shown None octets = refl
-first_other_shown (Some e) octets = refl
-
-first_other_seen : (ends : Option Endpoints) (octets : List ℕ) → first_other ends (OtherEnds octets ∷ []) ≡ first_seen ends (ends_of octets)
-first_other_seen None octets = refl
-first_other_seen (Some e) octets = refl
-
-first_other_skipped : (ends : Option Endpoints) (skip : Skip) (octets : List ℕ) → IsSkipOf skip (header_of octets) (body_of octets)
-    → first_other ends (piece_for skip octets ∷ []) ≡ first_after ends skip
-first_other_skipped ends whys.OtherKind octets is = first_other_of ends octets
-first_other_skipped ends (whys.OtherSession e) octets is =
-    let same : ends_of octets ≡ e = sym (λ i. record { peer = is.0 i; local = is.1 i }) in
-    first_other_seen ends octets ∙ ap (λ (x : Endpoints). first_seen ends x) same
-first_other_skipped ends whys.RefreshReceived octets is = first_other_passed ends octets
-first_other_skipped ends whys.RefreshSent octets is = first_other_passed ends octets
-
-pub other_more : (ends : Option Endpoints) (pieces : List Piece) (piece : Piece)
-    → first_other ends (pieces ++ piece ∷ []) ≡ first_other (first_other ends pieces) (piece ∷ [])
-other_more (Some e) pieces piece = refl
-other_more None [] piece = refl
-other_more None (Other o ∷ pieces) piece = other_more None pieces piece
-other_more None (OtherEnds o ∷ pieces) piece = refl
-other_more None (PassedOver o ∷ pieces) piece = other_more None pieces piece
-other_more None (Shown o ∷ pieces) piece = other_more None pieces piece
 
 -- the octets of a skipped record, the second after it, and what it shows
 octets_skipped : (skip : Skip) (octets : List ℕ) → octets_of (piece_for skip octets) ≡ octets
@@ -108,18 +73,18 @@ skipped_state from pieces skip octets count len is =
     let piece = piece_for skip octets in
     let passed = count_more from pieces piece count (ap length (octets_skipped skip octets) ∙ len) in
     let last = sym (last_more from.last pieces piece ∙ last_skipped (last_of from.last pieces) skip octets) in
-    let other = sym (other_more from.other pieces piece ∙ first_other_skipped (first_other from.other pieces) skip octets is) in
+    let others = sym (others_chain from.others pieces (piece ∷ []) ∙ others_skipped (others_of from.others pieces) skip octets is) in
     let skipped = sym (counts_chain from.skipped pieces (piece ∷ []) ∙ counts_one (both_skipped from.skipped (skipped_in pieces)) skip octets is) in
-    λ i. record { passed = passed i; last = last i; place = from.place; is_ended = from.is_ended; fault = from.fault; other = other i; skipped = skipped i }
+    λ i. record { passed = passed i; last = last i; place = from.place; is_ended = from.is_ended; fault = from.fault; others = others i; skipped = skipped i }
 
 record_state : (from : ReaderState) (pieces : List Piece) (octets : List ℕ) (second count : ℕ) → length octets ≡ count → second ≡ second_of (shown_of octets)
     → after_record (after_pieces from pieces) second count ≡ at_record (after_pieces from pieces) (after_pieces from (pieces ++ Shown octets ∷ []))
 record_state from pieces octets second count len same =
     let passed = count_more from pieces (Shown octets) count len in
     let last = ap (λ (s : ℕ). let o : Option ℕ = Some s in o) same ∙ sym (last_more from.last pieces (Shown octets)) in
-    let other = sym (other_more from.other pieces (Shown octets) ∙ first_other_shown (first_other from.other pieces) octets) in
+    let others = sym (others_chain from.others pieces (Shown octets ∷ []) ∙ others_shown (others_of from.others pieces) octets) in
     let skipped = sym (counts_chain from.skipped pieces (Shown octets ∷ []) ∙ counts_shown (both_skipped from.skipped (skipped_in pieces)) octets) in
-    λ i. record { passed = passed i; last = last i; place = (after_pieces from pieces).passed; is_ended = from.is_ended; fault = from.fault; other = other i; skipped = skipped i }
+    λ i. record { passed = passed i; last = last i; place = (after_pieces from pieces).passed; is_ended = from.is_ended; fault = from.fault; others = others i; skipped = skipped i }
 
 -- ---- what was found
 

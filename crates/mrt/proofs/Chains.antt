@@ -1,10 +1,9 @@
 -- Pieces behind other pieces.
-use Rattle.std.proofs.Common.{◌≡◌, ◌∙◌, ℕ, List, [], ◌∷◌, ◌++◌, length, length-append, arith, refl, ap, Option, None, Some}
+use Rattle.std.proofs.Common.{◌≡◌, ◌∙◌, ℕ, List, [], ◌∷◌, ◌++◌, length, length-append, arith, refl, ap, Option}
 use Rattle.std.proofs.lemmas.Grind.{flat_map-append}
 use Rattle.bgp_prefix.specs.Shown.{ShownRecord}
 use Rattle.bgp_prefix.specs.declared.session.Session.{Session}
-use Rattle.mrt.specs.declared.record.Endpoints.{Endpoints}
-use Rattle.mrt.specs.Capture.{Piece, Other, OtherEnds, PassedOver, Shown, octets_of, ArePieces, last_after, last_of, first_other, joined, shown_by, records_of, shown_of}
+use Rattle.mrt.specs.Capture.{Piece, Shown, octets_of, ArePieces, last_after, last_of, joined, shown_by, records_of, shown_of}
 
 pub joined_chain : (first second : List Piece) → joined (first ++ second) ≡ joined first ++ joined second
 joined_chain first second = flat_map-append octets_of first second
@@ -15,14 +14,6 @@ records_chain first second = flat_map-append shown_by first second
 pub last_chain : (last : Option ℕ) (first second : List Piece) → last_of last (first ++ second) ≡ last_of (last_of last first) second
 last_chain last [] second = refl
 last_chain last (piece ∷ first) second = last_chain (last_after last piece) first second
-
-pub other_chain : (ends : Option Endpoints) (first second : List Piece) → first_other ends (first ++ second) ≡ first_other (first_other ends first) second
-other_chain (Some e) first second = refl
-other_chain None [] second = refl
-other_chain None (Other o ∷ first) second = other_chain None first second
-other_chain None (OtherEnds o ∷ first) second = refl
-other_chain None (PassedOver o ∷ first) second = other_chain None first second
-other_chain None (Shown o ∷ first) second = other_chain None first second
 
 pub pieces_chain : (session : Session) (last : Option ℕ) (first second : List Piece) → ArePieces session last first
     → ArePieces session (last_of last first) second → ArePieces session last (first ++ second)

@@ -6,6 +6,7 @@ pub mod Exits
 pub mod BodyLimit
 pub mod Places
 pub mod Counts
+pub mod OtherPairs
 pub mod Advancing
 pub mod Refusing
 pub mod OneReading

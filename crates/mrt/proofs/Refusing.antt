@@ -1,26 +1,21 @@
 -- A reader that is neither ended nor refused, and what it answers where it has no memory.
-use Rattle.std.proofs.Common.{◌≡◌, ◌∙◌, ◌<◌, ℕ, Bool, false, List, [], refl, sym, ap, subst, arith, inl, inr, IsTrue, is_some, Option, None, Some, Result}
+use Rattle.std.proofs.Common.{◌≡◌, ◌∙◌, ◌<◌, ℕ, Bool, false, List, [], refl, sym, ap, subst, arith, inl, inr, IsTrue, is_some, Option, None, Result}
 use Rattle.std.proofs.Math.Nat.{add-zero}
 use Rattle.bgp_prefix.specs.declared.session.Session.{Session}
 use Rattle.mrt.specs.declared.record.Record.{Record}
-use Rattle.mrt.specs.declared.record.Endpoints.{Endpoints}
 use Rattle.mrt.specs.declared.fault.CaptureFault.{CaptureFault}
 use Rattle.mrt.specs.declared.fault.FaultKind.TheVariants as kinds
-use Rattle.mrt.specs.Capture.{first_other}
 use Rattle.mrt.specs.Reader.{ReaderState, HasRoom, fresh_reader, after_pieces, at_fault, Fails, IsAnswer, NextBy, IsNext}
 use Rattle.mrt.specs.Progress.{fault_at}
 use Rattle.mrt.proofs.Counts.{no_counts}
-
-pub no_others : (ends : Option Endpoints) → first_other ends [] ≡ ends
-no_others None = refl
-no_others (Some e) = refl
+use Rattle.mrt.proofs.OtherPairs.{no_others}
 
 pub no_pieces : (from : ReaderState) → after_pieces from [] ≡ from
 no_pieces from =
     let passed = add-zero from.passed in
-    let other = no_others from.other in
+    let others = no_others from.others in
     let skipped = no_counts from.skipped in
-    λ i. record { passed = passed i; last = from.last; place = from.place; is_ended = from.is_ended; fault = from.fault; other = other i; skipped = skipped i }
+    λ i. record { passed = passed i; last = from.last; place = from.place; is_ended = from.is_ended; fault = from.fault; others = others i; skipped = skipped i }
 
 -- one that lacks room, and has found no fault, has read nothing
 pub first_call : (len : ℕ) (state : ReaderState) → HasRoom len state → len < 65583 → state.fault ≡ None → state ≡ fresh_reader

@@ -1,9 +1,11 @@
 -- A capture of one session: records one after another, of which some are skipped and the others are
 -- the session's, and then the end or the first fault (RFC 6396, 2).
-use Rattle.std.specs.Prelude.{◌≡◌, ◌<◌, ◌⊎◌, ◌++◌, ℕ, List, [], ◌∷◌, length, Option, None, Some}
-use Rattle.std.specs.List.{flat_map}
+use Rattle.std.specs.Prelude.{◌≡◌, ◌<◌, ◌-◌, ◌⊎◌, ◌++◌, ℕ, List, [], ◌∷◌, length, take}
+use Rattle.std.specs.Prelude.{Option, None, Some, if◌then◌else◌}
+use Rattle.std.specs.List.{flat_map, list_any}
 use Rattle.bgp_prefix.specs.Shown.{ShownRecord, second_of}
 use Rattle.bgp_prefix.specs.declared.session.Session.{Session}
+use Rattle.mrt.specs.contracts.record.EndpointsPartialEq.TheImpl as equality
 use Rattle.mrt.specs.Layout.{IsRecord, header_of, body_of, content_in, peer_in, local_in, shown_in}
 use Rattle.mrt.specs.Rules.{Judgement, End, Skipped, SkippedSession, SkippedRefresh, Refused}
 use Rattle.mrt.specs.Rules.{OfSession, IsJudged, IsCut, HasLongBody, place_of}
@@ -83,14 +85,29 @@ shown_by (Shown octets) = shown_of octets ∷ []
 abbrev pub records_of : List Piece → List ShownRecord
 records_of pieces = flat_map shown_by pieces
 
--- the addresses of the first that was skipped for its addresses
-abbrev pub first_other : Option Endpoints → List Piece → Option Endpoints
-first_other (Some ends) pieces = Some ends
-first_other None [] = None
-first_other None (Other octets ∷ pieces) = first_other None pieces
-first_other None (OtherEnds octets ∷ pieces) = Some (ends_of octets)
-first_other None (PassedOver octets ∷ pieces) = first_other None pieces
-first_other None (Shown octets ∷ pieces) = first_other None pieces
+-- the addresses of those that are skipped for their addresses
+abbrev pub other_ends : Piece → List Endpoints
+other_ends (Other octets) = []
+other_ends (OtherEnds octets) = ends_of octets ∷ []
+other_ends (PassedOver octets) = []
+other_ends (Shown octets) = []
+
+abbrev pub other_ends_of : List Piece → List Endpoints
+other_ends_of pieces = flat_map other_ends pieces
+
+-- The different pairs of addresses, in the order of their first places: each pair, unless it is
+-- among these or among those before it.
+abbrev pub pairs_besides : List Endpoints → List Endpoints → List Endpoints
+pairs_besides known [] = []
+pairs_besides known (ends ∷ more) =
+    if list_any (λ one. equality.ghosts.eq one ends) known then pairs_besides known more
+    else ends ∷ pairs_besides (known ++ ends ∷ []) more
+
+-- The first nine different pairs of those that are skipped for their addresses: these, and behind
+-- them others, for which there is room.
+abbrev pub others_of : List Endpoints → List Piece → List Endpoints
+others_of known pieces =
+    known ++ take (9 - length known) (pairs_besides known (other_ends_of pieces))
 
 -- no piece stands where a place is judged so
 abbrev pub IsStop : Judgement → Type 0

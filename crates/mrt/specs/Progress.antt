@@ -1,8 +1,10 @@
 -- How a reader goes on, record by record.
-use Rattle.std.specs.Prelude.{◌≤◌, ◌+◌, ℕ, Bool, List, Option, None, Some, Result, Ok, Err}
+use Rattle.std.specs.Prelude.{◌≤◌, ◌+◌, ◌-◌, ◌++◌, ℕ, Bool, List, [], ◌∷◌, Option, None, Some}
+use Rattle.std.specs.Prelude.{Result, Ok, Err}
 use Rattle.std.specs.Prelude.{take, drop, length}
 use Rattle.bgp_prefix.specs.Shown.{ShownRecord}
 use Rattle.bgp_prefix.specs.declared.session.Session.{Session}
+use Rattle.mrt.specs.Capture.{pairs_besides}
 use Rattle.mrt.specs.Found.{shown_as}
 use Rattle.mrt.specs.Reader.{ReaderState, Answers, Ends, Fails, device_count}
 use Rattle.mrt.specs.Skipped.{one_more}
@@ -22,26 +24,25 @@ state_of progress = record {
   place = progress.place;
   is_ended = progress.is_ended;
   fault = progress.fault;
-  other = progress.other;
+  others = progress.others.items;
   skipped = progress.skipped;
 }
 
--- the first of what was seen before and what is seen now
-abbrev pub first_seen : Option Endpoints → Endpoints → Option Endpoints
-first_seen (Some first) ends = Some first
-first_seen None ends = Some ends
+-- the pairs of addresses with one more, where it is another and there is room for it
+abbrev pub with_pair : List Endpoints → Endpoints → List Endpoints
+with_pair known ends = known ++ take (9 - length known) (pairs_besides known (ends ∷ []))
 
-abbrev pub first_after : Option Endpoints → Skip → Option Endpoints
-first_after first skips.OtherKind = first
-first_after first (skips.OtherSession ends) = first_seen first ends
-first_after first skips.RefreshReceived = first
-first_after first skips.RefreshSent = first
+abbrev pub pairs_after : List Endpoints → Skip → List Endpoints
+pairs_after known skips.OtherKind = known
+pairs_after known (skips.OtherSession ends) = with_pair known ends
+pairs_after known skips.RefreshReceived = known
+pairs_after known skips.RefreshSent = known
 
 -- after a record of so many octets that is skipped
 abbrev pub after_skipped : ReaderState → Skip → ℕ → ReaderState
 after_skipped state skip count = record state {
   passed = state.passed + count;
-  other = first_after state.other skip;
+  others = pairs_after state.others skip;
   skipped = one_more state.skipped skip;
 }
 

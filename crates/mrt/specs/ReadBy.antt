@@ -1,15 +1,15 @@
 -- What was read by a reader of captures, and what the reader knows of it.
-use Rattle.std.specs.Prelude.{◌≡◌, ◌++◌, ℕ, List, None}
+use Rattle.std.specs.Prelude.{◌≡◌, ◌++◌, ℕ, List, [], None}
 use Rattle.bgp_prefix.specs.declared.session.Session.{Session}
-use Rattle.mrt.specs.Capture.{Piece, ArePieces, joined, last_of, first_other}
+use Rattle.mrt.specs.Capture.{Piece, ArePieces, joined, last_of, others_of}
 use Rattle.mrt.specs.Skipped.{skipped_in}
 use Rattle.mrt.specs.Reader.{ReaderState}
 
--- The reader tells the second of the session's last record, if there was one, the addresses of the
--- first record that was skipped for its addresses, and how many were skipped.
+-- The reader tells the second of the session's last record, if there was one, the first nine
+-- different pairs of addresses for which a record was skipped, and how many were skipped.
 abbrev pub Knows : ReaderState → List Piece → Type 0
 Knows reader pieces =
-    (reader.last ≡ last_of None pieces) × (reader.other ≡ first_other None pieces)
+    (reader.last ≡ last_of None pieces) × (reader.others ≡ others_of [] pieces)
     × (reader.skipped ≡ skipped_in pieces)
 
 -- What a source gave from one state to another is pieces of a capture, which the reader knows then,

@@ -1,12 +1,12 @@
 -- What a reader of a capture answers, call by call: the next record of the session, the end, or the
 -- first fault; and how it stands then.
 use Rattle.std.specs.Prelude.{◌≡◌, ◌+◌, ◌⊎◌, ◌++◌, ◌==◌, ℕ, Bool, true, false, List, []}
-use Rattle.std.specs.Prelude.{◌∷◌, length}
+use Rattle.std.specs.Prelude.{◌∷◌, length, map, slice_get}
 use Rattle.std.specs.Prelude.{Option, None, Some, Result, Ok, Err, IsTrue, is_some, if◌then◌else◌}
 use Rattle.bgp_prefix.specs.Shown.{ShownRecord, Received, Sent, Changed}
 use Rattle.bgp_prefix.specs.declared.session.Session.{Session}
 use Rattle.mrt.specs.Capture.{Piece, Shown, ArePieces, IsBegun, last_of, joined, records_of}
-use Rattle.mrt.specs.Capture.{first_other}
+use Rattle.mrt.specs.Capture.{others_of}
 use Rattle.mrt.specs.Capture as capture
 use Rattle.mrt.specs.Skipped.{skipped_in, none_skipped, both_skipped}
 use Rattle.mrt.specs.Fault.{fault_number}
@@ -27,16 +27,20 @@ shown_of (records.Change second old new) = Changed second old new
 
 -- How a reader stands: how many octets the records have that it answered or skipped; the second of
 -- the session's last record; where what it last answered begins; whether it told the end; the fault
--- that it found; the addresses of the first record that it skipped for its addresses; how many it
--- skipped.
+-- that it found; the first nine different pairs of addresses for which it skipped a record; how
+-- many it skipped.
 pub record ReaderState : Type 0 where
   pub passed : ℕ
   pub last : Option ℕ
   pub place : ℕ
   pub is_ended : Bool
   pub fault : Option CaptureFault
-  pub other : Option Endpoints
+  pub others : List Endpoints
   pub skipped : SkippedRecords
+
+-- pairs of addresses in nine places, each of which has one or none
+abbrev pub places_of : List Endpoints → List (Option Endpoints)
+places_of others = map (slice_get others) (0 ∷ 1 ∷ 2 ∷ 3 ∷ 4 ∷ 5 ∷ 6 ∷ 7 ∷ 8 ∷ [])
 
 -- one that has read nothing
 abbrev pub fresh_reader : ReaderState
@@ -46,7 +50,7 @@ fresh_reader = record {
   place = 0;
   is_ended = false;
   fault = None;
-  other = None;
+  others = [];
   skipped = none_skipped;
 }
 
@@ -60,7 +64,7 @@ abbrev pub after_pieces : ReaderState → List Piece → ReaderState
 after_pieces state pieces = record state {
   passed = state.passed + length (joined pieces);
   last = last_of state.last pieces;
-  other = first_other state.other pieces;
+  others = others_of state.others pieces;
   skipped = both_skipped state.skipped (skipped_in pieces);
 }
 

@@ -75,7 +75,8 @@ enum Content {
     Refused(FaultKind),
 }
 
-fn is_state(state: u16) -> bool
+/// Checks whether a number is that of a state (RFC 6396, 4.4.1).
+pub fn is_state(state: u16) -> bool
     ensures { IsTrue result ↔ IsState state }
 {
     (1..=6).contains(&state)
@@ -103,9 +104,9 @@ fn sound_length(header: &[u8; HEADER_LEN], limit: Limit) -> Option<usize>
     }
 }
 
-/// Whether the message has a header that is sound by the limit, whose Length isn't the count of its
-/// octets.
-fn has_other_length(content: &[u8], limit: Limit) -> bool
+/// Checks whether the message has a header that is sound by the limit, whose Length isn't the count
+/// of its octets.
+pub fn has_other_length(content: &[u8], limit: Limit) -> bool
     ensures { IsTrue result ↔ HasOtherLength limit content.now }
 {
     let Some(header) = header_at(content) else {

@@ -11,6 +11,11 @@ ghost use Rattle.mrt.specs.Found.{header_value, afi_number, AreFields};
 ghost use Rattle.mrt.specs.Rules.{body_limit};
 
 use crate::record::Endpoints;
+use crate::types::{
+    BGP4MP, BGP4MP_ET, MESSAGE, MESSAGE_ADDPATH, MESSAGE_AS4, MESSAGE_AS4_ADDPATH,
+    MESSAGE_AS4_LOCAL, MESSAGE_AS4_LOCAL_ADDPATH, MESSAGE_LOCAL, MESSAGE_LOCAL_ADDPATH,
+    STATE_CHANGE, STATE_CHANGE_AS4,
+};
 use bgp_prefix::{Address, Family, Seconds, Session};
 use byteorder::{BigEndian, ByteOrder};
 
@@ -95,7 +100,7 @@ fn read_count(octets: &[u8; HEADER]) -> u32
 pub fn is_bgp4mp(kind: u16) -> bool
     ensures { IsTrue result ↔ IsBgp4mp kind }
 {
-    kind == 16 || kind == 17
+    kind == BGP4MP || kind == BGP4MP_ET
 }
 
 /// What a record is, by its subtype.
@@ -116,10 +121,11 @@ pub fn form_of(subtype: u16) -> Option<Form>
     ensures { result ≡ form_of subtype }
 {
     match subtype {
-        0 | 5 => Some(Form::Change),
-        1 | 4 => Some(Form::Received),
-        6 | 7 => Some(Form::Sent),
-        8 | 9 | 10 | 11 => Some(Form::AddPath),
+        STATE_CHANGE | STATE_CHANGE_AS4 => Some(Form::Change),
+        MESSAGE | MESSAGE_AS4 => Some(Form::Received),
+        MESSAGE_LOCAL | MESSAGE_AS4_LOCAL => Some(Form::Sent),
+        MESSAGE_ADDPATH | MESSAGE_AS4_ADDPATH | MESSAGE_LOCAL_ADDPATH | MESSAGE_AS4_LOCAL_ADDPATH =>
+            Some(Form::AddPath),
         _ => None,
     }
 }
@@ -129,7 +135,11 @@ fn as_width(subtype: u16) -> usize
     ensures { result ≡ as_width subtype }
 {
     match subtype {
-        4 | 5 | 7 | 9 | 11 => 4,
+        MESSAGE_AS4
+        | STATE_CHANGE_AS4
+        | MESSAGE_AS4_LOCAL
+        | MESSAGE_AS4_ADDPATH
+        | MESSAGE_AS4_LOCAL_ADDPATH => 4,
         _ => 2,
     }
 }
@@ -138,7 +148,7 @@ fn as_width(subtype: u16) -> usize
 fn afi_at(header: &RecordHeader) -> usize
     ensures { result ≡ afi_at (header_value header.now) }
 {
-    let microseconds = if header.kind == 17 { 4 } else { 0 };
+    let microseconds = if header.kind == BGP4MP_ET { 4 } else { 0 };
     microseconds + 2 * as_width(header.subtype) + 2
 }
 

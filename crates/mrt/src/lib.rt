@@ -21,6 +21,7 @@ mod laws;
 mod layout;
 mod mem_sink;
 mod mem_source;
+mod others;
 mod progress;
 mod reader;
 mod reading;
@@ -29,12 +30,13 @@ mod refresh;
 mod sink;
 mod skipped;
 mod source;
+pub mod types;
 mod writer;
 
 pub use failure::Failed;
 pub use fault::{CaptureFault, FaultKind};
 pub use filling::{BLOCK, fill, pass_over};
-pub use judging::{Found, Judged, Shows, judge};
+pub use judging::{Found, Judged, Shows, has_other_length, is_state, judge};
 pub use laws::{
     each_capture_has_one_reading, each_record_is_allowed, nothing_is_passed_over_unasked,
     passed_over_records_are_taken_out, the_first_route_refresh_is_refused,
@@ -46,6 +48,7 @@ pub use layout::{
 };
 pub use mem_sink::{MemSink, SinkUpset};
 pub use mem_source::{MemSource, SourceUpset};
+pub use others::MOST_OTHERS;
 pub use reader::Reader;
 pub use record::{Endpoints, Record};
 pub use refresh::{is_route_refresh, is_whole_refresh};

@@ -3,12 +3,14 @@
 ghost use Rattle.std.specs.Prelude.{◌≡◌, ◌<◌, ◌≤◌, ◌+◌, ◌^◌};
 
 use crate::fault::{CaptureFault, FaultKind};
+use crate::others::{MOST_OTHERS, add_pair};
 use crate::record::Endpoints;
 use crate::skipped::{Skip, SkippedRecords};
+use arrayvec::ArrayVec;
 use bgp_prefix::Seconds;
 
 /// How far a reader is.
-#[derive(Clone, Copy)]
+#[derive(Drop)]
 pub(crate) struct Progress {
     /// How many octets the records have that it answered or skipped.
     pub(crate) passed: u64,
@@ -20,8 +22,8 @@ pub(crate) struct Progress {
     pub(crate) is_ended: bool,
     /// The fault that it found.
     pub(crate) fault: Option<CaptureFault>,
-    /// The addresses of the first record that it skipped for its addresses.
-    pub(crate) other: Option<Endpoints>,
+    /// The first different pairs of addresses for which it skipped a record.
+    pub(crate) others: ArrayVec<Endpoints, MOST_OTHERS>,
     /// How many records it skipped.
     pub(crate) skipped: SkippedRecords,
 
@@ -43,7 +45,7 @@ impl Progress {
             place: 0,
             is_ended: false,
             fault: None,
-            other: None,
+            others: ArrayVec::new(),
             skipped: SkippedRecords::none(),
         }
     }
@@ -57,7 +59,7 @@ impl Progress {
         self.passed += count;
         self.skipped.count(skip);
         if let Skip::OtherSession(ends) = skip {
-            self.other = self.other.or(Some(ends));
+            add_pair(&mut self.others, ends);
         }
     }
 

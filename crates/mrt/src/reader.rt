@@ -1,15 +1,17 @@
 //! Captures, read record by record (RFC 6396).
 
 ghost use Rattle.std.specs.Prelude.{◌≡◌, ◌<◌, ◌≤◌, ◌+◌, length, OnOk, OnErr, is_some};
+ghost use Rattle.std.specs.Prelude.{slice_get};
 ghost use Rattle.std.specs.Borrow.{sem};
 ghost use Rattle.std.specs.Io.BufRead.{Rests};
 ghost use Rattle.mrt.specs.Progress.{state_of, shown_from, Advances, failures_of};
-ghost use Rattle.mrt.specs.Reader.{shown_of, fresh_reader, IsNext, failures_in};
+ghost use Rattle.mrt.specs.Reader.{shown_of, fresh_reader, places_of, IsNext, failures_in};
 ghost use Rattle.mrt.specs.contracts.reader.Reader.{the_row};
 
 use crate::fault::{CaptureFault, FaultKind};
 use crate::judging::{Found, Shows};
 use crate::layout::{HEADER, LONGEST_BODY};
+use crate::others::{MOST_OTHERS, in_places, pair_at};
 use crate::progress::Progress;
 use crate::reading::{Read, read_record};
 use crate::record::{Endpoints, Record};
@@ -129,11 +131,20 @@ impl<A: Allocator + Copy> Reader<A> {
         self.progress.passed
     }
 
-    /// The addresses of the first record that was skipped for its addresses, if one was.
-    pub fn first_other(&self) -> Option<Endpoints>
-        ensures { result ≡ self.now.other }
+    /// Returns the first nine different pairs of addresses for which a record was skipped, in the
+    /// order of their first records. If there are fewer, `None` follows them.
+    pub fn others(&self) -> [Option<Endpoints>; MOST_OTHERS]
+        ensures { result ≡ places_of self.now.others }
     {
-        self.progress.other
+        in_places(self.progress.others.as_slice())
+    }
+
+    /// Returns the first of them: the addresses of the first record that was skipped for its
+    /// addresses.
+    pub fn first_other(&self) -> Option<Endpoints>
+        ensures { result ≡ slice_get self.now.others 0 }
+    {
+        pair_at(self.progress.others.as_slice(), 0)
     }
 
     /// How many records were skipped, by why.

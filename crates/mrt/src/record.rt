@@ -14,11 +14,20 @@ pub enum Record<'a> {
     Change(Seconds, u16, u16),
 }
 
-/// The two addresses that a record names.
+/// The two addresses that a record names. The default is a blank.
 #[derive(Clone, Copy, Debug, PartialEq, Eq)]
 pub struct Endpoints {
     /// The peer's address.
     pub peer: Address,
     /// The local system's address.
     pub local: Address,
+}
+
+impl Default for Endpoints {
+    fn default() -> Endpoints {
+        Endpoints {
+            peer: Address::V4(0),
+            local: Address::V4(0),
+        }
+    }
 }

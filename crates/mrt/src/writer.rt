@@ -17,6 +17,7 @@ use crate::failure::Failed;
 use crate::layout::{LONGEST_BODY, body_limit};
 use crate::record::Record;
 use crate::sink::{Sink, write_all};
+use crate::types::{BGP4MP, MESSAGE_AS4, MESSAGE_AS4_LOCAL, STATE_CHANGE_AS4};
 use bgp_prefix::{Address, Seconds, Session};
 use byteorder::{BigEndian, ByteOrder};
 use thiserror::Error;
@@ -39,7 +40,7 @@ fn header_of(second: Seconds, subtype: u16, count: u32) -> [u8; 12]
 {
     let mut octets = [0; 12];
     BigEndian::write_u32(&mut octets, second);
-    BigEndian::write_u16(&mut octets[4..], 16);
+    BigEndian::write_u16(&mut octets[4..], BGP4MP);
     BigEndian::write_u16(&mut octets[6..], subtype);
     BigEndian::write_u32(&mut octets[8..], count);
     octets
@@ -115,9 +116,9 @@ fn parts_of(shown: &Record<'_>) -> (Seconds, u16, usize)
     ensures count { result.2 ≡ length (content_for (shown_of shown.now)) }
 {
     match shown {
-        Record::In(second, message) => (*second, 4, message.len()),
-        Record::Out(second, message) => (*second, 7, message.len()),
-        Record::Change(second, _, _) => (*second, 5, 4),
+        Record::In(second, message) => (*second, MESSAGE_AS4, message.len()),
+        Record::Out(second, message) => (*second, MESSAGE_AS4_LOCAL, message.len()),
+        Record::Change(second, _, _) => (*second, STATE_CHANGE_AS4, 4),
     }
 }
 

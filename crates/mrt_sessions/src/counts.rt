@@ -5,6 +5,11 @@ ghost use Rattle.mrt_sessions.specs.Counts.{counts_in, direction_of, one_more};
 ghost use Rattle.mrt_sessions.specs.Located.{located};
 
 use crate::named::NamedRecord;
+use mrt::types::{
+    MESSAGE, MESSAGE_ADDPATH, MESSAGE_AS4, MESSAGE_AS4_ADDPATH, MESSAGE_AS4_LOCAL,
+    MESSAGE_AS4_LOCAL_ADDPATH, MESSAGE_LOCAL, MESSAGE_LOCAL_ADDPATH, STATE_CHANGE,
+    STATE_CHANGE_AS4,
+};
 
 /// In which direction a message goes, or that there is none.
 #[derive(Clone, Copy, Debug, PartialEq, Eq)]
@@ -34,9 +39,10 @@ fn direction_of(subtype: u16) -> Option<Direction>
     ensures { result ≡ direction_of subtype }
 {
     match subtype {
-        1 | 4 | 8 | 9 => Some(Direction::Received),
-        6 | 7 | 10 | 11 => Some(Direction::Sent),
-        0 | 5 => Some(Direction::Change),
+        MESSAGE | MESSAGE_AS4 | MESSAGE_ADDPATH | MESSAGE_AS4_ADDPATH => Some(Direction::Received),
+        MESSAGE_LOCAL | MESSAGE_AS4_LOCAL | MESSAGE_LOCAL_ADDPATH | MESSAGE_AS4_LOCAL_ADDPATH =>
+            Some(Direction::Sent),
+        STATE_CHANGE | STATE_CHANGE_AS4 => Some(Direction::Change),
         _ => None,
     }
 }

@@ -1,5 +1,5 @@
 -- How far a reader is behind what it has passed over, and what it answers from there.
-use Rattle.std.proofs.Common.{◌≡◌, ◌∙◌, ◌≤◌, ◌+◌, ◌++◌, Bool, true, false, ℕ, zero, suc, List, [], ◌∷◌, length, refl, sym, ap, subst, append_assoc, append-nil, Some, IsTrue}
+use Rattle.std.proofs.Common.{◌≡◌, ◌∙◌, ◌≤◌, ◌+◌, ◌++◌, Bool, true, false, ℕ, zero, suc, List, [], ◌∷◌, length, refl, sym, ap, subst, append_assoc, Some, IsTrue}
 use Rattle.std.proofs.Math.Seq.{drop-append_seam}
 use Rattle.packets.specs.declared.blocks.Interface.{Interface}
 use Rattle.packets.specs.declared.fault.FaultKind.{FaultKind}
@@ -61,7 +61,7 @@ read_cut context octets kind is cut = (
 pub more_interfaces : (format : Format) (interfaces : List Interface) (interface : Interface)
     → with_interface (context_of format interfaces) interface ≡ context_of format (interfaces ++ interface ∷ [])
 more_interfaces formats.Unknown interfaces interface = refl
-more_interfaces (formats.Pcap order link_type) interfaces interface = refl
+more_interfaces (formats.Pcap magic link_type) interfaces interface = refl
 more_interfaces (formats.Pcapng order) interfaces interface = refl
 
 -- where the interfaces stayed

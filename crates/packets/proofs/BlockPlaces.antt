@@ -244,7 +244,7 @@ enhanced_read order interfaces len head octets ended buffer found over held room
       ∙ ap (λ (n : ℕ). enhanced_by interfaces n (enhanced_in order head octets) octets) (sym over.0)
       ∙ sym is
       ∙ ap (λ (o : List ℕ). Told (12 + length octets) (recorded_in found o)) (sym held)
-      ∙ ap (λ (o : List ℕ). Told (12 + length octets) (record { second = found.second; link_type = found.link_type; octets = o; wire_count = found.wire_count }))
+      ∙ ap (λ (o : List ℕ). Told (12 + length octets) (record { second = found.second; micro = found.micro; link_type = found.link_type; octets = o; wire_count = found.wire_count }))
       (in_front found.at found.count (len - 12) buffer (omega (arith, over.0))),
   (omega arith, omega arith),
 )

@@ -2,7 +2,6 @@ pub mod Advancing
 pub mod BlockPlaces
 pub mod Endings
 pub mod Exits
-pub mod Filled
 pub mod Kept
 pub mod Longer
 pub mod OneReading

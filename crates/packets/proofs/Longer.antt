@@ -3,6 +3,7 @@
 use Rattle.std.proofs.Common.{◌≡◌, ◌<◌, ◌∙◌, ◌==◌, ◌+◌, ◌-◌, ◌++◌, not, ℕ, List, [], ◌∷◌, length, take, drop, refl, sym, ap, subst, arith, nat_lt, length-append, append_assoc, Option, None, Some, slice_get}
 use Rattle.std.proofs.lemmas.Bool.{cond_both}
 use Rattle.packets.specs.declared.order.Order.{Order}
+use Rattle.packets.specs.declared.headers.Magic.{Magic}
 use Rattle.packets.specs.declared.blocks.BlockKind.{BlockKind}
 use Rattle.packets.specs.declared.blocks.BlockKind.TheVariants as blocks
 use Rattle.packets.specs.declared.blocks.Interface.{Interface}
@@ -42,18 +43,18 @@ packet_by_holds P link_type header rest all =
     (λ h. cond_both (nat_lt (length rest) header.kept) (Refused kinds.Truncated) (Told (16 + header.kept) (pcap_packet link_type header (take header.kept rest))) P
     (λ h. all.refused kinds.Truncated refl) (λ h. all.told (pcap_packet link_type header (take header.kept rest))))
 
-pub packet_holds : (P : Judgement → Type 0) (order : Order) (link_type : ℕ) (octets : List ℕ) → Holds P (16 + (packet_header_in order (take 16 octets)).kept)
-    → P (packet_at order link_type octets)
-packet_holds P order link_type octets all =
+pub packet_holds : (P : Judgement → Type 0) (magic : Magic) (link_type : ℕ) (octets : List ℕ) → Holds P (16 + (packet_header_in magic (take 16 octets)).kept)
+    → P (packet_at magic link_type octets)
+packet_holds P magic link_type octets all =
     cond_both (length octets == 0) End _ P (λ h. all.ended)
     (λ h. cond_both (nat_lt (length octets) 16) (Refused kinds.Truncated) _ P (λ h. all.refused kinds.Truncated refl)
-    (λ h. packet_by_holds P link_type (packet_header_in order (take 16 octets)) (drop 16 octets) all))
+    (λ h. packet_by_holds P link_type (packet_header_in magic (take 16 octets)) (drop 16 octets) all))
 
-pub pcap_start_holds : (P : Judgement → Type 0) (order : Order) (octets : List ℕ) → Holds P 24 → P (pcap_start order octets)
-pcap_start_holds P order octets all =
+pub pcap_start_holds : (P : Judgement → Type 0) (magic : Magic) (octets : List ℕ) → Holds P 24 → P (pcap_start magic octets)
+pcap_start_holds P magic octets all =
     cond_both (nat_lt (length octets) 24) (Refused kinds.Truncated) _ P (λ h. all.refused kinds.Truncated refl)
-    (λ h. cond_both (not (is_version_2 order (take 12 octets))) (Refused kinds.Format) (Passed 24 (Packets order (link_type_in order (take 12 (drop 12 octets))))) P
-    (λ h. all.refused kinds.Format refl) (λ h. all.passed (Packets order (link_type_in order (take 12 (drop 12 octets))))))
+    (λ h. cond_both (not (is_version_2 magic.order (take 12 octets))) (Refused kinds.Format) (Passed 24 (Packets magic (link_type_in magic.order (take 12 (drop 12 octets))))) P
+    (λ h. all.refused kinds.Format refl) (λ h. all.passed (Packets magic (link_type_in magic.order (take 12 (drop 12 octets))))))
 
 -- ---- blocks
 
@@ -95,20 +96,20 @@ left_holds P order interfaces kind len head left all =
 
 -- ---- what was read of an item that isn't whole
 
-pub packet_head_begun : (order : Order) (link_type : ℕ) (taken : List ℕ) → length taken < 16 → IsBegunAs (packet_at order link_type) taken
-packet_head_begun order link_type taken fewer more =
-    packet_holds (λ (j : Judgement). IsLonger (length taken) j) order link_type (taken ++ more) (longer (length taken) _ (omega arith))
+pub packet_head_begun : (magic : Magic) (link_type : ℕ) (taken : List ℕ) → length taken < 16 → IsBegunAs (packet_at magic link_type) taken
+packet_head_begun magic link_type taken fewer more =
+    packet_holds (λ (j : Judgement). IsLonger (length taken) j) magic link_type (taken ++ more) (longer (length taken) _ (omega arith))
 
-pub packet_begun : (order : Order) (link_type : ℕ) (head taken : List ℕ) → length head ≡ 16 → length taken < (packet_header_in order head).kept
-    → IsBegunAs (packet_at order link_type) (head ++ taken)
-packet_begun order link_type head taken many fewer more =
+pub packet_begun : (magic : Magic) (link_type : ℕ) (head taken : List ℕ) → length head ≡ 16 → length taken < (packet_header_in magic head).kept
+    → IsBegunAs (packet_at magic link_type) (head ++ taken)
+packet_begun magic link_type head taken many fewer more =
     let both = length-append head taken in
     subst (λ (j : Judgement). IsLonger (length (head ++ taken)) j)
-    (sym (ap (λ (o : List ℕ). packet_at order link_type o) (append_assoc head taken more) ∙ packet_front order link_type head (taken ++ more) many))
-    (packet_by_holds (λ (j : Judgement). IsLonger (length (head ++ taken)) j) link_type (packet_header_in order head) (taken ++ more)
-    (longer (length (head ++ taken)) (16 + (packet_header_in order head).kept) (omega arith)))
+    (sym (ap (λ (o : List ℕ). packet_at magic link_type o) (append_assoc head taken more) ∙ packet_front magic link_type head (taken ++ more) many))
+    (packet_by_holds (λ (j : Judgement). IsLonger (length (head ++ taken)) j) link_type (packet_header_in magic head) (taken ++ more)
+    (longer (length (head ++ taken)) (16 + (packet_header_in magic head).kept) (omega arith)))
 
-pub pcap_begun : (order : Order) (head taken : List ℕ) → length head ≡ 12 → length taken < 12 → IsBegunAs (pcap_start order) (head ++ taken)
-pcap_begun order head taken many fewer more =
+pub pcap_begun : (magic : Magic) (head taken : List ℕ) → length head ≡ 12 → length taken < 12 → IsBegunAs (pcap_start magic) (head ++ taken)
+pcap_begun magic head taken many fewer more =
     let both = length-append head taken in
-    pcap_start_holds (λ (j : Judgement). IsLonger (length (head ++ taken)) j) order ((head ++ taken) ++ more) (longer (length (head ++ taken)) 24 (omega arith))
+    pcap_start_holds (λ (j : Judgement). IsLonger (length (head ++ taken)) j) magic ((head ++ taken) ++ more) (longer (length (head ++ taken)) 24 (omega arith))

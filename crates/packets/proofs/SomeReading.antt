@@ -18,7 +18,7 @@ Stops (Told len packet) = ⊥
 stops_at_none : (context : Context) → Stops (judgement_at context [])
 unfolding judgement_at
 stops_at_none Start = tt
-stops_at_none (Packets order link_type) = tt
+stops_at_none (Packets magic link_type) = tt
 stops_at_none (Blocks order interfaces) = tt
 
 some_octets : (context : Context) (octets : List ℕ) → (Stops (judgement_at context octets) → ⊥) → 0 < length octets

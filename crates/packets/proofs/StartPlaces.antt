@@ -3,12 +3,13 @@ use Rattle.std.proofs.Common.{◌≡◌, ◌≤◌, ◌<◌, ◌∙◌, ◌++◌
 use Rattle.std.proofs.lemmas.Bool.{cond_both, cond-true, cond-false, le-ltb, ltb-false, ltb-true}
 use Rattle.std.proofs.lemmas.List.{take-append-le, take-take, take_all, length-take}
 use Rattle.packets.specs.declared.order.Order.{Order}
+use Rattle.packets.specs.declared.headers.Magic.{Magic}
 use Rattle.packets.specs.declared.blocks.Interface.{Interface}
 use Rattle.packets.specs.declared.reading.Read.{Read}
 use Rattle.packets.specs.declared.fault.FaultKind.TheVariants as kinds
 use Rattle.packets.specs.Context.{Context, Start, Packets, Blocks}
 use Rattle.packets.specs.Judgement.{Judgement, Refused, IsLonger}
-use Rattle.packets.specs.Pcap.{pcap_order, packet_at}
+use Rattle.packets.specs.Pcap.{magic_in, packet_at}
 use Rattle.packets.specs.Pcapng.{block_at}
 use Rattle.packets.specs.Recording.{begins_magic, start_by, start_at, judgement_at}
 use Rattle.packets.specs.Reading.{IsReadAs, IsBegunAs}
@@ -45,18 +46,18 @@ magic_of_taken buffer filled least is =
 pub nothing_behind : (octets more : List ℕ) → more ≡ [] → {judgement : Judgement} → start_at octets ≡ judgement → start_at (octets ++ more) ≡ judgement
 nothing_behind octets more none is = ap (λ (o : List ℕ). start_at (octets ++ o)) none ∙ ap start_at (append-nil octets) ∙ is
 
-start_by_cut : (found : Option Order) (octets : List ℕ) → 0 < length octets → length octets < 12 → start_by found octets ≡ Refused kinds.Truncated
-start_by_cut (Some order) octets some few = start_short order octets (omega arith)
+start_by_cut : (found : Option Magic) (octets : List ℕ) → 0 < length octets → length octets < 12 → start_by found octets ≡ Refused kinds.Truncated
+start_by_cut (Some magic) octets some few = start_short magic octets (omega arith)
 start_by_cut None octets some few = block_short None [] octets some few
 
 pub start_cut : (octets : List ℕ) → begins_magic (take 4 octets) ≡ true → length octets < 12 → start_at octets ≡ Refused kinds.Truncated
 start_cut octets begins few =
     cond-false (not (begins_magic (take 4 octets))) (Refused kinds.Format) _ (ap not begins)
-    ∙ cond_both (nat_lt (length octets) 4) (Refused kinds.Truncated) (start_by (pcap_order (take 4 octets)) octets) (λ (j : Judgement). j ≡ Refused kinds.Truncated)
-    (λ h. refl) (λ h. start_by_cut (pcap_order (take 4 octets)) octets (let some = ltb-false (length octets) 4 h in omega arith) few)
+    ∙ cond_both (nat_lt (length octets) 4) (Refused kinds.Truncated) (start_by (magic_in (take 4 octets)) octets) (λ (j : Judgement). j ≡ Refused kinds.Truncated)
+    (λ h. refl) (λ h. start_by_cut (magic_in (take 4 octets)) octets (let some = ltb-false (length octets) 4 h in omega arith) few)
 
 -- behind the first 12
-pub start_behind : (head octets more : List ℕ) (found : Option Order) → length head ≡ 12 → begins_magic (take 4 head) ≡ true → found ≡ pcap_order (take 4 head)
+pub start_behind : (head octets more : List ℕ) (found : Option Magic) → length head ≡ 12 → begins_magic (take 4 head) ≡ true → found ≡ magic_in (take 4 head)
     → start_at ((head ++ octets) ++ more) ≡ start_by found ((head ++ octets) ++ more)
 start_behind head octets more found many begins is =
     let all = head ++ octets ++ more in
@@ -66,31 +67,31 @@ start_behind head octets more found many begins is =
     let long = ap length (append_assoc head octets more) in
     cond-false (not (begins_magic (take 4 ((head ++ octets) ++ more)))) (Refused kinds.Format) _ (ap (λ (o : List ℕ). not (begins_magic o)) front ∙ ap not begins)
     ∙ cond-false (nat_lt (length ((head ++ octets) ++ more)) 4) (Refused kinds.Truncated) _ (le-ltb (length ((head ++ octets) ++ more)) 4 (omega arith))
-    ∙ ap (λ (o : List ℕ). start_by (pcap_order o) ((head ++ octets) ++ more)) front
-    ∙ ap (λ (o : Option Order). start_by o ((head ++ octets) ++ more)) (sym is)
+    ∙ ap (λ (o : List ℕ). start_by (magic_in o) ((head ++ octets) ++ more)) front
+    ∙ ap (λ (o : Option Magic). start_by o ((head ++ octets) ++ more)) (sym is)
 
-pub starts_as : (head octets : List ℕ) (found : Option Order) (context : Context) (ended : Bool) (buffer : List ℕ) (read : Read) → length head ≡ 12
-    → begins_magic (take 4 head) ≡ true → found ≡ pcap_order (take 4 head)
+pub starts_as : (head octets : List ℕ) (found : Option Magic) (context : Context) (ended : Bool) (buffer : List ℕ) (read : Read) → length head ≡ 12
+    → begins_magic (take 4 head) ≡ true → found ≡ magic_in (take 4 head)
     → IsReadAs (λ all. start_by found all) context (head ++ octets) ended buffer read → IsReadAs start_at context (head ++ octets) ended buffer read
 starts_as head octets found context ended buffer read many begins is rest more told = start_behind head octets more found many begins is ∙ rest more told
 
-pub starts_begun : (head taken : List ℕ) (found : Option Order) → length head ≡ 12
-    → begins_magic (take 4 head) ≡ true → found ≡ pcap_order (take 4 head)
+pub starts_begun : (head taken : List ℕ) (found : Option Magic) → length head ≡ 12
+    → begins_magic (take 4 head) ≡ true → found ≡ magic_in (take 4 head)
     → IsBegunAs (λ all. start_by found all) (head ++ taken) → IsBegunAs start_at (head ++ taken)
 starts_begun head taken found many begins is rest more =
     subst (λ (j : Judgement). IsLonger (length (head ++ taken)) j) (sym (start_behind head taken more found many begins is)) (rest more)
 
 -- ---- the least length
 
-start_by_holds : (P : Judgement → Type 0) (found : Option Order) (octets : List ℕ) → ((len : ℕ) → 12 ≤ len → Holds P len) → P (start_by found octets)
-start_by_holds P (Some order) octets all = pcap_start_holds P order octets (all 24 (lit≤ tt))
+start_by_holds : (P : Judgement → Type 0) (found : Option Magic) (octets : List ℕ) → ((len : ℕ) → 12 ≤ len → Holds P len) → P (start_by found octets)
+start_by_holds P (Some magic) octets all = pcap_start_holds P magic octets (all 24 (lit≤ tt))
 start_by_holds P None octets all = block_holds P None [] octets all
 
 pub start_holds : (P : Judgement → Type 0) (octets : List ℕ) → ((len : ℕ) → 12 ≤ len → Holds P len) → P (start_at octets)
 start_holds P octets all =
     cond_both (not (begins_magic (take 4 octets))) (Refused kinds.Format) _ P (λ h. (all 12 (lit≤ tt)).refused kinds.Format refl)
     (λ h. cond_both (nat_lt (length octets) 4) (Refused kinds.Truncated) _ P (λ h. (all 12 (lit≤ tt)).refused kinds.Truncated refl)
-    (λ h. start_by_holds P (pcap_order (take 4 octets)) octets all))
+    (λ h. start_by_holds P (magic_in (take 4 octets)) octets all))
 
 pub start_head_begun : (taken : List ℕ) → length taken < 12 → IsBegunAs start_at taken
 start_head_begun taken fewer more = start_holds (λ (j : Judgement). IsLonger (length taken) j) (taken ++ more) (λ len least. longer (length taken) len (omega arith))
@@ -99,7 +100,7 @@ start_head_begun taken fewer more = start_holds (λ (j : Judgement). IsLonger (l
 pub judgement_holds : (P : Judgement → Type 0) (context : Context) (octets : List ℕ) → ((len : ℕ) → 12 ≤ len → Holds P len) → P (judgement_at context octets)
 unfolding judgement_at
 judgement_holds P Start octets all = start_holds P octets all
-judgement_holds P (Packets order link_type) octets all = packet_holds P order link_type octets (all _ (omega arith))
+judgement_holds P (Packets magic link_type) octets all = packet_holds P magic link_type octets (all _ (omega arith))
 judgement_holds P (Blocks order interfaces) octets all = block_holds P (Some order) interfaces octets all
 
 -- ---- by how it is read
@@ -109,11 +110,11 @@ pub at_start : (octets : List ℕ) (ended : Bool) (buffer : List ℕ) (read : Re
 unfolding judgement_at
 at_start octets ended buffer read is = is
 
-pub at_packet : (order : Order) (link_type : ℕ) (octets : List ℕ) (ended : Bool) (buffer : List ℕ) (read : Read)
-    → IsReadAs (packet_at order link_type) (Packets order link_type) octets ended buffer read
-    → IsReadAs (judgement_at (Packets order link_type)) (Packets order link_type) octets ended buffer read
+pub at_packet : (magic : Magic) (link_type : ℕ) (octets : List ℕ) (ended : Bool) (buffer : List ℕ) (read : Read)
+    → IsReadAs (packet_at magic link_type) (Packets magic link_type) octets ended buffer read
+    → IsReadAs (judgement_at (Packets magic link_type)) (Packets magic link_type) octets ended buffer read
 unfolding judgement_at
-at_packet order link_type octets ended buffer read is = is
+at_packet magic link_type octets ended buffer read is = is
 
 pub at_block : (order : Order) (interfaces : List Interface) (octets : List ℕ) (ended : Bool) (buffer : List ℕ) (read : Read)
     → IsReadAs (block_at (Some order) interfaces) (Blocks order interfaces) octets ended buffer read
@@ -125,10 +126,10 @@ pub start_begun : (taken : List ℕ) → IsBegunAs start_at taken → IsBegunAs 
 unfolding judgement_at
 start_begun taken is = is
 
-pub packet_is_begun : (order : Order) (link_type : ℕ) (taken : List ℕ) → IsBegunAs (packet_at order link_type) taken
-    → IsBegunAs (judgement_at (Packets order link_type)) taken
+pub packet_is_begun : (magic : Magic) (link_type : ℕ) (taken : List ℕ) → IsBegunAs (packet_at magic link_type) taken
+    → IsBegunAs (judgement_at (Packets magic link_type)) taken
 unfolding judgement_at
-packet_is_begun order link_type taken is = is
+packet_is_begun magic link_type taken is = is
 
 pub block_is_begun : (order : Order) (interfaces : List Interface) (taken : List ℕ) → IsBegunAs (block_at (Some order) interfaces) taken
     → IsBegunAs (judgement_at (Blocks order interfaces)) taken

@@ -1,6 +1,6 @@
 -- The clock of an interface (the options if_tsresol and if_tsoffset of pcapng): how its ticks tell
--- the second.
-use Rattle.std.specs.Prelude.{◌/◌, ◌-◌, ◌^◌, ℕ, ℤ, pos, ◌+ℤ◌, int_lt, nat_lt, unsigned_abs}
+-- the second and its fraction.
+use Rattle.std.specs.Prelude.{◌/◌, ◌%◌, ◌*◌, ◌-◌, ◌^◌, ℕ, ℤ, pos, ◌+ℤ◌, int_lt, nat_lt, unsigned_abs}
 use Rattle.std.specs.Prelude.{Option, None, Some, if◌then◌else◌}
 use Rattle.packets.specs.declared.clock.Clock.{Clock}
 
@@ -19,3 +19,12 @@ in_range second =
 abbrev pub second_at : Clock → ℕ → Option ℕ
 second_at clock ticks =
     in_range (pos (ticks / ticks_in_second clock.resolution) +ℤ clock.offset)
+
+-- the whole microseconds in the ticks above the whole seconds of so many
+abbrev pub micro_in_ticks : ℕ → ℕ → ℕ
+micro_in_ticks ticks resolution =
+    ticks % ticks_in_second resolution * 1000000 / ticks_in_second resolution
+
+-- The fraction of that second, in whole microseconds. The offset is of whole seconds.
+abbrev pub micro_at : Clock → ℕ → ℕ
+micro_at clock ticks = micro_in_ticks ticks clock.resolution

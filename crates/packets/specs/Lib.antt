@@ -13,4 +13,3 @@ pub mod Reading
 pub mod Reader
 pub mod Advance
 pub mod RecordingLaws
-pub mod Passing

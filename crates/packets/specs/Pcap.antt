@@ -11,24 +11,32 @@
 -- +---------+----------+------+------+-------------------------
 --
 -- The magic number is a1b2c3d4 where fractions are microseconds and a1b23c4d where they are
--- nanoseconds, and tells the order of octets. The link type is the low half of its number.
-use Rattle.std.specs.Prelude.{ℕ, ◌+◌, ◌%◌, ◌==◌, ◌||◌, not, Bool, List, length, take, drop}
+-- nanoseconds, and tells the order of octets. A fraction is below a second. The link type is the low half of its number.
+use Rattle.std.specs.Prelude.{ℕ, ◌+◌, ◌/◌, ◌%◌, ◌==◌, not, Bool, List, length, take, drop}
 use Rattle.std.specs.Prelude.{nat_lt, Option, None, Some, if◌then◌else◌}
 use Rattle.byteorder.specs.Endian.{big_number}
 use Rattle.packets.specs.declared.order.Order.{Order}
 use Rattle.packets.specs.declared.order.Order.TheVariants.{Big, Little}
 use Rattle.packets.specs.declared.fault.FaultKind.TheVariants as kinds
+use Rattle.packets.specs.declared.headers.Magic.{Magic}
+use Rattle.packets.specs.declared.headers.Precision.{Precision}
+use Rattle.packets.specs.declared.headers.Precision.TheVariants.{Microseconds, Nanoseconds}
 use Rattle.packets.specs.Context.{Packets}
 use Rattle.packets.specs.Judgement.{Judgement, End, Refused, Passed, Told}
 use Rattle.packets.specs.Order.{number_in}
 use Rattle.packets.specs.Packet.{Recorded}
 
--- the order of the numbers of a file that begins so, if it is of this format
-abbrev pub pcap_order : List ℕ → Option Order
-pcap_order octets =
-    if (big_number 4 octets == 0xa1b2c3d4) || (big_number 4 octets == 0xa1b23c4d) then Some Big
-    else (if (big_number 4 octets == 0xd4c3b2a1) || (big_number 4 octets == 0x4d3cb2a1)
-    then Some Little else None)
+-- what the magic number of a file that begins so tells, if it is of this format
+abbrev pub magic_in : List ℕ → Option Magic
+magic_in octets =
+    if big_number 4 octets == 0xa1b2c3d4
+    then Some (record { order = Big; precision = Microseconds })
+    else (if big_number 4 octets == 0xa1b23c4d
+    then Some (record { order = Big; precision = Nanoseconds })
+    else (if big_number 4 octets == 0xd4c3b2a1
+    then Some (record { order = Little; precision = Microseconds })
+    else (if big_number 4 octets == 0x4d3cb2a1
+    then Some (record { order = Little; precision = Nanoseconds }) else None)))
 
 -- ---- the header
 
@@ -42,35 +50,44 @@ is_version_2 order head = number_in order 2 (drop 4 head) == 2
 
 -- The header by its first 12 octets and the 12 after them: another major version than 2 is
 -- refused.
-abbrev pub file_header : Order → List ℕ → List ℕ → Judgement
-file_header order head rest =
-    if not (is_version_2 order head) then Refused kinds.Format
-    else Passed 24 (Packets order (link_type_in order rest))
+abbrev pub file_header : Magic → List ℕ → List ℕ → Judgement
+file_header magic head rest =
+    if not (is_version_2 magic.order head) then Refused kinds.Format
+    else Passed 24 (Packets magic (link_type_in magic.order rest))
 
-abbrev pub pcap_start : Order → List ℕ → Judgement
-pcap_start order octets =
+abbrev pub pcap_start : Magic → List ℕ → Judgement
+pcap_start magic octets =
     if nat_lt (length octets) 24 then Refused kinds.Truncated
-    else file_header order (take 12 octets) (take 12 (drop 12 octets))
+    else file_header magic (take 12 octets) (take 12 (drop 12 octets))
 
 -- ---- packets
 
+-- The whole microseconds of a fraction. A number that isn't below a second is no fraction.
+abbrev pub micro_in : Precision → ℕ → Option ℕ
+micro_in Microseconds fraction = if nat_lt fraction 1000000 then Some fraction else None
+micro_in Nanoseconds fraction =
+    if nat_lt fraction 1000000000 then Some (fraction / 1000) else None
+
 pub record PacketHeader : Type 0 where
   pub second : ℕ
+  pub micro : Option ℕ
   pub kept : ℕ
   pub wire : ℕ
 
 -- the header that these 16 octets are
-unfoldable pub packet_header_in : Order → List ℕ → PacketHeader
-packet_header_in order octets = record {
-  second = number_in order 4 octets;
-  kept = number_in order 4 (drop 8 octets);
-  wire = number_in order 4 (drop 12 octets);
+unfoldable pub packet_header_in : Magic → List ℕ → PacketHeader
+packet_header_in magic octets = record {
+  second = number_in magic.order 4 octets;
+  micro = micro_in magic.precision (number_in magic.order 4 (drop 4 octets));
+  kept = number_in magic.order 4 (drop 8 octets);
+  wire = number_in magic.order 4 (drop 12 octets);
 }
 
 -- the packet with this header and these octets
 abbrev pub pcap_packet : ℕ → PacketHeader → List ℕ → Recorded
 pcap_packet link_type header octets = record {
   second = header.second;
+  micro = header.micro;
   link_type = link_type;
   octets = octets;
   wire_count = header.wire;
@@ -83,8 +100,8 @@ packet_by link_type header rest =
     else (if nat_lt (length rest) header.kept then Refused kinds.Truncated
     else Told (16 + header.kept) (pcap_packet link_type header (take header.kept rest)))
 
-abbrev pub packet_at : Order → ℕ → List ℕ → Judgement
-packet_at order link_type octets =
+abbrev pub packet_at : Magic → ℕ → List ℕ → Judgement
+packet_at magic link_type octets =
     if length octets == 0 then End
     else (if nat_lt (length octets) 16 then Refused kinds.Truncated
-    else packet_by link_type (packet_header_in order (take 16 octets)) (drop 16 octets))
+    else packet_by link_type (packet_header_in magic (take 16 octets)) (drop 16 octets))

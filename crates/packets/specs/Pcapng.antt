@@ -32,7 +32,7 @@ use Rattle.packets.specs.declared.blocks.BlockKind.TheVariants as blocks
 use Rattle.packets.specs.declared.blocks.Interface.{Interface}
 use Rattle.packets.specs.declared.clock.Clock.{Clock}
 use Rattle.packets.specs.declared.fault.FaultKind.TheVariants as kinds
-use Rattle.packets.specs.Clock.{second_at}
+use Rattle.packets.specs.Clock.{second_at, micro_at}
 use Rattle.packets.specs.Context.{Blocks}
 use Rattle.packets.specs.Judgement.{Judgement, End, Refused, Passed, Told}
 use Rattle.packets.specs.Order.{number_in, signed_in}
@@ -185,6 +185,7 @@ abbrev pub told_at : ℕ → Interface → EnhancedHeader → List ℕ → Optio
 told_at len interface header rest None = Refused kinds.Time
 told_at len interface header rest (Some second) = Told len (record {
   second = second;
+  micro = Some (micro_at interface.clock header.ticks);
   link_type = interface.link_type;
   octets = take header.kept (drop 16 rest);
   wire_count = header.wire;

@@ -20,13 +20,13 @@ use Rattle.packets.specs.declared.reading.Read.TheVariants as reads
 -- how a file of this format is read on, where these interfaces were described
 abbrev pub context_of : Format → List Interface → Context
 context_of formats.Unknown interfaces = Start
-context_of (formats.Pcap order link_type) interfaces = Packets order link_type
+context_of (formats.Pcap magic link_type) interfaces = Packets magic link_type
 context_of (formats.Pcapng order) interfaces = Blocks order interfaces
 
 -- one interface more was described
 abbrev pub with_interface : Context → Interface → Context
 with_interface Start interface = Start
-with_interface (Packets order link_type) interface = Packets order link_type
+with_interface (Packets magic link_type) interface = Packets magic link_type
 with_interface (Blocks order interfaces) interface =
     Blocks order (interfaces ++ interface ∷ [])
 
@@ -34,6 +34,7 @@ with_interface (Blocks order interfaces) interface =
 abbrev pub recorded_in : Found → List ℕ → Recorded
 recorded_in found buffer = record {
   second = found.second;
+  micro = found.micro;
   link_type = found.link_type;
   octets = take found.count (drop found.at buffer);
   wire_count = found.wire_count;

@@ -3,13 +3,13 @@ use Rattle.std.specs.Prelude.{◌≡◌, ◌==◌, ◌||◌, not, Bool, true, fa
 use Rattle.std.specs.Prelude.{◌∷◌, ◌++◌, length, take, drop, nat_lt, Option, None, Some}
 use Rattle.std.specs.Prelude.{if◌then◌else◌}
 use Rattle.std.specs.List.{starts_with}
-use Rattle.packets.specs.declared.order.Order.{Order}
+use Rattle.packets.specs.declared.headers.Magic.{Magic}
 use Rattle.packets.specs.declared.fault.FaultKind.{FaultKind}
 use Rattle.packets.specs.declared.fault.FaultKind.TheVariants as kinds
 use Rattle.packets.specs.Context.{Context, Start, Packets, Blocks}
 use Rattle.packets.specs.Judgement.{Judgement, End, Refused, Passed, Told, IsLonger}
 use Rattle.packets.specs.Packet.{Recorded}
-use Rattle.packets.specs.Pcap.{pcap_order, pcap_start, packet_at}
+use Rattle.packets.specs.Pcap.{magic_in, pcap_start, packet_at}
 use Rattle.packets.specs.Pcapng.{block_at}
 
 -- ---- a place
@@ -27,20 +27,20 @@ begins_magic octets =
     || begins (0x0a ∷ 0x0d ∷ 0x0d ∷ 0x0a ∷ []) octets
 
 -- a file of the format pcap, or else pcapng
-abbrev pub start_by : Option Order → List ℕ → Judgement
-start_by (Some order) octets = pcap_start order octets
+abbrev pub start_by : Option Magic → List ℕ → Judgement
+start_by (Some magic) octets = pcap_start magic octets
 start_by None octets = block_at None [] octets
 
 abbrev pub start_at : List ℕ → Judgement
 start_at octets =
     if not (begins_magic (take 4 octets)) then Refused kinds.Format
     else (if nat_lt (length octets) 4 then Refused kinds.Truncated
-    else start_by (pcap_order (take 4 octets)) octets)
+    else start_by (magic_in (take 4 octets)) octets)
 
 -- the place from which on these octets are left
 unfoldable pub judgement_at : Context → List ℕ → Judgement
 judgement_at Start octets = start_at octets
-judgement_at (Packets order link_type) octets = packet_at order link_type octets
+judgement_at (Packets magic link_type) octets = packet_at magic link_type octets
 judgement_at (Blocks order interfaces) octets = block_at (Some order) interfaces octets
 
 -- These octets are the front of an item that has more, whatever follows them, or of none.
@@ -70,7 +70,7 @@ cut_or kinds.Memory = Fault kinds.Memory
 
 abbrev pub ending_at : Context → FaultKind → Ending
 ending_at Start kind = Fault kind
-ending_at (Packets order link_type) kind = cut_or kind
+ending_at (Packets magic link_type) kind = cut_or kind
 ending_at (Blocks order interfaces) kind = cut_or kind
 
 -- What stands at a place that is judged so is these packets and then this ending, where `Behind`

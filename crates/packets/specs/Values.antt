@@ -24,7 +24,7 @@ IsWithin (pcapng.Skips len) octets = (4 ≤ len) × (len ≤ length octets)
 
 abbrev pub packet_value : PacketHeader → pcap.PacketHeader
 packet_value header =
-    record { second = header.second; kept = header.kept; wire = header.wire }
+    record { second = header.second; micro = header.micro; kept = header.kept; wire = header.wire }
 
 abbrev pub enhanced_value : EnhancedHeader → pcapng.EnhancedHeader
 enhanced_value header = record {

@@ -1,7 +1,7 @@
 //! The headers of packets and of a pcap file (`specs/Pcap.antt` and `specs/Pcapng.antt` draw them).
 
 ghost use Rattle.std.specs.Prelude.{◌≡◌, ◌≤◌, length};
-ghost use Rattle.packets.specs.Pcap.{pcap_order, is_version_2, link_type_in, packet_header_in};
+ghost use Rattle.packets.specs.Pcap.{magic_in, is_version_2, link_type_in, micro_in, packet_header_in};
 ghost use Rattle.packets.specs.Pcapng.{enhanced_in};
 ghost use Rattle.packets.specs.Recording.{begins, begins_magic};
 ghost use Rattle.packets.specs.Values.{packet_value, enhanced_value};
@@ -27,16 +27,35 @@ pub(crate) fn begins_magic(octets: &[u8]) -> bool
         || [0x0a, 0x0d, 0x0d, 0x0a].starts_with(octets)
 }
 
-/// The order of the numbers of a file that begins so, if it is pcap.
-pub(crate) fn pcap_order(octets: &[u8]) -> Option<Order>
+/// What the fraction of a second is counted in.
+#[derive(Clone, Copy)]
+pub(crate) enum Precision {
+    Microseconds,
+    Nanoseconds,
+}
+
+/// What the magic number of a pcap file tells.
+#[derive(Clone, Copy)]
+pub(crate) struct Magic {
+    /// The order of the file's numbers.
+    pub(crate) order: Order,
+    /// What the packets' fractions are.
+    pub(crate) precision: Precision,
+}
+
+/// What the magic number of a file that begins so tells, if it is pcap.
+pub(crate) fn magic_in(octets: &[u8]) -> Option<Magic>
     requires { 4 ≤ length octets.now }
-    ensures { result ≡ pcap_order octets.now }
+    ensures { result ≡ magic_in octets.now }
 {
-    match BigEndian::read_u32(octets) {
-        0xa1b2_c3d4 | 0xa1b2_3c4d => Some(Order::Big),
-        0xd4c3_b2a1 | 0x4d3c_b2a1 => Some(Order::Little),
-        _ => None,
-    }
+    let (order, precision) = match BigEndian::read_u32(octets) {
+        0xa1b2_c3d4 => (Order::Big, Precision::Microseconds),
+        0xa1b2_3c4d => (Order::Big, Precision::Nanoseconds),
+        0xd4c3_b2a1 => (Order::Little, Precision::Microseconds),
+        0x4d3c_b2a1 => (Order::Little, Precision::Nanoseconds),
+        _ => return None,
+    };
+    Some(Magic { order, precision })
 }
 
 /// Whether the first half of the header of a pcap file says version 2.
@@ -54,10 +73,22 @@ pub(crate) fn link_type_in(order: Order, rest: &[u8; HEAD]) -> u16
     (order.read_u32(&rest[8..]) % 65536) as u16
 }
 
+/// The microseconds of a packet's fraction, if it is below a second.
+fn micro_in(precision: Precision, fraction: u32) -> Option<u32>
+    ensures { result ≡ micro_in precision fraction }
+{
+    match precision {
+        Precision::Microseconds => (fraction < 1_000_000).then_some(fraction),
+        Precision::Nanoseconds => (fraction < 1_000_000_000).then_some(fraction / 1000),
+    }
+}
+
 /// A packet's header in pcap.
 #[derive(Clone, Copy)]
 pub(crate) struct PacketHeader {
     pub(crate) second: u32,
+    /// The microseconds of its fraction.
+    pub(crate) micro: Option<u32>,
     /// How many octets were kept.
     pub(crate) kept: u32,
     /// How many the packet had.
@@ -65,11 +96,13 @@ pub(crate) struct PacketHeader {
 }
 
 #[tactic(auto, unfolding(crate::specs::Pcap::packet_header_in))]
-pub(crate) fn packet_header_in(order: Order, octets: &[u8; PACKET_HEADER]) -> PacketHeader
-    ensures { packet_value result ≡ packet_header_in order octets.now }
+pub(crate) fn packet_header_in(magic: Magic, octets: &[u8; PACKET_HEADER]) -> PacketHeader
+    ensures { packet_value result ≡ packet_header_in magic octets.now }
 {
+    let order = magic.order;
     PacketHeader {
         second: order.read_u32(octets.as_slice()),
+        micro: micro_in(magic.precision, order.read_u32(&octets[4..])),
         kept: order.read_u32(&octets[8..]),
         wire: order.read_u32(&octets[12..]),
     }

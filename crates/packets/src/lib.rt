@@ -12,7 +12,6 @@
 mod blocks;
 mod clock;
 mod fault;
-mod filling;
 mod headers;
 mod interface;
 mod laws;

@@ -7,6 +7,9 @@ pub struct Packet<'a> {
     pub number: u64,
     /// When it passed: whole seconds since 1970.
     pub second: u32,
+    /// The fraction of that second, in whole microseconds, cut: below 1,000,000. None where the
+    /// file's number is a second or more.
+    pub micro: Option<u32>,
     /// The type of the link that it was recorded on, by the numbers of the registry `LINKTYPE_`: 1
     /// is Ethernet.
     pub link_type: u16,

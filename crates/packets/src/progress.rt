@@ -7,6 +7,7 @@ ghost use Rattle.packets.specs.Reader.{state_of, fresh_reader};
 ghost use Rattle.packets.specs.declared.blocks.Interface.{Interface};
 
 use crate::fault::{FaultKind, FileFault};
+use crate::headers::Magic;
 use crate::order::Order;
 
 /// What a file was found to be.
@@ -14,8 +15,8 @@ use crate::order::Order;
 pub(crate) enum Format {
     /// Nothing was read yet.
     Unknown,
-    /// Packets of pcap: the order of numbers, and the type of the links.
-    Pcap(Order, u16),
+    /// Packets of pcap: what the magic number tells, and the type of the links.
+    Pcap(Magic, u16),
     /// Blocks of pcapng: the order of numbers in the section.
     Pcapng(Order),
 }

@@ -76,6 +76,7 @@ fn packet_of(number: u64, found: Found, buffer: &[u8]) -> Packet<'_>
     Packet {
         number,
         second: found.second,
+        micro: found.micro,
         link_type: found.link_type,
         octets: &buffer[found.at..][..found.count],
         wire_count: found.wire_count,

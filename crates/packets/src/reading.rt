@@ -19,15 +19,14 @@ use crate::blocks::{
     first_word,
 };
 use crate::fault::FaultKind;
-use crate::filling::{fill, pass_over};
 use crate::headers::{
-    MOST_KEPT, PACKET_HEADER, begins_magic, enhanced_in, is_version_2, link_type_in,
-    packet_header_in, pcap_order,
+    MOST_KEPT, Magic, PACKET_HEADER, begins_magic, enhanced_in, is_version_2, link_type_in,
+    magic_in, packet_header_in,
 };
 use crate::interface::interface_in;
 use crate::order::Order;
 use crate::progress::Format;
-use mrt::{Failed, Source};
+use mrt::{Failed, Source, fill, pass_over};
 
 /// How many octets the buffer of a reader has: as many as the longest block that is held.
 pub(crate) const ROOM: usize = MOST_ENHANCED as usize;
@@ -36,6 +35,7 @@ pub(crate) const ROOM: usize = MOST_ENHANCED as usize;
 #[derive(Clone, Copy)]
 pub(crate) struct Found {
     pub(crate) second: u32,
+    pub(crate) micro: Option<u32>,
     pub(crate) link_type: u16,
     pub(crate) wire_count: u32,
     /// Where its octets begin in the buffer.
@@ -65,18 +65,18 @@ pub(crate) enum Read {
 fn read_packet<S: Source>(
     source: &mut S,
     buffer: &mut [u8],
-    order: Order,
+    magic: Magic,
     link_type: u16,
 ) -> Result<Read, Failed>
     requires room { length buffer.old ≡ ROOM }
     requires failures { S.failures source.old < u64.MAX }
     ensures room { length buffer.new ≡ length buffer.old }
     ensures ok { IfOk result (λ read. (octets : List ℕ) × S.gives source.old source.new octets
-        × IsReadAs (packet_at order link_type) (Packets order link_type) octets
+        × IsReadAs (packet_at magic link_type) (Packets magic link_type) octets
         (S.has_ended source.new) buffer.new read
         × IsInBuffer (length octets) (S.has_ended source.new) buffer.new read) }
     ensures err { OnErr result ((taken : List ℕ) × S.gives source.old source.new taken
-        × IsBegunAs (packet_at order link_type) taken) }
+        × IsBegunAs (packet_at magic link_type) taken) }
     ensures failures { S.failures source.new ≡ failures_after (S.failures source.old) result }
 {
     let mut head = [0; PACKET_HEADER];
@@ -87,7 +87,7 @@ fn read_packet<S: Source>(
     if filled < PACKET_HEADER {
         return Ok(Read::Refused(FaultKind::Truncated));
     }
-    let header = packet_header_in(order, &head);
+    let header = packet_header_in(magic, &head);
     if header.kept > MOST_KEPT {
         return Ok(Read::Refused(FaultKind::TooLong));
     }
@@ -98,6 +98,7 @@ fn read_packet<S: Source>(
     }
     Ok(Read::Packet(Found {
         second: header.second,
+        micro: header.micro,
         link_type,
         wire_count: header.wire,
         at: 0,
@@ -108,12 +109,12 @@ fn read_packet<S: Source>(
 /// Reads the second half of the header of a pcap file.
 fn read_file_header<S: Source>(
     source: &mut S,
-    order: Order,
+    magic: Magic,
     head: &[u8; HEAD],
 ) -> Result<Read, Failed>
     requires failures { S.failures source.old < u64.MAX }
     ensures ok { IfOk result (λ read. (octets : List ℕ) × S.gives source.old source.new octets
-        × ((buffer : List ℕ) → IsReadAs (pcap_start order) Start (head.now ++ octets)
+        × ((buffer : List ℕ) → IsReadAs (pcap_start magic) Start (head.now ++ octets)
         (S.has_ended source.new) buffer read
         × IsInBuffer (12 + length octets) (S.has_ended source.new) buffer read)) }
     ensures err { OnErr result ((taken : List ℕ) × S.gives source.old source.new taken
@@ -125,10 +126,10 @@ fn read_file_header<S: Source>(
     if filled < HEAD {
         return Ok(Read::Refused(FaultKind::Truncated));
     }
-    if !is_version_2(order, head) {
+    if !is_version_2(magic.order, head) {
         return Ok(Read::Refused(FaultKind::Format));
     }
-    Ok(Read::Opened(Format::Pcap(order, link_type_in(order, &rest))))
+    Ok(Read::Opened(Format::Pcap(magic, link_type_in(magic.order, &rest))))
 }
 
 /// Passes over all but the last four of so many octets, and answers those; none, where the source
@@ -278,6 +279,7 @@ fn packet_in(
     match interface.clock.second_at(header.ticks) {
         Some(second) => Ok(Found {
             second,
+            micro: Some(interface.clock.micro_at(header.ticks)),
             link_type: interface.link_type,
             wire_count: header.wire,
             at: 16,
@@ -518,8 +520,8 @@ fn read_start<S: Source>(source: &mut S, buffer: &mut [u8]) -> Result<Read, Fail
     if filled < HEAD {
         return Ok(Read::Refused(FaultKind::Truncated));
     }
-    match pcap_order(&head[..4]) {
-        Some(order) => read_file_header(source, order, &head),
+    match magic_in(&head[..4]) {
+        Some(magic) => read_file_header(source, magic, &head),
         None => read_headed_block(source, buffer, None, &[], &head),
     }
 }
@@ -545,7 +547,7 @@ pub(crate) fn read_item<S: Source>(
 {
     match format {
         Format::Unknown => read_start(source, buffer),
-        Format::Pcap(order, link_type) => read_packet(source, buffer, order, link_type),
+        Format::Pcap(magic, link_type) => read_packet(source, buffer, magic, link_type),
         Format::Pcapng(order) => read_block(source, buffer, order, interfaces),
     }
 }

@@ -1,6 +1,7 @@
 //! Files made by hand: what their packets tell, reads that fail, and refused memory. Each fault of
 //! a file, and files that are cut short, are cases of the program `real_recordings`.
 
+mod fractions;
 mod memory;
 mod pcap;
 mod pcapng;
@@ -13,17 +14,28 @@ use pcapng::*;
 use std::alloc::{AllocError, Allocator, Global};
 use std::num::NonZeroUsize;
 
-/// A file in pieces, how many packets it tells, and the fault that comes after them, or the end.
-type Row = (&'static [&'static [u8]], u32, Option<FaultKind>);
+/// A file in pieces, the microseconds of each packet that it tells, and the fault that comes after
+/// them, or the end.
+type Row = (
+    &'static [&'static [u8]],
+    &'static [Option<u32>],
+    Option<FaultKind>,
+);
+
+/// The microseconds of a packet of pcap and of one of pcapng.
+const LAST: Option<u32> = Some(999_999);
+
+const AT_911: Option<u32> = Some(998_911);
 
 /// The octets of each packet.
 const OCTETS: [u8; 3] = *b"abc";
 
-/// The packet of this number: each is the same.
-fn packet(number: u32) -> Packet<'static> {
+/// The packet of this number with these microseconds: the rest of each is the same.
+fn packet(number: u64, micro: Option<u32>) -> Packet<'static> {
     Packet {
-        number: u64::from(number),
+        number,
         second: 100,
+        micro,
         link_type: 101,
         octets: &OCTETS,
         wire_count: 5,
@@ -53,12 +65,12 @@ fn is_next<A: Allocator + Copy>(
         && reader.next_packet(source) == *wanted
 }
 
-/// The end, or a fault after so many packets.
-fn last_answer(count: u32, fault: Option<FaultKind>) -> Next<'static> {
+/// The end, or a fault after these packets.
+fn last_answer(micros: &[Option<u32>], fault: Option<FaultKind>) -> Next<'static> {
     match fault {
         Some(kind) => Err(FileFault {
             kind,
-            packet: u64::from(count) + 1,
+            packet: micros.len() as u64 + 1,
         }),
         None => Ok(None),
     }
@@ -81,44 +93,57 @@ fn is_last<A: Allocator + Copy>(
         && !reader.is_cut_short()
 }
 
-/// Whether so many packets are read, and then this fault or the end.
+/// Whether packets with these microseconds are read, and then this fault or the end.
 fn are_next<A: Allocator + Copy>(
     reader: &mut Reader<A>,
     source: &mut MemSource,
-    count: u32,
+    micros: &[Option<u32>],
     fault: Option<FaultKind>,
 ) -> bool {
-    for number in 0..count {
-        if !is_next(reader, source, &Ok(Some(packet(number + 1)))) {
+    for (before, micro) in micros.iter().enumerate() {
+        let wanted = packet(before as u64 + 1, *micro);
+        if !is_next(reader, source, &Ok(Some(wanted))) {
             return false;
         }
     }
-    is_last(reader, source, &last_answer(count, fault))
+    is_last(reader, source, &last_answer(micros, fault))
 }
 
 /// Files whose packets are told, one of which ends with a fault.
 static ROWS: [Row; 15] = [
-    (&[&LITTLE, &PCAP_PACKET, &PCAP_PACKET], 2, None),
-    (&[&BIG, &BIG_PCAP_PACKET, &BIG_PCAP_PACKET], 2, None),
-    (&[&LITTLE_NANOSECONDS, &PCAP_PACKET], 1, None),
-    (&[&BIG_NANOSECONDS, &BIG_PCAP_PACKET], 1, None),
-    (&[&MARKED_LINK, &BIG_PCAP_PACKET], 1, None),
-    (&[&SECTION, &INTERFACE, &PACKET, &PACKET], 2, None),
-    (&[&BIG_SECTION, &BIG_INTERFACE, &BIG_PACKET], 1, None),
-    (&[&SECTION, &SECONDS, &TENTH], 1, None),
-    (&[&SECTION, &HALVES, &AT_201], 1, None),
-    (&[&SECTION, &EARLIER, &AT_201], 1, None),
-    (&[&SECTION, &FINE, &AT_201], 1, None),
+    (&[&LITTLE, &PCAP_PACKET, &PCAP_PACKET], &[LAST, LAST], None),
+    (
+        &[&BIG, &BIG_PCAP_PACKET, &BIG_PCAP_PACKET],
+        &[LAST, LAST],
+        None,
+    ),
+    (&[&LITTLE_NANOSECONDS, &PCAP_PACKET], &[Some(999)], None),
+    (&[&BIG_NANOSECONDS, &BIG_PCAP_PACKET], &[Some(999)], None),
+    (&[&MARKED_LINK, &BIG_PCAP_PACKET], &[LAST], None),
+    (
+        &[&SECTION, &INTERFACE, &PACKET, &PACKET],
+        &[AT_911, AT_911],
+        None,
+    ),
+    (
+        &[&BIG_SECTION, &BIG_INTERFACE, &BIG_PACKET],
+        &[AT_911],
+        None,
+    ),
+    (&[&SECTION, &SECONDS, &TENTH], &[Some(0)], None),
+    (&[&SECTION, &HALVES, &AT_201], &[Some(500_000)], None),
+    (&[&SECTION, &EARLIER, &AT_201], &[Some(0)], None),
+    (&[&SECTION, &FINE, &AT_201], &[Some(0)], None),
     (
         &[&SECTION, &INTERFACE, &SECONDS, &PACKET, &SECOND_INTERFACE],
-        2,
+        &[AT_911, Some(0)],
         None,
     ),
     (
         &[
             &SECTION, &OTHER, &OTHER_16, &INTERFACE, &OTHER_20, &PACKET, &OTHER,
         ],
-        1,
+        &[AT_911],
         None,
     ),
     (
@@ -130,25 +155,25 @@ static ROWS: [Row; 15] = [
             &BIG_INTERFACE,
             &BIG_PACKET,
         ],
-        2,
+        &[AT_911, AT_911],
         None,
     ),
     (
         &[&SECTION, &INTERFACE, &PACKET, &SIMPLE],
-        1,
+        &[AT_911],
         Some(FaultKind::Block),
     ),
 ];
 
 /// Whether a file is read so, in one piece and octet by octet.
-fn is_read(alloc: Global, (pieces, count, fault): &Row) -> bool {
+fn is_read(alloc: Global, (pieces, micros, fault): &Row) -> bool {
     let (Ok(whole), Ok(again)) = (joined(alloc, pieces), joined(alloc, pieces)) else {
         return false;
     };
     let mut source = MemSource::new(whole);
     let mut slow = MemSource::new(again).in_pieces_of(NonZeroUsize::MIN);
-    are_next(&mut Reader::new(alloc), &mut source, *count, *fault)
-        && are_next(&mut Reader::new(alloc), &mut slow, *count, *fault)
+    are_next(&mut Reader::new(alloc), &mut source, micros, *fault)
+        && are_next(&mut Reader::new(alloc), &mut slow, micros, *fault)
 }
 
 #[test]
@@ -158,22 +183,27 @@ fn each_file_tells_its_packets(rt: HostRuntime) {
     }
 }
 
-/// A file in pieces, reads of one octet from this one up to that one, and how many packets are read
-/// where one of them fails.
-type FailingRow = (&'static [&'static [u8]], u64, u64, u32);
+/// A file in pieces, reads of one octet from this one up to that one, and the microseconds of each
+/// packet that is read where one of them fails.
+type FailingRow = (&'static [&'static [u8]], u64, u64, &'static [Option<u32>]);
 
 /// Each read fails once: those of the headers, the blocks and the packets, and the last, which
 /// tells the end.
 static FAILING_ROWS: [FailingRow; 5] = [
-    (&[&LITTLE, &PCAP_PACKET, &PCAP_PACKET], 0, 43, 0),
-    (&[&LITTLE, &PCAP_PACKET, &PCAP_PACKET], 43, 62, 1),
-    (&[&LITTLE, &PCAP_PACKET, &PCAP_PACKET], 62, 63, 2),
-    (&[&SECTION, &INTERFACE, &PACKET], 0, 92, 0),
-    (&[&SECTION, &INTERFACE, &PACKET], 92, 93, 1),
+    (&[&LITTLE, &PCAP_PACKET, &PCAP_PACKET], 0, 43, &[]),
+    (&[&LITTLE, &PCAP_PACKET, &PCAP_PACKET], 43, 62, &[LAST]),
+    (
+        &[&LITTLE, &PCAP_PACKET, &PCAP_PACKET],
+        62,
+        63,
+        &[LAST, LAST],
+    ),
+    (&[&SECTION, &INTERFACE, &PACKET], 0, 92, &[]),
+    (&[&SECTION, &INTERFACE, &PACKET], 92, 93, &[AT_911]),
 ];
 
 /// Whether a file is read so where the read of this number fails.
-fn fails_at(alloc: Global, pieces: &[&[u8]], call: u64, count: u32) -> bool {
+fn fails_at(alloc: Global, pieces: &[&[u8]], call: u64, micros: &[Option<u32>]) -> bool {
     let Ok(octets) = joined(alloc, pieces) else {
         return false;
     };
@@ -181,13 +211,13 @@ fn fails_at(alloc: Global, pieces: &[&[u8]], call: u64, count: u32) -> bool {
         .in_pieces_of(NonZeroUsize::MIN)
         .upset_at(call, SourceUpset::Fail);
     let fault = Some(FaultKind::Device);
-    are_next(&mut Reader::new(alloc), &mut source, count, fault)
+    are_next(&mut Reader::new(alloc), &mut source, micros, fault)
 }
 
 /// Whether it is, of each of these reads.
-fn fails_at_each(alloc: Global, (pieces, from, to, count): &FailingRow) -> bool {
+fn fails_at_each(alloc: Global, (pieces, from, to, micros): &FailingRow) -> bool {
     for call in *from..*to {
-        if !fails_at(alloc, pieces, call, *count) {
+        if !fails_at(alloc, pieces, call, micros) {
             return false;
         }
     }

@@ -111,6 +111,52 @@ fn is_the_first_other_kept(alloc: Global) -> bool {
     }
 }
 
+/// The record of [`CHANGE`], of the peer 192.0.2.N.
+fn change_of(peer: u8) -> [u8; 36] {
+    let mut change = CHANGE;
+    change[27] = peer;
+    change
+}
+
+/// Whether a reader of [`SESSION`] that has skipped records of these peers has kept their first
+/// ones, each once, in their order.
+fn keeps_others(alloc: Global, peers: &[u8], kept: &[u8]) -> bool {
+    let mut capture = Vec::new(alloc);
+    for peer in peers {
+        if capture.extend_from_slice(&change_of(*peer)).is_err() {
+            return false;
+        }
+    }
+    let mut reader = Reader::new(alloc);
+    if !is_next(
+        &mut reader,
+        &mut MemSource::new(capture),
+        &SESSION,
+        &Ok(None),
+    ) {
+        return false;
+    }
+    reader.others().iter().enumerate().all(|(index, other)| {
+        let wanted = kept.get(index).map(|peer| Endpoints {
+            peer: Address::V4(0xc000_0200 + u32::from(*peer)),
+            local: SESSION.local,
+        });
+        *other == wanted
+    })
+}
+
+/// The first nine different pairs are kept.
+#[test]
+fn the_first_nine_others_are_kept(rt: HostRuntime) {
+    let few = keeps_others(rt.alloc(), &[9, 7, 9, 8, 7], &[9, 7, 8]);
+    let many = keeps_others(
+        rt.alloc(),
+        &[11, 12, 13, 14, 15, 16, 17, 18, 11, 19, 20, 18, 21],
+        &[11, 12, 13, 14, 15, 16, 17, 18, 19],
+    );
+    assert!(rt; few && many && keeps_others(rt.alloc(), &[], &[]));
+}
+
 /// And the addresses of the first record that is skipped are kept.
 #[test]
 fn no_octet_beyond_the_record_is_taken(rt: HostRuntime) {

@@ -42,14 +42,14 @@ const FOUR: usize = 96;
 const EIGHT: usize = 288;
 
 /// A heap's size; the octets of a file before so many zeros, how many zeros, and the octets after
-/// them; how many packets it tells with that much memory, and the fault that comes then, or the
-/// end.
+/// them; the microseconds of each packet that it tells with that much memory, and the fault that
+/// comes then, or the end.
 type Row = (
     usize,
     &'static [&'static [u8]],
     usize,
     &'static [&'static [u8]],
-    u32,
+    &'static [Option<u32>],
     Option<FaultKind>,
 );
 
@@ -57,11 +57,18 @@ type Row = (
 /// packet and that of an interface is held: blocks that are longer than all that the reader holds,
 /// and the longest of an interface; then an interface, if there is none, and a packet.
 static ROWS: [Row; 11] = [
-    (1024, &[&LITTLE, &PCAP_PACKET], 0, &[], 0, MEMORY),
-    (BUFFER - 16, &[&SECTION], 0, &[], 0, MEMORY),
-    (BUFFER, &[&LITTLE, &PCAP_PACKET], 0, &[], 1, None),
-    (BUFFER, &[&SECTION], 0, &[], 0, None),
-    (BUFFER, &[&SECTION, &INTERFACE, &PACKET], 0, &[], 0, MEMORY),
+    (1024, &[&LITTLE, &PCAP_PACKET], 0, &[], &[], MEMORY),
+    (BUFFER - 16, &[&SECTION], 0, &[], &[], MEMORY),
+    (BUFFER, &[&LITTLE, &PCAP_PACKET], 0, &[], &[LAST], None),
+    (BUFFER, &[&SECTION], 0, &[], &[], None),
+    (
+        BUFFER,
+        &[&SECTION, &INTERFACE, &PACKET],
+        0,
+        &[],
+        &[],
+        MEMORY,
+    ),
     (
         BUFFER + FOUR,
         &[
@@ -69,7 +76,7 @@ static ROWS: [Row; 11] = [
         ],
         0,
         &[&SECTION, &INTERFACE, &PACKET],
-        2,
+        &[AT_911, AT_911],
         None,
     ),
     (
@@ -77,7 +84,7 @@ static ROWS: [Row; 11] = [
         &[&SECTION, &INTERFACE, &INTERFACE, &INTERFACE, &PACKET],
         0,
         &[&INTERFACE, &INTERFACE, &PACKET],
-        1,
+        &[AT_911],
         MEMORY,
     ),
     (
@@ -87,7 +94,7 @@ static ROWS: [Row; 11] = [
         ],
         0,
         &[],
-        1,
+        &[AT_911],
         None,
     ),
     (
@@ -95,7 +102,7 @@ static ROWS: [Row; 11] = [
         &[&LONG_SECTION],
         393216,
         &[&LONG_SECTION_END, &INTERFACE, &PACKET],
-        1,
+        &[AT_911],
         None,
     ),
     (
@@ -103,7 +110,7 @@ static ROWS: [Row; 11] = [
         &[&SECTION, &LONG_OTHER],
         393216,
         &[&LONG_OTHER_END, &INTERFACE, &PACKET],
-        1,
+        &[AT_911],
         None,
     ),
     (
@@ -111,7 +118,7 @@ static ROWS: [Row; 11] = [
         &[&SECTION, &LONG_INTERFACE],
         65516,
         &[&LONG_INTERFACE_END, &PACKET],
-        1,
+        &[AT_911],
         None,
     ),
 ];
@@ -135,13 +142,13 @@ fn source_of(
 }
 
 /// Whether a file is read so with that much memory.
-fn is_read_with(alloc: Global, (size, front, zeros, back, count, fault): &Row) -> bool {
+fn is_read_with(alloc: Global, (size, front, zeros, back, micros, fault): &Row) -> bool {
     match (
         LocalHeap::new(alloc, *size),
         source_of(alloc, front, *zeros, back),
     ) {
         (Ok(heap), Ok(mut source)) => {
-            are_next(&mut Reader::new(&heap), &mut source, *count, *fault)
+            are_next(&mut Reader::new(&heap), &mut source, micros, *fault)
         }
         _ => false,
     }

@@ -39,11 +39,11 @@ pub(super) const HALVES: [u8; 44] = [
     44, 0, 0, 0,
 ];
 
-/// A packet of the first interface at 100999935 ticks, of whose 5 octets 3 were kept, with an
+/// A packet of the first interface at 100998911 ticks, of whose 5 octets 3 were kept, with an
 /// option.
 pub(super) const PACKET: [u8; 44] = [
     6, 0, 0, 0, 44, 0, 0, 0, 0, 0, 0, 0, // head, interface 0
-    0, 0, 0, 0, 0xff, 0x1e, 0x05, 0x06, // ticks: 100999935
+    0, 0, 0, 0, 0xff, 0x1e, 0x05, 0x06, // ticks: 100998911
     3, 0, 0, 0, 5, 0, 0, 0, // kept, wire
     b'a', b'b', b'c', 0, // octets
     1, 0, 0, 0, 0, 0, 0, 0, // an empty comment, the last option

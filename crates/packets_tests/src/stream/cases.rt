@@ -2,7 +2,7 @@
 //! is in the tables of `real_recordings`.
 
 use super::rows::*;
-use streams::{End, Run, Side};
+use streams::{Closing, End, Run, Side};
 
 /// A list of segments, by their places in the table; the numbers of both SYNs, the peer's first;
 /// which connection is asked for; and what it has.
@@ -41,13 +41,21 @@ const RECEIVED: &[Run] = &[run!(49, 4, 100), run!(19, 7, 101), run!(45, 8, 102)]
 
 const SENT: &[Run] = &[run!(49, 5, 100), run!(19, 6, 100)];
 
-const AT_10: Option<End> = Some(End {
+const FIN_AT_10: Option<End> = Some(End {
     packet: 10,
     second: 103,
     side: Side::Peer,
+    closing: Closing::Fin,
 });
 
-pub static CASES: [Case; 23] = [
+const RST_AT_10: Option<End> = Some(End {
+    packet: 10,
+    second: 103,
+    side: Side::Peer,
+    closing: Closing::Reset,
+});
+
+pub static CASES: [Case; 25] = [
     // In order.
     Case {
         rows: IN_ORDER,
@@ -167,7 +175,7 @@ pub static CASES: [Case; 23] = [
         number: None,
         received: RECEIVED,
         sent: SENT,
-        end: AT_10,
+        end: FIN_AT_10,
     },
     // A FIN.
     Case {
@@ -176,7 +184,7 @@ pub static CASES: [Case; 23] = [
         number: None,
         received: RECEIVED,
         sent: SENT,
-        end: AT_10,
+        end: FIN_AT_10,
     },
     // A FIN before the last octets.
     Case {
@@ -189,6 +197,7 @@ pub static CASES: [Case; 23] = [
             packet: 8,
             second: 101,
             side: Side::Peer,
+            closing: Closing::Fin,
         }),
     },
     // A FIN that is acknowledged.
@@ -198,7 +207,7 @@ pub static CASES: [Case; 23] = [
         number: None,
         received: RECEIVED,
         sent: SENT,
-        end: AT_10,
+        end: FIN_AT_10,
     },
     // An octet again after a RST.
     Case {
@@ -207,7 +216,24 @@ pub static CASES: [Case; 23] = [
         number: None,
         received: RECEIVED,
         sent: SENT,
-        end: AT_10,
+        end: RST_AT_10,
+    },
+    // A RST after a FIN, and a FIN after a RST: the first is the end.
+    Case {
+        rows: &[T1, T2, T3, T4, T5, T6, T7, T8, T9, FIN, RST],
+        starts: STARTS,
+        number: None,
+        received: RECEIVED,
+        sent: SENT,
+        end: FIN_AT_10,
+    },
+    Case {
+        rows: &[T1, T2, T3, T4, T5, T6, T7, T8, T9, RST, FIN],
+        starts: STARTS,
+        number: None,
+        received: RECEIVED,
+        sent: SENT,
+        end: RST_AT_10,
     },
     // A RST acknowledges nothing.
     Case {
@@ -216,7 +242,7 @@ pub static CASES: [Case; 23] = [
         number: None,
         received: RECEIVED,
         sent: SENT,
-        end: AT_10,
+        end: RST_AT_10,
     },
     // The SYN again.
     Case {

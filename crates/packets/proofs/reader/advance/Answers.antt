@@ -80,7 +80,7 @@ by_kind kinds.Memory is = absurd (cc)
 
 is_truncated : (context : Context) (kind : FaultKind) → ending_at context kind ≡ CutShort → kind ≡ kinds.Truncated
 is_truncated Start kind is = absurd (cc)
-is_truncated (Packets order link_type) kind is = by_kind kind is
+is_truncated (Packets magic link_type) kind is = by_kind kind is
 is_truncated (Blocks order interfaces) kind is = by_kind kind is
 
 pub returns-in-Ok-Refused-clause-next : goal.returns-in-Ok-Refused-clause-next

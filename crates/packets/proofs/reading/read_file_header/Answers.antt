@@ -18,9 +18,9 @@ returns-clause-ok g c =
       gave,
       λ buffer. (
         λ more told.
-            start_front c.args.order head rest more many also
-            ∙ start_opened c.args.order head rest c.link_type_in.result (sym c.is_version_2.ensures ∙ c.if-not-is_version_2.false) c.link_type_in.ensures
-            ∙ ap (λ (n : ℕ). Passed n (Packets c.args.order c.link_type_in.result)) (omega arith),
+            start_front c.args.magic head rest more many also
+            ∙ start_opened c.args.magic head rest c.link_type_in.result (sym c.is_version_2.ensures ∙ c.if-not-is_version_2.false) c.link_type_in.ensures
+            ∙ ap (λ (n : ℕ). Passed n (Packets c.args.magic c.link_type_in.result)) (omega arith),
         omega arith,
       ),
     )

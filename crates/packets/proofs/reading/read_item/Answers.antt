@@ -37,7 +37,7 @@ returns-in-Pcap-clause-ok g c =
       given,
       subst (λ (f : Format). IsReadAs (judgement_at (context_of f c.args.interfaces.now)) (context_of f c.args.interfaces.now) octets
           (g.S.Source.has_ended c.read_packet.new.source) c.read_packet.new.buffer read) (sym c.in-Pcap.is)
-          (at_packet c.in-Pcap.order c.in-Pcap.link_type octets (g.S.Source.has_ended c.read_packet.new.source) c.read_packet.new.buffer read is),
+          (at_packet c.in-Pcap.magic c.in-Pcap.link_type octets (g.S.Source.has_ended c.read_packet.new.source) c.read_packet.new.buffer read is),
       within,
     ))
     c.read_packet.ensures.ok
@@ -49,7 +49,7 @@ returns-in-Pcap-clause-err g c =
       taken,
       given,
       subst (λ (f : Format). IsBegunAs (judgement_at (context_of f c.args.interfaces.now)) taken) (sym c.in-Pcap.is)
-          (packet_is_begun c.in-Pcap.order c.in-Pcap.link_type taken begun),
+          (packet_is_begun c.in-Pcap.magic c.in-Pcap.link_type taken begun),
     ))
     c.read_packet.ensures.err
 

@@ -58,8 +58,8 @@ returns-in-Some-clause-ok g c =
     let both = length-append front octets in (
       front ++ octets,
       g.met.S.Source.joined _ _ _ _ _ gave given,
-      starts_as front octets (Some c.in-Some.order) Start (g.S.Source.has_ended c.read_file_header.new.source) c.args.buffer.now read many begins
-          (sym c.in-Some.is ∙ c.pcap_order.ensures) is,
+      starts_as front octets (Some c.in-Some.magic) Start (g.S.Source.has_ended c.read_file_header.new.source) c.args.buffer.now read many begins
+          (sym c.in-Some.is ∙ c.magic_in.ensures) is,
       subst (λ (n : ℕ). IsInBuffer n (g.S.Source.has_ended c.read_file_header.new.source) c.args.buffer.now read)
           (let count : 12 + length octets ≡ length (front ++ octets) = omega arith in count) within,
     ))
@@ -77,7 +77,7 @@ returns-in-Some-clause-err g c =
     let (taken, given, fewer) = made in (
       front ++ taken,
       g.met.S.Source.joined _ _ _ _ _ gave given,
-      starts_begun front taken (Some c.in-Some.order) many begins (sym c.in-Some.is ∙ c.pcap_order.ensures) (pcap_begun c.in-Some.order front taken many fewer),
+      starts_begun front taken (Some c.in-Some.magic) many begins (sym c.in-Some.is ∙ c.magic_in.ensures) (pcap_begun c.in-Some.magic front taken many fewer),
     ))
     c.read_file_header.ensures.err
 
@@ -95,7 +95,7 @@ returns-in-None-clause-ok g c =
       front ++ octets,
       g.met.S.Source.joined _ _ _ _ _ gave given,
       starts_as front octets None Start (g.S.Source.has_ended c.read_headed_block.new.source) c.read_headed_block.new.buffer read many begins
-          (sym c.in-None.is ∙ c.pcap_order.ensures) is,
+          (sym c.in-None.is ∙ c.magic_in.ensures) is,
       subst (λ (n : ℕ). IsInBuffer n (g.S.Source.has_ended c.read_headed_block.new.source) c.read_headed_block.new.buffer read)
           (let count : 12 + length octets ≡ length (front ++ octets) = omega arith in count) within,
     ))
@@ -111,5 +111,5 @@ returns-in-None-clause-err g c =
     let begins = ap (λ (o : List ℕ). begins_magic (take 4 o)) (sym all) ∙ same ∙ sym c.begins_magic.ensures ∙ c.if-not-begins_magic.false in
     err_then c.read_headed_block.result _ _ (λ made.
     let (taken, given, begun) = made in
-    (front ++ taken, g.met.S.Source.joined _ _ _ _ _ gave given, starts_begun front taken None many begins (sym c.in-None.is ∙ c.pcap_order.ensures) begun))
+    (front ++ taken, g.met.S.Source.joined _ _ _ _ _ gave given, starts_begun front taken None many begins (sym c.in-None.is ∙ c.magic_in.ensures) begun))
     c.read_headed_block.ensures.err
