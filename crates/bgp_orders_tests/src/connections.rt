@@ -5,7 +5,7 @@ use bgp_orders::record_whole_way;
 use bgp_recording::{Entry, Framings};
 use mrt::Record;
 use std::alloc::Global;
-use streams::{Connection, End, Run, Side, Stream};
+use streams::{Closing, Connection, End, Run, Side, Stream};
 
 /// The local system opens it, sends a NOTIFICATION before its OPEN, and ends it.
 const REJECTING: Connection<'static> = Connection {
@@ -31,6 +31,7 @@ const REJECTING: Connection<'static> = Connection {
         packet: 5,
         second: 101,
         side: Side::Local,
+        closing: Closing::Fin,
     }),
 };
 

@@ -13,7 +13,7 @@ use bgp_wire::vectors::{
 };
 use mrt::Record;
 use std::alloc::Global;
-use streams::{End, Side};
+use streams::{Closing, End, Side};
 
 /// A NOTIFICATION: Malformed Attribute List (RFC 4271, 6.3).
 const MALFORMED_LIST: [u8; 21] = [
@@ -289,6 +289,7 @@ static ROWS: [Row; 18] = [
             packet: 11,
             second: 103,
             side: Side::Local,
+            closing: Closing::Fin,
         }),
         delays: false,
         within: 10,
@@ -303,6 +304,7 @@ static ROWS: [Row; 18] = [
             packet: 11,
             second: 113,
             side: Side::Local,
+            closing: Closing::Fin,
         }),
         delays: false,
         within: 10,
@@ -347,6 +349,7 @@ static ROWS: [Row; 18] = [
             packet: 9,
             second: 104,
             side: Side::Local,
+            closing: Closing::Fin,
         }),
         delays: false,
         within: 10,
@@ -361,6 +364,7 @@ static ROWS: [Row; 18] = [
             packet: 9,
             second: 114,
             side: Side::Local,
+            closing: Closing::Fin,
         }),
         delays: false,
         within: 10,
@@ -415,6 +419,7 @@ static ROWS: [Row; 18] = [
             packet: 5,
             second: 101,
             side: Side::Local,
+            closing: Closing::Fin,
         }),
         delays: true,
         within: 10,

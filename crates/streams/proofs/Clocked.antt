@@ -19,7 +19,7 @@ use Rattle.streams.specs.Given.{total, giver_at}
 use Rattle.streams.specs.Passed.{Segment}
 use Rattle.streams.specs.History.{given_of, start_of}
 use Rattle.streams.specs.Refusals.{cut, time_back, fault_at, first_fault}
-use Rattle.streams.specs.Connections.{connections_of, numbered, put_at, last_index, is_between, begins, has_octets, has_others, first_in, end_by, end_of_connection}
+use Rattle.streams.specs.Connections.{connections_of, numbered, put_at, last_index, is_between, begins, has_octets, has_others, first_in, closing_by, end_by, end_of_connection}
 use Rattle.streams.specs.Choice.{IsStreamOf, Tells, TellsOf, refusal_of, numbered_one, IsAnswered}
 use Rattle.streams.specs.Clock.{AreInOrder, GoesFrom, IsClocked}
 use Rattle.streams.proofs.Runs.{total-cons}
@@ -121,7 +121,7 @@ end_has [] end h = absurd (none-some end h)
 end_has (s ∷ before) end h = elim (either_gives (end_of_connection before) (end_by s) end h) [
   | inl earlier ↦ inr (end_has before end earlier)
   | inr now ↦
-      let is = (cond_some (s.fin || s.rst) (record { packet = s.packet; second = s.second; side = s.sender }) end now.1).1 in
+      let is = (cond_some (s.fin || s.rst) (record { packet = s.packet; second = s.second; side = s.sender; closing = closing_by s }) end now.1).1 in
       inl (ap (λ (e : End). e.packet) is, ap (λ (e : End). e.second) is)
 ]
 

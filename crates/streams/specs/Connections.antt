@@ -6,6 +6,8 @@ use Rattle.std.specs.Prelude.{false, not, ◌&&◌, ◌||◌, nat_eq, nat_lt, le
 use Rattle.std.specs.Prelude.{get_or, filter, slice_set}
 use Rattle.std.specs.Option.{option_or, option_map, is_some, is_none}
 use Rattle.streams.specs.declared.passed.Side.{Side}
+use Rattle.streams.specs.declared.connection.Closing.{Closing}
+use Rattle.streams.specs.declared.connection.Closing.TheVariants.{Fin, Reset}
 use Rattle.streams.specs.declared.connection.End.{End}
 use Rattle.streams.specs.Passed.{Segment, other_side}
 use Rattle.streams.specs.History.{start_of}
@@ -35,10 +37,20 @@ abbrev pub opener_of : List Segment → Option Side
 opener_of [] = None
 opener_of (s ∷ before) = option_or (opener_of before) (opener_by s)
 
+-- how a segment with a FIN or a RST ends a connection: a RST breaks it off, also one with a FIN
+-- (RFC 9293, 3.10.7.4: the RST is looked at first)
+abbrev pub closing_by : Segment → Closing
+closing_by s = cond s.rst Reset Fin
+
 -- the end of a connection: its first segment with a FIN or a RST
 abbrev pub end_by : Segment → Option End
 end_by s = cond (s.fin || s.rst)
-    (Some (record { packet = s.packet; second = s.second; side = s.sender })) None
+    (Some (record {
+      packet = s.packet;
+      second = s.second;
+      side = s.sender;
+      closing = closing_by s;
+    })) None
 
 abbrev pub end_of_connection : List Segment → Option End
 end_of_connection [] = None

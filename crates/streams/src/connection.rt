@@ -22,6 +22,15 @@ pub struct Stream<'a> {
     pub runs: &'a [Run],
 }
 
+/// How a segment ends a connection.
+#[derive(Clone, Copy, Debug, PartialEq, Eq)]
+pub enum Closing {
+    /// By a FIN: its sender has no more to send (RFC 9293, 3.6).
+    Fin,
+    /// By a RST, with a FIN or without: the connection is broken off (RFC 9293, 3.5.3).
+    Reset,
+}
+
 /// The end of a connection: its first packet with a FIN or a RST.
 #[derive(Clone, Copy, Debug, PartialEq, Eq)]
 pub struct End {
@@ -31,6 +40,8 @@ pub struct End {
     pub second: u32,
     /// Who sent it.
     pub side: Side,
+    /// By which of both.
+    pub closing: Closing,
 }
 
 /// A connection that holds octets: a segment of it has data.

@@ -5,14 +5,14 @@ ghost use Rattle.std.specs.Prelude.{None};
 ghost use Rattle.std.specs.Option.{option_or};
 ghost use Rattle.streams.specs.Islands.{IsSound};
 ghost use Rattle.streams.specs.Passed.{Segment, segment_of, other_side};
-ghost use Rattle.streams.specs.Connections.{begins, has_ports, end_by, opener_by};
+ghost use Rattle.streams.specs.Connections.{begins, has_ports, closing_by, end_by, opener_by};
 ghost use Rattle.streams.specs.Directions.{half_in, missing_in};
 ghost use Rattle.streams.specs.Refusals.{half_of, missing_of};
 ghost use Rattle.streams.specs.Gatherings.{IsOf, HoldsConnection, AreSound};
 ghost use Rattle.streams.specs.Gatherings.{gathering_faults, start_in, start_with};
 ghost use Rattle.streams.specs.Gatherings.{noted, HasGathered, refusal_in, Opens, Shows};
 
-use crate::connection::{Connection, End, Opening};
+use crate::connection::{Closing, Connection, End, Opening};
 use crate::direction::Direction;
 use crate::fault::Fault;
 use crate::passed::{Passed, Side};
@@ -67,6 +67,17 @@ fn opener_by(passed: &Passed<'_>) -> Option<Side>
     })
 }
 
+/// How a segment that has a FIN or a RST ends a connection.
+fn closing_by(passed: &Passed<'_>) -> Closing
+    ensures { result ≡ closing_by (segment_of passed.now) }
+{
+    if passed.rst {
+        Closing::Reset
+    } else {
+        Closing::Fin
+    }
+}
+
 /// The end of a connection, by a FIN or a RST.
 fn end_by(passed: &Passed<'_>) -> Option<End>
     ensures { result ≡ end_by (segment_of passed.now) }
@@ -78,6 +89,7 @@ fn end_by(passed: &Passed<'_>) -> Option<End>
         packet: passed.packet,
         second: passed.second,
         side: passed.from,
+        closing: closing_by(passed),
     })
 }
 

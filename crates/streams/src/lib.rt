@@ -28,7 +28,7 @@ mod passed;
 mod placing;
 mod stretch;
 
-pub use connection::{Connection, End, Opening, Run, Stream};
+pub use connection::{Closing, Connection, End, Opening, Run, Stream};
 pub use connections::Connections;
 pub use fault::Fault;
 pub use laws::{
