@@ -13,3 +13,4 @@ pub mod LeastSubcode
 pub mod CapabilityEntries
 pub mod SettledForms
 pub mod OneOffer
+pub mod TwoEnds

@@ -12,3 +12,4 @@ pub mod Link
 pub mod OpenSubcodes
 pub mod OwnOpen
 pub mod Written
+pub mod TwoEnds

@@ -1,4 +1,4 @@
--- What an OPEN offers about routes: several paths for a prefix (RFC 7911, 4), and IPv6 next hops of
+-- What an OPEN offers about routes: several paths to a prefix (RFC 7911, 4), and IPv6 next hops of
 -- IPv4 routes (RFC 8950, 4).
 use Rattle.std.specs.Prelude.{◌≡◌, ◌%◌, ◌==◌, ◌&&◌, ◌||◌, nat_lt, Bool, false}
 use Rattle.std.specs.Prelude.{ℕ, List, [], ◌∷◌, length}
@@ -11,6 +11,7 @@ use Rattle.bgp_open.specs.declared.paths.Direction.{Direction}
 use Rattle.bgp_open.specs.declared.paths.Direction.TheVariants.{Receives, Sends}
 use Rattle.bgp_open.specs.declared.paths.PathEntry.{PathEntry}
 use Rattle.bgp_open.specs.declared.route_offer.RouteOffer.{RouteOffer}
+use Rattle.bgp_open.specs.Families.{no_families}
 use Rattle.bgp_open.specs.Offer.{afi_of}
 use Rattle.bgp_open.specs.Open.{OpenFields, open_of}
 use Rattle.bgp_open.specs.OpenFault.{IsReadable}
@@ -63,7 +64,7 @@ abbrev pub offers_paths : Family → Direction → List Triplet → Bool
 offers_paths family direction capabilities =
     list_any (offers_direction family direction) capabilities
 
--- the OPEN offers to send several paths for a prefix of the family, or to receive several
+-- the OPEN offers to send several paths to a prefix of the family, or to receive several
 abbrev pub sends_paths : Family → List Triplet → Bool
 sends_paths family capabilities = offers_paths family Sends capabilities
 
@@ -102,8 +103,8 @@ offers_next_hops capabilities = list_any is_next_hops capabilities
 
 abbrev pub nothing : RouteOffer
 nothing = record {
-  sends = record { v4 = false; v6 = false };
-  receives = record { v4 = false; v6 = false };
+  sends = no_families;
+  receives = no_families;
   next_hops = false;
 }
 

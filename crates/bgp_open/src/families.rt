@@ -1,7 +1,7 @@
 //! Sets of address families (RFC 4760, 3).
 
 ghost use Rattle.std.specs.Prelude.{◌≡◌, ◌↔◌, IsTrue};
-ghost use Rattle.bgp_open.specs.Families.{contains, IsEmpty, intersection};
+ghost use Rattle.bgp_open.specs.Families.{contains, IsEmpty, intersection, union};
 
 use bgp_prefix::Family;
 
@@ -22,6 +22,12 @@ impl Families {
         v6: false,
     };
 
+    /// No family.
+    pub const NONE: Families = Families {
+        v4: false,
+        v6: false,
+    };
+
     /// Checks whether the family is in the set.
     pub fn contains(self, family: Family) -> bool
         ensures { result ≡ contains self family }
@@ -37,6 +43,16 @@ impl Families {
         ensures { IsTrue result ↔ IsEmpty self }
     {
         !self.v4 && !self.v6
+    }
+
+    /// Returns the families that are in either set.
+    pub fn union(self, other: Families) -> Families
+        ensures { result ≡ union self other }
+    {
+        Families {
+            v4: self.v4 || other.v4,
+            v6: self.v6 || other.v6,
+        }
     }
 
     /// Returns the families that are in both sets.

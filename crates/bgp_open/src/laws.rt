@@ -19,6 +19,7 @@ ghost use Rattle.bgp_open.specs.Link.{link_of};
 ghost use Rattle.bgp_open.specs.OwnOpen.{IsOwnOpen, own_fields};
 ghost use Rattle.bgp_open.specs.RouteForm.{plain_form};
 ghost use Rattle.bgp_open.specs.RouteOffer.{nothing, offers_next_hops, route_offer_in};
+ghost use Rattle.bgp_open.specs.TwoEnds.{SettleEnds};
 ghost use Rattle.bgp_open.specs.Written.{FitsOpen, open_with, open_octets, parameters_with};
 ghost use Rattle.bgp_open.specs.Written.{notification_octets};
 ghost use Rattle.bgp_open.specs.declared.subcodes.OpenSubcodes.{OpenSubcodes};
@@ -105,6 +106,13 @@ pub fn plain_forms()
         → (¬ IsTrue (offers_next_hops message.capabilities))
         → ((link_of config message).received ≡ plain_form)
         × ((link_of config message).sent ≡ plain_form) }
+{}
+
+/// Two systems that are configured for one another settle the two ends of one session: from each
+/// other's OPENs both have the same Hold Time, width of AS numbers and families, and what one sends
+/// is spelled as what the other receives. Each OPEN has to offer about routes what is configured.
+pub fn both_ends_settle_one_session()
+    ensures { SettleEnds }
 {}
 
 /// Sets of subcodes that name the same faults are equal. So there is only one set of the faults for

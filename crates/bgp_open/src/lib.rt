@@ -32,8 +32,9 @@ pub use config::{Config, ConfigParts};
 pub use families::Families;
 pub use fault::OpenFault;
 pub use laws::{
-    each_readable_open_is_its_parts, one_fault, one_reading, one_set_of_subcodes, own_open_exists,
-    plain_forms, subcodes_of_both_sets, written_notification_is_a_frame, written_open_reads_back,
+    both_ends_settle_one_session, each_readable_open_is_its_parts, one_fault, one_reading,
+    one_set_of_subcodes, own_open_exists, plain_forms, subcodes_of_both_sets,
+    written_notification_is_a_frame, written_open_reads_back,
 };
 pub use link::{Link, negotiate};
 pub use notification::{

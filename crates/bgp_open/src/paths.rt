@@ -1,4 +1,4 @@
-//! Which OPENs offer several paths for a prefix (ADD-PATH; RFC 7911, 4).
+//! Which OPENs offer several paths to a prefix (ADD-PATH; RFC 7911, 4).
 //!
 //! ```text
 //! the value of capability 69: an entry for each family
@@ -36,7 +36,7 @@ pub(crate) const SEND: u8 = 2;
 /// That of one that offers both.
 const BOTH: u8 = 3;
 
-/// What a system can do with several paths for a prefix.
+/// What a system can do with several paths to a prefix.
 #[derive(Clone, Copy)]
 pub(crate) enum Direction {
     Receives,

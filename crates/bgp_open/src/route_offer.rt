@@ -1,4 +1,4 @@
-//! What an OPEN offers about routes: several paths for a prefix (RFC 7911, 4), and IPv6 next hops
+//! What an OPEN offers about routes: several paths to a prefix (RFC 7911, 4), and IPv6 next hops
 //! of IPv4 routes (RFC 8950, 4).
 
 ghost use Rattle.std.specs.Prelude.{◌≡◌, ◌↔◌, IsTrue};
@@ -14,7 +14,7 @@ use crate::route_form::RouteForm;
 /// What an OPEN offers, or is to offer, about how routes are spelled.
 #[derive(Clone, Copy, Debug, PartialEq, Eq)]
 pub struct RouteOffer {
-    /// The families of which the sender of the OPEN offers to send several paths for a prefix
+    /// The families of which the sender of the OPEN offers to send several paths to a prefix
     /// (ADD-PATH; RFC 7911, 4).
     pub sends: Families,
     /// The families of which it offers to receive several.
@@ -26,14 +26,8 @@ pub struct RouteOffer {
 impl RouteOffer {
     /// The offer of nothing.
     pub const NOTHING: RouteOffer = RouteOffer {
-        sends: Families {
-            v4: false,
-            v6: false,
-        },
-        receives: Families {
-            v4: false,
-            v6: false,
-        },
+        sends: Families::NONE,
+        receives: Families::NONE,
         next_hops: false,
     };
 
@@ -69,26 +63,18 @@ impl RouteOffer {
     }
 
     /// Returns how the routes that the local system receives are spelled. `self` is its own offer,
-    /// and `peers` the peer's. A family has path identifiers if the local system offers to receive
-    /// them and the peer to send them. IPv6 next hops go by the local system's offer alone.
+    /// and `peers` the peer's.
     pub fn received_from(self, peers: RouteOffer) -> RouteForm
         ensures { result ≡ received_form self peers }
     {
-        RouteForm {
-            identified: self.receives.intersection(peers.sends),
-            ipv6_next_hops: self.next_hops,
-        }
+        RouteForm::between(peers, self)
     }
 
     /// Returns how the routes that the local system sends are spelled. `self` is its own offer, and
-    /// `peers` the peer's. A family has path identifiers if the local system offers to send them
-    /// and the peer to receive them. IPv6 next hops go by the peer's offer alone.
+    /// `peers` the peer's.
     pub fn sent_to(self, peers: RouteOffer) -> RouteForm
         ensures { result ≡ sent_form self peers }
     {
-        RouteForm {
-            identified: self.sends.intersection(peers.receives),
-            ipv6_next_hops: peers.next_hops,
-        }
+        RouteForm::between(self, peers)
     }
 }

@@ -14,10 +14,7 @@ use crate::config::{Config, is_bad_hold};
 use crate::fault::OpenFault;
 use crate::offer::offered_as_number;
 use crate::open::{Open, read_readable};
-use bgp_wire::NamedFault;
-
-/// The Error code of an OPEN Message Error.
-const OPEN_MESSAGE_ERROR: u8 = 2;
+use bgp_wire::{ErrorCode, NamedFault};
 
 /// A set of subcodes of OPEN Message Error.
 #[derive(Clone, Copy, Debug, PartialEq, Eq)]
@@ -108,7 +105,8 @@ impl OpenSubcodes {
         for subcode in 0..12 {
             let detail = detail_with(subcode);
             if self.contains(subcode, detail) {
-                return Some(NamedFault::new(OPEN_MESSAGE_ERROR, subcode, detail));
+                let code = ErrorCode::OpenMessage.code();
+                return Some(NamedFault::new(code, subcode, detail));
             }
         }
         None
