@@ -1,7 +1,6 @@
 pub mod OwnOpen
 pub mod PossibleNotifications
 pub mod Walking
-pub mod MpFields
 pub mod FineUpdates
 pub mod QuietAttributes
 pub mod CleanUpdates

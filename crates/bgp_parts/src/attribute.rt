@@ -6,10 +6,11 @@ ghost use Rattle.bgp_parts.specs.AttributeFaults.{class_fault, is_for_internal_p
 ghost use Rattle.bgp_parts.specs.AttributeFaults.{is_for_two_octets, state_fault, state_in};
 ghost use Rattle.bgp_parts.specs.AttributeFaults.{value_fault};
 
-use crate::multiprotocol::{family_in, has_contents};
+use crate::multiprotocol::has_contents;
 use bgp_attr::{Attr, AttrType, AttrVerdict};
 use bgp_open::{Families, Link, RouteForm};
 use bgp_prefix::Family;
+use bgp_update::family_in;
 
 /// What is wrong with a path attribute.
 #[derive(Clone, Copy, Debug, PartialEq, Eq)]

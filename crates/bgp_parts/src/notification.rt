@@ -11,7 +11,7 @@ ghost use Rattle.bgp_parts.specs.NotificationWords.{IsOfSubcode};
 use bgp_open::{Notification, OpenSubcodes, read_notification};
 use bgp_prefix::Seconds;
 use bgp_reason::{FsmErrors, Possible};
-use bgp_wire::HeaderFaults;
+use bgp_wire::{ErrorCode, HeaderFaults};
 
 /// What of a NOTIFICATION is at fault, where others of its code are possible.
 #[derive(Clone, Copy, Debug, PartialEq, Eq)]
@@ -95,15 +95,15 @@ fn has_open_subcode(errors: &OpenSubcodes, subcode: u8) -> bool
 fn is_of_code(possible: &Possible, code: u8) -> bool
     ensures { IsTrue result ↔ IsOfCode possible.now code }
 {
-    match code {
-        1 => !possible.header_errors.is_empty(),
-        2 => !possible.open_errors.is_empty(),
-        3 => !possible.update_errors.is_empty(),
-        4 => possible.hold_timer_expired.is_some(),
-        5 => has_some_fsm_error(possible.fsm_errors),
-        6 => possible.cease,
-        8 => possible.send_hold_timer_expired,
-        _ => false,
+    match ErrorCode::from_code(code) {
+        Some(ErrorCode::MessageHeader) => !possible.header_errors.is_empty(),
+        Some(ErrorCode::OpenMessage) => !possible.open_errors.is_empty(),
+        Some(ErrorCode::UpdateMessage) => !possible.update_errors.is_empty(),
+        Some(ErrorCode::HoldTimerExpired) => possible.hold_timer_expired.is_some(),
+        Some(ErrorCode::FiniteStateMachine) => has_some_fsm_error(possible.fsm_errors),
+        Some(ErrorCode::Cease) => possible.cease,
+        Some(ErrorCode::SendHoldTimerExpired) => possible.send_hold_timer_expired,
+        Some(ErrorCode::RouteRefreshMessage) | None => false,
     }
 }
 
@@ -111,15 +111,17 @@ fn is_of_code(possible: &Possible, code: u8) -> bool
 fn is_of_subcode(possible: &Possible, code: u8, subcode: u8) -> bool
     ensures { IsTrue result ↔ IsOfSubcode possible.now code subcode }
 {
-    match code {
-        1 => has_header_subcode(&possible.header_errors, subcode),
-        2 => has_open_subcode(&possible.open_errors, subcode),
-        3 => possible.update_errors.contains(subcode),
-        4 => subcode == 0 && possible.hold_timer_expired.is_some(),
-        5 => has_fsm_error(possible.fsm_errors, subcode),
-        6 => possible.cease,
-        8 => subcode == 0 && possible.send_hold_timer_expired,
-        _ => false,
+    match ErrorCode::from_code(code) {
+        Some(ErrorCode::MessageHeader) => has_header_subcode(&possible.header_errors, subcode),
+        Some(ErrorCode::OpenMessage) => has_open_subcode(&possible.open_errors, subcode),
+        Some(ErrorCode::UpdateMessage) => possible.update_errors.contains(subcode),
+        Some(ErrorCode::HoldTimerExpired) => {
+            subcode == 0 && possible.hold_timer_expired.is_some()
+        }
+        Some(ErrorCode::FiniteStateMachine) => has_fsm_error(possible.fsm_errors, subcode),
+        Some(ErrorCode::Cease) => possible.cease,
+        Some(ErrorCode::SendHoldTimerExpired) => subcode == 0 && possible.send_hold_timer_expired,
+        Some(ErrorCode::RouteRefreshMessage) | None => false,
     }
 }
 
@@ -127,9 +129,9 @@ fn is_of_subcode(possible: &Possible, code: u8, subcode: u8) -> bool
 fn is_of_data(possible: &Possible, code: u8, subcode: u8, detail: &[u8]) -> bool
     ensures { IsTrue result ↔ IsOfData possible.now code subcode detail.now }
 {
-    match code {
-        1 => possible.header_errors.contains(subcode, detail),
-        2 => possible.open_errors.contains(subcode, detail),
+    match ErrorCode::from_code(code) {
+        Some(ErrorCode::MessageHeader) => possible.header_errors.contains(subcode, detail),
+        Some(ErrorCode::OpenMessage) => possible.open_errors.contains(subcode, detail),
         _ => is_of_subcode(possible, code, subcode),
     }
 }
@@ -153,7 +155,7 @@ fn part_of<'a>(possible: &Possible, notification: &Notification<'a>) -> Option<N
 fn is_early(possible: &Possible, second: Seconds, code: u8) -> bool
     ensures { IsTrue result ↔ IsEarly possible.now second code }
 {
-    code == 4
+    code == ErrorCode::HoldTimerExpired.code()
         && possible
             .hold_timer_expired
             .is_some_and(|from| second < from)

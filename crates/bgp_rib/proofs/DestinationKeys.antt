@@ -14,7 +14,6 @@ use Rattle.bgp_prefix.specs.Prefix.{PrefixBits, prefix_length}
 use Rattle.bgp_prefix.specs.PrefixOrder.{prefix_cmp, prefix_eq, family_rank, prefix_number}
 use Rattle.bgp_prefix.proofs.RealEquality.{equal_prefixes}
 use Rattle.bgp_update.specs.declared.destination.Destination.{Destination}
-use Rattle.bgp_update.specs.declared.destination.PathId.{PathId}
 use Rattle.bgp_rib.specs.DestinationOrder.{destination_cmp, destination_eq, id_count, id_number}
 use Rattle.bgp_rib.specs.Routes.{entries_without}
 
@@ -42,11 +41,11 @@ exact_prefixes p q e =
     equal_prefixes p q (rw (eq-eqb _ _ rank, eq-eqb _ _ number, eq-eqb _ _ bits) refl)
 
 -- how many identifiers there are, and the number of one, tell them
-same_path : (a b : Option PathId) → id_count a ≡ id_count b → id_number a ≡ id_number b → a ≡ b
+same_path : (a b : Option ℕ) → id_count a ≡ id_count b → id_number a ≡ id_number b → a ≡ b
 same_path None None count number = refl
 same_path None (Some j) count number = absurd cc
 same_path (Some i) None count number = absurd cc
-same_path (Some i) (Some j) count number = λ k. Some (record { 0 = number k })
+same_path (Some i) (Some j) count number = λ k. Some (number k)
 
 pub exact_destinations : CmpEqualImpliesEq destination_cmp
 exact_destinations a b e =

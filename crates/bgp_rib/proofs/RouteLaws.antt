@@ -14,11 +14,11 @@ use Rattle.std.specs.Set.{is_member}
 use Rattle.bgp_update.specs.declared.destination.Destination.{Destination}
 use Rattle.bgp_rib.specs.DestinationOrder.{destination_cmp, destination_eq}
 use Rattle.bgp_open.specs.declared.families.Families.{Families}
-use Rattle.bgp_open.specs.Families.{contains}
+use Rattle.bgp_open.specs.Families.{contains, union}
 use Rattle.bgp_path.specs.Path.{PathValue}
 use Rattle.bgp_path.specs.SamePathLaws.{same_value_decides}
 use Rattle.bgp_update.specs.Changes.{RouteChanges}
-use Rattle.bgp_rib.specs.Routes.{Routes, AreRoutes, path_to, entry_of, entries_outside, entries_with, entries_without, union, no_routes, routes_after, routes_without}
+use Rattle.bgp_rib.specs.Routes.{Routes, AreRoutes, path_to, entry_of, entries_outside, entries_with, entries_without, no_routes, routes_after, routes_without}
 use Rattle.bgp_rib.specs.SameRoutes.{same_families, same_entry, same_routes}
 use Rattle.bgp_rib.proofs.MapLaws.{filter_filter, filter_congr, filter_ordered, puts_ordered, filter_puts, found_puts, one_map}
 use Rattle.bgp_rib.proofs.DestinationKeys.{destinations_total, exact_destinations, same_tie, same_itself, equal_destinations}

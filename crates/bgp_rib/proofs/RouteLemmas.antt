@@ -12,10 +12,10 @@ use Rattle.bgp_prefix.specs.declared.family.Family.{Family}
 use Rattle.bgp_prefix.specs.declared.family.Family.TheVariants.{V4, V6}
 use Rattle.bgp_update.specs.declared.destination.Destination.{Destination}
 use Rattle.bgp_open.specs.declared.families.Families.{Families}
-use Rattle.bgp_open.specs.Families.{contains}
+use Rattle.bgp_open.specs.Families.{contains, union}
 use Rattle.bgp_path.specs.Path.{PathValue}
 use Rattle.bgp_update.specs.Changes.{Route, RouteChanges, routes_with}
-use Rattle.bgp_rib.specs.Routes.{entries_outside, entries_with, entries_without, entry_of, only, union, AreOutside, AreRoutes, routes_after, routes_without}
+use Rattle.bgp_rib.specs.Routes.{entries_outside, entries_with, entries_without, entry_of, only, AreOutside, AreRoutes, routes_after, routes_without}
 use Rattle.std.specs.List.Sorted.{IsStrictlySortedBy}
 use Rattle.bgp_rib.specs.Rooms.{routes_in}
 use Rattle.bgp_rib.proofs.DestinationKeys.{destinations_total, exact_destinations}

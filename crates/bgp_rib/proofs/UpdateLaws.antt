@@ -11,11 +11,11 @@ use Rattle.bgp_prefix.specs.declared.family.Family.{Family}
 use Rattle.bgp_update.specs.declared.destination.Destination.{Destination}
 use Rattle.bgp_rib.specs.DestinationOrder.{destination_cmp, destination_eq}
 use Rattle.bgp_open.specs.declared.families.Families.{Families}
-use Rattle.bgp_open.specs.Families.{contains}
+use Rattle.bgp_open.specs.Families.{contains, union}
 use Rattle.bgp_path.specs.Path.{PathValue}
 use Rattle.bgp_update.specs.Changes.{RouteChanges}
 use Rattle.bgp_rib.specs.declared.updates.Applied.{Applied}
-use Rattle.bgp_rib.specs.Routes.{Routes, AreOutside, entry_of, entries_outside, entries_with, entries_without, union, no_routes, routes_after, routes_without}
+use Rattle.bgp_rib.specs.Routes.{Routes, AreOutside, entry_of, entries_outside, entries_with, entries_without, no_routes, routes_after, routes_without}
 use Rattle.bgp_rib.specs.Updates.{AppliedUpdate, applied_value, after_update, after_updates, removed_by}
 use Rattle.bgp_rib.proofs.RouteLaws.{outside_union, outside_change}
 use Rattle.bgp_rib.proofs.RouteLemmas.{in_union, outside_none, outside_own, kept_keys, with_keys}

@@ -5,17 +5,16 @@ use Rattle.std.specs.declared.cmp.Ordering.{Ordering}
 use Rattle.std.specs.Ordering.{nat_cmp, on, then_cmp, eq_of_both}
 use Rattle.bgp_prefix.specs.PrefixOrder.{family_rank, prefix_cmp, prefix_eq}
 use Rattle.bgp_update.specs.declared.destination.Destination.{Destination}
-use Rattle.bgp_update.specs.declared.destination.PathId.{PathId}
 
 -- how many identifiers there are
-abbrev pub id_count : Option PathId → ℕ
+abbrev pub id_count : Option ℕ → ℕ
 id_count None = 0
-id_count (Some id) = 1
+id_count (Some number) = 1
 
 -- the number of the identifier; what stands for none counts for nothing
-abbrev pub id_number : Option PathId → ℕ
+abbrev pub id_number : Option ℕ → ℕ
 id_number None = 0
-id_number (Some id) = id.0
+id_number (Some number) = number
 
 -- the order
 abbrev pub destination_cmp : Destination → Destination → Ordering

@@ -36,7 +36,7 @@ pub record IsLowest (address : Address) (count : ℕ) : Type 0 where
 
 -- the destination of a prefix and an identifier
 abbrev pub with_id : PrefixBits → ℕ → Destination
-with_id prefix number = record { prefix = prefix; path = Some (record { 0 = number }) }
+with_id prefix number = record { prefix = prefix; path = Some number }
 
 -- the destinations of the four kinds of keys
 abbrev pub v4_plain : List Bool → Destination

@@ -1,6 +1,6 @@
 -- The routes that a peer has announced, its Adj-RIB-In (RFC 4271, 3.2): a map from destinations to
 -- paths.
-use Rattle.std.specs.Prelude.{true, false, ◌||◌, not, List, [], Option, All, IsFalse}
+use Rattle.std.specs.Prelude.{true, false, not, List, [], Option, All, IsFalse}
 use Rattle.std.specs.Prelude.{filter, fold, map}
 use Rattle.std.specs.BTreeMap.{insert_entry, is_at}
 use Rattle.std.specs.List.Sorted.{IsStrictlySortedBy}
@@ -11,7 +11,7 @@ use Rattle.bgp_prefix.specs.declared.family.Family.TheVariants.{V4, V6}
 use Rattle.bgp_update.specs.declared.destination.Destination.{Destination}
 use Rattle.bgp_rib.specs.DestinationOrder.{destination_cmp, destination_eq}
 use Rattle.bgp_open.specs.declared.families.Families.{Families}
-use Rattle.bgp_open.specs.Families.{contains}
+use Rattle.bgp_open.specs.Families.{contains, no_families, union}
 use Rattle.bgp_path.specs.Path.{PathValue}
 use Rattle.bgp_update.specs.Changes.{Route, RouteChanges}
 
@@ -26,7 +26,7 @@ path_to routes destination = lookup (is_at (destination_cmp destination)) routes
 
 -- no route, and nothing disabled
 abbrev pub no_routes : Routes
-no_routes = record { entries = []; disabled = record { v4 = false; v6 = false } }
+no_routes = record { entries = []; disabled = no_families }
 
 -- the entries whose destination isn't among these
 abbrev pub entries_without : {V : Type 0} → List Destination → List (Destination × V)
@@ -56,11 +56,6 @@ routes_after changes routes = record {
       (entries_without changes.remove routes.entries);
   disabled = routes.disabled;
 }
-
--- the families in either set
-abbrev pub union : Families → Families → Families
-union families others =
-    record { v4 = families.v4 || others.v4; v6 = families.v6 || others.v6 }
 
 -- the family alone
 abbrev pub only : Family → Families

@@ -1,16 +1,10 @@
 //! Sets of families.
 
 ghost use Rattle.std.specs.Prelude.{◌≡◌};
-ghost use Rattle.bgp_rib.specs.Routes.{only, union};
+ghost use Rattle.bgp_rib.specs.Routes.{only};
 
 use bgp_open::Families;
 use bgp_prefix::Family;
-
-/// The set without a family.
-pub const NO_FAMILIES: Families = Families {
-    v4: false,
-    v6: false,
-};
 
 /// The family alone.
 pub fn only(family: Family) -> Families
@@ -25,15 +19,5 @@ pub fn only(family: Family) -> Families
             v4: false,
             v6: true,
         },
-    }
-}
-
-/// The families in either set.
-pub fn union(families: Families, others: Families) -> Families
-    ensures { result ≡ union families others }
-{
-    Families {
-        v4: families.v4 || others.v4,
-        v6: families.v6 || others.v6,
     }
 }

@@ -12,6 +12,7 @@ ghost use Rattle.bgp_rib.specs.Keys.{IsLowest, bits_cmp, bits_eq, bits_number};
 ghost use Rattle.bgp_rib.specs.Keys.{v4_prefix, v6_prefix};
 
 use bgp_prefix::{Address, Prefix};
+use bgp_update::PathId;
 use byteorder::{BigEndian, ByteOrder};
 use std::alloc::AllocError;
 use std::cmp::Ordering;
@@ -35,17 +36,11 @@ pub struct V6Key {
     length: u8,
 }
 
-/// A path identifier, highest octet first.
-#[derive(Debug, Drop)]
-pub struct IdKey {
-    octets: [u8; 4],
-}
-
 /// A prefix and a path identifier.
 #[derive(Clone, Debug, PartialEq, Eq, PartialOrd, Ord, Drop)]
 pub struct Identified<P> {
     pub prefix: P,
-    pub id: IdKey,
+    pub id: PathId,
 }
 
 const _: () = prove!(size_of::<V4Key>() == 5);
@@ -265,85 +260,5 @@ impl Ord for V6Key {
     fn cmp(&self, other: &V6Key) -> Ordering {
         let by_number = self.number().cmp(&other.number());
         by_number.then(self.length().cmp(&other.length()))
-    }
-}
-
-impl Model for IdKey {
-    ghost use Rattle.std.specs.Prelude.{ℕ};
-    ghost use Rattle.byteorder.specs.Endian.{big_number};
-
-    ghost Value = { ℕ };
-
-    ghost view = { λ k. big_number 4 k.octets };
-}
-
-impl IdKey {
-    /// The key of the identifier with this number.
-    pub fn new(number: u32) -> IdKey
-        ensures { result ≡ number }
-    {
-        let mut octets = [0; 4];
-        BigEndian::write_u32(&mut octets, number);
-        IdKey { octets }
-    }
-
-    /// The number of the identifier.
-    pub fn number(&self) -> u32
-        ensures { result ≡ self.now }
-    {
-        BigEndian::read_u32(&self.octets)
-    }
-}
-
-impl Clone for IdKey {
-    ghost use Rattle.std.specs.Prelude.{◌≡◌, ⊤};
-
-    ghost is_clone = { λ s r. r ≡ s };
-
-    ghost is_infallible = { λ _. ⊤ };
-
-    fn clone(&self) -> Result<IdKey, AllocError> {
-        Ok(IdKey {
-            octets: self.octets,
-        })
-    }
-}
-
-impl PartialEq for IdKey {
-    ghost eq = { ◌==◌ };
-
-    ghost laws = { Prim.search (comparing, rules) };
-
-    fn eq(&self, other: &IdKey) -> bool {
-        self.number() == other.number()
-    }
-}
-
-impl Eq for IdKey {
-    ghost laws = { Prim.search (comparing, rules) };
-}
-
-impl PartialOrd for IdKey {
-    ghost partial_cmp = { as_partial_cmp nat_cmp };
-
-    ghost laws = { partial_order_from_own_ties
-        (Prim.search (comparing, rules)) (Prim.search (comparing, rules)) };
-
-    fn partial_cmp(&self, other: &IdKey) -> Option<Ordering> {
-        Some(self.cmp(other))
-    }
-}
-
-impl Ord for IdKey {
-    ghost cmp = { nat_cmp };
-
-    ghost total = { Prim.search (comparing, rules) };
-
-    ghost matches_partial_cmp = { Prim.search (comparing, rules) };
-
-    ghost matches_eq = { Prim.search (comparing, rules) };
-
-    fn cmp(&self, other: &IdKey) -> Ordering {
-        self.number().cmp(&other.number())
     }
 }

@@ -17,7 +17,7 @@ ghost use Rattle.std.specs.Set.{is_member};
 ghost use Rattle.bgp_update.specs.declared.destination.Destination.{Destination};
 ghost use Rattle.bgp_rib.specs.DestinationOrder.{destination_eq};
 ghost use Rattle.bgp_open.specs.declared.families.Families.{Families};
-ghost use Rattle.bgp_open.specs.Families.{contains};
+ghost use Rattle.bgp_open.specs.Families.{contains, union};
 ghost use Rattle.bgp_update.specs.Changes.{RouteChanges};
 ghost use Rattle.bgp_rib.specs.Routes.{
   Routes,
@@ -25,7 +25,6 @@ ghost use Rattle.bgp_rib.specs.Routes.{
   path_to,
   entry_of,
   entries_outside,
-  union,
   no_routes,
   routes_after,
   routes_without,

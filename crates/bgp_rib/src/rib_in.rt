@@ -12,7 +12,7 @@ ghost use Rattle.bgp_rib.specs.Routes.{
 ghost use Rattle.bgp_rib.specs.Updates.{applied_value, after_updates};
 
 use crate::applying::apply_changes;
-use crate::families::{NO_FAMILIES, only, union};
+use crate::families::only;
 use crate::route_iter::RouteIter;
 use crate::table::Table;
 use crate::updates::{Applied, apply_updates};
@@ -61,7 +61,7 @@ impl<A: Allocator> RibIn<A> {
     {
         RibIn {
             alloc,
-            disabled: NO_FAMILIES,
+            disabled: Families::NONE,
             table: Table::new(alloc),
             log: Vec::new(alloc),
         }
@@ -109,7 +109,7 @@ impl<A: Allocator> RibIn<A> {
             return;
         }
         let gone = only(family);
-        self.disabled = union(self.disabled, gone);
+        self.disabled = self.disabled.union(gone);
         drop_families(&mut self.table, gone);
     }
 
@@ -117,7 +117,7 @@ impl<A: Allocator> RibIn<A> {
     pub fn clear(&mut self)
         ensures routes { self.new ≡ no_routes }
     {
-        self.disabled = NO_FAMILIES;
+        self.disabled = Families::NONE;
         self.table.clear();
         self.log.shrink_to_fit();
     }
@@ -142,7 +142,7 @@ impl<A: Allocator> RibIn<A> {
         ensures rest { result ≡ self.now.entries }
         ensures are { AreRoutes self.now }
     {
-        RouteIter::new(&self.table, NO_FAMILIES)
+        RouteIter::new(&self.table, Families::NONE)
     }
 
     /// The routes but those of some families, in the same order.

@@ -12,7 +12,7 @@ ghost use Rattle.bgp_rib.specs.DestinationOrder.{destination_cmp};
 ghost use Rattle.bgp_rib.specs.Keys.{with_id};
 ghost use Rattle.bgp_rib.specs.Rooms.{AreInOrder};
 
-use crate::keys::{IdKey, Identified, V4Key, V6Key};
+use crate::keys::{Identified, V4Key, V6Key};
 use bgp_open::Families;
 use bgp_path::Path;
 use bgp_prefix::{Address, Prefix};
@@ -66,20 +66,14 @@ impl Key {
                 let prefix = V4Key::new(address, length);
                 match destination.path {
                     None => Key::PlainV4(prefix),
-                    Some(id) => {
-                        let id = IdKey::new(id.0);
-                        Key::IdentifiedV4(Identified { prefix, id })
-                    }
+                    Some(id) => Key::IdentifiedV4(Identified { prefix, id }),
                 }
             }
             Address::V6(address) => {
                 let prefix = V6Key::new(address, length);
                 match destination.path {
                     None => Key::PlainV6(prefix),
-                    Some(id) => {
-                        let id = IdKey::new(id.0);
-                        Key::IdentifiedV6(Identified { prefix, id })
-                    }
+                    Some(id) => Key::IdentifiedV6(Identified { prefix, id }),
                 }
             }
         }
@@ -336,24 +330,24 @@ impl<'a, V> Iterator for TableIter<'a, V> {
             return Some((Destination::plain(key.prefix()), route));
         }
         if let Some((key, route)) = self.identified_v4.next() {
-            return Some((with_id(key.prefix.prefix(), &key.id), route));
+            return Some((with_id(key.prefix.prefix(), key.id), route));
         }
         if let Some((key, route)) = self.plain_v6.next() {
             return Some((Destination::plain(key.prefix()), route));
         }
         if let Some((key, route)) = self.identified_v6.next() {
-            return Some((with_id(key.prefix.prefix(), &key.id), route));
+            return Some((with_id(key.prefix.prefix(), key.id), route));
         }
         None
     }
 }
 
 /// The destination of a prefix and an identifier.
-fn with_id(prefix: Prefix, id: &IdKey) -> Destination
-    ensures { result ≡ with_id prefix id.now }
+fn with_id(prefix: Prefix, id: PathId) -> Destination
+    ensures { result ≡ with_id prefix id }
 {
     Destination {
         prefix,
-        path: Some(PathId(id.number())),
+        path: Some(id),
     }
 }

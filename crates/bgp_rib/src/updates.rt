@@ -16,7 +16,6 @@ ghost use Rattle.bgp_rib.specs.Updates.{
 };
 
 use crate::applying::write_all;
-use crate::families::union;
 use crate::table::Table;
 use crate::writing::{Log, drop_families, sweep_all, undo};
 use bgp_open::Families;
@@ -89,7 +88,7 @@ fn write_each<A: Allocator + Clone>(
     for update in updates {
         let _ = table.len(); // For the proof: it says that destinations ascend.
         write_all(table, log, after, &update.changes)?;
-        after = union(after, update.disabled);
+        after = after.union(update.disabled);
     }
     Ok(after)
 }

@@ -62,7 +62,7 @@ fn destination_of(number: u32) -> Option<Destination> {
         return Some(Destination::plain(prefix_of(number)?));
     };
     let prefix = prefix_of(place / 8 * 2 + place % 2)?;
-    let path = Some(PathId(1 << (place / 2 % 4 * 8)));
+    let path = Some(PathId::new(1 << (place / 2 % 4 * 8)));
     Some(Destination { prefix, path })
 }
 

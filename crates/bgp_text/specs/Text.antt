@@ -14,7 +14,6 @@ use Rattle.bgp_open.specs.Open.{OpenFields}
 use Rattle.bgp_open.specs.OpenFault.{open_fault_number}
 use Rattle.bgp_open.specs.declared.fault.OpenFault.{OpenFault}
 use Rattle.bgp_update.specs.declared.destination.Destination.{Destination}
-use Rattle.bgp_update.specs.declared.destination.PathId.{PathId}
 use Rattle.bgp_update.specs.Parts.{UpdateParts}
 use Rattle.bgp_text.specs.Message.{Message, open_message, malformed_open_message, update_message}
 use Rattle.bgp_text.specs.Message.{malformed_update_message, notification_message}
@@ -47,9 +46,9 @@ unfoldable pub malformed_open_text : OpenFault → List ℕ
 malformed_open_text fault = codes "open malformed " ++ decimal (open_fault_number fault)
 
 -- the identifier of a path, in decimal behind `#`; nothing where it has none
-unfoldable pub path_id_text : Option PathId → List ℕ
+unfoldable pub path_id_text : Option ℕ → List ℕ
 path_id_text None = []
-path_id_text (Some id) = codes "#" ++ decimal id.0
+path_id_text (Some number) = codes "#" ++ decimal number
 
 -- a destination: its prefix, and which of the paths to it (RFC 7911, 3)
 unfoldable pub destination_text : Destination → List ℕ

@@ -23,4 +23,5 @@ pub use addresses::{put_address, put_prefix};
 pub use lines::Lines;
 pub use messages::{put_fault, put_message, put_rest};
 pub use records::{put_record, put_record_text, put_refused};
-pub use routes::{put_route, write_route};
+pub use routes::{put_next_hop, put_route, write_route};
+pub use updates::put_destination;

@@ -19,9 +19,9 @@ use bgp_update::Destination;
 use mrt::{Failed, Sink};
 use std::alloc::Allocator;
 
-/// A next hop: one address, or two with a comma between them.
+/// Puts a next hop: one address, or two with a comma between them.
 #[tactic(auto, unfolding(crate::specs::RouteText::next_hop_text))]
-fn put_next_hop<W: Sink>(lines: &mut Lines<'_, W>, next_hop: NextHop)
+pub fn put_next_hop<W: Sink>(lines: &mut Lines<'_, W>, next_hop: NextHop)
     ensures { Writes lines.old lines.new (next_hop_text next_hop) }
 {
     match next_hop {

@@ -17,14 +17,14 @@ use mrt::Sink;
 fn put_path_id<W: Sink>(lines: &mut Lines<'_, W>, path: Option<PathId>)
     ensures { Writes lines.old lines.new (path_id_text path) }
 {
-    if let Some(PathId(number)) = path {
+    if let Some(id) = path {
         lines.put(b"#");
-        lines.put_decimal(number);
+        lines.put_decimal(id.number());
     }
 }
 
 /// Puts a destination: its prefix, and the identifier of the path if it has one.
-pub(crate) fn put_destination<W: Sink>(lines: &mut Lines<'_, W>, destination: Destination)
+pub fn put_destination<W: Sink>(lines: &mut Lines<'_, W>, destination: Destination)
     ensures { Writes lines.old lines.new (destination_text destination) }
 {
     put_prefix(lines, destination.prefix);

@@ -10,7 +10,8 @@ use Rattle.bgp_update.specs.Changes.{Route, RouteChanges, AreChanges, withdrawal
 use Rattle.bgp_update.specs.Clean.{IsAppliedAlone}
 use Rattle.bgp_update.specs.Disabled.{IsCertain, IsOptional, IsDisabled}
 use Rattle.bgp_update.specs.Found.{Found, found}
-use Rattle.bgp_update.specs.Laws.{HasOneChange, CleanHasOneOutcome, no_families}
+use Rattle.bgp_open.specs.Families.{no_families}
+use Rattle.bgp_update.specs.Laws.{HasOneChange, CleanHasOneOutcome}
 use Rattle.bgp_update.specs.Outcome.{Outcome, Applied, Reset, IsOutcome, IsOutcomeBy}
 use Rattle.bgp_update.specs.Sections.{Sections, IsUpdate}
 use Rattle.bgp_update.proofs.OneSplit.{one_split}

@@ -1,11 +1,12 @@
 -- Links over which an UPDATE is read alike.
-use Rattle.std.proofs.Common.{◌≡◌, ◌⊎◌, ◌≤◌, ◌++◌, List, [], length, Option, None, Some, IsTrue, refl, ap, subst, inl, inr}
+use Rattle.std.proofs.Common.{◌≡◌, ◌⊎◌, ◌≤◌, ◌++◌, List, [], length, Option, None, Some, IsTrue, refl, sym, ap, subst, inl, inr}
 use Rattle.bgp_prefix.specs.declared.family.Family.TheVariants.{V4}
 use Rattle.bgp_update.specs.declared.destination.Destination.{Destination}
 use Rattle.bgp_open.specs.declared.families.Families.{Families}
 use Rattle.bgp_open.specs.declared.link.Link.{Link}
 use Rattle.bgp_open.specs.declared.route_form.RouteForm.{RouteForm}
 use Rattle.bgp_open.specs.Families.{contains}
+use Rattle.bgp_open.proofs.TwoEnds.{settle_ends}
 use Rattle.bgp_wire.specs.Header.{greatest_length, limit_with}
 use Rattle.bgp_attr.specs.declared.types.AttrType.TheVariants as types
 use Rattle.bgp_attr.specs.Field.{Attribute}
@@ -15,7 +16,7 @@ use Rattle.bgp_attr.specs.Split.{attributes_of}
 use Rattle.bgp_update.specs.Changes.{Route, AreChanges, announcements, base_destinations, mp_hop, mp_destinations, routes_with, withdrawals}
 use Rattle.bgp_update.specs.Clean.{IsCleanBy}
 use Rattle.bgp_update.specs.Found.{Found, found_by_form}
-use Rattle.bgp_update.specs.Laws.{DependsOnForm, IsReadAlike}
+use Rattle.bgp_update.specs.Laws.{DependsOnForm, IsReadAlike, PeersReadAlike}
 use Rattle.bgp_update.specs.Outcome.{Outcome, Applied, Reset, IsOutcomeBy}
 use Rattle.bgp_update.specs.Sections.{Sections}
 
@@ -84,3 +85,11 @@ depends_on_form = record {
     subst (IsCleanBy other) (same_found one one.sent other other.sent h c.1) (clean_alike one one.sent other other.sent h (found_by_form one one.sent c.1) c.3),
   );
 }
+
+pub peers_read_alike : PeersReadAlike
+peers_read_alike config other octets others peers =
+    let ends = settle_ends config other octets others peers in
+    record {
+      sent = record { as4 = ends.as4; internal = ends.internal; families = ends.families; form = ends.sent };
+      received = record { as4 = sym ends.as4; internal = sym ends.internal; families = sym ends.families; form = sym ends.received };
+    }

@@ -13,7 +13,6 @@ use Rattle.bgp_prefix.specs.Prefix.{PrefixBits, BeginsWithPrefix}
 use Rattle.bgp_open.specs.Families.{contains}
 use Rattle.bgp_open.specs.declared.route_form.RouteForm.{RouteForm}
 use Rattle.bgp_update.specs.declared.destination.Destination.{Destination}
-use Rattle.bgp_update.specs.declared.destination.PathId.{PathId}
 
 -- routes of the family are identified in this form
 abbrev pub is_identified : RouteForm → Family → Bool
@@ -23,10 +22,10 @@ is_identified form family = contains form.identified family
 abbrev pub id_len : Bool → ℕ
 id_len identified = if identified then 4 else 0
 
--- which path to the prefix the octets name
-abbrev pub path_at : Bool → List ℕ → Option PathId
+-- which path to the prefix the octets name, by its number
+abbrev pub path_at : Bool → List ℕ → Option ℕ
 path_at identified octets =
-    if identified then Some (record { 0 = big_number 4 octets }) else None
+    if identified then Some (big_number 4 octets) else None
 
 -- the octets begin with so many that spell a destination
 pub record BeginsWithDestination (identified : Bool) (family : Family) (octets : List ℕ)

@@ -1,10 +1,15 @@
 -- Laws of UPDATEs and their outcomes.
-use Rattle.std.specs.Prelude.{◌≡◌, ◌↔◌, ℕ, List, [], false, is_some, IsTrue, All}
+use Rattle.std.specs.Prelude.{◌≡◌, ◌↔◌, ℕ, List, [], is_some, IsTrue, All}
 use Rattle.bgp_prefix.specs.declared.family.Family.{Family}
 use Rattle.bgp_prefix.specs.declared.family.Family.TheVariants as families
+use Rattle.bgp_open.specs.declared.config.Config.{Config}
 use Rattle.bgp_open.specs.declared.families.Families.{Families}
 use Rattle.bgp_open.specs.declared.link.Link.{Link}
 use Rattle.bgp_open.specs.declared.route_form.RouteForm.{RouteForm}
+use Rattle.bgp_open.specs.Families.{no_families}
+use Rattle.bgp_open.specs.Link.{link_of}
+use Rattle.bgp_open.specs.Open.{open_of}
+use Rattle.bgp_open.specs.TwoEnds.{ArePeers}
 use Rattle.bgp_path.specs.declared.path.NextHop.{NextHop}
 use Rattle.bgp_path.specs.declared.path.NextHop.TheVariants as hops
 use Rattle.bgp_wire.specs.Message.{message_octets}
@@ -33,10 +38,6 @@ HasOneChange =
     → IsOutcome link octets (Applied others other)
     → changes ≡ others
 
--- no family
-abbrev pub no_families : Families
-no_families = record { v4 = false; v6 = false }
-
 -- in these two forms, over these two links, an UPDATE is read alike: reading asks a link and a form
 -- for nothing else
 pub record IsReadAlike (one : Link) (one_form : RouteForm) (other : Link) (other_form : RouteForm)
@@ -50,6 +51,17 @@ pub record IsReadAlike (one : Link) (one_form : RouteForm) (other : Link) (other
 -- forms are one is so to itself.
 abbrev pub IsReceiver : Link → Link → Type 0
 IsReceiver sender receiver = IsReadAlike sender sender.sent receiver receiver.received
+
+-- two systems that are configured for one another, and that settle links by each other's OPENs, read
+-- alike what goes between them: each what the other sends
+pub record ReadAlike (config other : Config) (octets others : List ℕ) : Type 0 where
+  pub sent : IsReceiver (link_of config (open_of others)) (link_of other (open_of octets))
+  pub received : IsReceiver (link_of other (open_of octets)) (link_of config (open_of others))
+
+abbrev pub PeersReadAlike : Type 0
+PeersReadAlike =
+    (config other : Config) (octets others : List ℕ) → ArePeers config other octets others
+    → ReadAlike config other octets others
 
 -- of an UPDATE that is clean when it is sent there is one outcome where it is received: it is
 -- applied, and nothing is disabled

@@ -7,6 +7,7 @@ pub mod Parts
 pub mod Listed
 pub mod Field
 pub mod MpValue
+pub mod MpParts
 pub mod Mp
 pub mod MpShown
 pub mod Found

@@ -24,9 +24,12 @@ use std::marker::Model;
 /// How many octets a path identifier has.
 const ID_LEN: usize = 4;
 
-/// A field of destinations, which may be incorrect.
+/// A field of destinations, which may be incorrect: that of an MP attribute, a Withdrawn Routes or
+/// an NLRI field. It takes no memory.
+///
+/// Contracts see its destinations: none if it is incorrect.
 #[derive(Clone, Copy, Debug)]
-pub(crate) struct DestinationField<'a> {
+pub struct DestinationField<'a> {
     /// Each prefix has a path identifier before it.
     identified: bool,
     family: Family,
@@ -116,7 +119,7 @@ fn read_first(field: DestinationField<'_>) -> Option<(Destination, usize)>
     let Ok((prefix, count)) = Prefix::read(field.family, field.octets.split_at(ID_LEN).1) else {
         return None;
     };
-    let path = Some(PathId(BigEndian::read_u32(field.octets)));
+    let path = Some(PathId::new(BigEndian::read_u32(field.octets)));
     Some((Destination { prefix, path }, ID_LEN + count))
 }
 
@@ -146,7 +149,7 @@ impl<'a> DestinationField<'a> {
     ghost use Rattle.bgp_update.specs.Field.{field_destinations};
 
     /// Takes these octets for a field of a family whose routes are spelled in this form.
-    pub(crate) fn new(form: RouteForm, family: Family, octets: &'a [u8]) -> DestinationField<'a>
+    pub fn new(form: RouteForm, family: Family, octets: &'a [u8]) -> DestinationField<'a>
         ensures { field_destinations result
             ≡ destinations_of (is_identified form family) family octets.entry.now }
     {
@@ -167,14 +170,16 @@ impl DestinationField<'_> {
     ghost use Rattle.bgp_update.specs.Listed.{listed};
 
     /// Checks whether the field has no octets, so no destinations.
-    pub(crate) fn is_empty(self) -> bool
+    pub fn is_empty(self) -> bool
         ensures { IsTrue result ↔ (field_destinations self.entry ≡ Some []) }
     {
         self.octets.is_empty()
     }
 
     /// Guesses how many destinations there are: most prefixes have 24 bits, so 4 octets, or more.
-    pub(crate) fn likely_count(self) -> usize {
+    pub(crate) fn likely_count(self) -> usize
+        ensures { result ≤ length self.entry.octets.now }
+    {
         let usual_len = if self.identified { ID_LEN + 4 } else { 4 };
         self.octets.len() / usual_len
     }
@@ -208,7 +213,7 @@ impl DestinationField<'_> {
     /// Counts the destinations. Returns none if the field is incorrect, since an identifier is cut
     /// or nothing stands behind it, a length is above that of an address, or the last prefix runs
     /// over (RFC 7606, 5.3).
-    pub(crate) fn count(self) -> Option<usize>
+    pub fn count(self) -> Option<usize>
         ensures { result ≡ option_map length (field_destinations self.entry) }
     {
         let mut rest = self;
@@ -224,7 +229,7 @@ impl DestinationField<'_> {
     }
 
     /// Checks whether the field is right and has a destination.
-    pub(crate) fn has_some(self) -> bool
+    pub fn has_some(self) -> bool
         ensures { IsTrue result ↔ (listed (field_destinations self.entry) ≢ []) }
     {
         match self.count() {

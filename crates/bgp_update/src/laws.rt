@@ -9,6 +9,7 @@ ghost use Rattle.bgp_update.specs.Laws.{
   NextHopsAreByForm,
   DestinationsAreByForm,
   DependsOnForm,
+  PeersReadAlike,
 };
 ghost use Rattle.bgp_update.specs.MpValue.{ReadsMpValues};
 ghost use Rattle.bgp_update.specs.Destinations.{ReadsDestinations};
@@ -77,6 +78,14 @@ pub fn destinations_are_by_form()
 /// clean depends on the same with the sent form, and on how long it may be.
 pub fn outcomes_depend_on_form()
     ensures form { DependsOnForm }
+{}
+
+/// A law, with nothing to run: of two systems that are configured for one another, and whose OPENs
+/// offer about routes what is configured, each reads what the other sends in the form in which that
+/// spells it, with the same families and width of AS numbers. So
+/// [`clean_is_applied`] holds between them, both ways.
+pub fn peers_read_alike()
+    ensures alike { PeersReadAlike }
 {}
 
 /// A law, with nothing to run: an UPDATE whose fields are all empty is clean on every link, and a

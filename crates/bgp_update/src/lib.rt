@@ -24,6 +24,7 @@ mod laws;
 mod link_side;
 mod mp;
 mod mp_faults;
+mod mp_parts;
 mod outcomes;
 mod parts;
 mod pass;
@@ -35,13 +36,16 @@ mod withdraw_faults;
 
 pub use clean::{is_clean, most_octets};
 pub use destination::{Destination, PathId};
-pub use destinations::Destinations;
+pub use destinations::{DestinationField, Destinations};
 pub use fields::{Fields, split_update};
 pub use laws::{
     clean_is_applied, destinations_are_by_form, empty_is_clean, fields_are_read,
-    next_hops_are_by_form, one_change, one_split, outcomes_depend_on_form, some_outcome,
+    next_hops_are_by_form, one_change, one_split, outcomes_depend_on_form, peers_read_alike,
+    some_outcome,
 };
 pub use link_side::side;
+pub use mp::{MpContents, family_in, next_hop_in, reach_contents, unreach_contents};
+pub use mp_parts::{ReachParts, UnreachParts, family_with, split_reach, split_unreach};
 pub use outcomes::{Changes, Outcomes, Put};
 pub use parts::{Parts, read_parts};
 pub use reading::read_update;

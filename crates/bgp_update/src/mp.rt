@@ -17,14 +17,12 @@ ghost use Rattle.bgp_update.specs.Field.{field_destinations};
 ghost use Rattle.bgp_update.specs.Listed.{listed};
 
 use crate::destinations::DestinationField;
+use crate::mp_parts::{family_with, split_reach};
 use bgp_attr::{Attr, AttrType};
 use bgp_open::{Families, RouteForm};
 use bgp_path::NextHop;
 use bgp_prefix::Family;
 use byteorder::{BigEndian, ByteOrder};
-
-/// The Subsequent Address Family Identifier of unicast.
-const UNICAST: u8 = 1;
 
 /// One of the two types.
 #[derive(Clone, Copy)]
@@ -35,13 +33,13 @@ pub(crate) enum MpType {
     Unreach,
 }
 
-/// What an attribute of a family in use holds.
-#[derive(Clone, Copy)]
-pub(crate) struct MpContents<'a> {
-    /// The next hop of MP_REACH_NLRI.
-    pub(crate) next_hop: Option<NextHop>,
-    /// The destinations.
-    pub(crate) destinations: DestinationField<'a>,
+/// What an MP attribute of IPv4 or IPv6 unicast holds.
+#[derive(Clone, Copy, Debug)]
+pub struct MpContents<'a> {
+    /// The next hop of MP_REACH_NLRI: none in MP_UNREACH_NLRI.
+    pub next_hop: Option<NextHop>,
+    /// The destinations: the field is correct.
+    pub destinations: DestinationField<'a>,
 }
 
 /// What state an MP attribute is in.
@@ -112,19 +110,13 @@ pub(crate) fn has_other_bits(mp_type: MpType, attr: Option<Attr<'_>>) -> bool
     }
 }
 
-/// Returns the family that AFI and SAFI name.
-fn family_in(value: &[u8]) -> Option<Family>
+/// Returns the family that the value of an MP attribute names, or none if it is neither IPv4 nor
+/// IPv6 unicast (RFC 4760, 6).
+pub fn family_in(value: &[u8]) -> Option<Family>
     requires { 3 ≤ length value.now }
     ensures { result ≡ family_in value.now }
 {
-    if value[2] != UNICAST {
-        return None;
-    }
-    match BigEndian::read_u16(value) {
-        1 => Some(Family::V4),
-        2 => Some(Family::V6),
-        _ => None,
-    }
+    family_with(BigEndian::read_u16(value), value[2])
 }
 
 /// Reads the contents of an attribute of this family, or returns none if they are wrong.
@@ -144,40 +136,29 @@ fn contents<'a>(
     }
 }
 
-/// Reads the contents of MP_REACH_NLRI.
-fn reach_contents(form: RouteForm, family: Family, value: &[u8]) -> Option<MpContents<'_>>
+/// Reads the contents of MP_REACH_NLRI of this family, if routes are spelled in this form. Returns
+/// none if they are wrong: the value is too short for its fields, the next hop's length isn't one of
+/// the family, or the destinations are incorrect (RFC 7606, 5.3 and 7.11).
+pub fn reach_contents(form: RouteForm, family: Family, value: &[u8]) -> Option<MpContents<'_>>
     ensures { option_map contents_of result
         ≡ reach_contents form family value.entry.now }
 {
-    if value.len() < 5 {
-        return None;
-    }
-    let hop_len = usize::from(value[3]);
-    let rest = value.split_at(4).1;
-    if rest.len() < hop_len + 1 {
-        return None;
-    }
-    let (hop, rest) = rest.split_at(hop_len);
-    let Some(next_hop) = next_hop_in(form, family, hop) else {
-        return None;
-    };
-    let Some(destinations) = destinations_in(form, family, rest.split_at(1).1) else {
-        return None;
-    };
+    let parts = split_reach(value)?;
+    let next_hop = next_hop_in(form, family, parts.next_hop)?;
+    let destinations = destinations_in(form, family, parts.nlri)?;
     Some(MpContents {
         next_hop: Some(next_hop),
         destinations,
     })
 }
 
-/// Reads the contents of MP_UNREACH_NLRI.
-fn unreach_contents(form: RouteForm, family: Family, value: &[u8]) -> Option<MpContents<'_>>
+/// Reads the contents of MP_UNREACH_NLRI of this family, if routes are spelled in this form.
+/// Returns none if the destinations are incorrect (RFC 7606, 5.3 and 7.12).
+pub fn unreach_contents(form: RouteForm, family: Family, value: &[u8]) -> Option<MpContents<'_>>
     requires { 3 ≤ length value.now }
     ensures { option_map contents_of result ≡ unreach_contents form family value.entry.now }
 {
-    let Some(destinations) = destinations_in(form, family, value.split_at(3).1) else {
-        return None;
-    };
+    let destinations = destinations_in(form, family, value.split_at(3).1)?;
     Some(MpContents {
         next_hop: None,
         destinations,
@@ -197,8 +178,10 @@ fn destinations_in(form: RouteForm, family: Family, octets: &[u8]) -> Option<Des
     Some(field)
 }
 
-/// Reads the next hop that so many octets are (RFC 4760, 3; RFC 2545, 3; RFC 8950, 3).
-fn next_hop_in(form: RouteForm, family: Family, octets: &[u8]) -> Option<NextHop>
+/// Reads the next hop of a route of this family, if routes are spelled in this form (RFC 4760, 3;
+/// RFC 2545, 3; RFC 8950, 3). Returns none if it has another number of octets than the family's
+/// next hops have.
+pub fn next_hop_in(form: RouteForm, family: Family, octets: &[u8]) -> Option<NextHop>
     ensures { result ≡ next_hop_in form.ipv6_next_hops family octets.now }
 {
     match family {

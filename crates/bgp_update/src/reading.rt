@@ -3,7 +3,7 @@
 ghost use Rattle.std.specs.Prelude.{◌≡◌, ◌↔◌, None, IfOk, IfSome, IfNone, IsOk};
 ghost use Rattle.bgp_update.specs.Allowed.{Allows, AreApart};
 ghost use Rattle.bgp_update.specs.Groups.{AreGroups, groups_of};
-ghost use Rattle.bgp_update.specs.Laws.{no_families};
+ghost use Rattle.bgp_open.specs.Families.{no_families};
 ghost use Rattle.bgp_update.specs.Outcome.{Outcome, IsOutcome, IsOnlyReset};
 
 use crate::changes::changes_of;
@@ -72,14 +72,10 @@ fn only_reset<A: Allocator>(reset: Subcodes) -> Outcomes<A>
     ensures optional { result.optional ≡ no_families }
     ensures reset { result.reset ≡ reset }
 {
-    let none = Families {
-        v4: false,
-        v6: false,
-    };
     Outcomes {
         changes: None,
-        certain: none,
-        optional: none,
+        certain: Families::NONE,
+        optional: Families::NONE,
         reset,
     }
 }

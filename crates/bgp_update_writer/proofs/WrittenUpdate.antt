@@ -41,7 +41,8 @@ use Rattle.bgp_update.specs.Clean.{IsClean, IsCleanBy, most_octets}
 use Rattle.bgp_update.specs.Destinations.{destinations_of, is_identified}
 use Rattle.bgp_update.specs.Plain.{all_plain}
 use Rattle.bgp_update.specs.declared.destination.Destination.{Destination}
-use Rattle.bgp_update.specs.Laws.{IsReadAlike, no_families}
+use Rattle.bgp_open.specs.Families.{no_families}
+use Rattle.bgp_update.specs.Laws.{IsReadAlike}
 use Rattle.bgp_update.specs.Outcome.{Outcome, Applied, IsOutcome}
 use Rattle.bgp_update.specs.Sections.{Sections, section_octets, IsUpdate}
 use Rattle.bgp_update_writer.specs.Update.{UpdateValue, Announces, Withdraws}

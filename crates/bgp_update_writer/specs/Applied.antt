@@ -7,7 +7,8 @@ use Rattle.bgp_open.specs.declared.link.Link.{Link}
 use Rattle.bgp_path.specs.Fit.{IsFit}
 use Rattle.bgp_update.specs.Changes.{RouteChanges, routes_with}
 use Rattle.bgp_update.specs.Clean.{IsClean}
-use Rattle.bgp_update.specs.Laws.{IsReceiver, no_families}
+use Rattle.bgp_open.specs.Families.{no_families}
+use Rattle.bgp_update.specs.Laws.{IsReceiver}
 use Rattle.bgp_update.specs.Outcome.{Outcome, Applied, IsOutcome}
 use Rattle.bgp_update.specs.Plain.{all_plain}
 use Rattle.bgp_update_writer.specs.Refusals.{IsFamilyUsed, IsSendable, IsTooLarge}

@@ -421,7 +421,7 @@ fn are_named(destinations: &[Destination], wanted: &[Named<'_>]) -> bool {
     }
     for (destination, (text, number)) in destinations.iter().zip(wanted) {
         let path = match number {
-            Some(number) => Some(PathId(*number)),
+            Some(number) => Some(PathId::new(*number)),
             None => None,
         };
         if read_prefix(text) != Some(destination.prefix) || destination.path != path {
@@ -534,8 +534,15 @@ fn count_parts(identified: Families) -> Option<(usize, Destination)> {
     Some((count, last?))
 }
 
+/// Whether that field has so many destinations and the default route last: `None` as above.
+fn are_parts(identified: Families, wanted: usize) -> Option<bool> {
+    let (count, last) = count_parts(identified)?;
+    let default = plain("0.0.0.0/0")?;
+    Some(count == wanted && last.prefix == default.prefix && last.path.is_none())
+}
+
 #[test]
 fn parts_are_read_by_a_form(rt: HostRuntime) {
-    assert!(rt; count_parts(Families::V4).is_none());
-    assert!(rt; count_parts(V6) == plain("0.0.0.0/0").map(|last| (6, last)));
+    assert!(rt; are_parts(Families::V4, 6).is_none());
+    assert!(rt; are_parts(V6, 6) == Some(true));
 }

@@ -1,4 +1,4 @@
-use Rattle.std.proofs.Common.{◌≡◌, ◌∙◌, ℕ, Some, ap, subst, sym}
+use Rattle.std.proofs.Common.{◌≡◌, ◌∙◌, ℕ, ap, subst, sym}
 use Rattle.bgp_prefix.specs.declared.address.Address.TheVariants.{V4, V6}
 use Rattle.bgp_rib.specs.Keys.{IsLowest, v4_prefix, v6_prefix}
 use Rattle.bgp_rib.proofs.KeyParts.{bits_of, lowest_of, v4_key, v6_key}
@@ -25,8 +25,7 @@ returns-in-Some c =
     let a = c.in-V4.address in
     let prefix : v4_prefix c.new-prefix.result ≡ p =
     ap v4_prefix (c.new-prefix.ensures ∙ ap (bits_of (V4 a)) c.length-length.ensures.value) ∙ v4_key p a c.length-length.ensures.fits (sym c.address.ensures ∙ c.in-V4.is) in
-    let path = (λ i. Some (record { 0 = c.new-id.ensures i })) ∙ sym c.in-Some.is in
-    λ i. record { prefix = prefix i; path = path i }
+    λ i. record { prefix = prefix i; path = sym c.in-Some.is i }
 
 pub new-prefix-requires-in-V6 : goal.new-prefix-requires-in-V6
 new-prefix-requires-in-V6 c =
@@ -49,5 +48,4 @@ returns-in-Some-path c =
     let a = c.in-V6.address in
     let prefix : v6_prefix c.new-prefix-in-V6.result ≡ p =
     ap v6_prefix (c.new-prefix-in-V6.ensures ∙ ap (bits_of (V6 a)) c.length-length.ensures.value) ∙ v6_key p a c.length-length.ensures.fits (sym c.address.ensures ∙ c.in-V6.is) in
-    let path = (λ i. Some (record { 0 = c.new-id-in-Some-path.ensures i })) ∙ sym c.in-Some-path.is in
-    λ i. record { prefix = prefix i; path = path i }
+    λ i. record { prefix = prefix i; path = sym c.in-Some-path.is i }
