@@ -3,7 +3,8 @@ use Rattle.std.proofs.Common.{◌≡◌, ◌≤◌, ◌<◌, ◌++◌, inl, inr,
 use Rattle.bgp_prefix.specs.Shown.{ShownRecord}
 use Rattle.bgp_open.specs.declared.config.Config.{Config}
 use Rattle.bgp_open.specs.declared.families.Families.{Families}
-use Rattle.bgp_rib.specs.Routes.{Routes, routes_without, union}
+use Rattle.bgp_open.specs.Families.{union}
+use Rattle.bgp_rib.specs.Routes.{Routes, routes_without}
 use Rattle.bgp_machine.specs.Lists.{Has, Each, NoneTwice}
 use Rattle.bgp_machine.specs.Run.{End, IsComplete, end_of}
 use Rattle.bgp_judge.specs.Ends.{ListsEnds, AreInOrder, place_of}

@@ -1,7 +1,7 @@
 -- Sets of sets of disabled families, by cases.
 use Rattle.std.proofs.Common.{◌≡◌, ◌↔◌, ◌⊎◌, inl, inr, Bool, true, false, IsTrue, ◌||◌, not, refl, sym, ◌∙◌}
 use Rattle.bgp_open.specs.declared.families.Families.{Families}
-use Rattle.bgp_rib.specs.Routes.{union}
+use Rattle.bgp_open.specs.Families.{union}
 use Rattle.bgp_compact.specs.declared.disabled.DisabledSets.{DisabledSets}
 use Rattle.bgp_compact.specs.Disabled.{holds, no_sets, only_none, shifted_by}
 

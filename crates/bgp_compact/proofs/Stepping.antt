@@ -24,7 +24,8 @@ use Rattle.bgp_machine.specs.State.{Turn, Cleared, fresh_state, fsm_of, link_at,
 use Rattle.bgp_machine.specs.Step.{changed}
 use Rattle.bgp_machine.specs.Want.{wants_of}
 use Rattle.bgp_machine.proofs.Shapes.{shape_hidden, shape_received}
-use Rattle.bgp_rib.specs.Routes.{Routes, AreRoutes, no_routes, routes_after, routes_without, union}
+use Rattle.bgp_open.specs.Families.{union}
+use Rattle.bgp_rib.specs.Routes.{Routes, AreRoutes, no_routes, routes_after, routes_without}
 use Rattle.bgp_rib.proofs.RouteLaws.{left_out}
 use Rattle.bgp_judge.specs.Member.{link_for}
 use Rattle.bgp_judge.specs.Next.{Opens}

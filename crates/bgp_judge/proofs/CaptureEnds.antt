@@ -22,7 +22,7 @@ module _ {S : Type 0} (gives : S → S → List ℕ → Type 0) (has_ended : S �
     record {
       pieces = [];
       rest = [];
-      knows = (ap (λ (s : ReaderState). s.last) fresh, ap (λ (s : ReaderState). s.other) fresh, ap (λ (s : ReaderState). s.skipped) fresh);
+      knows = (ap (λ (s : ReaderState). s.last) fresh, ap (λ (s : ReaderState). s.others) fresh, ap (λ (s : ReaderState). s.skipped) fresh);
       gave = nothing;
       each = tt;
       holds = inr (inr (record {

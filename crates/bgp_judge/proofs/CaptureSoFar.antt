@@ -8,7 +8,7 @@ use Rattle.mrt.specs.declared.record.Record.{Record}
 use Rattle.mrt.specs.declared.fault.CaptureFault.{CaptureFault}
 use Rattle.mrt.specs.declared.fault.FaultKind.TheVariants as kinds
 use Rattle.mrt.specs.declared.record.Endpoints.{Endpoints}
-use Rattle.mrt.specs.Capture.{Piece, Shown, ArePieces, IsPiece, Spells, last_after, last_of, first_other, joined, records_of}
+use Rattle.mrt.specs.Capture.{Piece, Shown, ArePieces, IsPiece, Spells, last_after, last_of, others_of, joined, records_of}
 use Rattle.mrt.specs.Reading.{IsRefused}
 use Rattle.mrt.specs.Reader.{ReaderState, fresh_reader, Answers, Ends, Fails, IsAnswer, NextBy, IsNext}
 use Rattle.mrt.specs.Skipped.{skipped_in, both_skipped}
@@ -16,7 +16,8 @@ use Rattle.mrt.specs.declared.skipped.SkippedRecords.{SkippedRecords}
 use Rattle.mrt.specs.ReadBy.{Knows}
 use Rattle.mrt.proofs.Advancing.{joined_more}
 use Rattle.mrt.proofs.Counts.{chained_counts}
-use Rattle.mrt.proofs.Chains.{joined_chain, records_chain, last_chain, other_chain, pieces_chain, one_record, last_piece, no_pieces_there}
+use Rattle.mrt.proofs.OtherPairs.{others_chain}
+use Rattle.mrt.proofs.Chains.{joined_chain, records_chain, last_chain, pieces_chain, one_record, last_piece, no_pieces_there}
 use Rattle.bgp_judge.specs.Judging.{IsAt, IsRefusal, ReadsAll, ReadsWith}
 
 no_length : (xs : List ℕ) → length xs ≡ 0 → xs ≡ []
@@ -61,7 +62,7 @@ module _ {S : Type 0} (gives : S → S → List ℕ → Type 0) (has_ended : S �
     pub gave : gives source now (joined pieces)
     pub passed : state.passed ≡ length (joined pieces)
     pub last : state.last ≡ last_of None pieces
-    pub other : state.other ≡ first_other None pieces
+    pub others : state.others ≡ others_of [] pieces
     pub skipped : state.skipped ≡ skipped_in pieces
     pub calm : state.fault ≡ None
     pub going : state.is_ended ≡ false
@@ -74,7 +75,7 @@ module _ {S : Type 0} (gives : S → S → List ℕ → Type 0) (has_ended : S �
     gave = nothing;
     passed = ap (λ (s : ReaderState). s.passed) fresh;
     last = ap (λ (s : ReaderState). s.last) fresh;
-    other = ap (λ (s : ReaderState). s.other) fresh;
+    others = ap (λ (s : ReaderState). s.others) fresh;
     skipped = ap (λ (s : ReaderState). s.skipped) fresh;
     calm = ap (λ (s : ReaderState). s.fault) fresh;
     going = ap (λ (s : ReaderState). s.is_ended) fresh;
@@ -97,10 +98,10 @@ module _ {S : Type 0} (gives : S → S → List ℕ → Type 0) (has_ended : S �
   last_behind now state records so_far more =
       ap (λ (l : Option ℕ). last_of l more) so_far.last ∙ sym (last_chain None so_far.pieces more)
 
-  other_behind : (now : S) (state : ReaderState) (records : List ShownRecord) (so_far : SoFar now state records) (more : List Piece)
-      → first_other state.other more ≡ first_other None (so_far.pieces ++ more)
-  other_behind now state records so_far more =
-      ap (λ (o : Option Endpoints). first_other o more) so_far.other ∙ sym (other_chain None so_far.pieces more)
+  others_behind : (now : S) (state : ReaderState) (records : List ShownRecord) (so_far : SoFar now state records) (more : List Piece)
+      → others_of state.others more ≡ others_of [] (so_far.pieces ++ more)
+  others_behind now state records so_far more =
+      ap (λ (o : List Endpoints). others_of o more) so_far.others ∙ sym (others_chain [] so_far.pieces more)
 
   skipped_behind : (now : S) (state : ReaderState) (records : List ShownRecord) (so_far : SoFar now state records) (more : List Piece)
       → both_skipped state.skipped (skipped_in more) ≡ skipped_in (so_far.pieces ++ more)
@@ -137,7 +138,7 @@ module _ {S : Type 0} (gives : S → S → List ℕ → Type 0) (has_ended : S �
         gave = given_behind now next state records so_far more answer.exactly;
         passed = ap (λ (s : ReaderState). s.passed) answer.stands ∙ count_behind now state records so_far more;
         last = ap (λ (s : ReaderState). s.last) answer.stands ∙ last_behind now state records so_far more;
-        other = ap (λ (s : ReaderState). s.other) answer.stands ∙ other_behind now state records so_far more;
+        others = ap (λ (s : ReaderState). s.others) answer.stands ∙ others_behind now state records so_far more;
         skipped = ap (λ (s : ReaderState). s.skipped) answer.stands ∙ skipped_behind now state records so_far more;
         calm = ap (λ (s : ReaderState). s.fault) answer.stands ∙ so_far.calm;
         going = ap (λ (s : ReaderState). s.is_ended) answer.stands ∙ so_far.going;
@@ -169,11 +170,11 @@ module _ {S : Type 0} (gives : S → S → List ℕ → Type 0) (has_ended : S �
 
   -- the reader knows the pieces
   knows_behind : (now next : S) (state after : ReaderState) (records : List ShownRecord) (so_far : SoFar now state records) (more : List Piece)
-      → after.last ≡ last_of state.last more → after.other ≡ first_other state.other more → after.skipped ≡ both_skipped state.skipped (skipped_in more)
+      → after.last ≡ last_of state.last more → after.others ≡ others_of state.others more → after.skipped ≡ both_skipped state.skipped (skipped_in more)
       → Knows after (so_far.pieces ++ more)
-  knows_behind now next state after records so_far more last other skipped = (
+  knows_behind now next state after records so_far more last others skipped = (
     last ∙ last_behind now state records so_far more,
-    other ∙ other_behind now state records so_far more,
+    others ∙ others_behind now state records so_far more,
     skipped ∙ skipped_behind now state records so_far more,
   )
 
@@ -187,7 +188,7 @@ module _ {S : Type 0} (gives : S → S → List ℕ → Type 0) (has_ended : S �
         record {
           pieces = pieces;
           rest = [];
-          knows = knows_behind now next state after records so_far ends.skipped (ap (λ (s : ReaderState). s.last) ends.stands) (ap (λ (s : ReaderState). s.other) ends.stands) (ap (λ (s : ReaderState). s.skipped) ends.stands);
+          knows = knows_behind now next state after records so_far ends.skipped (ap (λ (s : ReaderState). s.last) ends.stands) (ap (λ (s : ReaderState). s.others) ends.stands) (ap (λ (s : ReaderState). s.skipped) ends.stands);
           gave = subst (λ (o : List ℕ). gives source next o) (sym (append-nil (joined pieces))) (given_behind now next state records so_far ends.skipped ends.exactly);
           each = each;
           holds = record {
@@ -278,7 +279,7 @@ module _ {S : Type 0} (gives : S → S → List ℕ → Type 0) (has_ended : S �
     record {
       pieces = so_far.pieces ++ fails.skipped;
       rest = fails.rest;
-      knows = knows_behind now next state after records so_far fails.skipped (ap (λ (s : ReaderState). s.last) fails.stands) (ap (λ (s : ReaderState). s.other) fails.stands) (ap (λ (s : ReaderState). s.skipped) fails.stands);
+      knows = knows_behind now next state after records so_far fails.skipped (ap (λ (s : ReaderState). s.last) fails.stands) (ap (λ (s : ReaderState). s.others) fails.stands) (ap (λ (s : ReaderState). s.skipped) fails.stands);
       gave = subst (λ (o : List ℕ). gives source next o)
           (sym (append_assoc (joined so_far.pieces) (joined fails.skipped) fails.rest) ∙ ap (λ (o : List ℕ). o ++ fails.rest) (sym (joined_chain so_far.pieces fails.skipped)))
           (gives_joined source now next (joined so_far.pieces) (joined fails.skipped ++ fails.rest) so_far.gave fails.taken);
@@ -304,7 +305,7 @@ module _ {S : Type 0} (gives : S → S → List ℕ → Type 0) (has_ended : S �
         record {
           pieces = so_far.pieces ++ more;
           rest = [];
-          knows = knows_behind now next state after records so_far more (ap (λ (s : ReaderState). s.last) answer.stands) (ap (λ (s : ReaderState). s.other) answer.stands) (ap (λ (s : ReaderState). s.skipped) answer.stands);
+          knows = knows_behind now next state after records so_far more (ap (λ (s : ReaderState). s.last) answer.stands) (ap (λ (s : ReaderState). s.others) answer.stands) (ap (λ (s : ReaderState). s.skipped) answer.stands);
           gave = subst (λ (o : List ℕ). gives source next o) (sym (append-nil (joined (so_far.pieces ++ more)))) (given_behind now next state records so_far more answer.exactly);
           each = behind now state records so_far more answer.pieces;
           holds = inr (inr (record {

@@ -7,7 +7,8 @@ use Rattle.bgp_open.specs.declared.link.Link.{Link}
 use Rattle.bgp_update.specs.Changes.{RouteChanges}
 use Rattle.bgp_update.specs.Outcome.{IsOutcome, Applied}
 use Rattle.bgp_update.proofs.OneOutcome.{one_change}
-use Rattle.bgp_rib.specs.Routes.{Routes, AreRoutes, no_routes, routes_after, routes_without, union}
+use Rattle.bgp_open.specs.Families.{union}
+use Rattle.bgp_rib.specs.Routes.{Routes, AreRoutes, no_routes, routes_after, routes_without}
 use Rattle.bgp_rib.proofs.RouteLaws.{none_are, changed_are, left_out}
 use Rattle.bgp_machine.specs.declared.fsm.Fsm.{Fsm}
 use Rattle.bgp_machine.specs.declared.fsm.Fsm.TheVariants as fsms

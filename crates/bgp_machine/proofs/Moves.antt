@@ -3,8 +3,8 @@ use Rattle.std.proofs.Common.{◌≡◌, ◌∙◌, ◌||◌, ◌⊎◌, inl, in
 use Rattle.bgp_prefix.specs.declared.family.Family.TheVariants.{V4, V6}
 use Rattle.bgp_update.specs.declared.destination.Destination.{Destination}
 use Rattle.bgp_open.specs.declared.families.Families.{Families}
-use Rattle.bgp_open.specs.Families.{contains}
-use Rattle.bgp_rib.specs.Routes.{Routes, entries_outside, only, union, routes_after, routes_without}
+use Rattle.bgp_open.specs.Families.{contains, union}
+use Rattle.bgp_rib.specs.Routes.{Routes, entries_outside, only, routes_after, routes_without}
 use Rattle.bgp_rib.proofs.MapLaws.{filter_filter, filter_congr}
 use Rattle.bgp_rib.proofs.DestinationKeys.{without_none}
 use Rattle.bgp_rib.proofs.RouteLemmas.{outside_none, in_union}

@@ -8,7 +8,9 @@ ghost use Rattle.bgp_wire.specs.Verdict.{type_code};
 use bgp_open::{
     Config, Link, OpenSubcodes, negotiate, one_fault, open_faults, read_notification, read_open,
 };
-use bgp_wire::{HeaderFaults, HeaderVerdict, Limit, MessageType, check_header, header_at};
+use bgp_wire::{
+    ErrorCode, HeaderFaults, HeaderVerdict, Limit, MessageType, check_header, header_at,
+};
 
 /// What a received message is.
 #[derive(Clone, Copy, Debug, PartialEq, Eq)]
@@ -59,7 +61,7 @@ fn is_bad_version(octets: &[u8]) -> bool
     let Some(notification) = read_notification(octets) else {
         return false;
     };
-    notification.code == 2 && notification.subcode == 1
+    notification.code == ErrorCode::OpenMessage.code() && notification.subcode == 1
 }
 
 /// A message of a type is heard.

@@ -10,7 +10,7 @@ ghost use Rattle.bgp_machine.specs.declared.want.Want.TheVariants as wants;
 use crate::want::{FaultSet, Unexpected, Want};
 use bgp_open::{Config, Link, is_own_open, read_notification};
 use bgp_update::is_clean;
-use bgp_wire::{Limit, MessageType, is_frame, message_body};
+use bgp_wire::{ErrorCode, Limit, MessageType, is_frame, message_body};
 
 /// How long a sent message may be: on a link as the peer offered (RFC 8654, 4), whatever the local
 /// system offers, and before there is one 4096 octets.
@@ -35,7 +35,7 @@ fn is_cease(octets: &[u8]) -> bool
     let Some(notification) = read_notification(octets) else {
         return false;
     };
-    notification.code == 6
+    notification.code == ErrorCode::Cease.code()
 }
 
 fn is_hold_expired(octets: &[u8]) -> bool
@@ -44,7 +44,7 @@ fn is_hold_expired(octets: &[u8]) -> bool
     let Some(notification) = read_notification(octets) else {
         return false;
     };
-    notification.code == 4 && notification.subcode == 0
+    notification.code == ErrorCode::HoldTimerExpired.code() && notification.subcode == 0
 }
 
 fn is_send_hold_expired(octets: &[u8]) -> bool
@@ -53,7 +53,7 @@ fn is_send_hold_expired(octets: &[u8]) -> bool
     let Some(notification) = read_notification(octets) else {
         return false;
     };
-    notification.code == 8 && notification.subcode == 0
+    notification.code == ErrorCode::SendHoldTimerExpired.code() && notification.subcode == 0
 }
 
 fn is_machine_error(state: Unexpected, octets: &[u8]) -> bool
@@ -64,7 +64,8 @@ fn is_machine_error(state: Unexpected, octets: &[u8]) -> bool
         return false;
     };
     let names_state = notification.subcode == state.subcode();
-    notification.code == 5 && (notification.subcode == 0 || names_state)
+    notification.code == ErrorCode::FiniteStateMachine.code()
+        && (notification.subcode == 0 || names_state)
 }
 
 impl FaultSet {
@@ -74,9 +75,15 @@ impl FaultSet {
         ensures { IsTrue result ↔ NamesFault self code subcode detail.now }
     {
         match self {
-            FaultSet::Header(faults) => code == 1 && faults.contains(subcode, detail),
-            FaultSet::Open(subcodes) => code == 2 && subcodes.contains(subcode, detail),
-            FaultSet::Update(subcodes) => code == 3 && subcodes.contains(subcode),
+            FaultSet::Header(faults) => {
+                code == ErrorCode::MessageHeader.code() && faults.contains(subcode, detail)
+            }
+            FaultSet::Open(subcodes) => {
+                code == ErrorCode::OpenMessage.code() && subcodes.contains(subcode, detail)
+            }
+            FaultSet::Update(subcodes) => {
+                code == ErrorCode::UpdateMessage.code() && subcodes.contains(subcode)
+            }
         }
     }
 }

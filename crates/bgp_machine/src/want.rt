@@ -5,10 +5,7 @@ ghost use Rattle.bgp_machine.specs.Want.{subcode_of, NamesFault, IsLeastFault};
 
 use bgp_open::OpenSubcodes;
 use bgp_update::Subcodes;
-use bgp_wire::{HeaderFaults, NamedFault};
-
-/// The Error code of an UPDATE Message Error.
-const UPDATE_MESSAGE_ERROR: u8 = 3;
+use bgp_wire::{ErrorCode, HeaderFaults, NamedFault};
 
 /// A state in which a message was received that it doesn't expect; its number is the subcode of
 /// Finite State Machine Error that names it (RFC 6608, 3).
@@ -56,7 +53,8 @@ impl FaultSet {
             FaultSet::Open(subcodes) => subcodes.least(),
             FaultSet::Update(subcodes) => {
                 let subcode = subcodes.least()?;
-                Some(NamedFault::new(UPDATE_MESSAGE_ERROR, subcode, &[]))
+                let code = ErrorCode::UpdateMessage.code();
+                Some(NamedFault::new(code, subcode, &[]))
             }
         }
     }

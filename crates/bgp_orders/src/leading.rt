@@ -7,16 +7,11 @@ ghost use Rattle.bgp_recording.specs.Changes.{led_by_received, led_by_sent};
 ghost use Rattle.bgp_recording.specs.Changes.{just_received, just_sent, opened_state, rejects};
 
 use bgp_recording::{Before, Message, State};
-use bgp_wire::MessageType;
+use bgp_wire::{ErrorCode, MessageType};
 use streams::Side;
 
 /// Where the Error code of a NOTIFICATION stands (RFC 4271, 4.5), after the header.
 const ERROR_CODE: usize = 19;
-
-/// Error codes of a NOTIFICATION (RFC 4271, 4.5).
-const MESSAGE_HEADER_ERROR: u8 = 1;
-
-const OPEN_MESSAGE_ERROR: u8 = 2;
 
 /// Returns the Error code, if the message is a NOTIFICATION.
 fn error_code(message: &Message<'_>) -> Option<u8>
@@ -34,10 +29,12 @@ fn error_code(message: &Message<'_>) -> Option<u8>
 fn rejects_opening(message: &Message<'_>) -> bool
     ensures { result ≡ rejects (error_code message.now) }
 {
-    matches!(
-        error_code(message),
-        Some(MESSAGE_HEADER_ERROR | OPEN_MESSAGE_ERROR)
-    )
+    match error_code(message) {
+        Some(code) => {
+            code == ErrorCode::MessageHeader.code() || code == ErrorCode::OpenMessage.code()
+        }
+        None => false,
+    }
 }
 
 /// Checks whether a sent message answers one of this type that is received before the own OPEN: it

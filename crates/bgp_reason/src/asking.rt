@@ -5,6 +5,7 @@ ghost use Rattle.std.specs.Prelude.{List, [], IsTrue, IfOk, IfSome, IfNone};
 ghost use Rattle.std.specs.Prelude.{length};
 ghost use Rattle.byteorder.specs.Endian.{big_bytes};
 ghost use Rattle.bgp_prefix.specs.Shown.{ShownRecord, Received, Sent, Changed};
+ghost use Rattle.bgp_wire.specs.ErrorCode.{error_code};
 ghost use Rattle.bgp_wire.specs.Header.{header_of, length_of, type_of};
 ghost use Rattle.bgp_wire.specs.Message.{message_octets};
 ghost use Rattle.bgp_open.specs.declared.config.Config.{Config as TheConfig};
@@ -30,7 +31,7 @@ use bgp_open::{
 use bgp_prefix::Seconds;
 use bgp_update::Subcodes;
 use bgp_wire::{
-    HeaderFaults, MessageType, header_at, put_header, put_keepalive, put_u16, read_type,
+    ErrorCode, HeaderFaults, MessageType, header_at, put_header, put_keepalive, put_u16, read_type,
 };
 use byteorder::{BigEndian, ByteOrder};
 use mrt::Record;
@@ -58,16 +59,17 @@ fn may_send<A: Allocator + Copy, T: Tracker<A>>(
 /// A NOTIFICATION with data that fit.
 fn notification<A: Allocator + Copy>(
     alloc: A,
-    code: u8,
+    code: ErrorCode,
     subcode: u8,
     detail: &[u8],
 ) -> Result<Vec<u8, A>, AllocError>
     requires { length detail.now ≤ 2 }
-    ensures { IfOk result (λ octets. octets.items ≡ notification_octets code subcode detail.now) }
+    ensures { IfOk result (λ octets. octets.items
+        ≡ notification_octets (error_code code) subcode detail.now) }
 {
     let mut octets = Vec::new(alloc);
     let notification = Notification {
-        code,
+        code: code.code(),
         subcode,
         detail,
     };
@@ -82,14 +84,15 @@ fn notification<A: Allocator + Copy>(
 fn may_notify<A: Allocator + Copy, T: Tracker<A>>(
     alloc: A,
     tracker: &T,
-    code: u8,
+    code: ErrorCode,
     subcode: u8,
     detail: &[u8],
 ) -> Result<bool, AllocError>
     requires { length detail.now ≤ 2 }
     ensures { (config : TheConfig) (records : List ShownRecord)
         → T.stands_for tracker.now config records
-        → IfOk result (λ may. IsTrue may ↔ MayNotify config records code subcode detail.now) }
+        → IfOk result (λ may. IsTrue may
+        ↔ MayNotify config records (error_code code) subcode detail.now) }
 {
     let octets = notification(alloc, code, subcode, detail)?;
     may_send(tracker, 0, octets.as_slice())
@@ -191,7 +194,7 @@ fn bad_length<A: Allocator + Copy, T: Tracker<A>>(
     let count = length_field(header);
     let mut octets = [0; 2];
     BigEndian::write_u16(&mut octets, count);
-    let may = may_notify(alloc, tracker, 1, 2, &octets)?;
+    let may = may_notify(alloc, tracker, ErrorCode::MessageHeader, 2, &octets)?;
     Ok(may.then_some(count))
 }
 
@@ -212,7 +215,7 @@ fn bad_type<A: Allocator + Copy, T: Tracker<A>>(
         IfNone errors (¬ MayNotify config records 1 3 (big_bytes 1 (type_of header.now)))) }
 {
     let kind = read_type(header);
-    let may = may_notify(alloc, tracker, 1, 3, &[kind])?;
+    let may = may_notify(alloc, tracker, ErrorCode::MessageHeader, 3, &[kind])?;
     Ok(may.then_some(kind))
 }
 
@@ -226,7 +229,7 @@ fn header_errors<A: Allocator + Copy, T: Tracker<A>>(
         → T.stands_for tracker.now config records → last.now ≡ last_message records
         → IfOk result (AreHeaderErrors config records) }
 {
-    let marker = may_notify(alloc, tracker, 1, 1, &[])?;
+    let marker = may_notify(alloc, tracker, ErrorCode::MessageHeader, 1, &[])?;
     let Some(header) = header_at(last) else {
         return Ok(HeaderFaults {
             marker,
@@ -251,14 +254,14 @@ fn open_errors<A: Allocator + Copy, T: Tracker<A>>(
         → IfOk result (AreOpenErrors config records) }
 {
     Ok(OpenSubcodes {
-        unspecific: may_notify(alloc, tracker, 2, 0, &[])?,
-        version: may_notify(alloc, tracker, 2, 1, &SPOKEN_VERSION)?,
-        peer_as: may_notify(alloc, tracker, 2, 2, &[])?,
-        identifier: may_notify(alloc, tracker, 2, 3, &[])?,
-        parameter: may_notify(alloc, tracker, 2, 4, &[])?,
-        hold: may_notify(alloc, tracker, 2, 6, &[])?,
-        capability: may_notify(alloc, tracker, 2, 7, &[])?,
-        role: may_notify(alloc, tracker, 2, 11, &[])?,
+        unspecific: may_notify(alloc, tracker, ErrorCode::OpenMessage, 0, &[])?,
+        version: may_notify(alloc, tracker, ErrorCode::OpenMessage, 1, &SPOKEN_VERSION)?,
+        peer_as: may_notify(alloc, tracker, ErrorCode::OpenMessage, 2, &[])?,
+        identifier: may_notify(alloc, tracker, ErrorCode::OpenMessage, 3, &[])?,
+        parameter: may_notify(alloc, tracker, ErrorCode::OpenMessage, 4, &[])?,
+        hold: may_notify(alloc, tracker, ErrorCode::OpenMessage, 6, &[])?,
+        capability: may_notify(alloc, tracker, ErrorCode::OpenMessage, 7, &[])?,
+        role: may_notify(alloc, tracker, ErrorCode::OpenMessage, 11, &[])?,
     })
 }
 
@@ -272,17 +275,17 @@ fn update_errors<A: Allocator + Copy, T: Tracker<A>>(
         → IfOk result (AreUpdateErrors config records) }
 {
     Ok(Subcodes {
-        malformed_attribute_list: may_notify(alloc, tracker, 3, 1, &[])?,
-        unrecognized_well_known: may_notify(alloc, tracker, 3, 2, &[])?,
-        missing_well_known: may_notify(alloc, tracker, 3, 3, &[])?,
-        attribute_flags: may_notify(alloc, tracker, 3, 4, &[])?,
-        attribute_length: may_notify(alloc, tracker, 3, 5, &[])?,
-        invalid_origin: may_notify(alloc, tracker, 3, 6, &[])?,
-        as_routing_loop: may_notify(alloc, tracker, 3, 7, &[])?,
-        invalid_next_hop: may_notify(alloc, tracker, 3, 8, &[])?,
-        optional_attribute: may_notify(alloc, tracker, 3, 9, &[])?,
-        invalid_network_field: may_notify(alloc, tracker, 3, 10, &[])?,
-        malformed_as_path: may_notify(alloc, tracker, 3, 11, &[])?,
+        malformed_attribute_list: may_notify(alloc, tracker, ErrorCode::UpdateMessage, 1, &[])?,
+        unrecognized_well_known: may_notify(alloc, tracker, ErrorCode::UpdateMessage, 2, &[])?,
+        missing_well_known: may_notify(alloc, tracker, ErrorCode::UpdateMessage, 3, &[])?,
+        attribute_flags: may_notify(alloc, tracker, ErrorCode::UpdateMessage, 4, &[])?,
+        attribute_length: may_notify(alloc, tracker, ErrorCode::UpdateMessage, 5, &[])?,
+        invalid_origin: may_notify(alloc, tracker, ErrorCode::UpdateMessage, 6, &[])?,
+        as_routing_loop: may_notify(alloc, tracker, ErrorCode::UpdateMessage, 7, &[])?,
+        invalid_next_hop: may_notify(alloc, tracker, ErrorCode::UpdateMessage, 8, &[])?,
+        optional_attribute: may_notify(alloc, tracker, ErrorCode::UpdateMessage, 9, &[])?,
+        invalid_network_field: may_notify(alloc, tracker, ErrorCode::UpdateMessage, 10, &[])?,
+        malformed_as_path: may_notify(alloc, tracker, ErrorCode::UpdateMessage, 11, &[])?,
     })
 }
 
@@ -296,10 +299,10 @@ fn fsm_errors<A: Allocator + Copy, T: Tracker<A>>(
         → IfOk result (AreFsmErrors config records) }
 {
     Ok(FsmErrors {
-        unspecified: may_notify(alloc, tracker, 5, 0, &[])?,
-        open_sent: may_notify(alloc, tracker, 5, 1, &[])?,
-        open_confirm: may_notify(alloc, tracker, 5, 2, &[])?,
-        established: may_notify(alloc, tracker, 5, 3, &[])?,
+        unspecified: may_notify(alloc, tracker, ErrorCode::FiniteStateMachine, 0, &[])?,
+        open_sent: may_notify(alloc, tracker, ErrorCode::FiniteStateMachine, 1, &[])?,
+        open_confirm: may_notify(alloc, tracker, ErrorCode::FiniteStateMachine, 2, &[])?,
+        established: may_notify(alloc, tracker, ErrorCode::FiniteStateMachine, 3, &[])?,
     })
 }
 
@@ -346,7 +349,7 @@ fn least_expiry<A: Allocator + Copy, T: Tracker<A>>(
         → IfOk result (IsLeastSecond config records) }
 {
     hold_timer_expires_from_then_on();
-    let octets = notification(alloc, 4, 0, &[])?;
+    let octets = notification(alloc, ErrorCode::HoldTimerExpired, 0, &[])?;
     if !may_send(tracker, Seconds::MAX, octets.as_slice())? {
         return Ok(None);
     }
@@ -397,9 +400,15 @@ pub fn possible<A: Allocator + Copy, T: Tracker<A>>(
         open_errors: open_errors(alloc, tracker)?,
         update_errors: update_errors(alloc, tracker)?,
         hold_timer_expired: least_expiry(alloc, tracker)?,
-        send_hold_timer_expired: may_notify(alloc, tracker, 8, 0, &[])?,
+        send_hold_timer_expired: may_notify(
+            alloc,
+            tracker,
+            ErrorCode::SendHoldTimerExpired,
+            0,
+            &[],
+        )?,
         fsm_errors: fsm_errors(alloc, tracker)?,
-        cease: may_notify(alloc, tracker, 6, 0, &[])?,
+        cease: may_notify(alloc, tracker, ErrorCode::Cease, 0, &[])?,
         changes: changes(tracker, state)?,
     })
 }

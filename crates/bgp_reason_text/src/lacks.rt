@@ -20,7 +20,7 @@ use bgp_parts_text::{put_notification_parts, put_open_parts, put_update_parts};
 use bgp_prefix::Seconds;
 use bgp_reason::Possible;
 use bgp_text::Lines;
-use bgp_wire::{HeaderVerdict, MessageType, check_header, header_at};
+use bgp_wire::{ErrorCode, HeaderVerdict, MessageType, check_header, header_at};
 use mrt::{Record, Sink};
 use std::alloc::{AllocError, Allocator, Global};
 
@@ -138,13 +138,13 @@ fn is_notification(code: u8, item: &Item) -> bool
     ensures { result ≡ is_notification code item.now }
 {
     match item {
-        Item::HeaderErrors(_) => code == 1,
-        Item::OpenErrors(_) => code == 2,
-        Item::UpdateErrors(_) => code == 3,
-        Item::HoldTimerExpired(_) => code == 4,
-        Item::SendHoldTimerExpired => code == 8,
-        Item::StateErrors(_) => code == 5,
-        Item::Cease => code == 6,
+        Item::HeaderErrors(_) => code == ErrorCode::MessageHeader.code(),
+        Item::OpenErrors(_) => code == ErrorCode::OpenMessage.code(),
+        Item::UpdateErrors(_) => code == ErrorCode::UpdateMessage.code(),
+        Item::HoldTimerExpired(_) => code == ErrorCode::HoldTimerExpired.code(),
+        Item::SendHoldTimerExpired => code == ErrorCode::SendHoldTimerExpired.code(),
+        Item::StateErrors(_) => code == ErrorCode::FiniteStateMachine.code(),
+        Item::Cease => code == ErrorCode::Cease.code(),
         _ => false,
     }
 }

@@ -1,19 +1,15 @@
 //! Messages of a recorded session, each with the packet that shows it.
 
 ghost use Rattle.std.specs.Prelude.{◌≡◌, ◌↔◌, Some, IsTrue};
+ghost use Rattle.bgp_wire.specs.ErrorCode.{error_code as number_of};
 ghost use Rattle.bgp_recording.specs.Changes.{answers_before_open, error_code, rejects};
 ghost use Rattle.bgp_recording.specs.Waiting.{is_code};
 
 use bgp_prefix::Seconds;
-use bgp_wire::MessageType;
+use bgp_wire::{ErrorCode, MessageType};
 
 /// Where the Error code of a NOTIFICATION stands (RFC 4271, 4.5), after the header.
 const ERROR_CODE: usize = 19;
-
-/// Error codes of a NOTIFICATION (RFC 4271, 4.5).
-pub(crate) const MESSAGE_HEADER_ERROR: u8 = 1;
-
-pub(crate) const OPEN_MESSAGE_ERROR: u8 = 2;
 
 /// A message of one direction.
 #[derive(Clone, Copy, Debug, PartialEq, Eq)]
@@ -49,11 +45,11 @@ impl Message<'_> {
     }
 
     /// Whether it is a NOTIFICATION with this Error code.
-    pub(crate) fn has_code(&self, code: u8) -> bool
-        ensures { result ≡ is_code code (error_code self.now) }
+    pub(crate) fn has_code(&self, code: ErrorCode) -> bool
+        ensures { result ≡ is_code (number_of code) (error_code self.now) }
     {
         match self.error_code() {
-            Some(other) => other == code,
+            Some(other) => other == code.code(),
             None => false,
         }
     }
@@ -63,10 +59,12 @@ impl Message<'_> {
     fn rejects_opening(&self) -> bool
         ensures { result ≡ rejects (error_code self.now) }
     {
-        matches!(
-            self.error_code(),
-            Some(MESSAGE_HEADER_ERROR | OPEN_MESSAGE_ERROR)
-        )
+        match self.error_code() {
+            Some(code) => {
+                code == ErrorCode::MessageHeader.code() || code == ErrorCode::OpenMessage.code()
+            }
+            None => false,
+        }
     }
 
     /// Whether it answers a message of this type that is received before the own OPEN: it rejects

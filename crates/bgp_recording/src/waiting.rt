@@ -13,21 +13,12 @@ ghost use Rattle.bgp_recording.specs.Waiting.{is_cause_answered, answers, is_ans
 ghost use Rattle.bgp_recording.specs.Waiting.{would_be_answered, came_unseen, reason_of, waits_for};
 ghost use Rattle.bgp_recording.specs.Waiting.{is_keepalive, is_update};
 
-use crate::message::{MESSAGE_HEADER_ERROR, Message, OPEN_MESSAGE_ERROR};
+use crate::message::Message;
 use crate::pending::Place;
 use crate::standing::Standing;
 use crate::state::State;
 use bgp_prefix::Seconds;
-use bgp_wire::MessageType;
-
-/// Error codes of a NOTIFICATION (RFC 4271, 4.5), besides those that reject a connection.
-const UPDATE_MESSAGE_ERROR: u8 = 3;
-
-const HOLD_TIMER_EXPIRED: u8 = 4;
-
-const STATE_MACHINE_ERROR: u8 = 5;
-
-const CEASE: u8 = 6;
+use bgp_wire::{ErrorCode, MessageType};
 
 /// Where the Hold Time stands in an OPEN (RFC 4271, 4.2).
 const HOLD_TIME: usize = 22;
@@ -128,10 +119,14 @@ impl FirstNotification {
     fn blames(&self, kind: Option<MessageType>) -> bool
         ensures { result ≡ blames self.now.code kind }
     {
-        match self.code {
-            UPDATE_MESSAGE_ERROR => matches!(kind, Some(MessageType::Update)),
-            OPEN_MESSAGE_ERROR | STATE_MACHINE_ERROR => matches!(kind, Some(MessageType::Open)),
-            _ => false,
+        if self.code == ErrorCode::UpdateMessage.code() {
+            matches!(kind, Some(MessageType::Update))
+        } else if self.code == ErrorCode::OpenMessage.code()
+            || self.code == ErrorCode::FiniteStateMachine.code()
+        {
+            matches!(kind, Some(MessageType::Open))
+        } else {
+            false
         }
     }
 
@@ -162,7 +157,7 @@ impl FirstNotification {
 fn is_open_or_cease(message: &Message<'_>) -> bool
     ensures { result ≡ is_open_or_cease (message_value message.now) }
 {
-    matches!(message.kind, Some(MessageType::Open)) || message.has_code(CEASE)
+    matches!(message.kind, Some(MessageType::Open)) || message.has_code(ErrorCode::Cease)
 }
 
 /// How many messages were sent before the last OPEN or Cease.
@@ -252,7 +247,7 @@ impl Foresight {
             return false;
         };
         keeps_alive(message.kind)
-            && first.code == HOLD_TIMER_EXPIRED
+            && first.code == ErrorCode::HoldTimerExpired.code()
             && u64::from(first.second) < u64::from(message.second) + u64::from(hold)
     }
 
@@ -329,13 +324,16 @@ fn answers(state: State, kind: Option<MessageType>, next: &Message<'_>) -> bool
     match (state, kind) {
         (State::Connect | State::Active, _) => next.answers_before_open(kind),
         (State::OpenSent, Some(MessageType::Open)) => {
-            matches!(next.kind, Some(MessageType::Keepalive)) || next.has_code(OPEN_MESSAGE_ERROR)
+            matches!(next.kind, Some(MessageType::Keepalive))
+                || next.has_code(ErrorCode::OpenMessage)
         }
-        (State::OpenSent, Some(_)) => next.has_code(STATE_MACHINE_ERROR),
-        (State::OpenSent | State::OpenConfirm, None) => next.has_code(MESSAGE_HEADER_ERROR),
-        (State::OpenConfirm, Some(MessageType::Update)) => next.has_code(STATE_MACHINE_ERROR),
+        (State::OpenSent, Some(_)) => next.has_code(ErrorCode::FiniteStateMachine),
+        (State::OpenSent | State::OpenConfirm, None) => next.has_code(ErrorCode::MessageHeader),
+        (State::OpenConfirm, Some(MessageType::Update)) => {
+            next.has_code(ErrorCode::FiniteStateMachine)
+        }
         (State::Established, None) => {
-            next.has_code(MESSAGE_HEADER_ERROR) || next.has_code(STATE_MACHINE_ERROR)
+            next.has_code(ErrorCode::MessageHeader) || next.has_code(ErrorCode::FiniteStateMachine)
         }
         _ => false,
     }

@@ -1,5 +1,5 @@
 -- What a core settles that offers nothing about routes is plain.
-use Rattle.std.proofs.Common.{◌≡◌, ℕ, Bool, true, false, List, [], ◌∷◌, inl, inr, Option, None, Some, refl, sym, ap, subst}
+use Rattle.std.proofs.Common.{◌≡◌, ◌∙◌, ℕ, Bool, true, false, List, [], ◌∷◌, inl, inr, Option, None, Some, refl, sym, ap, subst}
 use Rattle.bgp_prefix.specs.Prefix.{PrefixBits}
 use Rattle.bgp_prefix.specs.Shown.{ShownRecord}
 use Rattle.bgp_open.specs.declared.config.Config.{Config}
@@ -8,6 +8,7 @@ use Rattle.bgp_open.specs.declared.route_offer.RouteOffer.{RouteOffer}
 use Rattle.bgp_open.specs.Link.{link_of}
 use Rattle.bgp_open.specs.Open.{OpenFields, open_of}
 use Rattle.bgp_open.specs.RouteForm.{received_form, sent_form}
+use Rattle.bgp_open.proofs.SettledForms.{none_shared, without_next_hops}
 use Rattle.bgp_open.specs.RouteOffer.{route_offer_in}
 use Rattle.bgp_machine.specs.declared.hearing.Heard.{Heard}
 use Rattle.bgp_machine.specs.declared.hearing.Heard.TheVariants.{TooShort, ValidOpen, FaultyHeader, InvalidOpen, BadVersion, Notification, Keepalive, Update}
@@ -85,7 +86,7 @@ row_plain head config t row wants turn h before = absurd h
 
 plain_link : (config : Config) → OffersNothing config → (message : OpenFields) → IsPlain (Some (link_of config message))
 plain_link config none message = (
-  ap (λ (own : RouteOffer). received_form own (route_offer_in message)) none,
+  ap (λ (own : RouteOffer). received_form own (route_offer_in message)) none ∙ ap without_next_hops (none_shared (route_offer_in message).sends),
   ap (λ (own : RouteOffer). (sent_form own (route_offer_in message)).identified) none,
 )
 

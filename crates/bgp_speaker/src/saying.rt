@@ -23,7 +23,7 @@ use bgp_open::{
 use bgp_path::{AsPath, Items, NextHop, Origin, Path, PathParts, Segment, SegmentKind};
 use bgp_prefix::{Family, Prefix};
 use bgp_update_writer::{Update, UpdateFault, one_prefix_can_be_written, write_update};
-use bgp_wire::put_keepalive;
+use bgp_wire::{ErrorCode, put_keepalive};
 use std::alloc::{AllocError, Allocator};
 
 /// What an UPDATE tells the peer.
@@ -45,19 +45,6 @@ impl News {
         }
     }
 }
-
-/// The Error code of Hold Timer Expired (RFC 4271, 4.5).
-const HOLD_TIMER_EXPIRED: u8 = 4;
-
-/// The Error code of Send Hold Timer Expired (RFC 9687, 5).
-const SEND_HOLD_TIMER_EXPIRED: u8 = 8;
-
-/// The Error code of Finite State Machine Error, whose data are the Type of the message that the
-/// state doesn't expect (RFC 6608, 3).
-const FINITE_STATE_MACHINE_ERROR: u8 = 5;
-
-/// The Error code of Cease.
-const CEASE: u8 = 6;
 
 /// The subcode of Cease that is sent: Administrative Shutdown (RFC 4486, 4).
 const ADMINISTRATIVE_SHUTDOWN: u8 = 2;
@@ -88,12 +75,18 @@ pub(crate) fn message<A: Allocator + Copy>(
             };
             update(alloc, speaker, &link, told)
         }
-        Want::Cease => notification(alloc, CEASE, ADMINISTRATIVE_SHUTDOWN, &[]),
-        Want::HoldExpired => notification(alloc, HOLD_TIMER_EXPIRED, 0, &[]),
+        Want::Cease => {
+            notification(alloc, ErrorCode::Cease.code(), ADMINISTRATIVE_SHUTDOWN, &[])
+        }
+        Want::HoldExpired => notification(alloc, ErrorCode::HoldTimerExpired.code(), 0, &[]),
         // The core takes no row that wants it.
-        Want::SendHoldExpired => notification(alloc, SEND_HOLD_TIMER_EXPIRED, 0, &[]),
+        Want::SendHoldExpired => {
+            notification(alloc, ErrorCode::SendHoldTimerExpired.code(), 0, &[])
+        }
+        // Its data are the Type of the message that the state doesn't expect (RFC 6608, 3).
         Want::MachineError(state) => {
-            notification(alloc, FINITE_STATE_MACHINE_ERROR, state.subcode(), &[kind])
+            let code = ErrorCode::FiniteStateMachine.code();
+            notification(alloc, code, state.subcode(), &[kind])
         }
         Want::Faults(faults) => {
             let Some(fault) = faults.least() else {

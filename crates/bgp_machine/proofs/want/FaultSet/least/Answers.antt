@@ -1,3 +1,4 @@
+use Rattle.std.proofs.Common.{◌∙◌}
 use Rattle.bgp_machine.proofs.LeastFaults.{least_of_header, none_of_header, least_of_open, none_of_open, least_of_update, none_of_update}
 use Rattle.bgp_machine.proofs.want.FaultSet.least.Goals as goal
 
@@ -21,4 +22,4 @@ pub returns-in_ok-subcode-in-Update-clause-some : goal.returns-in_ok-subcode-in-
 returns-in_ok-subcode-in-Update-clause-some c =
     let is = c.in_ok-subcode-in-Update.ensures in
     rw c.in-Update.is
-    (least_of_update c.in-Update.subcodes c.new.result c.in_ok-subcode-in-Update.subcode c.new.ensures.code c.new.ensures.subcode c.new.ensures.detail is.some is.first)
+    (least_of_update c.in-Update.subcodes c.new.result c.in_ok-subcode-in-Update.subcode (c.new.ensures.code ∙ c.code-code.ensures) c.new.ensures.subcode c.new.ensures.detail is.some is.first)
