@@ -1,1 +1,5 @@
 pub mod WideFamilies
+pub mod UpdateBodies
+pub mod TellerForms
+pub mod OneOffer
+pub mod OneLine

@@ -5,3 +5,8 @@ pub mod Others
 pub mod ItemText
 pub mod OpenLine
 pub mod AttributeLine
+pub mod RoutesLine
+pub mod UpdateLine
+pub mod MessageLine
+pub mod Form
+pub mod Telling

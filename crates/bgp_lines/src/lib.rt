@@ -5,13 +5,23 @@
 #![tactic(auto)]
 
 mod attribute_line;
+mod form;
 mod items;
+mod message_line;
 mod notifications;
 mod open_line;
 mod others;
 mod quoting;
+mod record_line;
+mod routes_line;
+mod teller;
+mod update_line;
 
+pub use form::LineForm;
+pub use message_line::put_named;
 pub use notifications::put_notification;
 pub use open_line::{put_malformed_open, put_open};
 pub use others::{put_named_change, put_named_fault, put_named_rest, put_named_stream_fault};
 pub use quoting::put_quoted;
+pub use teller::Teller;
+pub use update_line::put_update;

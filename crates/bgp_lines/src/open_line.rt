@@ -16,10 +16,8 @@ use bgp_names::{name_of_role, put_capability_name, put_family_name, put_subcode_
 use bgp_open::{Capabilities, Capability, Open, OpenFault};
 use bgp_text::Lines;
 use bgp_values::{CapabilityValue, Item};
+use bgp_wire::ErrorCode;
 use mrt::Sink;
-
-/// The Error code OPEN Message Error.
-const OPEN_MESSAGE_ERROR: u8 = 2;
 
 /// Puts the name of a role.
 fn put_role<W: Sink>(lines: &mut Lines<'_, W>, number: u8)
@@ -178,8 +176,8 @@ fn put_open_fault<W: Sink>(lines: &mut Lines<'_, W>, fault: OpenFault)
 {
     match fault {
         OpenFault::Malformed => lines.put(b"Malformed"),
-        OpenFault::Version => put_subcode_name(lines, OPEN_MESSAGE_ERROR, 1),
-        OpenFault::Parameter => put_subcode_name(lines, OPEN_MESSAGE_ERROR, 4),
+        OpenFault::Version => put_subcode_name(lines, ErrorCode::OpenMessage.code(), 1),
+        OpenFault::Parameter => put_subcode_name(lines, ErrorCode::OpenMessage.code(), 4),
     }
 }
 

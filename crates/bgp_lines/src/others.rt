@@ -10,12 +10,9 @@ ghost use Rattle.bgp_lines.specs.Others.{named_stream_fault};
 
 use bgp_names::{put_state_name, put_subcode_name, put_type_text};
 use bgp_text::Lines;
-use bgp_wire::{HEADER_LEN, HeaderFaults, header_at, read_type};
+use bgp_wire::{ErrorCode, HEADER_LEN, HeaderFaults, header_at, read_type};
 use byteorder::{BigEndian, ByteOrder};
 use mrt::Sink;
-
-/// The Error code Message Header Error.
-const MESSAGE_HEADER_ERROR: u8 = 1;
 
 /// Returns the subcodes of a header's faults, ascending.
 fn fault_subcodes(faults: HeaderFaults) -> &'static [u8]
@@ -44,7 +41,7 @@ fn put_fault<W: Sink>(lines: &mut Lines<'_, W>, subcode: u8)
     lines.put(b"1/");
     lines.put_decimal(subcode);
     lines.put(b" ");
-    put_subcode_name(lines, MESSAGE_HEADER_ERROR, subcode);
+    put_subcode_name(lines, ErrorCode::MessageHeader.code(), subcode);
 }
 
 /// Puts the faults of these subcodes, each behind a comma.

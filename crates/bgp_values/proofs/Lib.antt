@@ -1,3 +1,4 @@
 pub mod PieceLists
 pub mod SegmentLists
 pub mod LastOffer
+pub mod RoutesValues

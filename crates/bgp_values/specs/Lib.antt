@@ -6,4 +6,5 @@ pub mod CapabilityValue
 pub mod CountedText
 pub mod PathSegments
 pub mod AttributeValue
+pub mod RoutesValue
 pub mod Opens

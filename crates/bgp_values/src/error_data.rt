@@ -6,10 +6,8 @@ ghost use Rattle.bgp_values.specs.ErrorData.{error_of, maximum_in};
 
 use crate::readable::read_text;
 use bgp_open::Notification;
+use bgp_wire::ErrorCode;
 use byteorder::{BigEndian, ByteOrder};
-
-/// The Error code Cease.
-const CEASE: u8 = 6;
 
 /// What the data of a NOTIFICATION say.
 #[derive(Clone, Copy, Debug, PartialEq, Eq)]
@@ -62,9 +60,12 @@ impl<'a> ErrorData<'a> {
     pub fn of(error: Notification<'a>) -> Option<ErrorData<'a>>
         ensures { option_map data_of result ≡ data_value (error_of error.entry) }
     {
-        match (error.code, error.subcode) {
-            (CEASE, 1) => maximum_in(error.detail),
-            (CEASE, 2 | 4) => communication_in(error.detail),
+        if error.code != ErrorCode::Cease.code() {
+            return None;
+        }
+        match error.subcode {
+            1 => maximum_in(error.detail),
+            2 | 4 => communication_in(error.detail),
             _ => None,
         }
     }
@@ -74,7 +75,7 @@ impl<'a> ErrorData<'a> {
 pub fn cause_of(error: Notification<'_>) -> Option<Notification<'_>>
     ensures { option_map error_of result ≡ cause_of (error_of error.entry) }
 {
-    if (error.code, error.subcode) != (CEASE, 9) {
+    if error.code != ErrorCode::Cease.code() || error.subcode != 9 {
         return None;
     }
     match error.detail {

@@ -13,6 +13,7 @@ mod items;
 mod opens;
 mod pieces;
 mod readable;
+mod routes_value;
 mod segments;
 
 pub use attribute_value::AttributeValue;
@@ -22,4 +23,5 @@ pub use items::{Item, has_bits};
 pub use opens::{Direction, Offered, Opens, Reading};
 pub use pieces::first_piece;
 pub use readable::read_text;
+pub use routes_value::RoutesValue;
 pub use segments::{Segment, first_segment};
