@@ -1,0 +1,4 @@
+use Rattle.bgp_why.proofs.errors.put_fsm_errors.Goals as goal
+
+pub returns : goal.returns
+returns g c = rw (c.error_if.ensures, c.error_if-2.ensures, c.error_if-3.ensures, c.error_if-4.ensures) at c.put_any.ensures

@@ -1,0 +1,12 @@
+use Rattle.bgp_text.proofs.Pieces.{Joins, and_then}
+use Rattle.bgp_why.proofs.place.put_place_by.Goals as goal
+
+pub returns-in-Some : goal.returns-in-Some
+returns-in-Some g c =
+    let law : Joins g.W.Sink = record { joined = g.met.W.Sink.joined } in
+    rw c.in-Some.is (and_then law c.put.ensures c.put_decimal.ensures)
+
+pub returns-in-None : goal.returns-in-None
+returns-in-None g c =
+    let law : Joins g.W.Sink = record { joined = g.met.W.Sink.joined } in
+    rw c.in-None.is (and_then law c.put-in-None.ensures c.put_decimal-in-None.ensures)

@@ -1,0 +1,10 @@
+use Rattle.std.proofs.Common.{append-nil}
+use Rattle.bgp_text.proofs.Pieces.{nothing_yet}
+use Rattle.bgp_why.proofs.possible.put_next_line.Goals as goal
+
+pub returns-in_default-clause-writes : goal.returns-in_default-clause-writes
+returns-in_default-clause-writes g c =
+    rw c.in_default.is (nothing_yet g.W.Sink g.met.W.Sink.nothing c.args.lines.now.outlet c.args.lines.now.held.items)
+
+pub returns-clause-writes : goal.returns-clause-writes
+returns-clause-writes g c = rw (c.in-Some.is, append-nil) c.put_item_line.ensures

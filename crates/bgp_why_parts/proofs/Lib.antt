@@ -1,0 +1,6 @@
+pub mod Fronts
+mod Behind
+mod FaultTexts
+mod OneText
+mod PartByPart
+pub mod Separated

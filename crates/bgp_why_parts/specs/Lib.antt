@@ -1,0 +1,9 @@
+pub mod Cut
+pub mod Pieces
+pub mod Codes
+pub mod Offers
+pub mod Opens
+pub mod OwnFaults
+pub mod Notifications
+pub mod Updates
+pub mod Parts
