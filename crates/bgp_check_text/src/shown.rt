@@ -1,11 +1,8 @@
 //! Whether a capture can hold records, and as of which session each is told.
 
-ghost use Rattle.std.specs.Prelude.{◌≡◌, ◌↔◌, None, IfNone, IfSome, IsTrue, map};
+ghost use Rattle.std.specs.Prelude.{◌≡◌, ◌↔◌, None, IsTrue, map};
 ghost use Rattle.std.specs.List.{AllByRecursion};
-ghost use Rattle.bgp_wire.specs.Header.{IsSound, length_of};
-ghost use Rattle.mrt.specs.Layout.{IsState};
 ghost use Rattle.mrt.specs.Reader.{shown_of};
-ghost use Rattle.mrt.specs.Rules.{HasOtherLength};
 ghost use Rattle.mrt.specs.Written.{IsAllowed, IsMessageAllowed};
 ghost use Rattle.bgp_judge.specs.Verdict.{verdict_value};
 ghost use Rattle.bgp_check_text.specs.Shown.{CanBeTold, IsNotHeld, is_extended, session_at};
@@ -13,41 +10,9 @@ ghost use Rattle.bgp_check_text.specs.Shown.{session_for};
 
 use bgp_judge::Verdict;
 use bgp_prefix::{RouteRefresh, Session};
-use bgp_wire::{HEADER_LEN, HeaderVerdict, Limit, check_header, header_at};
-use mrt::{Record, is_route_refresh, is_whole_refresh};
+use bgp_wire::{HEADER_LEN, Limit};
+use mrt::{Record, has_other_length, is_route_refresh, is_state, is_whole_refresh};
 use std::alloc::Allocator;
-
-/// Whether a number is that of a state (RFC 6396, 4.4.1).
-fn is_state(number: u16) -> bool
-    ensures { IsTrue result ↔ IsState number }
-{
-    (1..=6).contains(&number)
-}
-
-/// The Length of a header, if the header is sound by the limit.
-fn sound_length(header: &[u8; HEADER_LEN], limit: Limit) -> Option<usize>
-    ensures some { IfSome result (λ count.
-        IsSound limit header.now × (count ≡ length_of header.now)) }
-    ensures none { IfNone result (¬ IsSound limit header.now) }
-{
-    match check_header(header, limit) {
-        HeaderVerdict::Whole(length, _) => Some(usize::from(length)),
-        HeaderVerdict::Faulty(_) => None,
-    }
-}
-
-/// Whether a message has a sound header, whose Length isn't the count of its octets.
-fn has_other_length(octets: &[u8], limit: Limit) -> bool
-    ensures { IsTrue result ↔ HasOtherLength limit octets.now }
-{
-    let Some(header) = header_at(octets) else {
-        return false;
-    };
-    let Some(length) = sound_length(header, limit) else {
-        return false;
-    };
-    length != octets.len()
-}
 
 /// Whether a message is a ROUTE-REFRESH that no capture of the session holds.
 fn is_refresh(session: &Session, octets: &[u8]) -> bool

@@ -16,6 +16,7 @@ use Rattle.bgp_explain.specs.declared.explained.Impossible.{Impossible}
 use Rattle.bgp_explain.specs.declared.explained.Reason.{Reason}
 use Rattle.bgp_explain.specs.Progress.{IsAtBy, IsNamed, IsToldOf, StopsAt}
 use Rattle.bgp_explain.specs.Reason.{HasReason, IsImpossible, IsNext, IsReasonAt}
+use Rattle.bgp_explain.specs.Moments.{AreMomentsOf}
 use Rattle.bgp_explain.specs.Sending.{IsSendingAt}
 use Rattle.bgp_explain.specs.declared.left_out.LeftOut.{LeftOut}
 use Rattle.bgp_explain.specs.LeftOut.{AreJudged, JudgesWithout, LeavesOut}
@@ -46,10 +47,11 @@ is_none (Some x) e = absurd (let k : ⊥ = cc in k)
 
 -- one record more is told
 pub told_more : {X : Type 0} → ToldOneMore → (records : List ShownRecord) (r : ShownRecord) (config : Config) (old new : Progress X) → IsToldOf config records old
-    → IsSendingAt config (records ++ r ∷ []) new.sending → new.tally ≡ tally_of (records ++ r ∷ []) → new.seen ≡ seen_in (records ++ r ∷ []) → new.count ≡ old.count + 1 → new.told ≡ told_with (old.count + 1) r old.told
+    → AreMomentsOf config (records ++ r ∷ []) new.moments → IsSendingAt config (records ++ r ∷ []) new.sending → new.tally ≡ tally_of (records ++ r ∷ []) → new.seen ≡ seen_in (records ++ r ∷ []) → new.count ≡ old.count + 1 → new.told ≡ told_with (old.count + 1) r old.told
     → ((octets : List ℕ) → IfSome old.last_message (λ message. message.items ≡ octets) → IfSome new.last_message (λ message. message.items ≡ last_from octets (r ∷ [])))
     → IsToldOf config (records ++ r ∷ []) new
-told_more law records r config old new is sends tallies sees count tells last = record {
+told_more law records r config old new is moments sends tallies sees count tells last = record {
+  moments = moments;
   sending = sends;
   tally = tallies;
   seen = sees;

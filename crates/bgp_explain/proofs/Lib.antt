@@ -1,6 +1,7 @@
 pub mod OpenedBy
 pub mod LinkKept
 pub mod OffersKept
+pub mod MomentsKept
 pub mod Keeping
 pub mod Reading
 pub mod Standing

@@ -6,12 +6,13 @@ use Rattle.bgp_open.specs.declared.config.Config.{Config}
 use Rattle.mrt.specs.declared.fault.CaptureFault.{CaptureFault}
 use Rattle.mrt.specs.declared.fault.FaultKind.TheVariants as kinds
 use Rattle.mrt.specs.declared.record.Endpoints.{Endpoints}
-use Rattle.mrt.specs.Capture.{ArePieces, first_other, joined, last_of, records_of}
-use Rattle.mrt.specs.Reader.{ReaderState, Ends}
+use Rattle.mrt.specs.Capture.{ArePieces, others_of, joined, last_of, records_of}
+use Rattle.mrt.specs.Reader.{ReaderState, Ends, places_of}
 use Rattle.mrt.specs.Skipped.{skipped_in, both_skipped}
 use Rattle.mrt.specs.declared.skipped.SkippedRecords.{SkippedRecords}
 use Rattle.mrt.proofs.Counts.{chained_counts}
-use Rattle.mrt.proofs.Chains.{joined_chain, last_chain, other_chain, pieces_chain, records_chain}
+use Rattle.mrt.proofs.OtherPairs.{others_chain}
+use Rattle.mrt.proofs.Chains.{joined_chain, last_chain, pieces_chain, records_chain}
 use Rattle.bgp_machine.specs.Run.{Begins}
 use Rattle.bgp_judge.specs.declared.verdict.Verdict.{Verdict}
 use Rattle.bgp_judge.specs.Judging.{IsRefusal, Judges, ReadsWith, fault_in}
@@ -42,9 +43,9 @@ module _ {S : Type 0} (gives : S → S → List ℕ → Type 0) (has_ended : S �
       (subst (λ (l : Option ℕ). ArePieces config.parts.session l ends.skipped) so_far.last ends.pieces) in
       let last : after.last ≡ last_of None pieces =
       ap (λ (s : ReaderState). s.last) ends.stands ∙ ap (λ (l : Option ℕ). last_of l ends.skipped) so_far.last ∙ sym (last_chain None so_far.pieces ends.skipped) in
-      let other : after.other ≡ first_other None pieces =
-      ap (λ (s : ReaderState). s.other) ends.stands ∙ ap (λ (o : Option Endpoints). first_other o ends.skipped) so_far.other
-      ∙ sym (other_chain None so_far.pieces ends.skipped) in
+      let others : after.others ≡ others_of [] pieces =
+      ap (λ (s : ReaderState). s.others) ends.stands ∙ ap (λ (o : List Endpoints). others_of o ends.skipped) so_far.others
+      ∙ sym (others_chain [] so_far.pieces ends.skipped) in
       let skipped : after.skipped ≡ skipped_in pieces =
       ap (λ (s : ReaderState). s.skipped) ends.stands ∙ ap (λ (k : SkippedRecords). both_skipped k (skipped_in ends.skipped)) so_far.skipped
       ∙ chained_counts so_far.pieces ends.skipped in
@@ -60,7 +61,7 @@ module _ {S : Type 0} (gives : S → S → List ℕ → Type 0) (has_ended : S �
         record {
           pieces = pieces;
           rest = [];
-          knows = (last, other, skipped);
+          knows = (last, others, skipped);
           gave = subst (λ (o : List ℕ). gives source next o) (sym (append-nil (joined pieces))) gave;
           each = each;
           holds = record {
@@ -69,7 +70,7 @@ module _ {S : Type 0} (gives : S → S → List ℕ → Type 0) (has_ended : S �
             ended = ends.ended;
             each = each;
             place = place;
-            knows = (last, other, skipped);
+            knows = (last, others, skipped);
             holds = subst Holds (sym shown) holds;
           };
         },
@@ -95,14 +96,14 @@ module _ {S : Type 0} (gives : S → S → List ℕ → Type 0) (has_ended : S �
     -- or all is explained
     pub explained : {X Y : Type 0} (answer : Verdict X) (why : Option (Reason Y)) (totals : Totals) → IsVerdict config (records_of reads.pieces) answer
         → HasReason config (records_of reads.pieces) answer why → AreSummed (records_of reads.pieces) answer totals.tally totals.seen → totals.octets ≡ reader.place
-        → totals.skipped ≡ record { counts = reader.skipped; first_other = reader.other } → (IsTrue totals.confederation ↔ SomeShowConfederations (records_of reads.pieces))
+        → totals.skipped ≡ record { counts = reader.skipped; others = places_of reader.others } → (IsTrue totals.confederation ↔ SomeShowConfederations (records_of reads.pieces))
         → JudgesWithout config (records_of reads.pieces) totals.left_out
         → IsExplained gives has_ended config source new may_lack answer why totals
     explained answer why totals is has sums place skips confederation without = record {
       confederation = confederation;
       left_out = without;
-      skips = skips ∙ ap (λ (k : SkippedRecords). let s : Skipped = record { counts = k; first_other = reader.other } in s) reads.knows.2
-          ∙ ap (λ (o : Option Endpoints). let s : Skipped = record { counts = skipped_in reads.pieces; first_other = o } in s) reads.knows.1;
+      skips = skips ∙ ap (λ (k : SkippedRecords). let s : Skipped = record { counts = k; others = places_of reader.others } in s) reads.knows.2
+          ∙ ap (λ (o : List Endpoints). let s : Skipped = record { counts = skipped_in reads.pieces; others = places_of o } in s) reads.knows.1;
       count = place ∙ reads.place;
       summed = sums;
       octets = joined reads.pieces;

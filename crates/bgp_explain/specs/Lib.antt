@@ -6,6 +6,7 @@ pub mod Sending
 pub mod Kept
 pub mod Skipped
 pub mod Tally
+pub mod Moments
 pub mod Reason
 pub mod Progress
 pub mod Explaining

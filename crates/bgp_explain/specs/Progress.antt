@@ -9,11 +9,13 @@ use Rattle.bgp_reason.specs.Possible.{ArePossible}
 use Rattle.bgp_reason.specs.declared.told.Told.{Told}
 use Rattle.bgp_reason.specs.Told.{told, last_message}
 use Rattle.bgp_explain.specs.declared.explained.Impossible.{Impossible}
+use Rattle.bgp_explain.specs.declared.moments.Moments.{Moments}
 use Rattle.bgp_explain.specs.declared.sending.Sending.{Sending}
 use Rattle.bgp_explain.specs.declared.so_far.Found.{Found}
 use Rattle.bgp_explain.specs.declared.so_far.Progress.{Progress}
 use Rattle.bgp_explain.specs.declared.so_far.Stop.{Stop}
 use Rattle.bgp_explain.specs.Kept.{shown_by}
+use Rattle.bgp_explain.specs.Moments.{AreMomentsOf}
 use Rattle.bgp_explain.specs.Sending.{IsSendingAt}
 use Rattle.bgp_explain.specs.Tally.{tally_of}
 use Rattle.bgp_tool.specs.Seen.{seen_in}
@@ -24,8 +26,9 @@ IsLast records last = IfSome last (λ message. message.items ≡ last_message re
 
 -- what the records tell of a reason
 pub record AreSaidBy {X : Type 0} (config : Config) (records : List ShownRecord) (said : Told)
-    (sends : Sending) (last : Option (Vec ℕ X)) : Type 0 where
+    (times : Moments) (sends : Sending) (last : Option (Vec ℕ X)) : Type 0 where
   pub told : said ≡ told records
+  pub moments : AreMomentsOf config records times
   pub sending : IsSendingAt config records sends
   pub last_message : IsLast records last
 
@@ -40,6 +43,7 @@ pub record IsToldOf {X : Type 0} (config : Config) (records : List ShownRecord)
     (progress : Progress X) : Type 0 where
   pub count : progress.count ≡ length records
   pub told : progress.told ≡ told records
+  pub moments : AreMomentsOf config records progress.moments
   pub sending : IsSendingAt config records progress.sending
   pub tally : progress.tally ≡ tally_of records
   pub seen : progress.seen ≡ seen_in records

@@ -17,6 +17,7 @@ use Rattle.bgp_tool.specs.Seen.{seen_in}
 use Rattle.bgp_explain.specs.declared.tally.Tally.{Tally}
 use Rattle.bgp_explain.specs.Kept.{shown_by}
 use Rattle.bgp_explain.specs.LeftOut.{LeavesOut}
+use Rattle.bgp_explain.specs.Moments.{AreMomentsOf}
 use Rattle.bgp_explain.specs.Tally.{tally_of}
 
 -- It is the reason at the end of these records: what they tell, and what may follow them. Each kind
@@ -25,6 +26,7 @@ use Rattle.bgp_explain.specs.Tally.{tally_of}
 pub record IsReasonAt {X : Type 0} (config : Config) (records : List ShownRecord)
     (reason : Reason X) : Type 0 where
   pub told : reason.told ≡ told records
+  pub moments : AreMomentsOf config records reason.moments
   pub link : reason.link ≡ sending_link config records
   pub left_out : LeavesOut config records reason.left_out
   pub last_message : reason.last_message.items ≡ last_message records

@@ -1,8 +1,10 @@
 -- What a capture holds beside the records of a session, and the lines on it after a yes.
 use Rattle.std.specs.Prelude.{◌++◌, ℕ, List, [], Option, None, Some, codes}
+use Rattle.std.specs.Prelude.{slice_index_or}
 use Rattle.std.specs.Fmt.{decimal}
 use Rattle.bgp_prefix.specs.Text.{address_text}
-use Rattle.mrt.specs.Capture.{Piece, first_other}
+use Rattle.mrt.specs.Capture.{Piece, others_of}
+use Rattle.mrt.specs.Reader.{places_of}
 use Rattle.mrt.specs.Skipped.{skipped_in}
 use Rattle.mrt.specs.declared.record.Endpoints.{Endpoints}
 use Rattle.bgp_explain.specs.declared.skipped.Skipped.{Skipped}
@@ -11,7 +13,7 @@ use Rattle.bgp_explain.specs.declared.skipped.Skipped.{Skipped}
 abbrev pub skipped_of : List Piece → Skipped
 skipped_of pieces = record {
   counts = skipped_in pieces;
-  first_other = first_other None pieces;
+  others = places_of (others_of [] pieces);
 }
 
 -- ---- the lines
@@ -26,7 +28,7 @@ first_text (Some ends) =
 unfoldable pub sessions_line : Skipped → List ℕ
 sessions_line skipped =
     codes "skipped " ++ (decimal skipped.counts.other_sessions ++ (codes " of other sessions"
-    ++ (first_text skipped.first_other ++ codes "\n")))
+    ++ (first_text (slice_index_or skipped.others 0 None) ++ codes "\n")))
 
 unfoldable pub kinds_line : Skipped → List ℕ
 kinds_line skipped =

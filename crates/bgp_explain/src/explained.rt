@@ -2,6 +2,7 @@
 
 use crate::kept::KeptRecord;
 use crate::left_out::LeftOut;
+use crate::moments::Moments;
 use crate::skipped::Skipped;
 use crate::tally::Tally;
 use bgp_judge::Verdict;
@@ -26,6 +27,8 @@ pub struct Impossible<A: Allocator = Global> {
 pub struct Reason<A: Allocator = Global> {
     /// What the records tell.
     pub told: Told,
+    /// When those were that tell it, and the NOTIFICATION that was sent already.
+    pub moments: Moments,
     /// The link on which a message is sent that follows them.
     pub link: Option<Link>,
     /// What judging leaves out of what both OPENs offer: the first one that was sent, and the one

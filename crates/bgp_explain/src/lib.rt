@@ -17,6 +17,7 @@ mod headline;
 mod kept;
 mod laws;
 mod left_out;
+mod moments;
 mod offers;
 mod opened;
 mod places;
@@ -39,6 +40,7 @@ pub use laws::{
     each_verdict_is_explained_in_one_way, the_last_message_is_told, what_could_have_stood_is_told,
 };
 pub use left_out::LeftOut;
+pub use moments::{Moments, SentNotification};
 pub use opened::{JudgedCapture, judge_opened};
 pub use places::{Place, Places};
 pub use records::{ExplainedRecords, explain_records, put_explained_records};

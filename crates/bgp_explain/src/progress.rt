@@ -13,6 +13,7 @@ ghost use Rattle.bgp_explain.specs.Reason.{AreSummed, HasReason, IsReasonAt};
 
 use crate::explained::{Impossible, Reason};
 use crate::kept::KeptRecord;
+use crate::moments::Moments;
 use crate::sending::Sending;
 use crate::so_far::{Found, Progress, Stop};
 use crate::tally::Tally;
@@ -59,12 +60,13 @@ fn message_after<A: Allocator + Copy>(
 fn stopped<A: Allocator>(
     config: &Config,
     told: Told,
+    moments: Moments,
     sending: Sending,
     last_message: Option<Vec<u8, A>>,
     found: Option<Found<A>>,
 ) -> Option<Reason<A>>
     ensures { (before : List ShownRecord) (shown : ShownRecord)
-        → AreSaidBy config.now before told sending last_message
+        → AreSaidBy config.now before told moments sending last_message
         → IfSome found (IsFound config.now before shown)
         → IfSome result (λ reason. IsReasonAt config.now before reason
         × IsNamed before shown reason.impossible) }
@@ -83,6 +85,7 @@ fn stopped<A: Allocator>(
     };
     Some(Reason {
         told,
+        moments,
         link: sending.link,
         left_out: sending.offers.left_out(config),
         last_message,
@@ -97,11 +100,12 @@ fn unfinished<A: Allocator + Copy, T: Tracker<A>>(
     tracker: &T,
     config: &Config,
     told: Told,
+    moments: Moments,
     sending: Sending,
     last_message: Option<Vec<u8, A>>,
 ) -> Option<Reason<A>>
     ensures { (records : List ShownRecord) → T.stands_for tracker.now config.now records
-        → AreSaidBy config.now records told sending last_message
+        → AreSaidBy config.now records told moments sending last_message
         → IfSome result (λ reason. IsReasonAt config.now records reason
         × (reason.impossible ≡ None)) }
 {
@@ -116,6 +120,7 @@ fn unfinished<A: Allocator + Copy, T: Tracker<A>>(
     expires_in_time(&possible);
     Some(Reason {
         told,
+        moments,
         link: sending.link,
         left_out: sending.offers.left_out(config),
         last_message,
@@ -133,6 +138,7 @@ impl<A: Allocator + Copy> Progress<A> {
         Progress {
             count: 0,
             told: Told::nothing(),
+            moments: Moments::nothing(),
             sending: Sending::nothing(),
             tally: Tally::nothing(),
             seen: Seen::nothing(),
@@ -156,6 +162,8 @@ impl<A: Allocator + Copy> Progress<A> {
         self.tally = self.tally.with(state, shown);
         self.seen = self.seen.with(shown);
         self.told = self.told.with(self.count, shown);
+        let link = self.sending.link;
+        self.moments = self.moments.with(self.count, link, self.told, shown);
         self.sending = self.sending.with(config, state, self.told.state, shown);
         self.last_message = message_after(alloc, self.last_message.take(), shown);
     }
@@ -247,18 +255,27 @@ impl<A: Allocator + Copy> Progress<A> {
         let Progress {
             count,
             told,
+            moments,
             sending,
             last_message,
             stop,
             ..
         } = self;
         if let Some(Stop { found }) = stop {
-            let reason = stopped(config, told, sending, last_message, found);
+            let reason = stopped(config, told, moments, sending, last_message, found);
             return Ok((Verdict::No(count), reason));
         }
         match verdict_of(tracker)? {
             Verdict::Unfinished => {
-                let reason = unfinished(alloc, tracker, config, told, sending, last_message);
+                let reason = unfinished(
+                    alloc,
+                    tracker,
+                    config,
+                    told,
+                    moments,
+                    sending,
+                    last_message,
+                );
                 Ok((Verdict::Unfinished, reason))
             }
             verdict => Ok((verdict, None)),

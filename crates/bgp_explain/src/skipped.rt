@@ -2,10 +2,11 @@
 
 ghost use Rattle.std.specs.Prelude.{◌≡◌, []};
 ghost use Rattle.bgp_text.specs.Lines.{Writes};
+ghost use Rattle.mrt.specs.Reader.{places_of};
 ghost use Rattle.bgp_explain.specs.Skipped.{first_text, kinds_line, sessions_line, skipped_lines};
 
 use bgp_text::{Lines, put_address};
-use mrt::{Endpoints, Reader, Sink, SkippedRecords};
+use mrt::{Endpoints, MOST_OTHERS, Reader, Sink, SkippedRecords};
 use std::alloc::Allocator;
 
 /// What a capture holds beside the records of the session.
@@ -13,8 +14,9 @@ use std::alloc::Allocator;
 pub struct Skipped {
     /// How many records were skipped, by why.
     pub counts: SkippedRecords,
-    /// The addresses of the first record of another session, if there is one.
-    pub first_other: Option<Endpoints>,
+    /// The different pairs of addresses of the records of other sessions, in the order of their
+    /// first records: the first nine. If there are fewer, `None` follows them.
+    pub others: [Option<Endpoints>; MOST_OTHERS],
 }
 
 impl Skipped {
@@ -27,17 +29,18 @@ impl Skipped {
                 received_refreshes: 0,
                 sent_refreshes: 0,
             },
-            first_other: None,
+            others: [None; MOST_OTHERS],
         }
     }
 
     /// What a reader skipped.
     pub(crate) fn by<A: Allocator + Copy>(reader: &Reader<A>) -> Skipped
-        ensures { result ≡ record { counts = reader.now.skipped; first_other = reader.now.other } }
+        ensures { result
+            ≡ record { counts = reader.now.skipped; others = places_of reader.now.others } }
     {
         Skipped {
             counts: reader.skipped(),
-            first_other: reader.first_other(),
+            others: reader.others(),
         }
     }
 }
@@ -61,7 +64,7 @@ fn put_sessions<W: Sink>(lines: &mut Lines<'_, W>, skipped: &Skipped)
     lines.put(b"skipped ");
     lines.put_decimal(skipped.counts.other_sessions);
     lines.put(b" of other sessions");
-    put_first(lines, skipped.first_other);
+    put_first(lines, skipped.others[0]);
     lines.put(b"\n");
 }
 

@@ -3,6 +3,7 @@
 ghost use Rattle.std.specs.Prelude.{◌≤◌};
 
 use crate::explained::Impossible;
+use crate::moments::Moments;
 use crate::sending::Sending;
 use crate::tally::Tally;
 use bgp_reason::{Possible, Told};
@@ -30,6 +31,7 @@ pub(crate) struct Progress<A: Allocator = Global> {
     /// How many records begin a run.
     pub(crate) count: u64,
     pub(crate) told: Told,
+    pub(crate) moments: Moments,
     pub(crate) sending: Sending,
     pub(crate) tally: Tally,
     pub(crate) seen: Seen,

@@ -5,7 +5,7 @@ use Rattle.bgp_prefix.specs.declared.session.Session.{Session}
 use Rattle.mrt.specs.declared.record.Record.{Record}
 use Rattle.mrt.specs.declared.fault.CaptureFault.{CaptureFault}
 use Rattle.mrt.specs.declared.record.Endpoints.{Endpoints}
-use Rattle.mrt.specs.Capture.{Piece, Shown, ArePieces, last_of, joined, records_of, shown_of, first_other}
+use Rattle.mrt.specs.Capture.{Piece, Shown, ArePieces, last_of, joined, records_of, shown_of, others_of}
 use Rattle.mrt.specs.Reading.{IsRefused}
 use Rattle.mrt.specs.Reader.{ReaderState, fresh_reader, Answers, Ends, Fails, IsAnswer, NextBy, IsNext}
 use Rattle.mrt.specs.ReadBy.{Knows}
@@ -13,9 +13,10 @@ use Rattle.mrt.specs.Written.{IsAllowed}
 use Rattle.mrt.specs.Skipped.{skipped_in, both_skipped}
 use Rattle.mrt.specs.declared.skipped.SkippedRecords.{SkippedRecords}
 use Rattle.mrt.proofs.Counts.{chained_counts}
+use Rattle.mrt.proofs.OtherPairs.{others_chain}
 use Rattle.mrt.proofs.Advancing.{joined_more}
 use Rattle.mrt.proofs.AllowedRecord.{each_allowed}
-use Rattle.mrt.proofs.Chains.{joined_chain, records_chain, last_chain, other_chain, pieces_chain, one_record, last_piece, no_pieces_there}
+use Rattle.mrt.proofs.Chains.{joined_chain, records_chain, last_chain, pieces_chain, one_record, last_piece, no_pieces_there}
 use Rattle.bgp_text.specs.Capture.{IsRecordLine, AreRecordLines}
 use Rattle.bgp_tool.specs.CaptureDecoding.{EndsAt}
 
@@ -44,7 +45,7 @@ module _ {R : Type 0} (gives : R → R → List ℕ → Type 0) (has_ended : R �
     pub gave : gives source now (joined pieces)
     pub passed : state.passed ≡ length (joined pieces)
     pub last : state.last ≡ last_of None pieces
-    pub other : state.other ≡ first_other None pieces
+    pub others : state.others ≡ others_of [] pieces
     pub skipped : state.skipped ≡ skipped_in pieces
     pub calm : state.fault ≡ None
     pub going : state.is_ended ≡ false
@@ -57,7 +58,7 @@ module _ {R : Type 0} (gives : R → R → List ℕ → Type 0) (has_ended : R �
     gave = nothing;
     passed = ap (λ (s : ReaderState). s.passed) fresh;
     last = ap (λ (s : ReaderState). s.last) fresh;
-    other = ap (λ (s : ReaderState). s.other) fresh;
+    others = ap (λ (s : ReaderState). s.others) fresh;
     skipped = ap (λ (s : ReaderState). s.skipped) fresh;
     calm = ap (λ (s : ReaderState). s.fault) fresh;
     going = ap (λ (s : ReaderState). s.is_ended) fresh;
@@ -105,10 +106,10 @@ module _ {R : Type 0} (gives : R → R → List ℕ → Type 0) (has_ended : R �
   last_behind now state text so_far more =
       ap (λ (l : Option ℕ). last_of l more) so_far.last ∙ sym (last_chain None so_far.pieces more)
 
-  other_behind : (now : R) (state : ReaderState) (text : List ℕ) (so_far : SoFar now state text) (more : List Piece)
-      → first_other state.other more ≡ first_other None (so_far.pieces ++ more)
-  other_behind now state text so_far more =
-      ap (λ (o : Option Endpoints). first_other o more) so_far.other ∙ sym (other_chain None so_far.pieces more)
+  others_behind : (now : R) (state : ReaderState) (text : List ℕ) (so_far : SoFar now state text) (more : List Piece)
+      → others_of state.others more ≡ others_of [] (so_far.pieces ++ more)
+  others_behind now state text so_far more =
+      ap (λ (o : List Endpoints). others_of o more) so_far.others ∙ sym (others_chain [] so_far.pieces more)
 
   skipped_behind : (now : R) (state : ReaderState) (text : List ℕ) (so_far : SoFar now state text) (more : List Piece)
       → both_skipped state.skipped (skipped_in more) ≡ skipped_in (so_far.pieces ++ more)
@@ -138,7 +139,7 @@ module _ {R : Type 0} (gives : R → R → List ℕ → Type 0) (has_ended : R �
         gave = given_behind now next state text so_far more answer.exactly;
         passed = ap (λ (s : ReaderState). s.passed) answer.stands ∙ count_behind now state text so_far more;
         last = ap (λ (s : ReaderState). s.last) answer.stands ∙ last_behind now state text so_far more;
-        other = ap (λ (s : ReaderState). s.other) answer.stands ∙ other_behind now state text so_far more;
+        others = ap (λ (s : ReaderState). s.others) answer.stands ∙ others_behind now state text so_far more;
         skipped = ap (λ (s : ReaderState). s.skipped) answer.stands ∙ skipped_behind now state text so_far more;
         calm = ap (λ (s : ReaderState). s.fault) answer.stands ∙ so_far.calm;
         going = ap (λ (s : ReaderState). s.is_ended) answer.stands ∙ so_far.going;
@@ -170,7 +171,7 @@ module _ {R : Type 0} (gives : R → R → List ℕ → Type 0) (has_ended : R �
     rest = [];
     knows = (
       ap (λ (s : ReaderState). s.last) ends.stands ∙ last_behind now state text so_far ends.skipped,
-      ap (λ (s : ReaderState). s.other) ends.stands ∙ other_behind now state text so_far ends.skipped,
+      ap (λ (s : ReaderState). s.others) ends.stands ∙ others_behind now state text so_far ends.skipped,
       ap (λ (s : ReaderState). s.skipped) ends.stands ∙ skipped_behind now state text so_far ends.skipped,
     );
     gave = subst (λ (o : List ℕ). gives source next o) (sym (append-nil (joined (so_far.pieces ++ ends.skipped)))) (given_behind now next state text so_far ends.skipped ends.exactly);
@@ -204,7 +205,7 @@ module _ {R : Type 0} (gives : R → R → List ℕ → Type 0) (has_ended : R �
     rest = fails.rest;
     knows = (
       ap (λ (s : ReaderState). s.last) fails.stands ∙ last_behind now state text so_far fails.skipped,
-      ap (λ (s : ReaderState). s.other) fails.stands ∙ other_behind now state text so_far fails.skipped,
+      ap (λ (s : ReaderState). s.others) fails.stands ∙ others_behind now state text so_far fails.skipped,
       ap (λ (s : ReaderState). s.skipped) fails.stands ∙ skipped_behind now state text so_far fails.skipped,
     );
     gave = subst (λ (o : List ℕ). gives source next o)

@@ -2,6 +2,7 @@
 -- octets, and what is told of its end on standard error.
 use Rattle.std.specs.Prelude.{◌≡◌, ◌<◌, ◌+◌, ◌++◌, ◌==◌, ℕ, Bool, true, false, List}
 use Rattle.std.specs.Prelude.{Option, None, Some, is_some, option_map, if◌then◌else◌}
+use Rattle.std.specs.Prelude.{slice_get}
 use Rattle.std.specs.Borrow.{Bor}
 use Rattle.bgp_prefix.specs.declared.session.Session.{Session}
 use Rattle.mrt.specs.Capture.{joined}
@@ -41,10 +42,10 @@ may_be_of_session kinds.AddPath = true
 may_be_of_session kinds.Device = false
 may_be_of_session kinds.Memory = false
 
--- no record of the session was met, and this is the first of another one
-abbrev pub unmet_by : Bool → Option Endpoints → Option Unmet
-unmet_by true other = None
-unmet_by false other = Some (record { other = other })
+-- no record of the session was met, and those of others are between these addresses
+abbrev pub unmet_by : Bool → List (Option Endpoints) → Option Unmet
+unmet_by true others = None
+unmet_by false others = Some (record { others = others })
 
 -- a record is refused that may be one of the session
 abbrev pub refuses_of_session : Option CaptureFault → Bool
@@ -60,27 +61,28 @@ unless_met (Some other) of_session form = None
 
 -- What is told of what was read of a capture, by whether a record of the session was read, what the
 -- file is if it is no capture, why it is refused if it is, what is lacking in it if it is judged
--- yes, and the addresses of the first record of another session.
+-- yes, and the addresses for which records of other sessions were skipped.
 module _ (command : CaptureCommand) (file : Bor (List ℕ)) where
   abbrev pub told_where : Bool → Option Form → Option CaptureFault → Option Seen
-      → Option Endpoints → Option Note
-  told_where true form None lacking other = option_map (NothingDone file) lacking
-  told_where true form (Some fault) lacking other = Some (Refused file fault None)
-  told_where false (Some form) fault lacking other = Some (NoCapture file form command)
-  told_where false None None lacking other = Some (NoSession file other)
-  told_where false None (Some fault) lacking other =
-      Some (Refused file fault (unmet_by (may_be_of_session fault.kind) other))
+      → List (Option Endpoints) → Option Note
+  told_where true form None lacking others = option_map (NothingDone file) lacking
+  told_where true form (Some fault) lacking others = Some (Refused file fault None)
+  told_where false (Some form) fault lacking others = Some (NoCapture file form command)
+  told_where false None None lacking others = Some (NoSession file others)
+  told_where false None (Some fault) lacking others =
+      Some (Refused file fault (unmet_by (may_be_of_session fault.kind) others))
 
-  abbrev pub told_by : Bool → Option Form → Option CaptureFault → Option Seen → Option Endpoints
+  abbrev pub told_by : Bool → Option Form → Option CaptureFault → Option Seen → List Endpoints
       → Option Note
-  told_by found form fault lacking other =
-      told_where found (unless_met other (refuses_of_session fault) form) fault lacking other
+  told_by found form fault lacking others =
+      told_where found (unless_met (slice_get others 0) (refuses_of_session fault) form) fault
+      lacking (records.places_of others)
 
   -- by the first octets and what was found
   abbrev pub told_of : List ℕ → records.ReaderState → Option CaptureFault → Option Seen
       → Option Note
   told_of octets found fault lacking =
-      told_by (is_some found.last) (no_capture (kept octets)) fault lacking found.other
+      told_by (is_some found.last) (no_capture (kept octets)) fault lacking found.others
 
 -- what is told of messages that were passed over, by how many they are: nothing where none was
 abbrev pub counted : (ℕ → Note) → ℕ → Option Note

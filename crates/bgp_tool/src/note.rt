@@ -8,7 +8,7 @@ use crate::pair_fault::{PairEnd, PairFault};
 use crate::refusal_note::put_refusal;
 use crate::seen::Seen;
 use bgp_open::RouteOffer;
-use mrt::{CaptureFault, Endpoints};
+use mrt::{CaptureFault, Endpoints, MOST_OTHERS};
 use std::fmt;
 use std::io::ErrorKind;
 
@@ -30,8 +30,9 @@ pub enum CaptureCommand {
 /// That no record of a session was met.
 #[derive(Clone, Copy, Debug, PartialEq, Eq)]
 pub struct Unmet {
-    /// The addresses of the first record of another session, if there was one.
-    pub other: Option<Endpoints>,
+    /// The different pairs of addresses of the records of other sessions, in the order of their
+    /// first records: the first nine. If there are fewer, `None` follows them.
+    pub others: [Option<Endpoints>; MOST_OTHERS],
 }
 
 /// What there is to tell of a command's end, besides its exit status: one sentence.
@@ -71,8 +72,8 @@ pub enum Note<'a> {
     NoSession {
         /// Its name, or `-` for standard input.
         file: &'a str,
-        /// The addresses of the first record of another session, if there was one.
-        other: Option<Endpoints>,
+        /// The different pairs of addresses of the records of other sessions, as in [`Unmet`].
+        others: [Option<Endpoints>; MOST_OTHERS],
     },
     /// No record of any session is in the capture, which was read to its end.
     NoSessions {
@@ -123,7 +124,7 @@ pub enum Note<'a> {
     },
     /// An UPDATE of a confederation is among the records that were judged.
     Confederation,
-    /// Nothing is configured to be offered about routes, though both OPENs offer several paths for
+    /// Nothing is configured to be offered about routes, though both OPENs offer several paths to
     /// a prefix (RFC 7911) or IPv6 next hops of IPv4 routes (RFC 8950).
     Without {
         /// What the OPEN offers that was sent.
@@ -177,7 +178,7 @@ impl fmt::Display for Note<'_> {
             Note::OutOfMemory { file, octet } => {
                 write!(f, "{}: memory was refused at octet {octet}", Told(file))
             }
-            Note::NoSession { file, other } => put_no_session(f, file, other),
+            Note::NoSession { file, others } => put_no_session(f, file, Unmet { others }),
             Note::NoSessions { file } => write!(
                 f,
                 "{}: no record of a session is in the file: the entries of a table aren't judged",
@@ -257,29 +258,56 @@ fn put_unwritten<W: fmt::Write>(
 fn put_no_session<W: fmt::Write>(
     f: &mut fmt::Formatter<W>,
     file: &str,
-    other: Option<Endpoints>,
+    unmet: Unmet,
 ) -> fmt::Result {
     write!(f, "{}: ", Told(file))?;
-    put_unmet(f, file, Unmet { other })
+    put_unmet(f, file, unmet)
 }
 
-/// That no record of the session was read, whose the first of another one is, and what prints the
-/// addresses of each.
+/// How many pairs of addresses are named.
+const MOST_NAMED: usize = MOST_OTHERS - 1;
+
+/// Writes the pairs of addresses, eight at the most, and whether there are others.
+fn put_others<W: fmt::Write>(
+    f: &mut fmt::Formatter<W>,
+    first: Endpoints,
+    others: &[Option<Endpoints>; MOST_OTHERS],
+) -> fmt::Result {
+    let verb = if others[1].is_some() {
+        "other sessions have"
+    } else {
+        "another session has"
+    };
+    let Endpoints { peer, local } = first;
+    write!(f, "; {verb} the peer {peer} and the local address {local}")?;
+    for other in &others[1..MOST_NAMED] {
+        if let Some(Endpoints { peer, local }) = other {
+            write!(f, ", the peer {peer} and the local address {local}")?;
+        }
+    }
+    if others[MOST_NAMED].is_some() {
+        f.write_str(", and others")?;
+    }
+    Ok(())
+}
+
+/// That no record of the session was read, between which addresses those of other sessions are, and
+/// what prints the addresses of each.
 pub(crate) fn put_unmet<W: fmt::Write>(
     f: &mut fmt::Formatter<W>,
     file: &str,
     unmet: Unmet,
 ) -> fmt::Result {
     f.write_str("no record of this session was read")?;
-    match unmet.other {
-        Some(Endpoints { peer, local }) => write!(
-            f,
-            "; the first of another one has the peer {peer} and the local address {local}: `bgp \
-             list {}` prints the addresses of each session",
-            Word(file)
-        ),
-        None => Ok(()),
-    }
+    let Some(first) = unmet.others[0] else {
+        return Ok(());
+    };
+    put_others(f, first, &unmet.others)?;
+    write!(
+        f,
+        ": `bgp list {}` prints the addresses of each session",
+        Word(file)
+    )
 }
 
 /// The sentence on a capture that is judged yes and shows nothing that the router did.

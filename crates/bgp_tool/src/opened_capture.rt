@@ -18,7 +18,7 @@ use crate::opened::{Outcome, unopened, unwritten};
 use crate::ready::Ready;
 use crate::seen::Seen;
 use bgp_prefix::Session;
-use mrt::{CaptureFault, Endpoints, FaultKind, FromRead, FromWrite, Reader, Sink};
+use mrt::{CaptureFault, Endpoints, FaultKind, FromRead, FromWrite, MOST_OTHERS, Reader, Sink};
 use std::alloc::Allocator;
 use std::io;
 use std::io::{Read, Write};
@@ -98,7 +98,7 @@ pub fn note_of<'a, R: Read, A: Allocator + Copy>(
     lacking: Option<Seen>,
 ) -> Option<Note<'a>>
     ensures read { status < 4 → result ≡ told_by command file.entry (is_some records.now.last)
-        (no_capture_by source.now.front.items) refused lacking records.now.other }
+        (no_capture_by source.now.front.items) refused lacking records.now.others }
     ensures memory { status ≡ 4 → result
         ≡ Some (notes.OutOfMemory file.entry (reader_state source.now.source).given) }
     ensures reader { status ≡ 5 → result ≡ Some (notes.Unread file.entry
@@ -126,7 +126,7 @@ fn told<'a, A: Allocator + Copy>(
     lacking: Option<Seen>,
 ) -> Option<Note<'a>>
     ensures { result ≡ told_by command file.entry (is_some records.now.last)
-        (no_capture_by front.now) refused lacking records.now.other }
+        (no_capture_by front.now) refused lacking records.now.others }
 {
     if records.has_answered() {
         let unmet = None;
@@ -135,21 +135,21 @@ fn told<'a, A: Allocator + Copy>(
             None => lacking.map(|seen| Note::NothingDone { file, seen }),
         };
     }
-    let other = records.first_other();
     let of_session = refuses_of_session(refused);
-    if let Some(form) = unless_met(other, of_session, no_capture(front)) {
+    if let Some(form) = unless_met(records.first_other(), of_session, no_capture(front)) {
         return Some(Note::NoCapture {
             file,
             form,
             command,
         });
     }
+    let others = records.others();
     match refused {
         Some(fault) => {
-            let unmet = unmet_at(fault.kind, other);
+            let unmet = unmet_at(fault.kind, others);
             Some(Note::Refused { file, fault, unmet })
         }
-        None => Some(Note::NoSession { file, other }),
+        None => Some(Note::NoSession { file, others }),
     }
 }
 
@@ -176,13 +176,13 @@ fn refuses_of_session(refused: Option<CaptureFault>) -> bool
 
 /// That no record of the session was met where a capture is refused so before one was read, unless
 /// the record that is refused may be one.
-fn unmet_at(kind: FaultKind, other: Option<Endpoints>) -> Option<Unmet>
-    ensures { result ≡ unmet_by (may_be_of_session kind) other }
+fn unmet_at(kind: FaultKind, others: [Option<Endpoints>; MOST_OTHERS]) -> Option<Unmet>
+    ensures { result ≡ unmet_by (may_be_of_session kind) others }
 {
     if may_be_of_session(kind) {
         None
     } else {
-        Some(Unmet { other })
+        Some(Unmet { others })
     }
 }
 

@@ -63,10 +63,10 @@ returns-clause-reported g c =
       | else-failures w ↦ rw w.note-is (of_reader Judge file last octets found fault lacking old new status w.note_of-note.result
           (omega (arith, w.if-failures.false, c.failures.ensures, c.failures-failures.ensures))
           (λ less. w.note_of-note.ensures.read less
-          ∙ ap (λ l. told_by Judge file (is_some found.last) (no_capture seen.front.items) refused l found.other) w.lacking-lacking.ensures
-          ∙ ap (λ (o : List ℕ). told_by Judge file (is_some found.last) (no_capture o) refused (lacking_by (status == 0) shows) found.other) front
-          ∙ ap (λ f. told_by Judge file (is_some found.last) (no_capture (kept octets)) f (lacking_by (status == 0) shows) found.other) is
-          ∙ ap (λ l. told_by Judge file (is_some found.last) (no_capture (kept octets)) fault l found.other)
+          ∙ ap (λ l. told_by Judge file (is_some found.last) (no_capture seen.front.items) refused l found.others) w.lacking-lacking.ensures
+          ∙ ap (λ (o : List ℕ). told_by Judge file (is_some found.last) (no_capture o) refused (lacking_by (status == 0) shows) found.others) front
+          ∙ ap (λ f. told_by Judge file (is_some found.last) (no_capture (kept octets)) f (lacking_by (status == 0) shows) found.others) is
+          ∙ ap (λ l. told_by Judge file (is_some found.last) (no_capture (kept octets)) fault l found.others)
           (ap (λ (n : ℕ). lacking_by (n == 0) shows) (same_code all (omega (arith, w.if-failures.false, c.failures.ensures, c.failures-failures.ensures))) ∙ lack))
           w.note_of-note.ensures.memory w.note_of-note.ensures.reader)
     ] in

@@ -8,6 +8,7 @@ returns g c = λ before shown said found.
     let is = subst (λ o. IfSome o (IsFound c.args.config.now before shown)) c.in-Some-found.is found in (
       record {
         told = said.told;
+        moments = said.moments;
         link = said.sending.link;
         left_out = c.left_out.ensures before said.sending.offers;
         last_message = last;

@@ -9,6 +9,7 @@ returns g c = λ records stands said.
     let same = c.as_slice-last.ensures.value ∙ last in (
       record {
         told = said.told;
+        moments = said.moments;
         link = said.sending.link;
         left_out = c.left_out.ensures records said.sending.offers;
         last_message = last;

@@ -53,8 +53,8 @@ returns-clause-decoded g c =
         | else-failures w ↦ rw w.note-is (of_reader Decode file last octets found (fault_in decoded.answer) None old new status w.note_of-note.result
             (omega (arith, w.if-failures.false, c.failures.ensures, c.failures-failures.ensures))
             (λ less. w.note_of-note.ensures.read less
-            ∙ ap (λ (o : List ℕ). told_by Decode file (is_some found.last) (no_capture o) c.decode_with-decoded.result.refused None found.other) front
-            ∙ ap (λ f. told_by Decode file (is_some found.last) (no_capture (kept octets)) f None found.other) refused)
+            ∙ ap (λ (o : List ℕ). told_by Decode file (is_some found.last) (no_capture o) c.decode_with-decoded.result.refused None found.others) front
+            ∙ ap (λ f. told_by Decode file (is_some found.last) (no_capture (kept octets)) f None found.others) refused)
             w.note_of-note.ensures.memory w.note_of-note.ensures.reader)
       ];
       skipped = ap Some c.skipped-skipped.ensures;

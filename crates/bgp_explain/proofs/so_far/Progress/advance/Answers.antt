@@ -22,6 +22,6 @@ returns-then-not-branch-clause-next g c = λ records at.
       stops = λ more.
           let t : IsTrue c.in_ok-take.field-0 = may.1 more in
           let no = c.if-not-branch.true in cc;
-      tells = record { count = so.2.count; told = so.2.told; sending = so.2.sending; tally = so.2.tally; seen = so.2.seen; last_message = so.2.last_message };
+      tells = record { count = so.2.count; told = so.2.told; moments = so.2.moments; sending = so.2.sending; tally = so.2.tally; seen = so.2.seen; last_message = so.2.last_message };
       found = c.find-found.ensures records kept so.2;
     }

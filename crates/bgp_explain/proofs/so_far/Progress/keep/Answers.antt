@@ -20,7 +20,8 @@ returns-clause-told g c = λ records is begins.
     c.with-self-3.ensures ∙ ap (λ (n : ℕ). told_with (n + 1) shown c.args.self.now.told) is.count ∙ ap (λ (t : Told). told_with (length records + 1) shown t) is.told ∙ sym (law.one_more records shown) in
     let after = ap (λ (t : Told). t.state) told_then ∙ law.state (records ++ shown ∷ []) in
     told_more law.one_more records shown c.args.config.now c.args.self.now _ is
-    (c.with-self-4.ensures records state after begins is.sending)
+    (c.with-self-4.ensures c.args.config.now records (ap (λ (n : ℕ). n + 1) is.count) is.sending.link told_then is.moments)
+    (c.with-self-5.ensures records state after begins is.sending)
     (c.with-self.ensures ∙ ap (λ (t : Tally). tally_with t c.args.self.now.told.state shown) is.tally ∙ ap (λ (f : Fsm). tally_with (tally_of records) f shown) state ∙ tally_more records shown)
     (c.with-self-2.ensures ∙ ap (λ (s : Seen). seen_with s shown) is.seen ∙ seen_more records shown)
     refl c.with-self-3.ensures
