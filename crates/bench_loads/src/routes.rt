@@ -194,7 +194,7 @@ fn is_in_order(routes: &RibIn, feed: &Feed) -> bool {
     let mut last: Option<Destination> = None;
     let mut count = 0u32;
     for (destination, _) in routes.routes() {
-        if last.is_some_and(|last| last >= destination) {
+        if last.is_some_and(|last| last.prefix >= destination.prefix) {
             return false;
         }
         last = Some(destination);

@@ -38,7 +38,7 @@ pub(crate) type Expected<'a> = (Fsm, Families, &'a [&'a str]);
 /// Whether the destination is just the prefix of this text.
 fn is_just(destination: Destination, text: &str) -> bool {
     match read_prefix(text) {
-        Some(prefix) => destination == Destination::plain(prefix),
+        Some(prefix) => destination.prefix == prefix && destination.path.is_none(),
         None => false,
     }
 }

@@ -14,7 +14,7 @@ use bgp_open::{
 };
 use bgp_path::Path;
 use bgp_text::write_route;
-use bgp_update::{Changes, Destination, Outcomes, PathId, Subcodes, is_clean, read_update};
+use bgp_update::{Changes, Destination, Outcomes, Subcodes, is_clean, read_update};
 use bgp_vectors::SPEAKER_A;
 use mrt::MemSink;
 use std::alloc::{AllocError, Global};
@@ -216,7 +216,7 @@ fn push_destination(
     let Destination { prefix, path } = destination;
     text.push_str(format!(in alloc; " {prefix}")?.as_str())?;
     match path {
-        Some(PathId(number)) => text.push_str(format!(in alloc; "#{number}")?.as_str()),
+        Some(id) => text.push_str(format!(in alloc; "#{}", id.number())?.as_str()),
         None => Ok(()),
     }
 }

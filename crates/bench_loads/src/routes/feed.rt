@@ -4,7 +4,7 @@ use crate::parties::{PEER_ADDRESS, PEER_AS};
 use crate::paths::{Attributes, path_of};
 use bgp_path::{Origin, Path};
 use bgp_prefix::{Address, Family, Prefix};
-use bgp_update::{Changes, Destination, Put};
+use bgp_update::{Changes, Destination, PathId, Put};
 use std::alloc::{AllocError, Global};
 use std::ops::Range;
 
@@ -70,7 +70,8 @@ impl Feed {
         let mut destinations = Vec::new(alloc);
         for index in members {
             if let Some(prefix) = self.prefix(family, index) {
-                destinations.push(Destination::plain(prefix))?;
+                let path: Option<PathId> = None;
+                destinations.push(Destination { prefix, path })?;
             }
         }
         Ok(destinations)
