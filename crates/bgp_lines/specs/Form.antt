@@ -92,7 +92,7 @@ unfoldable pub placed_text : ℕ → Option ℕ → List ℕ → List ℕ → Li
 placed_text second packet word text =
     codes "@" ++ (decimal second ++ (packet_text packet ++ (word ++ text)))
 
--- a record, and the packet that shows it, if that is told
+-- a record, and the packet that shows it, if that is known
 pub record PlacedRecord : Type 0 where
   pub packet : Option ℕ
   pub shown : ShownRecord

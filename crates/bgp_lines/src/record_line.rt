@@ -1,5 +1,5 @@
 //! The line of a record in words: of a message or of a change of state, with its second and, if it
-//! is told, the packet that shows it.
+//! is known, the packet that shows it.
 
 ghost use Rattle.std.specs.Prelude.{◌≤◌, ℕ, List, codes, length};
 ghost use Rattle.bgp_wire.specs.Header.{limit_with};

@@ -158,8 +158,8 @@ impl Teller {
         }
     }
 
-    /// Puts the line of the next record, which a capture of the session may have. In words it tells
-    /// the packet, if one is given.
+    /// Puts the line of the next record, which a capture of the session may have. In words it
+    /// names the packet, if one is given.
     pub fn put_record<W: Sink>(
         &mut self,
         lines: &mut Lines<'_, W>,

@@ -45,7 +45,7 @@ unfoldable pub changed_deed : ℕ → ℕ → List ℕ
 changed_deed old new = codes "went from " ++ (state_name old ++ (codes " to " ++ state_name new))
 
 -- What a record of the session with this peer shows was done, where routes are spelled in this
--- form. A message is told by the limit of the session, so that a longer one is told as a fault.
+-- form. A message is named by the limit of the session, so that a longer one is a fault.
 abbrev pub IsDeed : Session → Endpoint → RouteForm → ShownRecord → List ℕ → Type 0
 IsDeed session peer form (Received second octets) text =
     (name : MessageName) × IsNamed form (limit_with session.extended) octets name
@@ -55,7 +55,7 @@ IsDeed session peer form (Sent second octets) text =
     × (text ≡ sent_deed peer name)
 IsDeed session peer form (Changed second old new) text = text ≡ changed_deed old new
 
--- the peer of a session, whose port isn't told
+-- the peer of a session, whose port isn't known
 abbrev pub peer_of : Session → Endpoint
 peer_of session = record { address = session.peer; port = None }
 

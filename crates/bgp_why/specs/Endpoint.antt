@@ -12,7 +12,7 @@ with_port (V4 number) port = address_text (V4 number) ++ (codes ":" ++ decimal p
 with_port (V6 number) port =
     codes "[" ++ (address_text (V6 number) ++ (codes "]:" ++ decimal port))
 
--- the port, if it is told
+-- the port, if it is known
 abbrev pub endpoint_by : Address → Option ℕ → List ℕ
 endpoint_by address None = address_text address
 endpoint_by address (Some port) = with_port address port

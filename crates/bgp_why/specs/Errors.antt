@@ -1,5 +1,5 @@
--- Sets of errors that a NOTIFICATION tells (RFC 4271, 4.5): their codes and subcodes with names,
--- ascending, and the data that some have to have.
+-- Sets of errors that a NOTIFICATION may report (RFC 4271, 4.5): their codes and subcodes with
+-- names, ascending, and the data that some have to have.
 use Rattle.std.specs.Prelude.{◌++◌, ◌&&◌, ℕ, Bool, true, false, List, [], ◌∷◌, Option, None, Some}
 use Rattle.std.specs.Prelude.{if◌then◌else◌, codes, is_some}
 use Rattle.std.specs.Bool.{then_some}

@@ -106,7 +106,7 @@ abbrev pub from_text : ℕ → ℕ → List ℕ
 from_text first from =
     if from == 0 then [] else codes " at " ++ (short_text first from None ++ codes " or later")
 
--- a state that is told once more, the end of the session, and another change
+-- a state that is recorded once more, the end of the session, and another change
 abbrev pub same_text : ℕ → List ℕ
 same_text state = codes "the same state once more, " ++ state_name state
 

@@ -26,13 +26,13 @@ IsWhyNot limit octets (Some (Faulty errors)) =
 IsWhyNot limit octets (Some BelowHeader) = length octets < 19
 IsWhyNot limit octets (Some OtherCount) = IsOtherCount limit octets
 
--- a message that was sent is none for this; of other records nothing is told
+-- a message that was sent is none for this; there is no such reason for other records
 abbrev pub IsWhyNotSent : Option Link → ShownRecord → Option NotWhole → Type 0
 IsWhyNotSent link (Received second octets) why = why ≡ None
 IsWhyNotSent link (Sent second octets) why = IsWhyNot (limit_on link) octets why
 IsWhyNotSent link (Changed second old new) why = why ≡ None
 
--- the line, where there is one: the faults of a header are told by the message's name
+-- the line, if there is one: the message's name has the faults of a header
 abbrev pub not_whole_line : Option NotWhole → List ℕ
 not_whole_line None = []
 not_whole_line (Some (Faulty errors)) = []

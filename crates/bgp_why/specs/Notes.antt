@@ -73,8 +73,7 @@ HasNoHold (Some link) = link.hold ≡ 0
 abbrev pub IsSendOwed : Possible → Type 0
 IsSendOwed possible = IsFalse possible.message × IsTrue (has_sent possible)
 
--- of the message that was received last what was received since Idle was told: no octets where
--- nothing was
+-- the message that was received last since the last change to Idle: no octets if none was
 abbrev pub since_idle : Told → List ℕ → List ℕ
 since_idle told last = if is_some told.last_received then last else []
 

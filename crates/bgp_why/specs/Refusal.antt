@@ -13,7 +13,7 @@ use Rattle.bgp_why.specs.declared.refusal.OpenReasons.TheVariants.{Fields}
 abbrev pub IsRefusedBy : Config → List ℕ → ℕ → Type 0
 IsRefusedBy config octets subcode = mandatory_faults config octets subcode []
 
--- what a field says is told just where the OPEN has to be refused for it, by this subcode
+-- a field's value is kept exactly if the OPEN has to be refused for it, by this subcode
 abbrev pub IsToldOf : Config → List ℕ → ℕ → Option ℕ → ℕ → Type 0
 IsToldOf config octets subcode told said =
     MatchOption told (¬ IsRefusedBy config octets subcode)
@@ -29,7 +29,7 @@ pub record AreFieldReasons (config : Config) (octets : List ℕ) (reasons : Fiel
     pub hold : IsToldOf config octets 6 reasons.hold (open_of octets).hold
     pub configured_as : reasons.configured_as ≡ config.parts.peer_as
 
--- another version than 4, and nothing else is read; fields that can't be told; or fields at fault
+-- another version than 4, and nothing else is read; fields that can't be read; or fields at fault
 abbrev pub AreReasons : Config → List ℕ → OpenReasons → Type 0
 AreReasons config octets (Version number) =
     IsOfOtherVersion octets × (number ≡ version_of (fixed_fields_of octets))

@@ -9,12 +9,12 @@ use Rattle.bgp_why.specs.declared.place.Place.{Place}
 use Rattle.bgp_why.specs.declared.state.SentAlready.{SentAlready}
 use Rattle.bgp_why.specs.Place.{place_at}
 
--- the record that told it, if one did
+-- the record that shows the change to it, if there is one
 abbrev pub since_text : ℕ → Option Place → List ℕ
 since_text first None = []
 since_text first (Some place) = codes " since " ++ place_at first place
 
--- the state that was told last, Idle if none was
+-- the state after the last change, Idle if there was none
 unfoldable pub state_line : ℕ → Fsm → Option Place → List ℕ
 state_line first state since =
     codes "  state: " ++ (state_name (number_of state) ++ (since_text first since ++ codes "\n"))
@@ -33,7 +33,7 @@ already_line first (Some sent) = sent_line first sent
 abbrev pub as_text : ℕ → List ℕ
 as_text number = decimal number ++ (if number == 23456 then codes " (AS_TRANS)" else [])
 
--- the configuration under which the lines below are told has any other AS number of the peer
+-- the configuration that the lines below are about has any other AS number of the peer
 unfoldable pub another_as_line : ℕ → List ℕ
 another_as_line number =
     codes "  the lines below are for a router configured for a peer in another AS than "

@@ -24,7 +24,7 @@ use bgp_why_parts::{Parts, put_parts};
 use mrt::Sink;
 use std::alloc::{AllocError, Allocator, Global};
 
-/// The sets of families, in the order in which they are told.
+/// The sets of families, in the order in which they are printed.
 const NONE: Families = Families {
     v4: false,
     v6: false,

@@ -21,7 +21,7 @@ use bgp_prefix::Seconds;
 use bgp_text::Lines;
 use mrt::Sink;
 
-/// A message that was received, as far as it tells what it asks for.
+/// A message that was received, as far as it decides what it asks for.
 #[derive(Clone, Copy)]
 pub enum Received {
     /// Its header has faults.

@@ -106,7 +106,8 @@ pub fn put_deed<W: Sink>(
 
 /// Puts the line of the record at which a no stands: `record 6, 1970-01-01 00:01:41 UTC: 192.0.2.1
 /// received KEEPALIVE from 192.0.2.2, but KEEPALIVE was due first`. The record is one that a
-/// capture of the session may have; if a link is settled, it says how the routes of an UPDATE are spelled.
+/// capture of the session may have. If a link is settled, it says how the routes of an UPDATE are
+/// spelled.
 pub fn put_record_line<W: Sink, A: Allocator>(
     lines: &mut Lines<'_, W>,
     style: &Style,

@@ -13,7 +13,7 @@ use mrt::Sink;
 pub struct Endpoint {
     /// Its address.
     pub address: Address,
-    /// Its TCP port, if it is told.
+    /// Its TCP port, if it is known.
     pub port: Option<u16>,
 }
 
@@ -46,7 +46,7 @@ fn put_with_port<W: Sink>(lines: &mut Lines<'_, W>, address: Address, port: u16)
     }
 }
 
-/// An address, with its port if it is told.
+/// An address, with its port if it is known.
 fn put_by<W: Sink>(lines: &mut Lines<'_, W>, address: Address, port: Option<u16>)
     ensures { Writes lines.old lines.new (endpoint_by address port) }
 {

@@ -1,4 +1,4 @@
-//! Sets of errors that a NOTIFICATION tells (RFC 4271, 4.5).
+//! Sets of errors that a NOTIFICATION may report (RFC 4271, 4.5).
 
 ghost use Rattle.std.specs.Prelude.{◌≡◌, ◌&&◌, Option, is_some, codes};
 ghost use Rattle.std.specs.Bool.{then_some};

@@ -51,7 +51,7 @@ pub(crate) enum Item {
     StateErrors(FsmErrors),
     /// Cease.
     Cease,
-    /// The state changes from one to another, or is told as it is.
+    /// The state changes from one to another, or is recorded once more as it is.
     Change(Fsm, Fsm),
 }
 
@@ -231,7 +231,7 @@ fn put_other_change<W: Sink>(lines: &mut Lines<'_, W>, old: u16, new: u16)
     lines.put(b" [RFC 4271 8.2.2]");
 }
 
-/// A state that is told as it was.
+/// A state that is recorded once more as it was.
 fn put_same_state<W: Sink>(lines: &mut Lines<'_, W>, state: u16)
     ensures { Writes lines.old lines.new (same_text state) }
 {

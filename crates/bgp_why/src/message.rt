@@ -27,7 +27,7 @@ pub enum MessageName {
     MalformedOpen,
     /// An UPDATE.
     Update,
-    /// An UPDATE whose fields can't be told.
+    /// An UPDATE whose fields can't be read.
     MalformedUpdate,
     /// A KEEPALIVE.
     Keepalive,

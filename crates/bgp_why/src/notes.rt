@@ -136,7 +136,7 @@ fn has_no_hold(link: Option<Link>) -> bool
     }
 }
 
-/// The message that was received last, or no octets where none was since Idle was told.
+/// The message that was received last since the last change to Idle, or no octets if none was.
 fn since_idle<'a>(told: &Told, last: &'a [u8]) -> &'a [u8]
     ensures { result.now ≡ since_idle told.now last.entry.now }
 {

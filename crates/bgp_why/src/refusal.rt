@@ -34,7 +34,7 @@ pub struct FieldReasons {
 pub enum OpenReasons {
     /// It is of this version, which isn't 4, and nothing else of it is read.
     Version(u8),
-    /// Its fields can't be told.
+    /// Its fields can't be read.
     Malformed,
     /// These fields are at fault.
     Fields(FieldReasons),
@@ -100,7 +100,7 @@ fn field_reasons(config: &Config, octets: &[u8], message: &Open<'_>) -> FieldRea
     }
 }
 
-/// Why the fields of an OPEN can't be told.
+/// Why the fields of an OPEN can't be read.
 #[tactic(auto, using(bgp_parts::proofs::ReadableOpen::readable_with_other))]
 fn unreadable(octets: &[u8]) -> OpenReasons
     requires { ¬ IsReadable octets.now }
@@ -114,7 +114,7 @@ fn unreadable(octets: &[u8]) -> OpenReasons
     }
 }
 
-/// Why an OPEN has to be refused. Where nothing of it is at fault no field is told.
+/// Why an OPEN has to be refused. If nothing in it is at fault, no field is named.
 pub fn open_reasons(config: &Config, octets: &[u8]) -> OpenReasons
     ensures { AreReasons config.now octets.now result }
 {

@@ -16,7 +16,7 @@ use mrt::Sink;
 /// AS_TRANS, which stands for an AS number of four octets (RFC 6793, 9).
 const AS_TRANS: u32 = 23456;
 
-/// The record that told a state, if one did.
+/// The record that shows the change to a state, if there is one.
 fn put_since<W: Sink>(lines: &mut Lines<'_, W>, first: Seconds, since: Option<Place>)
     ensures { Writes lines.old lines.new (since_text first since) }
 {
@@ -29,8 +29,8 @@ fn put_since<W: Sink>(lines: &mut Lines<'_, W>, first: Seconds, since: Option<Pl
     }
 }
 
-/// Puts `state: NAME since PLACE, TIME`: the state that was told last, and the record that told it;
-/// or `state: Idle` if no change was told.
+/// Puts `state: NAME since PLACE, TIME`: the state after the last change, and the record that shows
+/// this change; or `state: Idle` if there was no change.
 pub fn put_state<W: Sink>(lines: &mut Lines<'_, W>, style: &Style, state: Fsm, since: Option<Place>)
     ensures { Writes lines.old lines.new (state_line style.now.first state since) }
 {

@@ -64,8 +64,8 @@ impl NotWhole {
     }
 }
 
-/// Puts `not a whole message: ` and why, if its octets don't fit. The faults of a header are told
-/// by the message's name.
+/// Puts `not a whole message: ` and why, if its octets don't fit. The message's name has the faults
+/// of a header.
 pub fn put_not_whole<W: Sink>(lines: &mut Lines<'_, W>, why: Option<NotWhole>)
     ensures { Writes lines.old lines.new (not_whole_line why) }
 {

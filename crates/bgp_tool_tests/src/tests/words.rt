@@ -35,9 +35,9 @@ fn notes() -> [(Note<'static>, &'static str); 16] {
                     sent: true,
                 },
             },
-            "standard input: no change of state that leaves Idle is in the capture: neither yes nor no \
-         says anything of the router then, since that takes what it sent, what it received and its \
-         changes of state, from Idle on",
+            "standard input: no change of state that leaves Idle is in the capture: neither yes \
+         nor no says anything of the router then, since that takes what it sent, what it \
+         received and its changes of state, from Idle on",
         ),
         (
             Note::Unopened {
@@ -77,8 +77,8 @@ fn notes() -> [(Note<'static>, &'static str); 16] {
                 },
                 unmet: None,
             },
-            "a.mrt: the record at octet 18446744073709551615 has additional paths (RFC 8050), which \
-         aren't read: make a capture of the session without them (RFC 7911)",
+            "a.mrt: the record at octet 18446744073709551615 has additional paths (RFC 8050), \
+         which aren't read: make a capture of the session without them (RFC 7911)",
         ),
         (
             Note::Refused {
@@ -120,8 +120,8 @@ fn notes() -> [(Note<'static>, &'static str); 16] {
                 form: Form::Zip,
                 command: CaptureCommand::Check,
             },
-            "a.zip is an archive of zip: `unzip -p a.zip NAME | bgp check -` reads a file that `unzip \
-         -l a.zip` lists",
+            "a.zip is an archive of zip: `unzip -p a.zip NAME | bgp check -` reads a file that \
+         `unzip -l a.zip` lists",
         ),
         (
             Note::Pair {
